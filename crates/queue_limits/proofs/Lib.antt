@@ -1,0 +1,3 @@
+-- Lemmas on pieces, over plain numbers and lists.
+pub mod Chunks
+pub mod Splits

@@ -1,0 +1,15 @@
+-- What limits are, as numbers of sectors.
+use Rattle.std.specs.Prelude.{ℕ, ◌≤◌}
+
+-- a request has at most `max` sectors, which is at most what the hardware takes, and crosses no multiple of `chunk`
+pub record Bounds : Type 0 where
+  pub hardware : ℕ
+  pub max : ℕ
+  pub chunk : ℕ
+
+-- the numbers that a queue may have as its limits
+pub record AreAllowed (bounds : Bounds) : Type 0 where
+  pub some_sector : 1 ≤ bounds.max
+  pub within_hardware : bounds.max ≤ bounds.hardware
+  pub hardware_range : bounds.hardware ≤ 65535
+  pub chunk_range : bounds.chunk ≤ 65535

@@ -1,0 +1,5 @@
+-- The definitions that the contracts of `queue_limits` cite.
+pub mod Bounds
+pub mod FaultNumber
+pub mod Greedy
+pub mod Pieces

@@ -1,0 +1,33 @@
+//! Why limits are refused.
+ghost use Rattle.std.specs.Prelude.{◌≡◌};
+ghost use Rattle.queue_limits.specs.FaultNumber.{number_of};
+
+use thiserror::Error;
+
+/// Why limits are refused. Where several apply, [`Limits::new`](crate::Limits::new) answers
+/// `HardwareRange` first, then `AboveHardware`, then `ChunkTooLarge`.
+#[derive(Clone, Copy, Debug, PartialEq, Eq, Error)]
+pub enum LimitFault {
+    /// The most sectors of a request are more than the hardware takes.
+    #[error("more sectors than the hardware takes")]
+    AboveHardware,
+    /// The chunk has more than 65,535 sectors.
+    #[error("a chunk of more than 65535 sectors")]
+    ChunkTooLarge,
+    /// The hardware limit isn't from 1 to 65,535 sectors.
+    #[error("a hardware limit outside 1 to 65535 sectors")]
+    HardwareRange,
+}
+
+impl LimitFault {
+    /// The fault's number, from 1 in the order of declaration.
+    pub fn number(&self) -> u8
+        ensures { result ≡ number_of self.now }
+    {
+        match self {
+            LimitFault::AboveHardware => 1,
+            LimitFault::ChunkTooLarge => 2,
+            LimitFault::HardwareRange => 3,
+        }
+    }
+}
