@@ -13,3 +13,7 @@ pub record AreAllowed (bounds : Bounds) : Type 0 where
   pub within_hardware : bounds.max ≤ bounds.hardware
   pub hardware_range : bounds.hardware ≤ 65535
   pub chunk_range : bounds.chunk ≤ 65535
+
+-- what a device may take in one request
+abbrev pub IsHardwareLimit : ℕ → Type 0
+IsHardwareLimit sectors = (1 ≤ sectors) × (sectors ≤ 65535)

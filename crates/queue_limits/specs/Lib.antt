@@ -3,3 +3,4 @@ pub mod Bounds
 pub mod FaultNumber
 pub mod Greedy
 pub mod Pieces
+pub mod Words

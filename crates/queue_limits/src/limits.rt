@@ -1,7 +1,8 @@
 //! The limits of a queue.
-ghost use Rattle.std.specs.Prelude.{◌≡◌, ◌==◌, if◌then◌else◌, ℕ, ◌+◌, ◌<◌, ◌≤◌, ◌^◌, ◌∷◌, ◌↔◌, ◌⊎◌, List, min, IfOk, IfErr, IsErrOf};
+ghost use Rattle.std.specs.Prelude.{◌≡◌, ◌==◌, if◌then◌else◌, ℕ, ◌+◌, ◌<◌, ◌≤◌, ◌^◌, ◌∷◌, ◌↔◌, ◌⊎◌, List, min, IfOk, IfErr, IsErrOf, OnOk, OnErr};
 ghost use Rattle.queue_limits.specs.Greedy.{reach};
-ghost use Rattle.queue_limits.specs.Bounds.{AreAllowed};
+ghost use Rattle.queue_limits.specs.Bounds.{Bounds, AreAllowed, IsHardwareLimit};
+ghost use Rattle.queue_limits.specs.Words.{to_words, from_words};
 ghost use Rattle.queue_limits.specs.Pieces.{IsSplit};
 
 use crate::fault::LimitFault;
@@ -99,6 +100,69 @@ impl Limits {
         ensures allowed { AreAllowed self.now }
     {
         self.chunk
+    }
+
+    /// Sets the most sectors of one request; 0 restores what the hardware takes. Refused with
+    /// `AboveHardware` where `max` is above `hw()`: the old limits stay.
+    ///
+    /// Linux: `queue_max_sectors_store` (block/blk-sysfs.c), in kilobytes there.
+    pub fn set_max(&mut self, max: u32) -> Result<(), LimitFault>
+        ensures set { OnOk result (self.new ≡ record self.old { max = (if max == 0 then self.old.hardware else max) }) }
+        ensures above_hardware { IsErrOf result LimitFault.AboveHardware ↔ (self.old.hardware < max) }
+        ensures only_fault { IfErr result (λ fault. fault ≡ LimitFault.AboveHardware) }
+        ensures same { OnErr result (self.new ≡ self.old) }
+        ensures allowed { OnOk result (AreAllowed self.new) }
+    {
+        if max > self.hardware {
+            return Err(LimitFault::AboveHardware);
+        }
+        self.max = if max == 0 { self.hardware } else { max };
+        Ok(())
+    }
+
+    /// Sets the sectors of a chunk; 0 is none. Refused with `ChunkTooLarge` where `chunk` is above 65,535:
+    /// the old limits stay.
+    pub fn set_chunk(&mut self, chunk: u32) -> Result<(), LimitFault>
+        ensures set { OnOk result (self.new ≡ record self.old { chunk = chunk }) }
+        ensures chunk_too_large { IsErrOf result LimitFault.ChunkTooLarge ↔ (65535 < chunk) }
+        ensures only_fault { IfErr result (λ fault. fault ≡ LimitFault.ChunkTooLarge) }
+        ensures same { OnErr result (self.new ≡ self.old) }
+        ensures allowed { OnOk result (AreAllowed self.new) }
+    {
+        if chunk > CHUNK_LIMIT {
+            return Err(LimitFault::ChunkTooLarge);
+        }
+        self.chunk = chunk;
+        Ok(())
+    }
+
+    /// The limits that can change, as two words: `max()` and `chunk()`.
+    pub fn to_words(&self) -> [u64; 2]
+        ensures { result ≡ to_words self.now }
+    {
+        [u64::from(self.max), u64::from(self.chunk)]
+    }
+
+    /// The limits that two words tell, for a hardware limit of 1 to 65,535 sectors. Any words will do: a
+    /// first word of 0 or above `hw` is read as `hw`, a second above 65,535 as 0.
+    pub fn from_words(hw: u32, words: [u64; 2]) -> Self
+        requires { IsHardwareLimit hw }
+        ensures read { result ≡ from_words hw words }
+        ensures allowed { AreAllowed result }
+        // What limits told of themselves is read as these limits.
+        ensures back { (limits : Bounds) → AreAllowed limits → limits.hardware ≡ hw → words ≡ to_words limits → result ≡ limits }
+    {
+        let [max, chunk] = words;
+        let in_range = max > 0 && max <= u64::from(hw);
+        Limits {
+            hardware: hw,
+            max: if in_range { max as u32 } else { hw },
+            chunk: if chunk > u64::from(CHUNK_LIMIT) {
+                0
+            } else {
+                chunk as u32
+            },
+        }
     }
 
     /// The length, in sectors, of the first piece of the `left` sectors from `start` on.

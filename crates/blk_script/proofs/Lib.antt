@@ -1,0 +1,6 @@
+-- Lemmas over plain lists and numbers.
+pub mod Fronts
+pub mod Joins
+pub mod LineLemmas
+pub mod Replies
+pub mod WordLemmas

@@ -1,0 +1,6 @@
+use Rattle.std.proofs.Common.{◌≡◌, ◌++◌, take}
+use Rattle.blk_script.specs.Texts.{pieces_text}
+use Rattle.blk_script.proofs.rendering.push_pieces.Given as goal
+
+abbrev pub invariant-loop-index : goal.invariant-loop-index
+invariant-loop-index l = l.out.items ≡ l.fn.out.items ++ pieces_text (take l.index l.pieces)

@@ -1,0 +1,96 @@
+-- What the words of one line say.
+use Rattle.std.specs.Prelude.{ℕ, Bool, true, ◌&&◌, if◌then◌else◌, List, [], ◌∷◌, Result, Ok, Err, codes}
+use Rattle.std.specs.Str.{bytes_eq}
+use Rattle.blk_script.specs.Numbers.{◌>>=◌, number_in, pattern_of}
+use Rattle.blk_script.specs.declared.mode.Mode.TheVariants.{Atomic, Slots}
+use Rattle.blk_script.specs.declared.fault.Why.{Why}
+use Rattle.blk_script.specs.declared.fault.Why.TheVariants.{NoVersion, NoDisk, UnknownWord, MissingWord, ExtraWord}
+use Rattle.blk_script.specs.declared.line.What.{What}
+use Rattle.blk_script.specs.declared.line.What.TheVariants.{Read, Write, Freeze, Thaw, SetMax, SetChunk, SetMode, Stat, Remove}
+
+-- the words of a part of a line that has this many
+abbrev pub no_words : List (List ℕ) → Result Bool Why
+no_words [] = Ok true
+no_words (more ∷ words) = Err ExtraWord
+
+abbrev pub one_word : List (List ℕ) → Result (List ℕ) Why
+one_word [] = Err MissingWord
+one_word (word ∷ []) = Ok word
+one_word (word ∷ more ∷ words) = Err ExtraWord
+
+abbrev pub two_words : List (List ℕ) → Result (List ℕ × List ℕ) Why
+two_words [] = Err MissingWord
+two_words (first ∷ []) = Err MissingWord
+two_words (first ∷ second ∷ []) = Ok (first, second)
+two_words (first ∷ second ∷ more ∷ words) = Err ExtraWord
+
+abbrev pub three_words : List (List ℕ) → Result (List ℕ × List ℕ × List ℕ) Why
+three_words [] = Err MissingWord
+three_words (first ∷ []) = Err MissingWord
+three_words (first ∷ second ∷ []) = Err MissingWord
+three_words (first ∷ second ∷ third ∷ []) = Ok (first, second, third)
+three_words (first ∷ second ∷ third ∷ more ∷ words) = Err ExtraWord
+
+-- the first line says `blkq 1`, and nothing else
+abbrev pub version_of : List (List ℕ) → Result Bool Why
+version_of (name ∷ number ∷ []) = if bytes_eq name (codes "blkq") && bytes_eq number (codes "1") then Ok true else Err NoVersion
+version_of words = Err NoVersion
+
+-- the sectors of the disk, and those that the hardware takes in one request
+abbrev pub sizes_of : List (List ℕ) → Result (ℕ × ℕ) Why
+sizes_of words =
+    three_words words >>= λ word.
+    number_in 1 4096 word.0 >>= λ sectors.
+    if bytes_eq word.1 (codes "hw") then (number_in 1 65535 word.2 >>= λ hardware. Ok (sectors, hardware)) else Err UnknownWord
+
+-- the second line says `disk N hw H`
+abbrev pub disk_of : List (List ℕ) → Result (ℕ × ℕ) Why
+disk_of [] = Err NoDisk
+disk_of (first ∷ words) = if bytes_eq first (codes "disk") then sizes_of words else Err NoDisk
+
+abbrev pub read_of : List (List ℕ) → Result What Why
+read_of words =
+    two_words words >>= λ word.
+    number_in 0 4294967295 word.0 >>= λ start.
+    number_in 1 65535 word.1 >>= λ count.
+    Ok (Read start count)
+
+abbrev pub write_of : List (List ℕ) → Result What Why
+write_of words =
+    three_words words >>= λ word.
+    number_in 0 4294967295 word.0 >>= λ start.
+    number_in 1 65535 word.1 >>= λ count.
+    pattern_of word.2 >>= λ pattern.
+    Ok (Write start count pattern)
+
+abbrev pub setting_of : List (List ℕ) → Result What Why
+setting_of words =
+    two_words words >>= λ word.
+    if bytes_eq word.0 (codes "max_sectors") then (number_in 0 4294967295 word.1 >>= λ value. Ok (SetMax value))
+    else if bytes_eq word.0 (codes "chunk_sectors") then (number_in 0 4294967295 word.1 >>= λ value. Ok (SetChunk value))
+    else Err UnknownWord
+
+abbrev pub mode_of : List (List ℕ) → Result What Why
+mode_of words =
+    one_word words >>= λ word.
+    if bytes_eq word (codes "atomic") then Ok (SetMode Atomic)
+    else if bytes_eq word (codes "slots") then Ok (SetMode Slots)
+    else Err UnknownWord
+
+-- a line of one word
+abbrev pub alone : What → List (List ℕ) → Result What Why
+alone what words = no_words words >>= λ none. Ok what
+
+-- every further line, by its first word
+abbrev pub what_of : List (List ℕ) → Result What Why
+what_of [] = Err UnknownWord
+what_of (first ∷ words) =
+    if bytes_eq first (codes "read") then read_of words
+    else if bytes_eq first (codes "write") then write_of words
+    else if bytes_eq first (codes "freeze") then alone Freeze words
+    else if bytes_eq first (codes "thaw") then alone Thaw words
+    else if bytes_eq first (codes "set") then setting_of words
+    else if bytes_eq first (codes "mode") then mode_of words
+    else if bytes_eq first (codes "stat") then alone Stat words
+    else if bytes_eq first (codes "remove") then alone Remove words
+    else Err UnknownWord

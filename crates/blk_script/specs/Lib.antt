@@ -1,0 +1,12 @@
+pub mod Answer
+pub mod Grammar
+pub mod LineAnswers
+pub mod Machine
+pub mod Meaning
+pub mod Numbers
+pub mod Parsing
+pub mod State
+pub mod Statements
+pub mod Text
+pub mod Texts
+pub mod WhyNumber

@@ -1,0 +1,32 @@
+//! A script of a request queue: what it says, what it means on one thread, and the texts of its replies.
+//!
+//! A script is text. Its first line names the format, its second the disk, and each further line asks the
+//! queue for something: to read or write a range of sectors, to freeze or thaw, to set a limit, to tell its
+//! counts. [`parse`] gives the [`Script`] that a text means, or the first fault of the text.
+#![tactic(auto)]
+
+mod fault;
+mod grammar;
+mod line;
+mod lines;
+mod machine;
+mod mode;
+mod number;
+mod parser;
+mod pattern;
+mod rendering;
+mod reply;
+mod run;
+mod script;
+mod statements;
+mod words;
+
+pub use fault::{ParseFault, ScriptFault, Why};
+pub use line::{Line, What};
+pub use mode::Mode;
+pub use parser::{LONGEST_TEXT, parse};
+pub use pattern::Pattern;
+pub use rendering::{render, render_disk};
+pub use reply::{ByteRuns, PieceLengths, Reply, Stat};
+pub use run::run_alone;
+pub use script::Script;

@@ -1,0 +1,170 @@
+//! The texts of replies and of the disk.
+ghost use Rattle.std.specs.Prelude.{◌≡◌, ◌++◌, ◌∷◌, [], ℕ, List, OnOk, IfOk, IfErr, codes, decimal};
+ghost use Rattle.hex.specs.Hex.{encode_lower};
+ghost use Rattle.blk_script.specs.Texts.{pieces_text, run_text, runs_text, named, named_mode, counts_text, reply_text, reply_line, disk_line};
+ghost use Rattle.ram_disk.specs.Runs.{IsRuns};
+ghost use Rattle.ram_disk.specs.Sector.{bytes_of};
+
+use crate::fault::ScriptFault;
+use crate::mode::Mode;
+use crate::reply::{Reply, Stat};
+use itoa::Buffer;
+use ram_disk::Disk;
+use std::alloc::{AllocError, Global};
+
+/// Appends a number in decimal.
+fn push_number(out: &mut Vec<u8>, number: u64) -> Result<(), AllocError>
+    ensures { OnOk result (out.new.items ≡ out.old.items ++ decimal number) }
+{
+    let mut buffer = Buffer::new();
+    out.extend_from_slice(buffer.format(number).as_bytes())
+}
+
+fn push_text(out: &mut Vec<u8>, text: &str) -> Result<(), AllocError>
+    ensures { OnOk result (out.new.items ≡ out.old.items ++ text.now) }
+{
+    out.extend_from_slice(text.as_bytes())
+}
+
+// Appends a byte in two hexadecimal digits.
+fn push_hex(out: &mut Vec<u8>, byte: u8) -> Result<(), AllocError>
+    ensures { OnOk result (out.new.items ≡ out.old.items ++ encode_lower (byte ∷ [])) }
+{
+    let mut digits = [0; 2];
+    let _ = hex::encode_to_slice([byte].as_slice(), &mut digits);
+    out.extend_from_slice(&digits)
+}
+
+fn push_run(out: &mut Vec<u8>, run: (u8, u64)) -> Result<(), AllocError>
+    ensures { OnOk result (out.new.items ≡ out.old.items ++ run_text run) }
+{
+    push_hex(out, run.0)?;
+    push_text(out, "*")?;
+    push_number(out, run.1)
+}
+
+fn push_pieces(out: &mut Vec<u8>, pieces: &[u32]) -> Result<(), AllocError>
+    ensures { OnOk result (out.new.items ≡ out.old.items ++ pieces_text pieces.now) }
+{
+    for (index, piece) in pieces.iter().enumerate() {
+        if index > 0 {
+            push_text(out, "+")?;
+        }
+        push_number(out, u64::from(*piece))?;
+    }
+    Ok(())
+}
+
+fn push_runs(out: &mut Vec<u8>, runs: &[(u8, u64)]) -> Result<(), AllocError>
+    ensures { OnOk result (out.new.items ≡ out.old.items ++ runs_text runs.now) }
+{
+    for (index, run) in runs.iter().enumerate() {
+        if index > 0 {
+            push_text(out, ",")?;
+        }
+        push_run(out, *run)?;
+    }
+    Ok(())
+}
+
+#[tactic(auto, unfolding(crate::specs::Texts::named_mode))]
+fn push_mode(out: &mut Vec<u8>, name: &str, mode: Mode) -> Result<(), AllocError>
+    ensures { OnOk result (out.new.items ≡ out.old.items ++ named_mode name.now mode) }
+{
+    push_text(out, name)?;
+    match mode {
+        Mode::Atomic => push_text(out, "atomic"),
+        Mode::Slots => push_text(out, "slots"),
+    }
+}
+
+#[tactic(auto, unfolding(crate::specs::Texts::named))]
+fn push_named(out: &mut Vec<u8>, name: &str, number: u64) -> Result<(), AllocError>
+    ensures { OnOk result (out.new.items ≡ out.old.items ++ named name.now number) }
+{
+    push_text(out, name)?;
+    push_number(out, number)
+}
+
+fn push_counts(out: &mut Vec<u8>, counts: &Stat) -> Result<(), AllocError>
+    ensures { OnOk result (out.new.items ≡ out.old.items ++ counts_text counts.now) }
+{
+    push_named(out, "stat reads ", counts.reads)?;
+    push_named(out, " writes ", counts.writes)?;
+    push_named(out, " again ", counts.again)?;
+    push_named(out, " eio ", counts.eio)?;
+    push_named(out, " depth ", u64::from(counts.depth))?;
+    push_named(out, " max ", u64::from(counts.max))?;
+    push_named(out, " chunk ", u64::from(counts.chunk))?;
+    push_mode(out, " mode ", counts.mode)
+}
+
+fn push_reply(out: &mut Vec<u8>, reply: &Reply) -> Result<(), AllocError>
+    ensures { OnOk result (out.new.items ≡ out.old.items ++ reply_text reply.now) }
+{
+    match reply {
+        Reply::Data { pieces, runs } => {
+            push_text(out, "ok ")?;
+            push_pieces(out, pieces.as_slice())?;
+            push_text(out, " ")?;
+            push_runs(out, runs.as_slice())
+        }
+        Reply::Written { pieces } => {
+            push_text(out, "ok ")?;
+            push_pieces(out, pieces.as_slice())
+        }
+        Reply::Done => push_text(out, "ok"),
+        Reply::Depth(depth) => push_named(out, "depth ", u64::from(*depth)),
+        Reply::NotFrozen => push_text(out, "not frozen"),
+        Reply::DepthFull => push_text(out, "depth full"),
+        Reply::Again => push_text(out, "EAGAIN"),
+        Reply::PastEnd => push_text(out, "EIO"),
+        Reply::Invalid => push_text(out, "EINVAL"),
+        Reply::Stat(counts) => push_counts(out, counts),
+        Reply::Removed => push_text(out, "removed"),
+        Reply::Gone => push_text(out, "ENODEV"),
+    }
+}
+
+/// Appends the line of a reply to the script's line of this number.
+pub(crate) fn push_line(out: &mut Vec<u8>, number: u32, reply: &Reply) -> Result<(), AllocError>
+    ensures { OnOk result (out.new.items ≡ out.old.items ++ reply_line (number, reply.now)) }
+{
+    push_number(out, u64::from(number))?;
+    push_text(out, " ")?;
+    push_reply(out, reply)?;
+    push_text(out, "\n")
+}
+
+/// The line of a reply to the script's line of this number, its line feed included. `Memory` is the only
+/// refusal.
+pub fn render(alloc: Global, number: u32, reply: &Reply) -> Result<Vec<u8>, ScriptFault>
+    ensures line { IfOk result (λ line. line.items ≡ reply_line (number, reply.now)) }
+    ensures fault { IfErr result (λ fault. fault ≡ ScriptFault.Memory) }
+{
+    let mut line = Vec::new(alloc);
+    push_line(&mut line, number, reply)?;
+    Ok(line)
+}
+
+/// Appends the line of a disk.
+pub(crate) fn push_disk(out: &mut Vec<u8>, alloc: Global, disk: &Disk) -> Result<(), ScriptFault>
+    ensures line { OnOk result ((runs : List (ℕ × ℕ)) × IsRuns runs (bytes_of disk.now) × (out.new.items ≡ out.old.items ++ disk_line runs)) }
+    ensures fault { IfErr result (λ fault. fault ≡ ScriptFault.Memory) }
+{
+    let runs = disk.all_runs(alloc).map_err(|_| ScriptFault::Memory)?;
+    push_text(out, "disk ")?;
+    push_runs(out, &runs)?;
+    push_text(out, "\n")?;
+    Ok(())
+}
+
+/// The line of a disk, its line feed included. `Memory` is the only refusal.
+pub fn render_disk(alloc: Global, disk: &Disk) -> Result<Vec<u8>, ScriptFault>
+    ensures line { IfOk result (λ line. (runs : List (ℕ × ℕ)) × IsRuns runs (bytes_of disk.now) × (line.items ≡ disk_line runs)) }
+    ensures fault { IfErr result (λ fault. fault ≡ ScriptFault.Memory) }
+{
+    let mut line = Vec::new(alloc);
+    push_disk(&mut line, alloc, disk)?;
+    Ok(line)
+}

@@ -1,0 +1,3 @@
+pub mod SectorBytes
+pub mod RunLists
+pub mod PatternSectors

@@ -1,0 +1,5 @@
+pub mod DiskFault
+pub mod Sector
+pub mod Disk
+pub mod Pattern
+pub mod Runs

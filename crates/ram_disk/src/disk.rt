@@ -1,0 +1,126 @@
+//! The disk: its sectors by number, read by sharing and written by moving new ones in.
+ghost use Rattle.std.specs.Prelude.{◌≡◌, ◌+◌, ◌*◌, ◌<◌, ◌≤◌, ◌↔◌, ◌++◌, ℕ, List, All, IfOk, IsErrOf, IsOkUnless, OnOk, drop, length, replicate, take, vec_len};
+ghost use Rattle.ram_disk.specs.declared.sector.TheConstants.{SECTOR_BYTES};
+ghost use Rattle.ram_disk.specs.Sector.{IsSector, bytes_of, filled_with};
+ghost use Rattle.ram_disk.specs.Disk.{IsDisk, sectors_read, sectors_written};
+ghost use Rattle.ram_disk.specs.Runs.{IsRuns};
+
+use crate::{DiskFault, Sector, runs};
+use std::alloc::Global;
+use std::marker::Model;
+
+/// How many sectors a disk has at most.
+pub const MAX_SECTORS: u32 = 4096;
+
+/// A disk of 1 to 4,096 sectors. Contracts see the list of its sectors, each a list of 512 bytes.
+#[derive(Drop)]
+pub struct Disk {
+    sectors: Vec<Sector>,
+}
+
+impl Model for Disk {
+    ghost use Rattle.std.specs.Prelude.{ℕ, List};
+    ghost use Rattle.ram_disk.specs.Disk.{IsDisk};
+
+    ghost Value = { List (List ℕ) };
+
+    ghost view = { λ d. d.sectors.items };
+
+    ghost invariant = { λ d. IsDisk d.sectors.items };
+}
+
+impl Disk {
+    /// A disk of this many sectors of zeros. `Memory` is its only refusal.
+    ///
+    /// Linux: a new `brd` device reads as zeros, since it has no pages yet (drivers/block/brd.c).
+    pub fn new(alloc: Global, sectors: u32) -> Result<Disk, DiskFault>
+        requires within { (1 ≤ sectors) × (sectors ≤ MAX_SECTORS) }
+        ensures zeros { IfOk result (λ disk. disk ≡ replicate sectors (filled_with 0)) }
+        ensures only_memory { IsOkUnless result DiskFault.Memory }
+    {
+        let zeros = Sector::filled(alloc, 0)?;
+        let sectors = vec![in alloc; zeros; sectors as usize]?;
+        Ok(Disk { sectors })
+    }
+
+    /// How many sectors the disk has, 1 to 4,096.
+    pub fn len(&self) -> u32
+        ensures value { result ≡ length self.now }
+        ensures disk { IsDisk self.now }
+    {
+        self.sectors.len() as u32
+    }
+
+    /// Reads `count` sectors from the sector numbered `start` on, by sharing them.
+    ///
+    /// `PastEnd` where the range reaches past the last sector, which is tested first; `Memory` where
+    /// there is none for the list. No sectors from the end on is no reach past it.
+    ///
+    /// Linux: a request past the end of the device is an I/O error (`bio_check_eod`, block/blk-core.c).
+    pub fn share(&self, alloc: Global, start: u64, count: u32) -> Result<Vec<Sector>, DiskFault>
+        ensures past_end { IsErrOf result DiskFault.PastEnd ↔ (length self.now < start + count) }
+        ensures within { OnOk result (start + count ≤ length self.now) }
+        ensures read { IfOk result (λ sectors. sectors.items ≡ sectors_read start count self.now) }
+        ensures count { IfOk result (λ sectors. length sectors.items ≡ count) }
+        ensures sectors { IfOk result (λ sectors. All IsSector sectors.items) }
+    {
+        let len = self.sectors.len() as u64;
+        if start > len || u64::from(count) > len - start {
+            return Err(DiskFault::PastEnd);
+        }
+        let start = start as usize;
+        let end = start + count as usize;
+        Ok(self.sectors[start..end].to_vec(alloc)?)
+    }
+
+    /// Writes these sectors over those from the sector numbered `start` on. It always succeeds.
+    ///
+    /// The sectors are moved in, and the disk's owners of the old ones are dropped.
+    pub fn install(&mut self, start: u64, sectors: Vec<Sector>)
+        requires { start + vec_len sectors ≤ length self.old }
+        ensures written { self.new ≡ sectors_written start sectors.items self.old }
+        ensures len { length self.new ≡ length self.old }
+        ensures disk { IsDisk self.new }
+    {
+        replace(&mut self.sectors, start as usize, sectors);
+    }
+
+    /// The maximal runs of equal bytes of the whole disk, as `runs` gives them. `Memory` is its only refusal.
+    pub fn all_runs(&self, alloc: Global) -> Result<Vec<(u8, u64)>, DiskFault>
+        ensures runs { IfOk result (λ runs. IsRuns runs.items (bytes_of self.now)) }
+        ensures only_memory { IsOkUnless result DiskFault.Memory }
+    {
+        runs(alloc, &self.sectors)
+    }
+}
+
+/// A read of sectors is a read of their bytes.
+pub fn read_by_bytes()
+    ensures { (disk : List (List ℕ)) (start count : ℕ) → All IsSector disk
+        → start + count ≤ length disk
+        → bytes_of (sectors_read start count disk)
+        ≡ take (count * SECTOR_BYTES) (drop (start * SECTOR_BYTES) (bytes_of disk)) }
+{}
+
+/// A write of sectors is a write of their bytes: those before and those behind stay.
+pub fn write_by_bytes()
+    ensures { (disk sectors : List (List ℕ)) (start : ℕ) → All IsSector disk
+        → start + length sectors ≤ length disk
+        → bytes_of (sectors_written start sectors disk)
+        ≡ take (start * SECTOR_BYTES) (bytes_of disk) ++ bytes_of sectors
+        ++ drop ((start + length sectors) * SECTOR_BYTES) (bytes_of disk) }
+{}
+
+fn replace(kept: &mut Vec<Sector>, start: usize, sectors: Vec<Sector>)
+    requires { start + vec_len sectors ≤ vec_len kept.old }
+    ensures written { kept.new.items ≡ sectors_written start sectors.items kept.old.items }
+    ensures whole { All IsSector sectors.items }
+{
+    let mut place = start;
+    for sector in sectors {
+        // Reading the bytes shows that there are 512 of them.
+        let _whole = sector.bytes();
+        kept[place] = sector;
+        place += 1;
+    }
+}

@@ -1,0 +1,99 @@
+//! The maximal runs of equal bytes.
+ghost use Rattle.std.specs.Prelude.{◌≡◌, ◌+◌, ◌*◌, ◌^◌, ◌<◌, ◌≤◌, List, ℕ, ◌++◌, IfOk, IsOkUnless, OnOk, length, replicate, vec_capacity, vec_len};
+ghost use Rattle.ram_disk.specs.Sector.{IsSector, bytes_of};
+ghost use Rattle.ram_disk.specs.Runs.{IsRuns, bytes_of_runs};
+
+use crate::sector::SECTOR_BYTES;
+use crate::{DiskFault, Sector};
+use std::alloc::Global;
+
+// A byte and how often it stands in a row.
+type Run = (u8, u64);
+
+// The length of a run of this many sectors fits 64 bits. No memory holds as many owners of sectors.
+const MOST_SECTORS: usize = 0x7f_ffff_ffff_ffff;
+
+/// The maximal runs of equal bytes of these sectors' bytes, laid end to end: each byte with how often it
+/// stands in a row. There is one such list (`one_list_of_runs`). `Memory` is the only refusal.
+pub fn runs(alloc: Global, sectors: &[Sector]) -> Result<Vec<(u8, u64)>, DiskFault>
+    ensures runs { IfOk result (λ runs. IsRuns runs.items (bytes_of sectors.now)) }
+    ensures only_memory { IsOkUnless result DiskFault.Memory }
+{
+    if sectors.len() > MOST_SECTORS {
+        return Err(DiskFault::Memory);
+    }
+    let mut runs: Vec<Run> = Vec::new(alloc);
+    for sector in sectors {
+        add_sector(&mut runs, sector)?;
+    }
+    Ok(runs)
+}
+
+/// There is one list of maximal runs: two that are right of the same bytes are equal.
+pub fn one_list_of_runs()
+    ensures { (bytes : List ℕ) (first second : List (ℕ × ℕ)) → IsRuns first bytes
+        → IsRuns second bytes → first ≡ second }
+{}
+
+// Adds the runs of one more sector.
+fn add_sector(runs: &mut Vec<Run>, sector: &Sector) -> Result<(), DiskFault>
+    requires maximal { IsRuns runs.old.items (bytes_of_runs runs.old.items) }
+    requires room { length (bytes_of_runs runs.old.items) + SECTOR_BYTES < 2 ^ 64 }
+    ensures ok { OnOk result
+        (IsRuns runs.new.items (bytes_of_runs runs.old.items ++ sector.now)) }
+    ensures sector { IsSector sector.now }
+    ensures only_memory { IsOkUnless result DiskFault.Memory }
+{
+    match sector.only_byte() {
+        Some(byte) => add_run(runs, byte, SECTOR_BYTES as u64),
+        None => add_bytes(runs, sector.bytes()),
+    }
+}
+
+// Adds one byte so many times: the last run gets longer where it is of that byte, and else a run begins.
+fn add_run(runs: &mut Vec<Run>, byte: u8, count: u64) -> Result<(), DiskFault>
+    requires maximal { IsRuns runs.old.items (bytes_of_runs runs.old.items) }
+    requires some { 0 < count }
+    requires room { length (bytes_of_runs runs.old.items) + count < 2 ^ 64 }
+    ensures ok { OnOk result
+        (IsRuns runs.new.items (bytes_of_runs runs.old.items ++ replicate count byte)) }
+    ensures at_most_one_more { vec_len runs.new ≤ vec_len runs.old + 1 }
+    ensures capacity { vec_capacity runs.old ≤ vec_capacity runs.new }
+    ensures not_empty { OnOk result (0 < vec_len runs.new) }
+    ensures only_memory { IsOkUnless result DiskFault.Memory }
+{
+    if let Some(last) = runs.last_mut()
+        && last.0 == byte
+    {
+        last.1 += count;
+        return Ok(());
+    }
+    runs.push((byte, count))?;
+    Ok(())
+}
+
+// Adds the runs of these bytes. Room for the worst case is made first, so that the loop can't fail.
+fn add_bytes(runs: &mut Vec<Run>, bytes: &[u8]) -> Result<(), DiskFault>
+    requires maximal { IsRuns runs.old.items (bytes_of_runs runs.old.items) }
+    requires room { length (bytes_of_runs runs.old.items) + length bytes.now < 2 ^ 64 }
+    ensures ok { OnOk result
+        (IsRuns runs.new.items (bytes_of_runs runs.old.items ++ bytes.now)) }
+    ensures only_memory { IsOkUnless result DiskFault.Memory }
+{
+    let Some((first, rest)) = bytes.split_first() else {
+        return Ok(());
+    };
+    runs.reserve(bytes.len())?;
+    add_run(runs, *first, 1)?;
+    let (mut byte, mut count) = runs.pop().unwrap();
+    for next in rest {
+        if *next != byte {
+            runs.push_reserved((byte, count));
+            byte = *next;
+            count = 0;
+        }
+        count += 1;
+    }
+    runs.push_reserved((byte, count));
+    Ok(())
+}
