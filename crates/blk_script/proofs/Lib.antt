@@ -2,5 +2,6 @@
 pub mod Fronts
 pub mod Joins
 pub mod LineLemmas
+pub mod OneText
 pub mod Replies
 pub mod WordLemmas

@@ -7,6 +7,7 @@
 
 mod fault;
 mod grammar;
+mod laws;
 mod line;
 mod lines;
 mod machine;
@@ -22,6 +23,7 @@ mod statements;
 mod words;
 
 pub use fault::{ParseFault, ScriptFault, Why};
+pub use laws::one_text;
 pub use line::{Line, What};
 pub use mode::Mode;
 pub use parser::{LONGEST_TEXT, parse};
@@ -30,3 +32,6 @@ pub use rendering::{render, render_disk};
 pub use reply::{ByteRuns, PieceLengths, Reply, Stat};
 pub use run::run_alone;
 pub use script::Script;
+
+#[cfg(test)]
+mod tests;

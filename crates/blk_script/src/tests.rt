@@ -1,0 +1,220 @@
+//! Worked scripts, what the format says of odd input, and the texts of replies.
+use crate::{
+    ByteRuns, Mode, ParseFault, PieceLengths, Reply, ScriptFault, Stat, What, Why, parse, render,
+    render_disk, run_alone,
+};
+use ram_disk::Disk;
+use std::alloc::Global;
+use std::process::Abort;
+use std::test::Fail;
+
+mod rows;
+
+// The text of a script's run, or that of its fault.
+fn answer(alloc: Global, text: &[u8]) -> Result<Vec<u8>, Fail> {
+    match parse(alloc, text) {
+        Ok(script) => Ok(run_alone(alloc, &script)?),
+        Err(fault) => {
+            let text = fault.to_string(alloc)?;
+            Ok(Vec::from_slice(alloc, text.as_bytes())?)
+        }
+    }
+}
+
+fn check_rows(rt: &(impl Abort + AllocGlobal), rows: &[rows::Row]) -> Result<(), Fail> {
+    for row in rows {
+        let found = answer(rt.alloc(), row.script)?;
+        assert!(rt; found.as_slice() == row.answer, "{}", row.name);
+    }
+    Ok(())
+}
+
+#[test]
+fn worked_scripts(rt: HostRuntime) -> Result<(), Fail> {
+    check_rows(&rt, rows::ANSWERED)
+}
+
+#[test]
+fn refused_scripts(rt: HostRuntime) -> Result<(), Fail> {
+    check_rows(&rt, rows::REFUSED)
+}
+
+// A disk of 8 sectors, and this third line.
+fn third_line(alloc: Global, line: &[u8]) -> Result<Vec<u8>, Fail> {
+    let mut text = Vec::from_slice(alloc, b"blkq 1\ndisk 8 hw 8\n")?;
+    text.extend_from_slice(line)?;
+    Ok(text)
+}
+
+#[test]
+fn odd_lines(rt: HostRuntime) -> Result<(), Fail> {
+    let alloc = rt.alloc();
+    let lines: [(&[u8], Result<(), Why>); 34] = [
+        (b"\tread\t0  1 \t\n", Ok(())),
+        (b"read 0 1\r\n", Ok(())),
+        (b"read 0 1\r\r\n", Err(Why::BadNumber)),
+        (b"read\r0 1\n", Err(Why::UnknownWord)),
+        (b"read 0 1\r# no\n", Err(Why::ExtraWord)),
+        (b"read 0\x00 1\n", Err(Why::BadNumber)),
+        (b"\x00\n", Err(Why::UnknownWord)),
+        (b"# \xc3\n", Err(Why::NotUtf8)),
+        (b"# \xe2\x82", Err(Why::NotUtf8)),
+        (b"# \xe2\x82\xac", Ok(())),
+        (b"read 00000000000000000007 1\n", Ok(())),
+        (b"read 000000000000000000007 1\n", Err(Why::BadNumber)),
+        (b"read 99999999999999999999 1\n", Err(Why::OutOfRange)),
+        (b"read 4294967295 65535\n", Ok(())),
+        (b"read 4294967296 1\n", Err(Why::OutOfRange)),
+        (b"read 0 65536\n", Err(Why::OutOfRange)),
+        (b"read +1 1\n", Err(Why::BadNumber)),
+        (b"read -1 1\n", Err(Why::BadNumber)),
+        (b"read 0x1 1\n", Err(Why::BadNumber)),
+        (b"read x\n", Err(Why::MissingWord)),
+        (b"read x y z\n", Err(Why::ExtraWord)),
+        (b"read 9999999999 x\n", Err(Why::OutOfRange)),
+        (b"write 0 1 aB\n", Ok(())),
+        (b"write 0 0 6\n", Err(Why::OutOfRange)),
+        (b"write 0 1 6g\n", Err(Why::BadHex)),
+        (b"read 0 1 # two\n", Err(Why::ExtraWord)),
+        (b"  # read\n", Ok(())),
+        (b"disk 8 hw 8\n", Err(Why::UnknownWord)),
+        (b"blkq 1\n", Err(Why::UnknownWord)),
+        (b"READ 0 1\n", Err(Why::UnknownWord)),
+        (b"set max_sectors\n", Err(Why::MissingWord)),
+        (b"set sectors x\n", Err(Why::UnknownWord)),
+        (b"mode\n", Err(Why::MissingWord)),
+        (b"stat 1\n", Err(Why::ExtraWord)),
+    ];
+    for (line, why) in lines {
+        let text = third_line(alloc, line)?;
+        let found = parse(alloc, &text).map(|_| ());
+        let wanted = why.map_err(|why| ScriptFault::Parse(ParseFault { line: 3, why }));
+        assert_eq!(rt; found, wanted, "{line:?}");
+    }
+    Ok(())
+}
+
+#[test]
+fn patterns_have_up_to_64_bytes(rt: HostRuntime) -> Result<(), Fail> {
+    let alloc = rt.alloc();
+    for (digits, fits) in [(128, true), (130, false)] {
+        let mut line = Vec::from_slice(alloc, b"write 0 1 ")?;
+        for _ in 0..digits {
+            line.push(b'a')?;
+        }
+        let text = third_line(alloc, &line)?;
+        assert_eq!(rt; parse(alloc, &text).is_ok(), fits, "{digits}");
+    }
+    Ok(())
+}
+
+#[test]
+fn texts_have_up_to_a_mebibyte(rt: HostRuntime) -> Result<(), Fail> {
+    let alloc = rt.alloc();
+    let longest = vec![in alloc; b'#'; crate::LONGEST_TEXT]?;
+    let wanted = ParseFault {
+        line: 2,
+        why: Why::NoVersion,
+    };
+    assert_eq!(rt;
+        parse(alloc, &longest).err(),
+        Some(ScriptFault::Parse(wanted))
+    );
+    let longer = vec![in alloc; b'#'; crate::LONGEST_TEXT + 1]?;
+    let wanted = ParseFault {
+        line: 1,
+        why: Why::TooLong,
+    };
+    assert_eq!(rt;
+        parse(alloc, &longer).err(),
+        Some(ScriptFault::Parse(wanted))
+    );
+    Ok(())
+}
+
+#[test]
+fn comments_come_before_the_first_line(rt: HostRuntime) -> Result<(), Fail> {
+    let alloc = rt.alloc();
+    let text = b"# a note\n\n  \nblkq 1\n\t\ndisk 1 hw 1\n#\nread 0 1\n";
+    let script = parse(alloc, text)?;
+    assert_eq!(rt;
+        (script.disk(), script.hw(), script.lines().len()),
+        (1, 1, 1)
+    );
+    let line = script.lines().first().expect(&rt, "a line");
+    assert_eq!(rt; line.number, 8);
+    assert!(rt; matches!(&line.what, What::Read { start: 0, count: 1 }));
+    Ok(())
+}
+
+#[test]
+fn texts_of_replies(rt: HostRuntime) -> Result<(), Fail> {
+    let alloc = rt.alloc();
+    let counts = Stat {
+        reads: 18_446_744_073_709_551_615,
+        writes: 2,
+        again: 3,
+        eio: 4,
+        depth: 5,
+        max: 6,
+        chunk: 0,
+        mode: Mode::Atomic,
+    };
+    let pieces = PieceLengths::new(vec![in alloc; 2, 4]?);
+    let runs = ByteRuns::new(vec![in alloc; (0, 512), (255, 1)]?);
+    let texts = [
+        (Reply::Data { pieces, runs }, "7 ok 2+4 00*512,ff*1\n"),
+        (
+            Reply::Written {
+                pieces: PieceLengths::new(vec![in alloc; 65_535]?),
+            },
+            "7 ok 65535\n",
+        ),
+        (Reply::Done, "7 ok\n"),
+        (Reply::Depth(1_000), "7 depth 1000\n"),
+        (Reply::NotFrozen, "7 not frozen\n"),
+        (Reply::DepthFull, "7 depth full\n"),
+        (Reply::Again, "7 EAGAIN\n"),
+        (Reply::PastEnd, "7 EIO\n"),
+        (Reply::Invalid, "7 EINVAL\n"),
+        (
+            Reply::Stat(counts),
+            "7 stat reads 18446744073709551615 writes 2 again 3 eio 4 depth 5 max 6 chunk 0 mode atomic\n",
+        ),
+        (Reply::Removed, "7 removed\n"),
+        (Reply::Gone, "7 ENODEV\n"),
+    ];
+    for (reply, text) in &texts {
+        let line = render(alloc, 7, reply)?;
+        assert!(rt; line.as_slice() == text.as_bytes(), "{text}");
+    }
+    let line = render_disk(alloc, &Disk::new(alloc, 4)?)?;
+    assert!(rt; line.as_slice() == b"disk 00*2048\n".as_slice());
+    Ok(())
+}
+
+#[test]
+fn reasons_have_numbers_and_texts(rt: HostRuntime) -> Result<(), Fail> {
+    let texts = [
+        (Why::NotUtf8, 1, "not utf-8"),
+        (Why::NoVersion, 2, "no version"),
+        (Why::NoDisk, 3, "no disk"),
+        (Why::UnknownWord, 4, "unknown word"),
+        (Why::MissingWord, 5, "missing word"),
+        (Why::ExtraWord, 6, "extra word"),
+        (Why::BadNumber, 7, "bad number"),
+        (Why::OutOfRange, 8, "out of range"),
+        (Why::BadHex, 9, "bad hex"),
+        (Why::TooLong, 10, "too long"),
+        (Why::NoWorld, 11, "no world"),
+    ];
+    for (why, number, text) in texts {
+        assert_eq!(rt; why.number(), number);
+        assert_eq!(rt; why.to_string(rt.alloc())?.as_str(), text);
+    }
+    assert_eq!(rt;
+        ScriptFault::Memory.to_string(rt.alloc())?.as_str(),
+        "memory"
+    );
+    Ok(())
+}
