@@ -1,6 +1,6 @@
 -- The bytes of sectors laid end to end.
-use Rattle.std.proofs.Common.{◌≡◌, ℕ, ◌+◌, ◌*◌, ◌≤◌, List, [], ◌∷◌, ◌++◌, length, take, drop, All, refl, sym, ap, ◌∙◌, append_assoc, length-append, length-drop, arith}
-use Rattle.std.proofs.lemmas.List.{append-nil, length-replicate, take_at, drop_at, take-append-drop, length-take-le}
+use Rattle.std.proofs.Common.{◌≡◌, ℕ, zero, suc, ◌+◌, ◌*◌, ◌≤◌, List, [], ◌∷◌, ◌++◌, length, take, drop, replicate, All, refl, sym, ap, ◌∙◌, append_assoc, length-append, length-drop, arith}
+use Rattle.std.proofs.lemmas.List.{append-nil, length-replicate, replicate-append-replicate, take_at, drop_at, take-append-drop, length-take-le}
 use Rattle.std.proofs.lemmas.List.Elements.{All-head, All-tail, All-take, All-drop}
 use Rattle.ram_disk.specs.declared.sector.TheConstants.{SECTOR_BYTES}
 use Rattle.ram_disk.specs.Sector.{IsSector, filled_with, bytes_of}
@@ -55,3 +55,18 @@ bytes_of-sectors_written disk sectors start whole within =
     bytes_of-append (take start disk ++ sectors) (drop (start + length sectors) disk)
     ∙ ap (λ bytes. bytes ++ bytes_of (drop (start + length sectors) disk)) (bytes_of-append (take start disk) sectors ∙ ap (λ bytes. bytes ++ bytes_of sectors) front)
     ∙ ap (λ bytes. take (start * SECTOR_BYTES) (bytes_of disk) ++ bytes_of sectors ++ bytes) rear
+
+equal_parts : (size count byte : ℕ) → bytes_of (replicate count (replicate size byte)) ≡ replicate (count * size) byte
+equal_parts size zero byte =
+    let none : 0 ≡ zero * size = omega arith in
+    ap (λ n. replicate n byte) none
+equal_parts size (suc count) byte =
+    let all : size + count * size ≡ suc count * size = omega arith in
+    ap (λ bytes. replicate size byte ++ bytes) (equal_parts size count byte)
+    ∙ replicate-append-replicate size (count * size) byte
+    ∙ ap (λ n. replicate n byte) all
+
+-- sectors of one byte are so many of that byte
+pub bytes_of-replicate-filled_with : (count byte : ℕ) → bytes_of (replicate count (filled_with byte)) ≡ replicate (count * SECTOR_BYTES) byte
+unfolding filled_with
+bytes_of-replicate-filled_with count byte = equal_parts SECTOR_BYTES count byte

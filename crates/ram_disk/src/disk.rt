@@ -36,6 +36,7 @@ impl Disk {
     pub fn new(alloc: Global, sectors: u32) -> Result<Disk, DiskFault>
         requires within { (1 ≤ sectors) × (sectors ≤ MAX_SECTORS) }
         ensures zeros { IfOk result (λ disk. disk ≡ replicate sectors (filled_with 0)) }
+        ensures bytes { IfOk result (λ disk. bytes_of disk ≡ replicate (sectors * SECTOR_BYTES) 0) }
         ensures only_memory { IsOkUnless result DiskFault.Memory }
     {
         let zeros = Sector::filled(alloc, 0)?;

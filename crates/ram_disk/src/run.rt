@@ -11,7 +11,7 @@ use std::alloc::Global;
 type Run = (u8, u64);
 
 // The length of a run of this many sectors fits 64 bits. No memory holds as many owners of sectors.
-const MOST_SECTORS: usize = 0x7f_ffff_ffff_ffff;
+const MOST_SECTORS: usize = usize::MAX / SECTOR_BYTES;
 
 /// The maximal runs of equal bytes of these sectors' bytes, laid end to end: each byte with how often it
 /// stands in a row. There is one such list (`one_list_of_runs`). `Memory` is the only refusal.

@@ -34,16 +34,6 @@ pub(super) const ANSWERED: &[Row] = &[
         answer: b"3 EIO\n4 ok 1 00*512\n5 EIO\n6 EIO\ndisk 00*2097152\n",
     },
     Row {
-        name: "drained_overlap",
-        script: b"blkq 1\ndisk 8 hw 8\nwrite 6 1 ff\nfreeze\nthaw\nread 6 2\n",
-        answer: b"3 ok 1\n4 depth 1\n5 depth 0\n6 ok 2 ff*512,00*512\ndisk 00*3072,ff*512,00*512\n",
-    },
-    Row {
-        name: "freeze_between",
-        script: b"blkq 1\ndisk 4 hw 4\nwrite 0 1 01\nwrite 1 1 02\nfreeze\nthaw\nread 0 2\n",
-        answer: b"3 ok 1\n4 ok 1\n5 depth 1\n6 depth 0\n7 ok 2 01*512,02*512\ndisk 01*512,02*512,00*1024\n",
-    },
-    Row {
         name: "limits_at_their_place",
         script: b"blkq 1\ndisk 16 hw 8\nwrite 6 6 61\nset max_sectors 4\nset chunk_sectors 8\nread 6 6\n",
         answer: b"3 ok 6\n4 ok\n5 ok\n6 ok 2+4 61*3072\ndisk 00*3072,61*3072,00*2048\n",
@@ -52,11 +42,6 @@ pub(super) const ANSWERED: &[Row] = &[
         name: "nested_freeze",
         script: b"blkq 1\ndisk 1 hw 1\nfreeze\nfreeze\nread 0 1\nthaw\nread 0 1\nthaw\nread 0 1\nstat\n",
         answer: b"3 depth 1\n4 depth 2\n5 EAGAIN\n6 depth 1\n7 EAGAIN\n8 depth 0\n9 ok 1 00*512\n10 stat reads 1 writes 0 again 2 eio 0 depth 0 max 1 chunk 0 mode slots\ndisk 00*512\n",
-    },
-    Row {
-        name: "reads_may_overlap",
-        script: b"blkq 1\ndisk 8 hw 8\nread 0 4\nread 2 4\nwrite 6 1 ff\n",
-        answer: b"3 ok 4 00*2048\n4 ok 4 00*2048\n5 ok 1\ndisk 00*3072,ff*512,00*512\n",
     },
     Row {
         name: "refused_limits",
@@ -82,21 +67,6 @@ pub(super) const ANSWERED: &[Row] = &[
 
 /// Texts that mean no script.
 pub(super) const REFUSED: &[Row] = &[
-    Row {
-        name: "cut_after_a_number",
-        script: b"blkq 1\ndisk 4 hw 2\nwrite 0 3 61\nread 3",
-        answer: b"line 4: missing word",
-    },
-    Row {
-        name: "cut_in_a_word",
-        script: b"blkq 1\ndisk 4 hw 2\nwr",
-        answer: b"line 3: unknown word",
-    },
-    Row {
-        name: "cut_in_the_pattern",
-        script: b"blkq 1\ndisk 4 hw 2\nwrite 0 3 6",
-        answer: b"line 3: bad hex",
-    },
     Row {
         name: "empty_input",
         script: b"",
@@ -171,10 +141,5 @@ pub(super) const REFUSED: &[Row] = &[
         name: "refused_write_odd_hex",
         script: b"blkq 1\ndisk 8 hw 8\nwrite 0 1 6\n",
         answer: b"line 3: bad hex",
-    },
-    Row {
-        name: "refused_version_2",
-        script: b"blkq 2\n",
-        answer: b"line 1: no version",
     },
 ];

@@ -1,0 +1,7 @@
+-- Lemmas on readers, writers, words and answers, over plain lists.
+pub mod Answering
+pub mod Cutting
+pub mod Ending
+pub mod Sending
+pub mod Taking
+pub mod Wording

@@ -1,0 +1,14 @@
+-- The input so far is what the reader gave.
+use Rattle.std.proofs.Common.{◌-◌, ◌≤◌, vec_len}
+use Rattle.std.specs.Io.KnownBytes.{Consumes}
+use Rattle.blkq.specs.Counted.{failures_of}
+use Rattle.blkq.proofs.input.read_all.Given as goal
+
+abbrev pub invariant-loop-input : goal.invariant-loop-input
+invariant-loop-input g l =
+    Consumes (g.R.Read.remaining l.initial.reader.inner) (g.R.Read.remaining l.reader.inner) l.input.items
+    × (vec_len l.input ≤ 1048577)
+    × (failures_of l.initial.reader ≤ failures_of l.reader)
+
+abbrev pub decreases-loop-input : goal.decreases-loop-input
+decreases-loop-input g l = 1048577 - vec_len l.input

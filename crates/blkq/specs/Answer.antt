@@ -1,0 +1,25 @@
+-- What the program answers to an input: a text, or the fault that the input is refused for.
+use Rattle.std.specs.Prelude.{◌≡◌, ℕ, List, Result, Ok, Err}
+use Rattle.blk_script.specs.Answer.{IsText}
+use Rattle.blk_script.specs.Parsing.{Meant, meaning_of}
+use Rattle.blk_script.specs.declared.fault.ParseFault.{ParseFault}
+use Rattle.blkq.specs.declared.fault.Fault.{Fault}
+use Rattle.blkq.specs.declared.fault.Fault.TheVariants.{Parse}
+
+-- a script is answered with the text of its run on one thread, and an input that means none is refused for its fault
+abbrev pub IsAnswerTo : Result Meant ParseFault → Result (List ℕ) Fault → Type 0
+IsAnswerTo (Ok script) (Ok text) = IsText script text
+IsAnswerTo (Err fault) (Err (Parse told)) = told ≡ fault
+IsAnswerTo meant answer = ⊥
+
+-- this is the answer to an input, by what its bytes mean
+unfoldable pub IsAnswer : List ℕ → Result (List ℕ) Fault → Type 0
+IsAnswer input answer = IsAnswerTo (meaning_of input) answer
+
+-- the input's answer is a text, and P holds of it
+abbrev pub IsAnsweredBy : List ℕ → (List ℕ → Type 0) → Type 0
+IsAnsweredBy input P = (text : List ℕ) × IsAnswer input (Ok text) × P text
+
+-- the input is refused, and P holds of the fault
+abbrev pub IsRefusedBy : List ℕ → (Fault → Type 0) → Type 0
+IsRefusedBy input P = (fault : Fault) × IsAnswer input (Err fault) × P fault

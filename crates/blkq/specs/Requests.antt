@@ -1,0 +1,28 @@
+-- What the words after the program's name ask for.
+use Rattle.std.specs.Prelude.{◌≡◌, ℕ, ◌≤◌, List, [], ◌∷◌, length, codes}
+use Rattle.std.specs.Str.Parse.{IsNumeral, digits_value}
+use Rattle.blkq.specs.Sizes.{Sizes, AreWithin}
+
+-- a word spells a number in 1 to 20 decimal digits, with zeros in front or not
+abbrev pub Spells : List ℕ → ℕ → Type 0
+Spells word number = IsNumeral 10 word × (length word ≤ 20) × (number ≡ digits_value 10 word)
+
+-- the sizes of a run that names none
+abbrev pub usual : Sizes
+usual = record { workers = 4; slots = 8; tags = 16 }
+
+-- `run`, alone or with its workers, slots and tags, within the limits
+abbrev pub AsksRun : List (List ℕ) → Sizes → Type 0
+AsksRun (word ∷ []) sizes = (word ≡ codes "run") × (sizes ≡ usual)
+AsksRun (word ∷ workers ∷ slots ∷ tags ∷ []) sizes =
+    (word ≡ codes "run") × Spells workers sizes.workers × Spells slots sizes.slots × Spells tags sizes.tags × AreWithin sizes
+AsksRun words sizes = ⊥
+
+-- a run of some sizes
+abbrev pub AsksSomeRun : List (List ℕ) → Type 0
+AsksSomeRun words = (sizes : Sizes) × AsksRun words sizes
+
+-- `replay`, alone
+abbrev pub AsksReplay : List (List ℕ) → Type 0
+AsksReplay (word ∷ []) = word ≡ codes "replay"
+AsksReplay words = ⊥

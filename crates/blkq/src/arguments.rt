@@ -1,0 +1,60 @@
+//! What the words after the program's name ask for.
+ghost use Rattle.std.specs.Prelude.{◌≡◌, ◌<◌, ◌^◌, ◌≤◌, ◌↔◌, length, map, string_bytes, IfSome, SomeIff};
+ghost use Rattle.std.specs.Str.Parse.{IsNumeral, digits_value};
+ghost use Rattle.blkq.specs.Requests.{AsksReplay, AsksRun, Spells};
+ghost use Rattle.blkq.specs.Sizes.{Sizes, AreWithin};
+
+use crate::config::Config;
+
+/// The most digits of a number.
+const MOST_DIGITS: usize = 20;
+
+/// What the program is asked to do.
+#[derive(Clone, Copy, Debug, PartialEq, Eq)]
+pub(crate) enum Request {
+    /// Run the script that comes in.
+    Run(Config),
+    /// Replay the schedule that comes in.
+    Replay,
+    /// Say how the program is called.
+    Usage,
+}
+
+/// The number that `word` spells, in 1 to 20 digits. `None` for any other word, and for a number that no
+/// `u32` holds.
+fn number(word: &str) -> Option<u32>
+    ensures { SomeIff result (IsNumeral 10 word.now × (length word.now ≤ 20) × (digits_value 10 word.now < 2 ^ 32)) (digits_value 10 word.now) }
+{
+    if word.len() > MOST_DIGITS || word.starts_with('+') {
+        return None;
+    }
+    word.parse().ok()
+}
+
+/// The run that three numbers within the limits ask for.
+fn run_of(workers: &str, slots: &str, tags: &str) -> Option<Config>
+    ensures { (sizes : Sizes) → (result ≡ Some sizes)
+        ↔ (Spells workers.now sizes.workers × Spells slots.now sizes.slots × Spells tags.now sizes.tags × AreWithin sizes) }
+{
+    Config::new(number(workers)?, number(slots)?, number(tags)?)
+}
+
+/// What `words`, those after the program's name, ask for: `run`, alone or with three numbers, or `replay`
+/// alone. Anything else asks how the program is called: other words, other counts of them, a word that is no
+/// number in 1 to 20 digits, a number outside the limits.
+pub(crate) fn requested(words: &[String]) -> Request
+    ensures run { (sizes : Sizes) → (result ≡ Request.Run sizes) ↔ AsksRun (map string_bytes words.now) sizes }
+    ensures replay { (result ≡ Request.Replay) ↔ AsksReplay (map string_bytes words.now) }
+{
+    match words {
+        [word] if word.as_str() == "run" => Request::Run(Config::default()),
+        [word] if word.as_str() == "replay" => Request::Replay,
+        [word, workers, slots, tags] if word.as_str() == "run" => {
+            match run_of(workers.as_str(), slots.as_str(), tags.as_str()) {
+                Some(config) => Request::Run(config),
+                None => Request::Usage,
+            }
+        }
+        _ => Request::Usage,
+    }
+}

@@ -1,0 +1,93 @@
+//! How a run is shaped.
+ghost use Rattle.std.specs.Prelude.{◌≡◌, ◌↔◌, IfSome, IsSome};
+ghost use Rattle.blkq.specs.Sizes.{AreWithin};
+
+use std::marker::Model;
+
+/// The most workers of a run.
+pub const MOST_WORKERS: u32 = 32;
+
+/// The most slots of a run's gate.
+pub const MOST_SLOTS: u32 = 64;
+
+/// The most tags of a run.
+pub const MOST_TAGS: u32 = 63;
+
+/// How a run is shaped: how many threads work on requests, over how many slots the gate spreads its count,
+/// and how many requests can be under way. None of this changes what a run answers.
+#[derive(Clone, Copy, Debug, PartialEq, Eq)]
+pub struct Config {
+    workers: u32,
+    slots: u32,
+    tags: u32,
+}
+
+impl Model for Config {
+    ghost use Rattle.blkq.specs.Sizes.{Sizes, AreWithin};
+
+    ghost Value = { Sizes };
+
+    ghost view = { λ c. record { workers = c.workers; slots = c.slots; tags = c.tags } };
+
+    ghost invariant = { λ c. AreWithin (record { workers = c.workers; slots = c.slots; tags = c.tags }) };
+
+    ghost inverse = { λ s. record { workers = s.workers; slots = s.slots; tags = s.tags } };
+}
+
+impl Config {
+    /// A run of 1 to 32 workers, 1 to 64 slots and 1 to 63 tags. `None` outside of these.
+    pub fn new(workers: u32, slots: u32, tags: u32) -> Option<Self>
+        ensures within { IsSome result ↔ AreWithin (record { workers = workers; slots = slots; tags = tags }) }
+        ensures made { IfSome result (λ c. c ≡ record { workers = workers; slots = slots; tags = tags }) }
+    {
+        let is_within = (1..=MOST_WORKERS).contains(&workers)
+            && (1..=MOST_SLOTS).contains(&slots)
+            && (1..=MOST_TAGS).contains(&tags);
+        if is_within {
+            Some(Config {
+                workers,
+                slots,
+                tags,
+            })
+        } else {
+            None
+        }
+    }
+
+    /// The threads that work on requests: 1 to 32.
+    pub fn workers(&self) -> u32
+        ensures value { result ≡ self.now.workers }
+        ensures within { AreWithin self.now }
+    {
+        self.workers
+    }
+
+    /// The slots that the gate's count is spread over: 1 to 64.
+    pub fn slots(&self) -> u32
+        ensures value { result ≡ self.now.slots }
+        ensures within { AreWithin self.now }
+    {
+        self.slots
+    }
+
+    /// The requests that can be under way: 1 to 63.
+    pub fn tags(&self) -> u32
+        ensures value { result ≡ self.now.tags }
+        ensures within { AreWithin self.now }
+    {
+        self.tags
+    }
+}
+
+impl Default for Config {
+    ghost is_default = { λ c. c ≡ record { workers = 4; slots = 8; tags = 16 } };
+
+    /// 4 workers, 8 slots and 16 tags.
+    fn default() -> Self {
+        Config {
+            workers: 4,
+            slots: 8,
+            tags: 16,
+        }
+    }
+}

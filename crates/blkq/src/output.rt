@@ -1,0 +1,72 @@
+//! The answer, written whole or as far as the writer takes it.
+ghost use Rattle.std.specs.Prelude.{◌≡◌, ◌<◌, ◌≤◌, length, take, IfErr, IfOk, OnErr, OnOk};
+ghost use Rattle.std.specs.Io.KnownBytes.{Appends, Keeps};
+ghost use Rattle.blkq.specs.Counted.{inner_of, failures_of};
+ghost use Rattle.blkq.specs.Growth.{HasGrown};
+
+use crate::counted::Counted;
+use std::io::{ErrorKind, Write};
+
+/// How often in a row a write that a signal interrupts is tried.
+const TRIES: u32 = 1_000;
+
+/// A writer that failed, and how much it had taken.
+#[derive(Clone, Copy, Debug, PartialEq, Eq)]
+pub(crate) struct WriteFault {
+    /// The bytes that went out.
+    pub(crate) written: u64,
+}
+
+/// A writer that takes nothing more.
+#[derive(Clone, Copy)]
+struct Refused;
+
+/// One write, tried again where a signal interrupts it, and the number of bytes it took: one at least.
+/// `Err` where the writer fails, takes nothing, or is interrupted 1,000 times in a row.
+fn write_piece<W: Write>(writer: &mut Counted<W>, text: &[u8]) -> Result<usize, Refused>
+    requires { 0 < length text.now }
+    ensures some { IfOk result (λ n. 0 < n) }
+    ensures bound { IfOk result (λ n. n ≤ length text.now) }
+    ensures appended { IfOk result (λ n. Appends (W.contents (inner_of writer.old)) (W.contents (inner_of writer.new)) (take n text.now)) }
+    ensures none { OnErr result (Keeps (W.contents (inner_of writer.old)) (W.contents (inner_of writer.new))) }
+    ensures grown { OnErr result (HasGrown (failures_of writer.old) (failures_of writer.new)) }
+    ensures counts { failures_of writer.old ≤ failures_of writer.new }
+{
+    for _ in 0..TRIES {
+        match writer.write(text) {
+            Ok(0) => return Err(Refused),
+            Ok(n) => return Ok(n),
+            Err(e) => {
+                if e.kind() != ErrorKind::Interrupted {
+                    return Err(Refused);
+                }
+            }
+        }
+    }
+    Err(Refused)
+}
+
+/// Writes `text`, all that is left of it each time, so that it takes as few writes as the writer allows.
+/// Nothing is flushed: a writer that keeps bytes back is its owner's to flush.
+///
+/// `Err` where the writer fails or takes nothing: then the first `written` bytes went out, and no more. A
+/// write that a signal interrupts is tried again, up to 1,000 times in a row.
+pub(crate) fn write_answer<W: Write>(writer: &mut Counted<W>, text: &[u8]) -> Result<(), WriteFault>
+    ensures whole { OnOk result (Appends (W.contents (inner_of writer.old)) (W.contents (inner_of writer.new)) text.now) }
+    ensures part { IfErr result (λ fault. Appends (W.contents (inner_of writer.old)) (W.contents (inner_of writer.new)) (take fault.written text.now)) }
+    ensures short { IfErr result (λ fault. fault.written < length text.now) }
+    ensures grown { OnErr result (HasGrown (failures_of writer.old) (failures_of writer.new)) }
+{
+    let mut written = 0;
+    while written < text.len() {
+        match write_piece(writer, &text[written..]) {
+            Ok(count) => written += count,
+            Err(Refused) => {
+                return Err(WriteFault {
+                    written: written as u64,
+                });
+            }
+        }
+    }
+    Ok(())
+}
