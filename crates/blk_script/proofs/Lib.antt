@@ -1,7 +1,12 @@
 -- Lemmas over plain lists and numbers.
+pub mod Disks
 pub mod Fronts
 pub mod Joins
 pub mod LineLemmas
 pub mod OneText
+pub mod Overlaps
+pub mod PartnerLemmas
 pub mod Replies
+pub mod SpanLemmas
+pub mod Stamps
 pub mod WordLemmas

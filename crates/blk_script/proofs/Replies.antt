@@ -22,7 +22,7 @@ pub record Told (first : State) (lines : List Line) (text : List ℕ) (last : St
 pub nothing_told : (first : State) → Told first [] [] first
 nothing_told first = record { replies = []; replied = tt; told = refl; left = refl }
 
-after_lines-push : (first : State) (lines : List Line) (line : Line) → after_lines first (lines ++ line ∷ []) ≡ after (after_lines first lines) line.what
+pub after_lines-push : (first : State) (lines : List Line) (line : Line) → after_lines first (lines ++ line ∷ []) ≡ after (after_lines first lines) line.what
 after_lines-push first [] line = refl
 after_lines-push first (next ∷ lines) line = after_lines-push (after first next.what) lines line
 

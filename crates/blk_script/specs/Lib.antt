@@ -4,7 +4,12 @@ pub mod LineAnswers
 pub mod Machine
 pub mod Meaning
 pub mod Numbers
+pub mod Overlap
 pub mod Parsing
+pub mod Partners
+pub mod Span
+pub mod SpanOfRequests
+pub mod Standing
 pub mod State
 pub mod Statements
 pub mod Text

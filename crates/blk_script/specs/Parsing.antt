@@ -8,7 +8,7 @@ use Rattle.blk_script.specs.declared.fault.Why.{Why}
 use Rattle.blk_script.specs.declared.fault.Why.TheVariants.{NoVersion, NoDisk, TooLong}
 use Rattle.blk_script.specs.declared.fault.ParseFault.{ParseFault}
 use Rattle.blk_script.specs.declared.fault.ScriptFault.{ScriptFault}
-use Rattle.blk_script.specs.declared.fault.ScriptFault.TheVariants.{Memory, Parse}
+use Rattle.blk_script.specs.declared.fault.ScriptFault.TheVariants.{Memory, Parse, Overlap}
 use Rattle.blk_script.specs.declared.line.Line.{Line}
 use Rattle.blk_script.specs.declared.line.What.{What}
 
@@ -57,11 +57,12 @@ meaning_of bytes =
     if nat_lt 1048576 (length bytes) then Err (record { line = 1; why = TooLong })
     else from_version (length (lines_of bytes) + 1) (statements 1 (lines_of bytes))
 
--- what a call answered, seen by `view`, is what was meant, unless memory ran out
+-- what a call answered, seen by `view`, is what was meant, unless memory ran out; it answers no overlap
 abbrev pub Tells : {A B : Type 0} → (A → B) → Result A ScriptFault → Result B ParseFault → Type 0
 Tells view (Ok x) meant = meant ≡ Ok (view x)
 Tells view (Err Memory) meant = Unit {0}
 Tells view (Err (Parse fault)) meant = meant ≡ Err fault
+Tells view (Err (Overlap pair)) meant = ⊥
 
 abbrev pub Answers : {A : Type 0} → Result A ScriptFault → Result A ParseFault → Type 0
 Answers answered meant = Tells (λ x. x) answered meant

@@ -72,6 +72,15 @@ pub struct ParseFault {
     pub why: Why,
 }
 
+/// Two requests of a script that overlap, by the numbers of their lines, from 1.
+#[derive(Clone, Copy, Debug, PartialEq, Eq, Error)]
+#[error("line {line}: overlaps line {earlier}")]
+pub struct Overlap {
+    /// The later of the two lines.
+    pub line: u32,
+    pub earlier: u32,
+}
+
 /// Why a call on a script has no answer.
 #[derive(Clone, Copy, Debug, PartialEq, Eq, Error)]
 pub enum ScriptFault {
@@ -81,6 +90,9 @@ pub enum ScriptFault {
     /// The text means no script.
     #[error("{0}")]
     Parse(ParseFault),
+    /// Two requests of the script overlap.
+    #[error("{0}")]
+    Overlap(Overlap),
 }
 
 impl From<AllocError> for ScriptFault {

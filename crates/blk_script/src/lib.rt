@@ -2,9 +2,12 @@
 //!
 //! A script is text. Its first line names the format, its second the disk, and each further line asks the
 //! queue for something: to read or write a range of sectors, to freeze or thaw, to set a limit, to tell its
-//! counts. [`parse`] gives the [`Script`] that a text means, or the first fault of the text.
+//! counts. [`parse`] gives the [`Script`] that a text means, or the first fault of the text. [`check`] tells
+//! whether two requests that may be under way together touch one sector, and [`run_alone`] what the script
+//! writes on one thread.
 #![tactic(auto)]
 
+mod checking;
 mod fault;
 mod grammar;
 mod laws;
@@ -13,19 +16,28 @@ mod lines;
 mod machine;
 mod mode;
 mod number;
+mod overlap_laws;
+#[cfg(test)]
+mod overlap_tests;
 mod parser;
 mod pattern;
 mod rendering;
 mod reply;
+mod request;
 mod run;
 mod script;
+mod span;
+mod standing;
 mod statements;
+mod touched;
 mod words;
 
-pub use fault::{ParseFault, ScriptFault, Why};
+pub use checking::check;
+pub use fault::{Overlap, ParseFault, ScriptFault, Why};
 pub use laws::one_text;
 pub use line::{Line, What};
 pub use mode::Mode;
+pub use overlap_laws::one_first_overlap;
 pub use parser::{LONGEST_TEXT, parse};
 pub use pattern::Pattern;
 pub use rendering::{render, render_disk};

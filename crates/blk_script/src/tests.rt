@@ -218,3 +218,20 @@ fn reasons_have_numbers_and_texts(rt: HostRuntime) -> Result<(), Fail> {
     );
     Ok(())
 }
+
+// The answer of a script, or Memory.
+fn answer_or_memory(alloc: Global, text: &[u8]) -> Result<Vec<u8>, ScriptFault> {
+    let script = parse(alloc, text)?;
+    run_alone(alloc, &script)
+}
+
+// Under `rt try --test --fail-alloc N` the N-th allocation is refused: then the answer is Memory or the text.
+#[test]
+fn want_of_memory(rt: HostRuntime) {
+    for row in rows::ANSWERED {
+        match answer_or_memory(rt.alloc(), row.script) {
+            Ok(text) => assert!(rt; text.as_slice() == row.answer, "{}", row.name),
+            Err(fault) => assert_eq!(rt; fault, ScriptFault::Memory, "{}", row.name),
+        }
+    }
+}

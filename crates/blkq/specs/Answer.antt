@@ -1,14 +1,17 @@
 -- What the program answers to an input: a text, or the fault that the input is refused for.
 use Rattle.std.specs.Prelude.{◌≡◌, ℕ, List, Result, Ok, Err}
 use Rattle.blk_script.specs.Answer.{IsText}
+use Rattle.blk_script.specs.Overlap.{HasNoOverlap, IsReported}
 use Rattle.blk_script.specs.Parsing.{Meant, meaning_of}
 use Rattle.blk_script.specs.declared.fault.ParseFault.{ParseFault}
 use Rattle.blkq.specs.declared.fault.Fault.{Fault}
-use Rattle.blkq.specs.declared.fault.Fault.TheVariants.{Parse}
+use Rattle.blkq.specs.declared.fault.Fault.TheVariants.{Parse, Overlap}
 
--- a script is answered with the text of its run on one thread, and an input that means none is refused for its fault
+-- an input that means no script is refused for its fault, a script whose requests overlap for its first overlap, and any other
+-- script is answered with the text of its run on one thread
 abbrev pub IsAnswerTo : Result Meant ParseFault → Result (List ℕ) Fault → Type 0
-IsAnswerTo (Ok script) (Ok text) = IsText script text
+IsAnswerTo (Ok script) (Ok text) = HasNoOverlap script × IsText script text
+IsAnswerTo (Ok script) (Err (Overlap pair)) = IsReported script pair
 IsAnswerTo (Err fault) (Err (Parse told)) = told ≡ fault
 IsAnswerTo meant answer = ⊥
 

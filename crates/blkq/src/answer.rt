@@ -4,7 +4,7 @@ ghost use Rattle.blkq.specs.Answer.{IsAnswer};
 ghost use Rattle.blkq.specs.Faults.{IsInside, IsRefusal};
 
 use crate::fault::Fault;
-use blk_script::{parse, run_alone};
+use blk_script::{check, parse, run_alone};
 use std::alloc::Global;
 
 /// What the program answers to `input`, as text: what a run of its script on one thread writes.
@@ -17,5 +17,6 @@ pub(crate) fn answer(alloc: Global, input: &[u8]) -> Result<Vec<u8>, Fault>
     ensures inside { IfErr result IsInside }
 {
     let script = parse(alloc, input)?;
+    check(alloc, &script)?;
     Ok(run_alone(alloc, &script)?)
 }

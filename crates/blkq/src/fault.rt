@@ -4,8 +4,7 @@ ghost use Rattle.blkq.specs.Faults.{number_of, status_of};
 
 use crate::input::InputFault;
 use crate::output::WriteFault;
-use crate::script::Overlap;
-use blk_script::{ParseFault, ScriptFault};
+use blk_script::{Overlap, ParseFault, ScriptFault};
 use thiserror::Error;
 
 /// Why a run answers nothing, or not all of its answer.
@@ -94,6 +93,7 @@ impl From<ScriptFault> for Fault {
         match e {
             ScriptFault::Memory => Fault::Memory,
             ScriptFault::Parse(fault) => Fault::Parse(fault),
+            ScriptFault::Overlap(pair) => Fault::Overlap(pair),
         }
     }
 }

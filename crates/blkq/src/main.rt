@@ -16,7 +16,6 @@ mod input;
 mod laws;
 mod output;
 mod run;
-mod script;
 mod stall;
 #[cfg(test)]
 mod tests;

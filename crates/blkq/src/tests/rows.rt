@@ -173,6 +173,16 @@ pub(super) const REFUSED: &[Row] = &[
         answer: b"line 3: bad hex",
     },
     Row {
+        name: "overlap",
+        script: b"blkq 1\ndisk 8 hw 8\nread 0 4\nread 2 4\nwrite 6 1 ff\nread 6 2\n",
+        answer: b"line 6: overlaps line 5",
+    },
+    Row {
+        name: "refused_set_overlap",
+        script: b"blkq 1\ndisk 8 hw 8\nwrite 6 1 ff\nset max_sectors 9\nread 6 2\n",
+        answer: b"line 5: overlaps line 3",
+    },
+    Row {
         name: "refused_version_2",
         script: b"blkq 2\n",
         answer: b"line 1: no version",
