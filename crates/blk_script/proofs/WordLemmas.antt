@@ -1,8 +1,8 @@
 -- The words of a line, from its front.
 use Rattle.std.proofs.Common.{◌≡◌, ◌∙◌, sym, ap, ℕ, ◌+◌, ◌<◌, ◌≤◌, ◌⊎◌, inl, inr, arith, true, false, List, [], ◌∷◌, length, get_or, take, drop, filter, eqb}
 use Rattle.std.proofs.lemmas.Bool.{cases_lt, false≢true}
-use Rattle.std.proofs.lemmas.List.Splits.{slice_split-cons_yes, slice_split_first, slice_split_none}
-use Rattle.std.proofs.lemmas.List.Sums.{position_or_len_is}
+use Rattle.std.proofs.lemmas.List.Splits.{slice_split-cons_yes, length-slice_split, slice_split_first, slice_split_none}
+use Rattle.std.proofs.lemmas.List.Sums.{position_or_len_is, count_by-le-length, length-filter}
 use Rattle.std.proofs.lemmas.List.{get_or_default, take_all, drop_more, length-take-le}
 use Rattle.std.proofs.lemmas.Bool.Decides.{nat_tests}
 use Rattle.std.proofs.Math.ListN.{drop_of_length-le}
@@ -50,3 +50,9 @@ word-some line n begins full ends =
             | inr begun ↦ false≢true (sym begun ∙ ap (λ i. is_blank (get_or line i 0)) (sym zero) ∙ ends (omega arith))
           ])
     ]
+
+-- a line has at most one word more than bytes
+pub length-words_of-le : (line : List ℕ) → length (words_of line) ≤ length line + 1
+length-words_of-le line =
+    let parts : List (List ℕ) = slice_split is_blank line in
+    omega (arith, length-filter is_not_empty parts, count_by-le-length is_not_empty parts, length-slice_split is_blank line, count_by-le-length is_blank line)

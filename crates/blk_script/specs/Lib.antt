@@ -1,5 +1,6 @@
 pub mod Answer
 pub mod Grammar
+pub mod Integers
 pub mod LineAnswers
 pub mod Machine
 pub mod Meaning

@@ -7,17 +7,19 @@ ghost use Rattle.blk_script.specs.LineAnswers.{LineAnswers, Says};
 use crate::fault::{LineFault, Why};
 use crate::line::What;
 use crate::mode::Mode;
-use crate::number::{number_in, pattern_of};
-use crate::words::Words;
+use crate::numbers::{number_in, pattern_of};
+use crate::word_list::Words;
 use std::alloc::Global;
 
-fn is_word(word: &[u8], text: &str) -> bool
+/// Whether a word is this text.
+pub fn is_word(word: &[u8], text: &str) -> bool
     ensures { result ≡ bytes_eq word.now text.now }
 {
     word == text.as_bytes()
 }
 
-fn no_words(mut words: Words<'_>) -> Result<(), Why>
+/// Tests that no words are left: else `ExtraWord`.
+pub fn no_words(mut words: Words<'_>) -> Result<(), Why>
     ensures { Says (λ _. true) result (no_words words.entry) }
 {
     match words.next() {
@@ -26,7 +28,8 @@ fn no_words(mut words: Words<'_>) -> Result<(), Why>
     }
 }
 
-fn one_word<'a>(mut words: Words<'a>) -> Result<&'a [u8], Why>
+/// The one word that is left. `MissingWord` where there is none, `ExtraWord` where there are more.
+pub fn one_word<'a>(mut words: Words<'a>) -> Result<&'a [u8], Why>
     ensures { Says (λ word. word.now) result (one_word words.entry) }
 {
     let word = words.next().ok_or(Why::MissingWord)?;
@@ -34,7 +37,8 @@ fn one_word<'a>(mut words: Words<'a>) -> Result<&'a [u8], Why>
     Ok(word)
 }
 
-fn two_words<'a>(mut words: Words<'a>) -> Result<(&'a [u8], &'a [u8]), Why>
+/// The two words that are left. `MissingWord` where there are fewer, `ExtraWord` where there are more.
+pub fn two_words<'a>(mut words: Words<'a>) -> Result<(&'a [u8], &'a [u8]), Why>
     ensures { Says (λ word. (word.0.now, word.1.now)) result (two_words words.entry) }
 {
     let first = words.next().ok_or(Why::MissingWord)?;

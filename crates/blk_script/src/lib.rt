@@ -15,7 +15,7 @@ mod line;
 mod lines;
 mod machine;
 mod mode;
-mod number;
+mod numbers;
 mod overlap_laws;
 #[cfg(test)]
 mod overlap_tests;
@@ -27,23 +27,29 @@ mod request;
 mod run;
 mod script;
 mod span;
+mod splitting;
 mod standing;
 mod statements;
 mod touched;
-mod words;
+mod word_list;
 
 pub use checking::check;
 pub use fault::{Overlap, ParseFault, ScriptFault, Why};
+pub use grammar::{is_word, no_words, one_word, two_words};
 pub use laws::one_text;
 pub use line::{Line, What};
 pub use mode::Mode;
+pub use numbers::number;
 pub use overlap_laws::one_first_overlap;
-pub use parser::{LONGEST_TEXT, parse};
+pub use parser::{LONGEST_TEXT, at_line, parse};
 pub use pattern::Pattern;
 pub use rendering::{render, render_disk};
 pub use reply::{ByteRuns, PieceLengths, Reply, Stat};
 pub use run::run_alone;
 pub use script::Script;
+pub use splitting::words;
+pub use statements::Statements;
+pub use word_list::Words;
 
 #[cfg(test)]
 mod tests;

@@ -6,11 +6,12 @@ ghost use Rattle.blk_script.specs.Statements.{statements, says_nothing};
 
 use crate::fault::Why;
 use crate::lines::Lines;
-use crate::words::Words;
+use crate::word_list::Words;
 
-/// The lines of a text that say something and are left, and the number of lines before them.
+/// The lines of a text that say something and are left, and the number of lines before them. What says
+/// nothing is a line without words, and one whose first word begins with `#`; both are skipped.
 #[derive(Drop)]
-pub(crate) struct Statements<'a> {
+pub struct Statements<'a> {
     lines: Lines<'a>,
     before: u32,
     ghost few: { before + length lines + 1 < 2 ^ 32 },
@@ -33,7 +34,8 @@ fn says_nothing(line: &[u8]) -> bool
 }
 
 impl<'a> Statements<'a> {
-    pub(crate) fn new(text: &'a [u8]) -> Self
+    /// The lines of `text`, none of them taken yet.
+    pub fn new(text: &'a [u8]) -> Self
         requires { length text.now ≤ 1048576 }
         ensures lines { result.lines ≡ lines_of text.now }
         ensures before { result.before ≡ 0 }
@@ -44,15 +46,16 @@ impl<'a> Statements<'a> {
         }
     }
 
-    /// How many lines were taken.
-    pub(crate) fn before(&self) -> u32
+    /// How many lines were taken, those that say nothing included; after the last, all of them.
+    pub fn before(&self) -> u32
         ensures { result ≡ self.now.before }
     {
         self.before
     }
 
-    /// The next line that says something: its number, and its words or why it has none.
-    pub(crate) fn next(&mut self) -> Option<(u32, Result<Words<'a>, Why>)>
+    /// The next line that says something: its number, from 1, and its words; `NotUtf8` in place of these
+    /// where the line is no text, and such a line isn't skipped, whatever stands on it. `None` at the end.
+    pub fn next(&mut self) -> Option<(u32, Result<Words<'a>, Why>)>
         ensures all { self.new.before + length self.new.lines ≡ self.old.before + length self.old.lines }
         ensures next { MatchOption result
             (statements (self.old.before + 1) self.old.lines ≡ [])

@@ -2,6 +2,8 @@
 pub mod Answering
 pub mod Cutting
 pub mod Ending
+pub mod Scheduling
 pub mod Sending
+pub mod Showing
 pub mod Taking
 pub mod Wording

@@ -1,5 +1,5 @@
 -- What the words after the program's name ask for.
-use Rattle.std.specs.Prelude.{◌≡◌, ℕ, ◌≤◌, List, [], ◌∷◌, length, codes}
+use Rattle.std.specs.Prelude.{◌≡◌, ◌⊎◌, ℕ, ◌≤◌, List, [], ◌∷◌, length, codes}
 use Rattle.std.specs.Str.Parse.{IsNumeral, digits_value}
 use Rattle.blkq.specs.Sizes.{Sizes, AreWithin}
 
@@ -26,3 +26,7 @@ AsksSomeRun words = (sizes : Sizes) × AsksRun words sizes
 abbrev pub AsksReplay : List (List ℕ) → Type 0
 AsksReplay (word ∷ []) = word ≡ codes "replay"
 AsksReplay words = ⊥
+
+-- a run or a replay
+abbrev pub AsksSomething : List (List ℕ) → Type 0
+AsksSomething words = AsksSomeRun words ⊎ AsksReplay words

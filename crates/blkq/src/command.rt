@@ -1,16 +1,19 @@
 //! The program, over any reader and writers.
-ghost use Rattle.std.specs.Prelude.{◌≡◌, ◌⊎◌, [], ◌∷◌, map, string_bytes, Contains, IfSome};
+ghost use Rattle.std.specs.Prelude.{◌≡◌, ◌⊎◌, [], ◌∷◌, map, string_bytes, Contains, IfSome, IsErr};
 ghost use Rattle.std.specs.Io.KnownBytes.{Appends, Keeps};
 ghost use Rattle.blkq.specs.Answer.{IsAnsweredBy, IsRefusedBy};
 ghost use Rattle.blkq.specs.Counted.{inner_of};
 ghost use Rattle.blkq.specs.Faults.{status_of};
-ghost use Rattle.blkq.specs.Requests.{AsksSomeRun};
+ghost use Rattle.blkq.specs.Requests.{AsksReplay, AsksSomeRun, AsksSomething};
+ghost use Rattle.blkq.specs.Shown.{EndsSo, shown_by};
 ghost use Rattle.blkq.specs.Taken.{TakesUpTo};
 
 use crate::arguments::{Request, requested};
 use crate::config::Config;
 use crate::counted::Counted;
 use crate::fault::Fault;
+use crate::replay_report::replay_reported;
+use crate::replayed::Replayed;
 use crate::run::run_bytes;
 use crate::stall::NoStall;
 use std::alloc::Global;
@@ -52,9 +55,10 @@ fn run_reported<R: Read, W: Write, E: Write>(
 
 /// Does what `args`, the words after the program's name, ask for, and tells the program's status: 0 where the
 /// answer to what `reader` has went out to `writer`. Any other status comes with a line to `errors`: 2 where
-/// the input is no script, 3 where requests of it overlap, and 4 where reading, writing, memory or the start
-/// of a thread was refused, or the words ask for nothing that there is. The words are looked at before
-/// anything is read. Where `errors` fails, the line is lost and the status stays.
+/// the input is no script or no schedule, 3 where requests of a script overlap, and 4 where reading, writing,
+/// memory or the start of a thread was refused, or the words ask for nothing that there is. Only a replay that
+/// ends at a step that isn't enabled has status 3 without such a line: its answer went out, and says so. The
+/// words are looked at before anything is read. Where `errors` fails, the line is lost and the status stays.
 pub fn command<R: Read, W: Write, E: Write>(
     rt: &impl Wait,
     alloc: Global,
@@ -65,25 +69,38 @@ pub fn command<R: Read, W: Write, E: Write>(
 ) -> u8
     ensures statuses { Contains (0 ∷ 2 ∷ 3 ∷ 4 ∷ []) result }
 
-    // The input's answer is a text, and exactly that text was written.
-    ensures success { result ≡ 0 → IfSome (R.remaining (inner_of reader.old)) (λ input. IsAnsweredBy input
+    // The script's answer is a text, and exactly that text was written.
+    ensures success { AsksSomeRun (map string_bytes args.now) → result ≡ 0 → IfSome (R.remaining (inner_of reader.old)) (λ input. IsAnsweredBy input
         (Appends (W.contents (inner_of writer.old)) (W.contents (inner_of writer.new)))) }
 
-    // The input is refused for a fault of that status, and nothing was written.
-    ensures refused { (result ≡ 2) ⊎ (result ≡ 3) → IfSome (R.remaining (inner_of reader.old))
+    // The script is refused for a fault of that status, and nothing was written.
+    ensures refused { AsksSomeRun (map string_bytes args.now) → (result ≡ 2) ⊎ (result ≡ 3) → IfSome (R.remaining (inner_of reader.old))
         (λ input. IsRefusedBy input (λ fault. status_of fault ≡ result)) }
-    ensures untouched { (result ≡ 2) ⊎ (result ≡ 3) → Keeps (W.contents (inner_of writer.old)) (W.contents (inner_of writer.new)) }
+    ensures untouched { AsksSomeRun (map string_bytes args.now) → (result ≡ 2) ⊎ (result ≡ 3)
+        → Keeps (W.contents (inner_of writer.old)) (W.contents (inner_of writer.new)) }
 
-    // Where the words ask for no run, nothing is read and nothing is written.
-    ensures usage { ¬ (AsksSomeRun (map string_bytes args.now)) → result ≡ 4 }
-    ensures unread { ¬ (AsksSomeRun (map string_bytes args.now)) → reader.new ≡ reader.old }
-    ensures unwritten { ¬ (AsksSomeRun (map string_bytes args.now)) → writer.new ≡ writer.old }
+    // Exactly what the schedule's replay shows was written, and the status tells how it ends.
+    ensures whole { AsksReplay (map string_bytes args.now) → result ≡ 0 → IfSome (R.remaining (inner_of reader.old)) (λ input. EndsSo input Replayed.Whole
+        (Appends (W.contents (inner_of writer.old)) (W.contents (inner_of writer.new)))) }
+    ensures stuck { AsksReplay (map string_bytes args.now) → result ≡ 3 → IfSome (R.remaining (inner_of reader.old)) (λ input. EndsSo input Replayed.Stuck
+        (Appends (W.contents (inner_of writer.old)) (W.contents (inner_of writer.new)))) }
+
+    // The input is refused as a schedule, and nothing was written.
+    ensures no_schedule { AsksReplay (map string_bytes args.now) → result ≡ 2 → IfSome (R.remaining (inner_of reader.old)) (λ input. IsErr (shown_by input)) }
+    ensures unshown { AsksReplay (map string_bytes args.now) → result ≡ 2
+        → Keeps (W.contents (inner_of writer.old)) (W.contents (inner_of writer.new)) }
+
+    // Where the words ask for neither, nothing is read and nothing is written.
+    ensures usage { ¬ (AsksSomething (map string_bytes args.now)) → result ≡ 4 }
+    ensures unread { ¬ (AsksSomething (map string_bytes args.now)) → reader.new ≡ reader.old }
+    ensures unwritten { ¬ (AsksSomething (map string_bytes args.now)) → writer.new ≡ writer.old }
 
     ensures taken { TakesUpTo (R.remaining (inner_of reader.old)) (R.remaining (inner_of reader.new)) 1048577 }
 {
     match requested(args) {
         Request::Run(config) => run_reported(rt, alloc, config, reader, writer, errors),
-        Request::Replay | Request::Usage => {
+        Request::Replay => replay_reported(alloc, reader, writer, errors),
+        Request::Usage => {
             let _ = errors.writeln(USAGE);
             NOT_RUN
         }

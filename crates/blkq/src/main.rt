@@ -11,14 +11,26 @@ mod arguments;
 mod command;
 mod config;
 mod counted;
+mod event_line;
 mod fault;
 mod input;
 mod laws;
 mod output;
+mod replay_report;
+mod replay_run;
+#[cfg(test)]
+mod replay_tests;
+mod replay_text;
+mod replayed;
+mod replaying;
 mod run;
+mod schedule;
+mod schedule_numbers;
+mod schedule_parser;
 mod stall;
 #[cfg(test)]
 mod tests;
+mod world_line;
 
 use command::{command, refuse_words};
 use counted::Counted;

@@ -84,14 +84,7 @@ fn words(alloc: Global, line: &str) -> Result<Vec<String>, AllocError> {
 
 #[test]
 fn tells_how_it_is_called(rt: HostRuntime) -> Result<(), Fail> {
-    for line in [
-        "",
-        "replay",
-        "run 33 1 1",
-        "run 1 1",
-        "run x 1 1",
-        "run 1 1 1 1",
-    ] {
+    for line in ["", "run 33 1 1", "run 1 1", "run x 1 1", "run 1 1 1 1"] {
         let args = words(rt.alloc(), line)?;
         let mut feed = Feed::of(INPUT);
         let (mut out, mut errors) = (

@@ -1,0 +1,147 @@
+-- A step of a pass keeps the laws where what it changes in its own view matches what it changes in the shared word.
+use Rattle.std.proofs.Common.{◌≡◌, ℕ, ◌+◌, ◌<◌, ◌≤◌, ◌⊎◌, ⊎_elim, true, false, List, set, refl, arith, ap, sym, ◌∙◌}
+use Rattle.std.proofs.Math.ListN.{length-set}
+use Rattle.std.proofs.lemmas.Bool.Decides.{nat_tests}
+use mathlib.Core.Option.{some}
+use lib.ListN.{get_elem?}
+use Rattle.percpu_core.specs.declared.phase.Phase.{Phase}
+use Rattle.percpu_core.specs.declared.phase.Phase.TheVariants.{LiveSlots, LiveAtomic, Closing, Collected, Confirmed, Dead, Reviving, Fronted, Opening}
+use Rattle.percpu_core.specs.declared.view.PassView.{PassView}
+use Rattle.percpu_core.specs.declared.view.ControlView.{ControlView}
+use Rattle.percpu_core.specs.declared.view.View.{View}
+use Rattle.percpu_core.specs.declared.view.View.TheVariants.{OfPass}
+use Rattle.percpu_words.specs.SharedWord.{SharedWord}
+use Rattle.percpu_core.specs.Cells.{Cells, is_dead_alone}
+use Rattle.percpu_core.specs.Phases.{holds_base, may_be_zero, is_coming_back, has_bias}
+use Rattle.percpu_core.specs.Views.{count, to_undo, to_mark, held_by_all, additions_to_undo, zeros_to_mark, releases_of_passes, passes_left}
+use Rattle.percpu_core.specs.GuardLaw.{AreNow}
+use Rattle.percpu_core.specs.SumLaw.{SumLaw}
+use Rattle.percpu_core.specs.ZeroLaw.{ZeroLaw}
+use Rattle.percpu_core.specs.MarkLaw.{MarkLaw}
+use Rattle.percpu_core.specs.ReleaseLaw.{Origin, ReleaseLaw}
+use Rattle.percpu_core.specs.LimitLaw.{most_held}
+use Rattle.percpu_core.specs.Laws.{Laws}
+use Rattle.percpu_core.proofs.Passes.{over_passes-set, over_passes-at, EachPass-set}
+use Rattle.percpu_core.proofs.Counting.{balance, value-least}
+
+-- what a step of a pass may do, as far as its own view and the shared word tell
+pub record PassChange (cells : Cells) (c : ControlView) (p : PassView) (s : SharedWord) (w : PassView) : Type 0 where
+  pub sum : s.value + (p.standing.held + to_undo p.standing.pending) ≡ cells.shared.value + (w.standing.held + to_undo w.standing.pending)
+  pub dead : s.dead ≡ cells.shared.dead
+  -- ZERO stays as it is and then nothing may come to be held, or it is set on DEAD alone and that is a release
+  pub zero : ((s.zero ≡ cells.shared.zero) × (w.releases ≡ p.releases) × (cells.shared.zero ≡ true → w.standing.held ≤ p.standing.held))
+      ⊎ ((s.zero ≡ true) × (is_dead_alone cells.shared ≡ true) × (w.releases ≡ p.releases + 1) × (w.standing.held ≡ p.standing.held))
+  pub mark : is_dead_alone s ≡ true → (to_mark w.standing.pending ≡ 1) ⊎ ((is_dead_alone cells.shared ≡ true) × (to_mark p.standing.pending ≤ to_mark w.standing.pending))
+  pub read : 0 < w.standing.held → AreNow cells.words w.read
+  pub floor : w.floor ≤ cells.front
+  pub seen_front : w.seen_front ≤ w.floor
+  pub room : w.standing.held ≤ most_held
+  pub found_dead : w.found_dead ≡ true → 1 ≤ c.revivals + count cells.shared.dead
+  pub found_zero : w.found_zero ≡ true → 1 ≤ c.zeros_cleared + count cells.shared.zero
+
+pub alone : (s : SharedWord) → is_dead_alone s ≡ true → (s.zero ≡ false) × (s.dead ≡ true) × (s.value ≡ 0)
+alone s h = grind (arith, nat_tests)
+
+pub out : (phase : Phase) → count (holds_base phase) ≡ 0 → (may_be_zero phase ≡ true) × (is_coming_back phase ≡ false) × (has_bias phase ≡ false)
+out LiveSlots h = absurd (omega arith)
+out LiveAtomic h = absurd (omega arith)
+out (Closing i) h = absurd (omega arith)
+out Collected h = absurd (omega arith)
+out Confirmed h = absurd (omega arith)
+out Dead h = (refl, refl, refl)
+out Reviving h = absurd (omega arith)
+out Fronted h = absurd (omega arith)
+out (Opening i) h = absurd (omega arith)
+
+module _ (o : Origin) (cells : Cells) (c : ControlView) (vs : List View) (l : Laws o cells c vs) where
+  -- where the shared word is DEAD alone the initial reference is out and nothing is held
+  pub alone_is_out : is_dead_alone cells.shared ≡ true → (may_be_zero c.standing.phase ≡ true) × (is_coming_back c.standing.phase ≡ false) × (has_bias c.standing.phase ≡ false)
+  alone_is_out h = let none = (alone cells.shared h).2 in let least = value-least o cells c vs l in out c.standing.phase (omega arith)
+
+  pub alone_is_unheld : is_dead_alone cells.shared ≡ true → held_by_all vs ≡ 0
+  alone_is_unheld h = let none = (alone cells.shared h).2 in let least = value-least o cells c vs l in omega arith
+
+  module _ (i : ℕ) (p w : PassView) (s : SharedWord) (at : get_elem? vs i ≡ some (OfPass p)) (g : PassChange cells c p s w) where
+    abbrev vs' : List View
+    vs' = set vs i (OfPass w)
+
+    abbrev cells' : Cells
+    cells' = record cells { shared = s }
+
+    held : held_by_all vs' + p.standing.held ≡ held_by_all vs + w.standing.held
+    held = over_passes-set (λ p. p.standing.held) vs i (OfPass p) (OfPass w) at
+
+    undo : additions_to_undo vs' + to_undo p.standing.pending ≡ additions_to_undo vs + to_undo w.standing.pending
+    undo = over_passes-set (λ p. to_undo p.standing.pending) vs i (OfPass p) (OfPass w) at
+
+    marks : zeros_to_mark vs' + to_mark p.standing.pending ≡ zeros_to_mark vs + to_mark w.standing.pending
+    marks = over_passes-set (λ p. to_mark p.standing.pending) vs i (OfPass p) (OfPass w) at
+
+    won : releases_of_passes vs' + p.releases ≡ releases_of_passes vs + w.releases
+    won = over_passes-set (λ p. p.releases) vs i (OfPass p) (OfPass w) at
+
+    left : passes_left vs' ≡ passes_left vs
+    left = let e = over_passes-set (λ p. 1) vs i (OfPass p) (OfPass w) at in omega arith
+
+    sum : SumLaw cells' c vs'
+    sum = let base : ℕ = count (holds_base c.standing.phase) in let h = held in let u = undo in let e = g.sum in
+        balance cells.shared.value s.value (base + held_by_all vs + additions_to_undo vs) (base + held_by_all vs' + additions_to_undo vs') _ _ _ l.sum (omega arith)
+
+    zero : ZeroLaw cells' c vs'
+    zero = ⊎_elim
+        (λ same. record {
+          after_drop = λ z. l.zero.after_drop (sym same.0 ∙ z);
+          nothing_held = λ z. let z' : cells.shared.zero ≡ true = sym same.0 ∙ z in let none = l.zero.nothing_held z' in let less = same.2 z' in let h = held in omega arith;
+          known = λ k. same.0 ∙ l.zero.known k;
+          settled = λ k. l.zero.settled k ∙ sym same.0;
+        })
+        (λ new. let is_out = alone_is_out new.1 in record {
+          after_drop = λ z. is_out.0;
+          nothing_held = λ z. let none = alone_is_unheld new.1 in let h = held in let same = new.3 in omega arith;
+          known = λ k. new.0;
+          settled = λ k. let no = is_out.1 in cc;
+        }) g.zero
+
+    mark : MarkLaw cells' c vs'
+    mark h = ⊎_elim (λ mine. let m = marks in let most = over_passes-at (λ p. to_mark p.standing.pending) vs i (OfPass p) at in omega arith)
+        (λ still. let m = marks in let some_seat = l.mark still.0 in omega arith) (g.mark h)
+
+    zeros : count cells.shared.zero ≤ count s.zero
+    zeros = ⊎_elim (λ same. let e = ap count same.0 in omega arith) (λ new. let e = ap count new.0 in let f = ap count (alone cells.shared new.1).0 in omega arith) g.zero
+
+    releases : c.releases + releases_of_passes vs' + count o.dead ≡ c.zeros_cleared + count s.zero
+    releases = let before = l.release.releases in let m = won in
+        ⊎_elim (λ same. let e = ap count same.0 in let f = same.1 in omega arith) (λ new. let e = ap count new.0 in let f = ap count (alone cells.shared new.1).0 in let r = new.2 in omega arith) g.zero
+
+    release : ReleaseLaw o cells' c vs'
+    release = let same = ap count g.dead in let more = zeros in record {
+      releases = releases;
+      zeros = l.release.zeros;
+      kills = let e = l.release.kills in omega arith;
+      passes = l.release.passes ∙ sym left;
+      found_dead = EachPass-set _ _ (λ q f d. let n = f d in omega arith) vs i (OfPass w) l.release.found_dead (λ d. let n = g.found_dead d in omega arith);
+      found_zero = EachPass-set _ _ (λ q f d. let n = f d in omega arith) vs i (OfPass w) l.release.found_zero (λ d. let n = g.found_zero d in omega arith);
+      control_found_dead = λ d. let n = l.release.control_found_dead d in omega arith;
+      control_found_zero = λ d. let n = l.release.control_found_zero d in omega arith;
+    }
+
+    pub pass_keeps : Laws o cells' c vs'
+    pass_keeps = record {
+      sum = sum;
+      phase = record { slots = l.phase.slots; closed = l.phase.closed; dead = g.dead ∙ l.phase.dead; killing = l.phase.killing };
+      zero = zero;
+      mark = mark;
+      guard = record { passes = EachPass-set _ _ (λ q h. h) vs i (OfPass w) l.guard.passes g.read; known = l.guard.known };
+      front = record { parity = l.front.parity; known = l.front.known; floors = EachPass-set _ _ (λ q h. h) vs i (OfPass w) l.front.floors (g.floor, g.seen_front) };
+      release = release;
+      limit = record {
+        passes = let e = length-set vs i (OfPass w) in let h = l.limit.passes in omega arith;
+        held = EachPass-set _ _ (λ q h. h) vs i (OfPass w) l.limit.held g.room;
+        slots = l.limit.slots;
+        deltas = l.limit.deltas;
+        uncollected_most = l.limit.uncollected_most;
+        uncollected_least = l.limit.uncollected_least;
+        kills = l.limit.kills;
+        front = l.limit.front;
+      };
+    }

@@ -1,0 +1,41 @@
+-- What holds whichever steps the seats of a gate take, and in whatever order.
+use Rattle.std.specs.Prelude.{◌≡◌, ◌+◌, ◌^◌, ◌<◌, ◌≤◌, false, None, List, sum_by}
+use Rattle.percpu_core.specs.declared.event.Event.{Event}
+use Rattle.percpu_core.specs.declared.reply.Reply.{Reply}
+use Rattle.percpu_core.specs.declared.reply.Reply.TheVariants.{Last}
+use Rattle.percpu_core.specs.Phases.{holds_base}
+use Rattle.percpu_core.specs.Laws.{Laws}
+use Rattle.percpu_core.specs.Machine.{State, refusal, reply, after, won, held_in_all, Run}
+use Rattle.percpu_core.specs.Starts.{Opening, IsWithinLimits, first_state}
+use Rattle.percpu_core.specs.Moments.{moment_after_all, first_moment, origin_of, kept}
+use Rattle.percpu_core.specs.CounterMoves.{counter_of, move_of, MayMove}
+
+-- a run from this start, of enabled events alone, leads to this state. Each state on the way is the last one of a shorter run
+pub record Reaches (o : Opening) (events : List Event) (replies : List Reply) (last : State) : Type 0 where
+  pub within : IsWithinLimits o
+  pub run : Run (first_state o) events replies last
+
+-- all laws hold of the memory and the views to which the events lead, and a world keeps of them what the machine says
+abbrev pub LawsAlways : Type 0
+LawsAlways = (o : Opening) (events : List Event) (replies : List Reply) (last : State) → Reaches o events replies last
+    → let m = moment_after_all (first_moment o) events in Laws (origin_of o) m.cells m.control m.others × (kept m ≡ last)
+
+-- a release is won only where the initial reference is out and nothing is held
+abbrev pub ReleasedAtZero : Type 0
+ReleasedAtZero = (o : Opening) (events : List Event) (replies : List Reply) (last : State) (e : Event) → Reaches o events replies last → refusal last e ≡ None
+    → reply last e ≡ Last → (holds_base last.control.phase ≡ false) × (held_in_all last ≡ 0)
+
+-- a release is won at most once for each kill: the replies have no more releases than there were kills since the start
+abbrev pub ReleasedOncePerKill : Type 0
+ReleasedOncePerKill = (o : Opening) (events : List Event) (replies : List Reply) (last : State) → Reaches o events replies last
+    → sum_by won replies + o.kills ≤ last.control.kills
+
+-- each enabled event is a move of the plain counter, the one of the list, or changes none of its four facts
+abbrev pub MovesOfTheCounter : Type 0
+MovesOfTheCounter = (o : Opening) (events : List Event) (replies : List Reply) (last : State) (e : Event) → Reaches o events replies last → refusal last e ≡ None
+    → MayMove (counter_of last) (move_of e (reply last e)) (counter_of (after last e))
+
+-- the shared value stays below 2 ^ 49, the front below 2 ^ 42, and the releases are at most 2 ^ 40
+abbrev pub NumbersStaySmall : Type 0
+NumbersStaySmall = (o : Opening) (events : List Event) (replies : List Reply) (last : State) → Reaches o events replies last
+    → (last.cells.shared.value < 2 ^ 49) × (last.cells.front < 2 ^ 42) × (last.releases ≤ 2 ^ 40)

@@ -1,0 +1,44 @@
+-- What a pass knows after each of its steps.
+use Rattle.std.specs.Prelude.{ℕ, ◌+◌, ◌%◌, ◌==◌, Bool, true, false, ◌||◌, ◌&&◌, if◌then◌else◌, List, [], ◌∷◌, slice_index}
+use Rattle.percpu_core.specs.declared.pass_event.PassEvent.{PassEvent}
+use Rattle.percpu_core.specs.declared.pass_event.PassEvent.TheVariants.{AddTry, AddLive, LookShared, LoadFront, LoadWord}
+use Rattle.percpu_core.specs.declared.view.WordRead.{WordRead}
+use Rattle.percpu_core.specs.declared.view.PassView.{PassView}
+use Rattle.percpu_core.specs.Cells.{Cells}
+use Rattle.percpu_core.specs.PassSteps.{pass_reply, standing_after}
+use Rattle.percpu_core.specs.Machine.{won}
+
+-- a pass looks for marks where it asks for them or tries, not where it only counts
+abbrev pub looks_for_marks : PassEvent → Bool
+looks_for_marks AddTry = true
+looks_for_marks AddLive = true
+looks_for_marks LookShared = true
+looks_for_marks _ = false
+
+-- an answer Given begins the reading anew where nothing was held
+abbrev pub read_after : PassEvent → Cells → PassView → List WordRead
+read_after AddTry cells p = if p.standing.held == 0 then [] else p.read
+read_after AddLive cells p = if p.standing.held == 0 then [] else p.read
+read_after (LoadWord k) cells p = record { word = k; value = slice_index cells.words k } ∷ p.read
+read_after _ cells p = p.read
+
+abbrev pub seen_front_after : PassEvent → Cells → PassView → ℕ
+seen_front_after LoadFront cells p = cells.front
+seen_front_after _ cells p = p.seen_front
+
+-- while DEAD is clear the front is even, so a try that finds it clear is made at an even front
+abbrev pub floor_after : PassEvent → Cells → PassView → ℕ
+floor_after LoadFront cells p = cells.front
+floor_after AddLive cells p = if cells.shared.dead then p.floor else p.floor + p.floor % 2
+floor_after _ cells p = p.floor
+
+abbrev pub pass_view_after : PassEvent → Cells → PassView → PassView
+pass_view_after e cells p = record {
+  standing = standing_after e (pass_reply e cells) p.standing;
+  read = read_after e cells p;
+  seen_front = seen_front_after e cells p;
+  floor = floor_after e cells p;
+  releases = p.releases + won (pass_reply e cells);
+  found_dead = p.found_dead || (looks_for_marks e && cells.shared.dead);
+  found_zero = p.found_zero || (looks_for_marks e && cells.shared.zero);
+}

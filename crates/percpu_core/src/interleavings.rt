@@ -1,0 +1,41 @@
+//! What holds whichever steps the seats take, and in whatever order. The functions do nothing: each
+//! stands for the law in its contract.
+ghost use Rattle.percpu_core.specs.SeatLaws.{PassStepsKeepLaws, ControlStepsKeepLaws, KnownZeroIsSet, JoiningKeepsLaws, SplittingKeepsLaws, OpeningIsLawful};
+ghost use Rattle.percpu_core.specs.Interleavings.{LawsAlways, ReleasedAtZero, ReleasedOncePerKill, MovesOfTheCounter, NumbersStaySmall};
+
+/// Each step of a seat, enabled by the view of that seat alone, keeps the laws of all memory and all
+/// views; so do the split of a new pass and the taking in of one, and a gate begins with them.
+pub fn each_step_keeps_the_laws()
+    ensures opening { OpeningIsLawful }
+    ensures splitting { SplittingKeepsLaws }
+    ensures passes { PassStepsKeepLaws }
+    ensures control { ControlStepsKeepLaws }
+    ensures known_zero { KnownZeroIsSet }
+    ensures joining { JoiningKeepsLaws }
+{}
+
+/// Every interleaving: after every run from every start the laws hold of the memory and of what the
+/// seats know, and a world keeps of it what the machine says.
+#[tactic(auto, using(crate::proofs::EveryRun::laws_always))]
+pub fn every_interleaving()
+    ensures { LawsAlways }
+{}
+
+/// A release is won only where the initial reference is out and nothing is held, and at most once for
+/// each kill.
+pub fn a_release_is_the_last()
+    ensures at_zero { ReleasedAtZero }
+    ensures once { ReleasedOncePerKill }
+{}
+
+/// Each enabled event is a move of the plain counter, or changes none of its facts.
+#[tactic(auto, using(crate::proofs::EveryRun::moves_of_the_counter))]
+pub fn events_are_moves()
+    ensures { MovesOfTheCounter }
+{}
+
+/// Nothing overflows.
+#[tactic(auto, using(crate::proofs::EveryRun::numbers_stay_small))]
+pub fn numbers_stay_small()
+    ensures { NumbersStaySmall }
+{}

@@ -1,0 +1,57 @@
+//! A gate as a pure machine of atomic steps, and the laws that hold between any two of them.
+//!
+//! A *gate* counts references to something that can be shut, as Linux's `percpu_ref` does
+//! (lib/percpu-refcount.c). Its life, told as the life of one counter:
+//!
+//! - **Live.** Passes take and drop references on the shared word. One reference more, the initial one,
+//!   belongs to the gate itself, so the count can't reach zero.
+//! - **Killed.** The control sets DEAD, and a try for a live gate is refused from then on. It stores the
+//!   odd front, by which everyone can see that the kill is complete, and drops the initial reference.
+//! - **Zero.** Whoever subtracts to DEAD alone marks ZERO by an exchange. Who wins it is the release:
+//!   everything was put, and it comes at most once for each kill. Now guarded words may be stored.
+//! - **Revived.** The control takes the initial reference back, stores the even front, and clears both
+//!   marks.
+//!
+//! A [`World`] is a gate as a value: `step` takes one atomic step of one seat, or says why it can't be
+//! taken; `replay` takes a list of them. What holds of every world, whatever its seats do and in
+//! whatever order, stands in the contracts of `interleavings`. Slots aren't opened yet: every count is
+//! on the shared word.
+#![tactic(auto)]
+
+mod control_event;
+mod control_standing;
+mod event;
+mod interleavings;
+mod memory;
+mod not_enabled;
+mod pass_event;
+mod pass_standing;
+mod phase;
+mod replay_fault;
+mod reply;
+mod schedule;
+mod shared_word;
+mod start;
+#[cfg(test)]
+mod tests;
+mod view;
+mod world;
+
+pub use control_event::ControlEvent;
+pub use control_standing::ControlStanding;
+pub use event::Event;
+pub use interleavings::{
+    a_release_is_the_last, each_step_keeps_the_laws, events_are_moves, every_interleaving,
+    numbers_stay_small,
+};
+pub use memory::Memory;
+pub use not_enabled::NotEnabled;
+pub use pass_event::PassEvent;
+pub use pass_standing::{PassStanding, Pending};
+pub use phase::Phase;
+pub use replay_fault::ReplayFault;
+pub use reply::Reply;
+pub use schedule::replay;
+pub use start::Start;
+pub use view::{ControlView, PassView, View, WordRead};
+pub use world::World;

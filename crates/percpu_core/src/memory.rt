@@ -1,0 +1,14 @@
+//! Want of memory.
+use std::alloc::AllocError;
+use thiserror::Error;
+
+/// A growth was refused.
+#[derive(Clone, Copy, Debug, PartialEq, Eq, Error)]
+#[error("memory")]
+pub struct Memory;
+
+impl From<AllocError> for Memory {
+    fn from(_refused: AllocError) -> Memory {
+        Memory
+    }
+}

@@ -1,0 +1,2 @@
+pub mod SharedWord
+pub mod Words

@@ -1,0 +1,23 @@
+-- The shared word of a gate by its parts, and the one number that spells them.
+use Rattle.std.specs.Prelude.{ℕ, ◌+◌, ◌%◌, ◌^◌, Bool, nat_le, if◌then◌else◌}
+
+-- two marks and a count
+pub record SharedWord : Type 0 where
+  pub zero : Bool
+  pub dead : Bool
+  pub value : ℕ
+
+-- the marks ZERO and DEAD are bits 63 and 62
+abbrev pub zero_mark : ℕ
+zero_mark = 2 ^ 63
+
+abbrev pub dead_mark : ℕ
+dead_mark = 2 ^ 62
+
+-- the number that spells a word whose value is below 2 ^ 62
+abbrev pub spelling : SharedWord → ℕ
+spelling s = (if s.zero then zero_mark else 0) + (if s.dead then dead_mark else 0) + s.value
+
+-- the parts that a number below 2 ^ 64 spells
+abbrev pub parts : ℕ → SharedWord
+parts w = record { zero = nat_le zero_mark w; dead = nat_le dead_mark (w % zero_mark); value = w % dead_mark }

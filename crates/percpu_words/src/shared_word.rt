@@ -1,0 +1,51 @@
+//! The shared word of a gate: the marks `ZERO` and `DEAD`, and the value.
+ghost use Rattle.std.specs.Prelude.{◌≡◌};
+ghost use Rattle.percpu_words.specs.SharedWord.{parts};
+ghost use Rattle.percpu_words.specs.Words.{PartsOfSpelling, SpellingOfParts, AddingKeepsMarks, SubtractingKeepsMarks, SettingDead, ClearingMarks};
+
+/// The mark of a gate whose count has reached zero.
+pub const ZERO: u64 = 1 << 63;
+
+/// The mark of a gate that was killed. Linux: `__PERCPU_REF_DEAD` (include/linux/percpu-refcount.h).
+pub const DEAD: u64 = 1 << 62;
+
+/// Whether the word has the mark `ZERO`.
+pub fn is_zero(word: u64) -> bool
+    ensures { result ≡ (parts word).zero }
+{
+    word & ZERO != 0
+}
+
+/// Whether the word has the mark `DEAD`.
+pub fn is_dead(word: u64) -> bool
+    ensures { result ≡ (parts word).dead }
+{
+    word & DEAD != 0
+}
+
+/// The count in the word, with whatever bias is in it.
+pub fn value(word: u64) -> u64
+    ensures { result ≡ (parts word).value }
+{
+    word & (DEAD - 1)
+}
+
+/// The marks and the value determine the word, and the word them.
+pub fn shared_word_is_its_parts()
+    ensures parts_of_spelling { PartsOfSpelling }
+    ensures spelling_of_parts { SpellingOfParts }
+{}
+
+/// A step that adds to the value or subtracts from it changes neither mark.
+#[tactic(auto, using(crate::proofs::SharedWordSteps::adding, crate::proofs::SharedWordSteps::subtracting))]
+pub fn counting_keeps_the_marks()
+    ensures adding { AddingKeepsMarks }
+    ensures subtracting { SubtractingKeepsMarks }
+{}
+
+/// A step that sets or clears marks leaves the value.
+#[tactic(auto, using(crate::proofs::SharedWordSteps::setting_dead, crate::proofs::SharedWordSteps::clearing_marks))]
+pub fn marking_keeps_the_value()
+    ensures setting { SettingDead }
+    ensures clearing { ClearingMarks }
+{}
