@@ -1,4 +1,5 @@
 -- Lemmas over plain lists and numbers.
+pub mod Bitmaps
 pub mod Disks
 pub mod Fronts
 pub mod Joins
@@ -7,6 +8,6 @@ pub mod OneText
 pub mod Overlaps
 pub mod PartnerLemmas
 pub mod Replies
+pub mod Rounds
 pub mod SpanLemmas
-pub mod Stamps
 pub mod WordLemmas

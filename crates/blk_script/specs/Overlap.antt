@@ -23,15 +23,17 @@ request_of what = None
 abbrev pub accepted : State → What → Option Request
 accepted s what = if is_none (settled_reply s what) then request_of what else None
 
--- the reply tells a depth, says that a setting was taken, or is another than that of a removed queue
+-- whether a reply tells a depth
 abbrev pub tells_depth : Option Reply → Bool
 tells_depth (Some (Depth depth)) = true
 tells_depth reply = false
 
+-- whether it says that a setting was taken
 abbrev pub is_done : Option Reply → Bool
 is_done (Some Done) = true
 is_done reply = false
 
+-- whether it is another than that of a removed queue
 abbrev pub is_of_a_queue : Option Reply → Bool
 is_of_a_queue (Some Gone) = false
 is_of_a_queue reply = true

@@ -8,6 +8,7 @@
 #![tactic(auto)]
 
 mod checking;
+mod clearable;
 mod fault;
 mod grammar;
 mod laws;

@@ -1,6 +1,5 @@
 //! The sectors that the accepted requests of a span read and write.
-ghost use Rattle.std.specs.Prelude.{◌≡◌, ◌+◌, ◌≤◌, IfOk, length, ℕ, true, false, ◌||◌, MatchBool};
-ghost use Rattle.blk_script.specs.Span.{is_touched, IsClear, Adds};
+ghost use Rattle.std.specs.Prelude.{◌+◌, ◌≤◌, ℕ, length, IfOk, MatchBool};
 
 use crate::request::Request;
 use crate::touched::Touched;

@@ -1,26 +1,54 @@
 //! The sectors that were touched since the last drain.
-ghost use Rattle.std.specs.Prelude.{◌≡◌, ◌+◌, ◌≤◌, length, IfOk, MatchBool};
+ghost use Rattle.std.specs.Prelude.{◌≡◌, ◌+◌, ◌-◌, ◌≤◌, ◌^◌, length, min, IfOk, MatchBool};
 ghost use Rattle.blk_script.specs.Span.{Adds, IsClear, TouchesNone, TouchesOne};
 
+use crate::clearable::ClearableWords;
 use std::alloc::{AllocError, Global};
 use std::marker::Model;
+
+/// The sectors that one word tells of.
+const WORD_SECTORS: usize = 64;
 
 /// The sectors of a disk that were touched since the last drain. Contracts see of each sector whether it was.
 #[derive(Drop)]
 pub(crate) struct Touched {
-    // for each sector the span that touched it last, and the span that is open
-    stamps: Vec<u32>,
-    span: u32,
+    // a bit for each sector, 64 to a word, the least significant first
+    words: ClearableWords,
+    sectors: u32,
 }
 
 impl Model for Touched {
-    ghost use Rattle.std.specs.Prelude.{◌≤◌, ◌<◌, ℕ, Bool, List, length, map, slice_index, ◌==◌};
+    ghost use Rattle.std.specs.Prelude.{◌≤◌, ◌*◌, ◌/◌, ◌%◌, ◌==◌, ℕ, Bool, List, length, map, slice_index};
+    ghost use Rattle.std.specs.Int.{bit_at};
+    ghost use Rattle.std.specs.List.{range_with_len};
 
     ghost Value = { List Bool };
 
-    ghost view = { λ t. map (λ stamp. stamp == t.span) t.stamps.items };
+    ghost view = { λ t. map (λ sector. bit_at (slice_index t.words (sector / 64)) (sector % 64) == 1) (range_with_len 0 t.sectors) };
 
-    ghost invariant = { λ t. (1 ≤ t.span) × ((k : ℕ) → k < length t.stamps.items → slice_index t.stamps.items k ≤ t.span) };
+    ghost invariant = { λ t. t.sectors ≤ 64 * length t.words };
+}
+
+// The lowest bits of a word.
+fn low_ones(count: usize) -> u64
+    requires { count ≤ 64 }
+    ensures { result ≡ 2 ^ count - 1 }
+{
+    if count == WORD_SECTORS {
+        u64::MAX
+    } else {
+        (1 << count) - 1
+    }
+}
+
+// The bits that stand for the sectors from `start` up to `end`, in the word whose first sector is `first`.
+fn mask(start: usize, end: usize, first: usize) -> u64
+    requires ordered { start ≤ end }
+    requires reaches { start ≤ first + 64 }
+    requires begins { first ≤ end }
+    ensures { result ≡ 2 ^ min (end - first) 64 - 2 ^ (start - first) }
+{
+    low_ones((end - first).min(WORD_SECTORS)) - low_ones(start.saturating_sub(first))
 }
 
 impl Touched {
@@ -29,8 +57,8 @@ impl Touched {
         ensures sectors { IfOk result (λ marks. length marks ≡ sectors) }
         ensures none { IfOk result (λ marks. IsClear marks) }
     {
-        let stamps = vec![in alloc; 0; sectors as usize]?;
-        Ok(Touched { stamps, span: 1 })
+        let words = ClearableWords::new(alloc, (sectors as usize).div_ceil(WORD_SECTORS))?;
+        Ok(Touched { words, sectors })
     }
 
     /// Whether one of `count` sectors from `start` on is touched.
@@ -38,9 +66,11 @@ impl Touched {
         requires { start + count ≤ length self.now }
         ensures { MatchBool result (TouchesOne self.now start count) (TouchesNone self.now start count) }
     {
-        let start = start as usize;
-        for sector in start..start + count as usize {
-            if self.stamps[sector] == self.span {
+        let from = start as usize;
+        let end = from + count as usize;
+        for word in from / WORD_SECTORS..end.div_ceil(WORD_SECTORS) {
+            let bits = self.words.get(word) & mask(from, end, word * WORD_SECTORS);
+            if bits != 0 {
                 return true;
             }
         }
@@ -52,9 +82,11 @@ impl Touched {
         requires { start + count ≤ length self.old }
         ensures { Adds self.old self.new start count }
     {
-        let start = start as usize;
-        for sector in start..start + count as usize {
-            self.stamps[sector] = self.span;
+        let from = start as usize;
+        let end = from + count as usize;
+        for word in from / WORD_SECTORS..end.div_ceil(WORD_SECTORS) {
+            let bits = self.words.get(word) | mask(from, end, word * WORD_SECTORS);
+            self.words.set(word, bits);
         }
     }
 
@@ -63,13 +95,6 @@ impl Touched {
         ensures sectors { length self.new ≡ length self.old }
         ensures none { IsClear self.new }
     {
-        if self.span < u32::MAX {
-            self.span += 1;
-            return;
-        }
-        for sector in 0..self.stamps.len() {
-            self.stamps[sector] = 0;
-        }
-        self.span = 1;
+        self.words.clear();
     }
 }

@@ -1,12 +1,12 @@
-use Rattle.std.proofs.Common.{◌≡◌, ◌≤◌, ◌<◌, ℕ, length, get_or}
+use Rattle.std.proofs.Common.{◌≡◌, ◌≤◌, ◌<◌, ◌*◌, ◌⊎◌, ℕ, length}
+use Rattle.blk_script.proofs.Bitmaps.{bit_of}
 use Rattle.blk_script.proofs.touched.Touched.add.Given as goal
 
-abbrev pub invariant-loop-sector : goal.invariant-loop-sector
-invariant-loop-sector l = record {
-  sectors : length l.self-inside.stamps.items ≡ length l.initial.self-inside.stamps.items;
-  span : l.self-inside.span ≡ l.initial.self-inside.span;
-  inside : (k : ℕ) → l.start ≤ k → k < l.sector → get_or l.self-inside.stamps.items k 0 ≡ l.self-inside.span;
-  below : (k : ℕ) → k < l.start → get_or l.self-inside.stamps.items k 0 ≡ get_or l.initial.self-inside.stamps.items k 0;
-  above : (k : ℕ) → l.sector ≤ k → get_or l.self-inside.stamps.items k 0 ≡ get_or l.initial.self-inside.stamps.items k 0;
-  within : (k : ℕ) → k < length l.self-inside.stamps.items → get_or l.self-inside.stamps.items k 0 ≤ l.self-inside.span;
+-- the sectors of the words so far have their bits, and those outside the range are as before
+abbrev pub invariant-loop-word : goal.invariant-loop-word
+invariant-loop-word l = record {
+  count : length l.self-inside.words ≡ length l.initial.self-inside.words;
+  sectors : l.self-inside.sectors ≡ l.initial.self-inside.sectors;
+  inside : (k : ℕ) → l.from ≤ k → k < l.end → k < 64 * l.word → bit_of l.self-inside.words k ≡ 1;
+  outside : (k : ℕ) → (k < l.from) ⊎ (l.end ≤ k) → bit_of l.self-inside.words k ≡ bit_of l.initial.self-inside.words k;
 }

@@ -1,5 +1,7 @@
-use Rattle.std.proofs.Common.{◌≡◌, ◌≤◌, ◌<◌, ℕ, get_or, nat_eq, false}
+use Rattle.std.proofs.Common.{◌≡◌, ◌≤◌, ◌<◌, ◌*◌, ℕ}
+use Rattle.blk_script.proofs.Bitmaps.{bit_of}
 use Rattle.blk_script.proofs.touched.Touched.meets.Given as goal
 
-abbrev pub invariant-loop-sector : goal.invariant-loop-sector
-invariant-loop-sector l = (k : ℕ) → l.start ≤ k → k < l.sector → nat_eq (get_or l.self-inside.stamps.items k 0) l.self-inside.span ≡ false
+-- no sector of the words so far has its bit
+abbrev pub invariant-loop-word : goal.invariant-loop-word
+invariant-loop-word l = (k : ℕ) → l.from ≤ k → k < l.end → k < 64 * l.word → bit_of l.self-inside.words k ≡ 0

@@ -1,7 +1,8 @@
-use Rattle.std.proofs.Common.{arith}
-use Rattle.std.proofs.lemmas.Grind.{common_steps}
-use Rattle.blk_script.proofs.Stamps.{clear_zeros}
+use Rattle.blk_script.proofs.Bitmaps.{clear_bits, length-marks_of}
 use Rattle.blk_script.proofs.touched.Touched.new.Goals as goal
 
+pub returns-clause-sectors : goal.returns-clause-sectors
+returns-clause-sectors c = length-marks_of c.in_ok-words.words c.args.sectors
+
 pub returns-clause-none : goal.returns-clause-none
-returns-clause-none c = clear_zeros _ c.args.sectors (grind (arith, common_steps))
+returns-clause-none c = clear_bits c.in_ok-words.words c.args.sectors c.in_ok-words.ensures.zero
