@@ -8,6 +8,7 @@ use std::alloc::Global;
 use std::process::Abort;
 use std::test::Fail;
 
+mod numbers;
 mod rows;
 
 // The text of a script's run, or that of its fault.

@@ -5,5 +5,6 @@ pub mod Ending
 pub mod Scheduling
 pub mod Sending
 pub mod Showing
+pub mod ShownRuns
 pub mod Taking
 pub mod Wording

@@ -4,6 +4,7 @@ pub mod Counted
 pub mod EventLine
 pub mod Faults
 pub mod Growth
+pub mod ReplayLaws
 pub mod ReplayTexts
 pub mod Requests
 pub mod Schedules

@@ -4,6 +4,9 @@
 //! by line, and the disk that they leave. Data flows one way: [`arguments`] says what is asked for, [`input`]
 //! reads, [`answer`] answers, [`output`] writes, and [`run`] joins them; [`command`] is the program over any
 //! reader and writers, and `main` gives it the standard ones.
+//!
+//! Or it reads a schedule, a gate's atomic steps one after another, and writes what each is answered:
+//! [`schedule_parser`] reads the text, [`replaying`] takes the steps, and [`replay_run`] joins them.
 #![tactic(auto)]
 
 mod answer;
@@ -16,6 +19,7 @@ mod fault;
 mod input;
 mod laws;
 mod output;
+mod replay_laws;
 mod replay_report;
 mod replay_run;
 #[cfg(test)]
