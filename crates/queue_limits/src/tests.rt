@@ -113,6 +113,30 @@ fn limits_by_hand(rt: HostRuntime) -> Result<(), Fail> {
 }
 
 #[test]
+fn settings_and_words(rt: HostRuntime) -> Result<(), Fail> {
+    let mut limits = Limits::new(8, 3, 5)?;
+    assert_eq!(rt; limits.set_max(9), Err(LimitFault::AboveHardware));
+    assert_eq!(rt; limits.set_chunk(65_536), Err(LimitFault::ChunkTooLarge));
+    assert_eq!(rt; limits.to_words(), [3, 5]);
+    limits.set_max(0)?;
+    limits.set_chunk(65_535)?;
+    assert_eq!(rt; limits.to_words(), [8, 65_535]);
+    for (words, max, chunk) in [
+        ([9, 70_000], 8, 0),
+        ([0, 65_535], 8, 65_535),
+        ([8, 0], 8, 0),
+        ([1, 65_536], 1, 0),
+    ] {
+        let limits = Limits::from_words(8, words);
+        assert_eq!(rt;
+            (limits.hw(), limits.max(), limits.chunk()),
+            (8, max, chunk)
+        );
+    }
+    Ok(())
+}
+
+#[test]
 fn faults_have_numbers_and_texts(rt: HostRuntime) -> Result<(), Fail> {
     let texts = [
         (
