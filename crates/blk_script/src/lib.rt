@@ -44,7 +44,7 @@ pub use numbers::number;
 pub use overlap_laws::one_first_overlap;
 pub use parser::{LONGEST_TEXT, at_line, parse};
 pub use pattern::Pattern;
-pub use rendering::{render, render_disk};
+pub use rendering::{push_named, push_number, push_text, render, render_disk};
 pub use reply::{ByteRuns, PieceLengths, Reply, Stat};
 pub use run::run_alone;
 pub use script::Script;

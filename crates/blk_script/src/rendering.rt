@@ -13,14 +13,15 @@ use ram_disk::Disk;
 use std::alloc::{AllocError, Global};
 
 /// Appends a number in decimal.
-fn push_number(out: &mut Vec<u8>, number: u64) -> Result<(), AllocError>
+pub fn push_number(out: &mut Vec<u8>, number: u64) -> Result<(), AllocError>
     ensures { OnOk result (out.new.items ≡ out.old.items ++ decimal number) }
 {
     let mut buffer = Buffer::new();
     out.extend_from_slice(buffer.format(number).as_bytes())
 }
 
-fn push_text(out: &mut Vec<u8>, text: &str) -> Result<(), AllocError>
+/// Appends a text.
+pub fn push_text(out: &mut Vec<u8>, text: &str) -> Result<(), AllocError>
     ensures { OnOk result (out.new.items ≡ out.old.items ++ text.now) }
 {
     out.extend_from_slice(text.as_bytes())
@@ -78,8 +79,9 @@ fn push_mode(out: &mut Vec<u8>, name: &str, mode: Mode) -> Result<(), AllocError
     }
 }
 
+/// Appends a name, and a number after it in decimal.
 #[tactic(auto, unfolding(crate::specs::Texts::named))]
-fn push_named(out: &mut Vec<u8>, name: &str, number: u64) -> Result<(), AllocError>
+pub fn push_named(out: &mut Vec<u8>, name: &str, number: u64) -> Result<(), AllocError>
     ensures { OnOk result (out.new.items ≡ out.old.items ++ named name.now number) }
 {
     push_text(out, name)?;

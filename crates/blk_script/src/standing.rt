@@ -5,9 +5,7 @@ use crate::line::What;
 use crate::machine::DEPTH_LIMIT;
 use crate::request::Request;
 use crate::script::Script;
-
-/// The most sectors of a chunk.
-const CHUNK_LIMIT: u32 = 65_535;
+use queue_limits::CHUNK_LIMIT;
 
 /// What a line is to the check.
 #[derive(Clone, Copy, Debug)]

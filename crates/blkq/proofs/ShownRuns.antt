@@ -1,11 +1,10 @@
 -- What a replay shows is a run of the gate's machine, by induction on its steps.
-use Rattle.std.proofs.Common.{◌≡◌, ◌∙◌, ap, sym, refl, ℕ, None, Some, Option, List, [], ◌∷◌, ◌++◌, map, append_assoc}
+use Rattle.std.proofs.Common.{◌≡◌, ◌∙◌, ap, sym, ℕ, None, Option, List, [], ◌∷◌, ◌++◌, append_assoc}
 use Rattle.std.specs.List.{flat_map}
-use Rattle.percpu_core.specs.declared.event.Event.{Event}
 use Rattle.percpu_core.specs.declared.not_enabled.NotEnabled.{NotEnabled}
 use Rattle.percpu_core.specs.declared.reply.Reply.{Reply}
-use Rattle.percpu_core.specs.Machine.{State, Run, refusal, reply, after}
-use Rattle.blkq.specs.ReplayLaws.{WholeRunsAreShown, StuckRunsAreShown, step_of}
+use Rattle.percpu_core.specs.Machine.{State, refusal, reply, after}
+use Rattle.blkq.specs.ReplayLaws.{WholeRunsAreShown, StuckRunsAreShown}
 use Rattle.blkq.specs.ReplayTexts.{reply_line, stuck_line, end_line}
 use Rattle.blkq.specs.Shown.{Shown, then_shown, step_shown, shown_from}
 use Rattle.blkq.specs.declared.replayed.Replayed.{Replayed}

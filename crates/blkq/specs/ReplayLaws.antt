@@ -6,7 +6,7 @@ use Rattle.percpu_core.specs.declared.not_enabled.NotEnabled.{NotEnabled}
 use Rattle.percpu_core.specs.declared.reply.Reply.{Reply}
 use Rattle.percpu_core.specs.Machine.{State, Run, refusal}
 use Rattle.blkq.specs.ReplayTexts.{reply_line, stuck_line, end_line}
-use Rattle.blkq.specs.Shown.{Shown, shown_from}
+use Rattle.blkq.specs.Shown.{shown_from}
 use Rattle.blkq.specs.declared.replayed.Replayed.TheVariants.{Whole, Stuck}
 
 abbrev pub step_of : ℕ × Event → Event

@@ -1,5 +1,6 @@
 -- The lines that a replay writes.
 use Rattle.std.specs.Prelude.{ℕ, if◌then◌else◌, List, ◌++◌, codes, decimal}
+use Rattle.blk_script.specs.Texts.{named}
 use Rattle.percpu_core.specs.declared.not_enabled.NotEnabled.{NotEnabled}
 use Rattle.percpu_core.specs.declared.not_enabled.NotEnabled.TheVariants.{NoSuchActor, NoSuchSlot, WrongPhase, NothingHeld, MidCall, HeldFull, WornOut, NoSuchWord, BadAmount, StillHeld}
 use Rattle.percpu_core.specs.declared.reply.Reply.{Reply}
@@ -45,12 +46,8 @@ why_text StillHeld = codes "still held"
 abbrev pub stuck_line : ℕ → NotEnabled → List ℕ
 stuck_line line why = codes "stuck " ++ decimal line ++ codes " " ++ why_text why ++ codes "\n"
 
--- a name, and a number
-unfoldable pub named_number : List ℕ → ℕ → List ℕ
-named_number name number = name ++ decimal number
-
 -- the last line, where all steps were taken
 abbrev pub end_line : State → List ℕ
 end_line s =
-    codes "end " ++ shared_text (spelling s.cells.shared) ++ named_number (codes " front ") s.cells.front ++ named_number (codes " kills ") s.control.kills
-    ++ named_number (codes " releases ") s.releases ++ named_number (codes " held ") (held_in_all s) ++ codes "\n"
+    codes "end " ++ shared_text (spelling s.cells.shared) ++ named (codes " front ") s.cells.front ++ named (codes " kills ") s.control.kills
+    ++ named (codes " releases ") s.releases ++ named (codes " held ") (held_in_all s) ++ codes "\n"

@@ -1,11 +1,11 @@
 -- What the words after the program's name ask for.
-use Rattle.std.specs.Prelude.{◌≡◌, ◌⊎◌, ℕ, ◌≤◌, List, [], ◌∷◌, length, codes}
-use Rattle.std.specs.Str.Parse.{IsNumeral, digits_value}
+use Rattle.std.specs.Prelude.{◌≡◌, ◌⊎◌, ℕ, List, [], ◌∷◌, codes, Ok}
+use Rattle.blk_script.specs.Numbers.{number_in}
 use Rattle.blkq.specs.Sizes.{Sizes, AreWithin}
 
--- a word spells a number in 1 to 20 decimal digits, with zeros in front or not
+-- a word spells a number of 32 bits as a script spells its numbers
 abbrev pub Spells : List ℕ → ℕ → Type 0
-Spells word number = IsNumeral 10 word × (length word ≤ 20) × (number ≡ digits_value 10 word)
+Spells word number = number_in 0 4294967295 word ≡ Ok number
 
 -- the sizes of a run that names none
 abbrev pub usual : Sizes

@@ -1,13 +1,12 @@
 //! What the words after the program's name ask for.
-ghost use Rattle.std.specs.Prelude.{◌≡◌, ◌<◌, ◌^◌, ◌≤◌, ◌↔◌, length, map, string_bytes, IfSome, SomeIff};
-ghost use Rattle.std.specs.Str.Parse.{IsNumeral, digits_value};
+ghost use Rattle.std.specs.Prelude.{◌≡◌, ◌↔◌, ℕ, map, string_bytes, Some};
+ghost use Rattle.blk_script.specs.Numbers.{number_in};
 ghost use Rattle.blkq.specs.Requests.{AsksReplay, AsksRun, Spells};
 ghost use Rattle.blkq.specs.Sizes.{Sizes, AreWithin};
 
 use crate::config::Config;
-
-/// The most digits of a number.
-const MOST_DIGITS: usize = 20;
+use crate::schedule_numbers::short_number;
+use blk_script::Why;
 
 /// What the program is asked to do.
 #[derive(Clone, Copy, Debug, PartialEq, Eq)]
@@ -20,15 +19,11 @@ pub(crate) enum Request {
     Usage,
 }
 
-/// The number that `word` spells, in 1 to 20 digits. `None` for any other word, and for a number that no
-/// `u32` holds.
-fn number(word: &str) -> Option<u32>
-    ensures { SomeIff result (IsNumeral 10 word.now × (length word.now ≤ 20) × (digits_value 10 word.now < 2 ^ 32)) (digits_value 10 word.now) }
+/// The number that `word` spells, as a script spells its numbers.
+fn number(word: &str) -> Result<u32, Why>
+    ensures { result ≡ number_in 0 4294967295 word.now }
 {
-    if word.len() > MOST_DIGITS || word.starts_with('+') {
-        return None;
-    }
-    word.parse().ok()
+    short_number(word.as_bytes(), 0, u32::MAX)
 }
 
 /// The run that three numbers within the limits ask for.
@@ -36,7 +31,10 @@ fn run_of(workers: &str, slots: &str, tags: &str) -> Option<Config>
     ensures { (sizes : Sizes) → (result ≡ Some sizes)
         ↔ (Spells workers.now sizes.workers × Spells slots.now sizes.slots × Spells tags.now sizes.tags × AreWithin sizes) }
 {
-    Config::new(number(workers)?, number(slots)?, number(tags)?)
+    match (number(workers), number(slots), number(tags)) {
+        (Ok(workers), Ok(slots), Ok(tags)) => Config::new(workers, slots, tags),
+        _ => None,
+    }
 }
 
 /// What `words`, those after the program's name, ask for: `run`, alone or with three numbers, or `replay`

@@ -1,34 +1,12 @@
 //! The lines that a replay writes.
 ghost use Rattle.std.specs.Prelude.{◌≡◌, ◌++◌, OnOk, codes, decimal};
 ghost use Rattle.percpu_words.specs.SharedWord.{parts};
-ghost use Rattle.blkq.specs.ReplayTexts.{marks_text, shared_text, reply_text, reply_line, why_text, stuck_line, named_number, end_line};
+ghost use Rattle.blkq.specs.ReplayTexts.{marks_text, shared_text, reply_text, reply_line, why_text, stuck_line, end_line};
 
-use itoa::Buffer;
+use blk_script::{push_named, push_number, push_text};
 use percpu_core::{NotEnabled, Reply, World};
 use percpu_words::{is_dead, is_zero, value};
 use std::alloc::AllocError;
-
-fn push_text(out: &mut Vec<u8>, text: &str) -> Result<(), AllocError>
-    ensures { OnOk result (out.new.items ≡ out.old.items ++ text.now) }
-{
-    out.extend_from_slice(text.as_bytes())
-}
-
-/// Appends a number in decimal.
-fn push_number(out: &mut Vec<u8>, number: u64) -> Result<(), AllocError>
-    ensures { OnOk result (out.new.items ≡ out.old.items ++ decimal number) }
-{
-    let mut buffer = Buffer::new();
-    out.extend_from_slice(buffer.format(number).as_bytes())
-}
-
-#[tactic(auto, unfolding(crate::specs::ReplayTexts::named_number))]
-fn push_named(out: &mut Vec<u8>, name: &str, number: u64) -> Result<(), AllocError>
-    ensures { OnOk result (out.new.items ≡ out.old.items ++ named_number name.now number) }
-{
-    push_text(out, name)?;
-    push_number(out, number)
-}
 
 fn push_marks(out: &mut Vec<u8>, word: u64) -> Result<(), AllocError>
     ensures { OnOk result (out.new.items ≡ out.old.items ++ marks_text (parts word)) }
