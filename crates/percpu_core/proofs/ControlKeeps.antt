@@ -84,7 +84,7 @@ module _ (o : Origin) (cells : Cells) (c : ControlView) (vs : List View) (l : La
       control_found_zero = λ h. let n = l.release.control_found_zero (sym g.found_zero ∙ h) in omega arith;
     };
     limit = record {
-      passes = l.limit.passes;
+      passes = subst (λ (n : ℕ). n ≤ 64) (sym g.passes) l.limit.passes;
       held = l.limit.held;
       slots = l.limit.slots;
       deltas = l.limit.deltas;

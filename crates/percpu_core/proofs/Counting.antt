@@ -1,5 +1,5 @@
 -- What the sum law says of the shared value, in plain numbers.
-use Rattle.std.proofs.Common.{◌≡◌, ℕ, suc, ◌+◌, ◌*◌, ◌^◌, ◌<◌, ◌≤◌, Bool, true, false, List, [], ◌∷◌, length, Some, refl, arith, ◌∙◌}
+use Rattle.std.proofs.Common.{◌≡◌, ℕ, suc, ◌+◌, ◌*◌, ◌^◌, ◌<◌, ◌≤◌, Bool, true, false, List, [], ◌∷◌, length, Some, refl, arith, ◌∙◌, subst}
 use Rattle.std.specs.Prelude.{ℤ, pos, ◌+ℤ◌, ◌-ℤ◌, ◌≤ℤ◌, neg_ℤ, slice_get}
 use Rattle.std.proofs.lemmas.Int.{ints}
 use Rattle.percpu_core.specs.declared.phase.Phase.{Phase}
@@ -11,7 +11,7 @@ use Rattle.percpu_core.specs.declared.view.View.{View}
 use Rattle.percpu_core.specs.declared.view.View.TheVariants.{OfControl, OfPass, Spent}
 use Rattle.percpu_core.specs.Cells.{Cells, Slot, closed, opened, is_open, delta, open_deltas}
 use Rattle.percpu_core.specs.Phases.{holds_base, has_bias, closed_so_far, is_open_in}
-use Rattle.percpu_core.specs.Views.{count, to_undo, EachPass, held_by_all, additions_to_undo}
+use Rattle.percpu_core.specs.Views.{count, to_undo, EachPass, held_by_all, additions_to_undo, passes_left}
 use Rattle.percpu_core.specs.ReleaseLaw.{Origin}
 use Rattle.percpu_core.specs.LimitLaw.{AreSmall, most_delta}
 use Rattle.percpu_core.specs.Laws.{Laws}
@@ -91,7 +91,7 @@ module _ (o : Origin) (cells : Cells) (c : ControlView) (vs : List View) (l : La
   few : counted ≤ 1 + 65535 * 64 + 64
   few = let held = over_passes-most (λ p. p.standing.held) 65535 vs l.limit.held in
       let undo = over_passes-most (λ p. to_undo p.standing.pending) 1 vs (each_most vs l.limit.held) in
-      let base = count-most (holds_base c.standing.phase) in let size : length vs ≤ 64 = l.limit.passes in omega arith
+      let base = count-most (holds_base c.standing.phase) in let size : passes_left vs ≤ 64 = subst (λ (n : ℕ). n ≤ 64) l.release.passes l.limit.passes in omega arith
 
   slots_few : most_delta * length cells.slots ≤ 67108864
   slots_few = let h : length cells.slots ≤ 64 = l.limit.slots in omega arith

@@ -28,7 +28,9 @@ use Rattle.percpu_core.specs.ControlSteps.{is_live, is_collected, is_confirmed, 
 use Rattle.percpu_core.specs.ControlLearns.{joined}
 use Rattle.percpu_core.specs.Machine.{order}
 use Rattle.percpu_core.proofs.PassEvents as passes
-use Rattle.percpu_core.proofs.ControlEvents as controls
+use Rattle.percpu_core.proofs.ControlSetting.{After}
+use Rattle.percpu_core.proofs.KillEvents as kills
+use Rattle.percpu_core.proofs.RevivalEvents as revivals
 use Rattle.percpu_core.proofs.Joining.{join}
 
 first_not : {X : Type 0} (b : Bool) (x : X) (r : Option X) → cond b (Some x) r ≡ None → (b ≡ false) × (r ≡ None)
@@ -182,19 +184,19 @@ module _ (o : Origin) (cells : Cells) (c : ControlView) (vs : List View) (l : La
   unhindered : (q : Option PassStanding) (e : ControlEvent) → Free q e → (why : NotEnabled) → hinders_control (length cells.words) cells.shared.zero q c.standing e why ≡ false
   unhindered q e h why = no_reason (hinders_control (length cells.words) cells.shared.zero q c.standing e) h why
 
-  pub control_keeps_laws : (e : ControlEvent) → ((k : ℕ) → e ≡ control.Join k → ⊥) → Free None e → controls.After o cells c vs l e
+  pub control_keeps_laws : (e : ControlEvent) → ((k : ℕ) → e ≡ control.Join k → ⊥) → Free None e → After o cells c vs l e
   control_keeps_laws control.MarkDead j h = let n = unhindered None control.MarkDead h in let few = not_le _ _ (n WornOut) in
-      live c.standing.phase (λ is. controls.mark_dead_atomic o cells c vs l is few) (λ is. controls.mark_dead_slots o cells c vs l is few) (n WrongPhase)
-  control_keeps_laws control.Confirm j h = let n = unhindered None control.Confirm h in controls.confirm o cells c vs l (collected c.standing.phase (n WrongPhase)) (neither _ _ (n MidCall)).0
-  control_keeps_laws control.DropBase j h = let n = unhindered None control.DropBase h in controls.drop_base o cells c vs l (confirmed c.standing.phase (n WrongPhase))
-  control_keeps_laws control.Mark j h = controls.mark o cells c vs l
-  control_keeps_laws control.TakeBase j h = let n = unhindered None control.TakeBase h in controls.take_base o cells c vs l (dead c.standing.phase (n WrongPhase))
-  control_keeps_laws control.NextFront j h = let n = unhindered None control.NextFront h in controls.next_front o cells c vs l (reviving c.standing.phase (n WrongPhase)) (neither _ _ (n MidCall)).0
-  control_keeps_laws control.ClearDead j h = let n = unhindered None control.ClearDead h in controls.clear_dead o cells c vs l (fronted c.standing.phase (n WrongPhase))
+      live c.standing.phase (λ is. kills.mark_dead_atomic o cells c vs l is few) (λ is. kills.mark_dead_slots o cells c vs l is few) (n WrongPhase)
+  control_keeps_laws control.Confirm j h = let n = unhindered None control.Confirm h in kills.confirm o cells c vs l (collected c.standing.phase (n WrongPhase)) (neither _ _ (n MidCall)).0
+  control_keeps_laws control.DropBase j h = let n = unhindered None control.DropBase h in kills.drop_base o cells c vs l (confirmed c.standing.phase (n WrongPhase))
+  control_keeps_laws control.Mark j h = kills.mark o cells c vs l
+  control_keeps_laws control.TakeBase j h = let n = unhindered None control.TakeBase h in revivals.take_base o cells c vs l (dead c.standing.phase (n WrongPhase))
+  control_keeps_laws control.NextFront j h = let n = unhindered None control.NextFront h in revivals.next_front o cells c vs l (reviving c.standing.phase (n WrongPhase)) (neither _ _ (n MidCall)).0
+  control_keeps_laws control.ClearDead j h = let n = unhindered None control.ClearDead h in revivals.clear_dead o cells c vs l (fronted c.standing.phase (n WrongPhase))
   control_keeps_laws (control.StoreWord k v) j h = let n = unhindered None (control.StoreWord k v) h in let both = both_hold (is_dead c.standing.phase) cells.shared.zero (n WrongPhase) in
-      controls.store_word o cells c vs l k v (dead c.standing.phase both.0) both.1 (neither _ _ (n MidCall)).0
+      revivals.store_word o cells c vs l k v (dead c.standing.phase both.0) both.1 (neither _ _ (n MidCall)).0
   control_keeps_laws (control.Join k) j h = absurd (j k refl)
-  control_keeps_laws control.LookShared j h = let n = unhindered None control.LookShared h in controls.look_shared o cells c vs l (neither _ _ (n MidCall)).0
+  control_keeps_laws control.LookShared j h = let n = unhindered None control.LookShared h in revivals.look_shared o cells c vs l (neither _ _ (n MidCall)).0
 
   pub nothing : (q : Pending) → not (is_nothing q) ≡ false → q ≡ Nothing
   nothing Nothing h = refl

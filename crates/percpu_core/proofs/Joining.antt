@@ -1,6 +1,5 @@
 -- Taking in a pass keeps the laws.
 use Rattle.std.proofs.Common.{◌≡◌, ℕ, ◌+◌, Bool, true, false, ◌||◌, List, set, refl, arith, ap, ◌∙◌}
-use Rattle.std.proofs.Math.ListN.{length-set}
 use mathlib.Core.Option.{some}
 use lib.ListN.{get_elem?}
 use Rattle.percpu_core.specs.declared.pass_standing.Pending.TheVariants.{Nothing}
@@ -59,7 +58,7 @@ module _ (o : Origin) (cells : Cells) (c : ControlView) (vs : List View) (l : La
       control_found_zero = either_found c.found_zero p.found_zero l.release.control_found_zero (EachPass-at _ vs i (OfPass p) l.release.found_zero at);
     };
     limit = record {
-      passes = let e = length-set vs i Spent in let h = l.limit.passes in omega arith;
+      passes = let h = l.limit.passes in omega arith;
       held = EachPass-set _ _ (λ q h. h) vs i Spent l.limit.held tt;
       slots = l.limit.slots;
       deltas = l.limit.deltas;

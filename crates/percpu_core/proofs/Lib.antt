@@ -3,7 +3,9 @@ pub mod Counting
 pub mod PassKeeps
 pub mod PassEvents
 pub mod ControlKeeps
-pub mod ControlEvents
+pub mod ControlSetting
+pub mod KillEvents
+pub mod RevivalEvents
 pub mod Joining
 pub mod Opening
 pub mod Enabled

@@ -79,7 +79,7 @@ module _ (o : Opening) (few_passes : o.passes ≤ 64) (few_slots : o.slots ≤ 6
       control_found_zero = never;
     };
     limit = record {
-      passes = let e = length-replicate o.passes (OfPass first_pass) in let h = few_passes in omega arith;
+      passes = few_passes;
       held = each_first _ (omega arith) o.passes;
       slots = let e = length-replicate o.slots closed in let h = few_slots in omega arith;
       deltas = small o.slots;
@@ -107,7 +107,7 @@ module _ (o : Opening) (few_passes : o.passes ≤ 64) (few_slots : o.slots ≤ 6
       control_found_zero = never;
     };
     limit = record {
-      passes = let e = length-replicate o.passes (OfPass first_pass) in let h = few_passes in omega arith;
+      passes = few_passes;
       held = each_first _ (omega arith) o.passes;
       slots = let e = length-replicate o.slots closed in let h = few_slots in omega arith;
       deltas = small o.slots;

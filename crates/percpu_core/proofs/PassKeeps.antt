@@ -1,6 +1,5 @@
 -- A step of a pass keeps the laws where what it changes in its own view matches what it changes in the shared word.
 use Rattle.std.proofs.Common.{◌≡◌, ℕ, ◌+◌, ◌<◌, ◌≤◌, ◌⊎◌, ⊎_elim, true, false, List, set, refl, arith, ap, sym, ◌∙◌}
-use Rattle.std.proofs.Math.ListN.{length-set}
 use Rattle.std.proofs.lemmas.Bool.Decides.{nat_tests}
 use mathlib.Core.Option.{some}
 use lib.ListN.{get_elem?}
@@ -135,7 +134,7 @@ module _ (o : Origin) (cells : Cells) (c : ControlView) (vs : List View) (l : La
       front = record { parity = l.front.parity; known = l.front.known; floors = EachPass-set _ _ (λ q h. h) vs i (OfPass w) l.front.floors (g.floor, g.seen_front) };
       release = release;
       limit = record {
-        passes = let e = length-set vs i (OfPass w) in let h = l.limit.passes in omega arith;
+        passes = l.limit.passes;
         held = EachPass-set _ _ (λ q h. h) vs i (OfPass w) l.limit.held g.room;
         slots = l.limit.slots;
         deltas = l.limit.deltas;

@@ -1,11 +1,11 @@
 -- A list of views that changes at one place: its sums, and what holds of each pass.
-use Rattle.std.proofs.Common.{◌≡◌, ℕ, zero, suc, ◌+◌, ◌*◌, ◌≤◌, List, [], ◌∷◌, length, set, sym, ap, subst, arith}
+use Rattle.std.proofs.Common.{◌≡◌, ℕ, zero, suc, ◌+◌, ◌*◌, ◌≤◌, List, [], ◌∷◌, set, sym, ap, subst, arith}
 use mathlib.Core.Option.{some, some-injective, some-ne-none}
 use lib.ListN.{get_elem?}
 use Rattle.percpu_core.specs.declared.view.PassView.{PassView}
 use Rattle.percpu_core.specs.declared.view.View.{View}
 use Rattle.percpu_core.specs.declared.view.View.TheVariants.{OfControl, OfPass, Spent}
-use Rattle.percpu_core.specs.Views.{of_pass, over_passes, IfPass, EachPass}
+use Rattle.percpu_core.specs.Views.{of_pass, over_passes, IfPass, EachPass, passes_left}
 
 pub over_passes-set : (f : PassView → ℕ) (vs : List View) (i : ℕ) (v w : View) → get_elem? vs i ≡ some v → over_passes f (set vs i w) + of_pass f v ≡ over_passes f vs + of_pass f w
 over_passes-set f [] i v w e = absurd (some-ne-none v (sym e))
@@ -19,7 +19,7 @@ over_passes-at f (x ∷ xs) zero v e = let is : of_pass f x ≡ of_pass f v = ap
 over_passes-at f (x ∷ xs) (suc i) v e = let r = over_passes-at f xs i v e in omega arith
 
 -- where each counts at most m, all count at most m each
-pub over_passes-most : (f : PassView → ℕ) (m : ℕ) (vs : List View) → EachPass (λ p. f p ≤ m) vs → over_passes f vs ≤ m * length vs
+pub over_passes-most : (f : PassView → ℕ) (m : ℕ) (vs : List View) → EachPass (λ p. f p ≤ m) vs → over_passes f vs ≤ m * passes_left vs
 over_passes-most f m [] e = omega arith
 over_passes-most f m (OfPass p ∷ vs) e = let r = over_passes-most f m vs e.1 in let h : f p ≤ m = e.0 in omega arith
 over_passes-most f m (OfControl c ∷ vs) e = absurd e.0

@@ -27,7 +27,7 @@ use Rattle.percpu_core.specs.Moments.{Moment, standing_of, kept, IsLawful}
 use Rattle.percpu_core.proofs.Passes.{EachPass-at}
 use Rattle.percpu_core.proofs.Counting.{value-most, count-most}
 use Rattle.percpu_core.proofs.PassEvents.{held_in_value, undo_in_value}
-use Rattle.percpu_core.proofs.ControlEvents.{some_value}
+use Rattle.percpu_core.proofs.ControlSetting.{some_value}
 use Rattle.percpu_core.proofs.Enabled.{no_reason, not_lt, not_le, owes_undo, confirmed}
 use Rattle.percpu_core.proofs.Kept.{Holds, seat}
 

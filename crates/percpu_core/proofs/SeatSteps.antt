@@ -1,5 +1,5 @@
 -- The laws over all views in one list.
-use Rattle.std.proofs.Common.{◌≡◌, ℕ, zero, suc, ◌+◌, ◌≤◌, true, false, List, [], ◌∷◌, ◌++◌, length, length-append, arith, ap, ◌∙◌, subst}
+use Rattle.std.proofs.Common.{◌≡◌, ℕ, zero, suc, ◌+◌, ◌≤◌, true, false, List, [], ◌∷◌, ◌++◌, arith, ap, ◌∙◌, subst}
 use mathlib.Core.Option.{some}
 use lib.ListN.{get_elem?}
 use Rattle.percpu_core.specs.declared.view.PassView.{PassView}
@@ -72,7 +72,7 @@ each_more P (x ∷ xs) v e h = (e.0, each_more P xs v e.1 h)
 never : {A : Type 0} → false ≡ true → A
 never e = cc
 
-module _ (o : Origin) (cells : Cells) (c : ControlView) (vs : List View) (l : Laws o cells c vs) (few : length vs + 1 ≤ 64) where
+module _ (o : Origin) (cells : Cells) (c : ControlView) (vs : List View) (l : Laws o cells c vs) (few : c.passes + 1 ≤ 64) where
   abbrev vs' : List View
   vs' = vs ++ OfPass first_pass ∷ []
 
@@ -105,7 +105,7 @@ module _ (o : Origin) (cells : Cells) (c : ControlView) (vs : List View) (l : La
       control_found_zero = l.release.control_found_zero;
     };
     limit = record {
-      passes = let e : length vs' ≡ length vs + 1 = length-append vs (OfPass first_pass ∷ []) in omega arith;
+      passes = few;
       held = each_more _ vs (OfPass first_pass) l.limit.held (omega arith);
       slots = l.limit.slots;
       deltas = l.limit.deltas;
@@ -120,5 +120,5 @@ pub splitting_keeps_laws : SplittingKeepsLaws
 splitting_keeps_laws o cells [] i d l at few = absurd l
 splitting_keeps_laws o cells (OfPass q ∷ vs) i d l at few = absurd l
 splitting_keeps_laws o cells (Spent ∷ vs) i d l at few = absurd l
-splitting_keeps_laws o cells (OfControl c ∷ vs) zero d l at few = one_more o cells d vs (subst (λ (x : ControlView). Laws o cells x vs) (same_control c d at) l) (omega arith)
+splitting_keeps_laws o cells (OfControl c ∷ vs) zero d l at few = one_more o cells d vs (subst (λ (x : ControlView). Laws o cells x vs) (same_control c d at) l) few
 splitting_keeps_laws o cells (OfControl c ∷ vs) (suc i) d l at few = no_other o cells c d vs i l at

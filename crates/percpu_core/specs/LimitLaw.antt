@@ -39,7 +39,8 @@ fronts_due Reviving killing = 1
 fronts_due _ killing = 0
 
 pub record LimitLaw (origin : Origin) (cells : Cells) (control : ControlView) (others : List View) : Type 0 where
-  pub passes : length others ≤ most_passes
+  -- so many passes haven't joined yet
+  pub passes : control.passes ≤ most_passes
   pub held : EachPass (λ p. p.standing.held ≤ most_held) others
   pub slots : length cells.slots ≤ most_slots
   pub deltas : AreSmall cells.slots

@@ -51,9 +51,9 @@ JoiningKeepsLaws = (o : Origin) (cells : Cells) (views : List View) (i j : ℕ) 
 abbrev pub with_one_more : ControlView → ControlView
 with_one_more c = record c { passes = c.passes + 1 }
 
--- a new pass may be split from the control while there are fewer than the most
+-- a new pass may be split from the control while it has fewer than the most
 abbrev pub SplittingKeepsLaws : Type 0
-SplittingKeepsLaws = (o : Origin) (cells : Cells) (views : List View) (i : ℕ) (c : ControlView) → Lawful o cells views → Sees views i (OfControl c) → length views ≤ most_passes
+SplittingKeepsLaws = (o : Origin) (cells : Cells) (views : List View) (i : ℕ) (c : ControlView) → Lawful o cells views → Sees views i (OfControl c) → c.passes + 1 ≤ most_passes
     → Lawful o cells (slice_set views i (OfControl (with_one_more c)) ++ OfPass first_pass ∷ [])
 
 -- a gate may begin with the control alone

@@ -18,7 +18,7 @@ pub enum Start {
 
 impl Start {
     /// The shared word at the start.
-    pub(crate) fn shared(self) -> u64
+    pub fn shared(self) -> u64
         ensures { parts result ≡ first_shared self }
     {
         match self {
@@ -28,7 +28,7 @@ impl Start {
     }
 
     /// The phase at the start.
-    pub(crate) fn phase(self) -> Phase
+    pub fn phase(self) -> Phase
         ensures { result ≡ first_phase self }
     {
         match self {
@@ -38,7 +38,7 @@ impl Start {
     }
 
     /// The front at the start: two for each kill, and the odd one of a dead start.
-    pub(crate) fn front(self, kills: u64) -> u64
+    pub fn front(self, kills: u64) -> u64
         requires { kills ≤ 2 ^ 40 }
         ensures { result ≡ first_front self kills }
     {
