@@ -1,0 +1,111 @@
+-- What the laws tell a seat of a gate at a moment.
+use Rattle.std.proofs.Common.{◌≡◌, ℕ, zero, suc, ◌+◌, ◌*◌, ◌%◌, ◌^◌, ◌<◌, ◌≤◌, true, List, [], ◌∷◌, ap, ◌∙◌, subst, arith}
+use mathlib.Core.Option.{some}
+use lib.ListN.{get_elem?}
+use Rattle.percpu_core.specs.declared.view.PassView.{PassView}
+use Rattle.percpu_core.specs.declared.view.ControlView.{ControlView}
+use Rattle.percpu_core.specs.declared.view.View.{View}
+use Rattle.percpu_core.specs.declared.view.View.TheVariants.{OfControl, OfPass, Spent}
+use Rattle.percpu_core.specs.Cells.{Cells}
+use Rattle.percpu_core.specs.Views.{count, to_undo, releases_of_passes}
+use Rattle.percpu_core.specs.Phases.{has_odd_front, holds_base, is_coming_back, may_be_zero}
+use Rattle.percpu_core.specs.LimitLaw.{fronts_due}
+use Rattle.percpu_core.specs.GuardLaw.{AreNow}
+use Rattle.percpu_core.specs.ReleaseLaw.{Origin}
+use Rattle.percpu_core.specs.Laws.{Laws, Lawful}
+use Rattle.percpu_core.specs.SeatLaws.{Sees}
+use Rattle.percpu_core.proofs.Passes.{over_passes-at, EachPass-at}
+use Rattle.percpu_core.proofs.Counting.{count-most, value-least, value-most}
+use Rattle.percpu_gate.specs.Rule.{Moment}
+use Rattle.percpu_core.proofs.PassEvents.{zero_is_dead, held_in_value, undo_in_value}
+
+-- what a pass knows of the memory
+pub record PassKnows (cells : Cells) (p : PassView) : Type 0 where
+  pub small : cells.shared.value < 2 ^ 49
+  pub held : p.standing.held ≤ cells.shared.value
+  pub undo : to_undo p.standing.pending ≤ cells.shared.value
+  pub none_at_zero : cells.shared.zero ≡ true → p.standing.held ≡ 0
+  pub zero_is_dead : cells.shared.zero ≡ true → cells.shared.dead ≡ true
+  pub floor : p.floor ≤ cells.front
+  pub seen_front : p.seen_front ≤ p.floor
+  pub read : 0 < p.standing.held → AreNow cells.words p.read
+  pub releases : p.releases ≤ 2 ^ 40 + 2
+
+releases_most : (o : Origin) (cells : Cells) (c : ControlView) (vs : List View) (l : Laws o cells c vs) → c.releases + releases_of_passes vs ≤ 2 ^ 40 + 2
+releases_most o cells c vs l = let won = l.release.releases in let zeros = l.release.zeros in let kills = l.release.kills in let few = l.limit.kills in
+    let one = count-most o.dead in let zero = count-most cells.shared.zero in omega arith
+
+known : (o : Origin) (cells : Cells) (c : ControlView) (vs : List View) (l : Laws o cells c vs) (i : ℕ) (p : PassView) → get_elem? vs i ≡ some (OfPass p) → PassKnows cells p
+known o cells c vs l i p at = record {
+  small = value-most o cells c vs l;
+  held = held_in_value o cells c vs l i p at;
+  undo = undo_in_value o cells c vs l i p at;
+  none_at_zero = λ z. let none = l.zero.nothing_held z in let h = over_passes-at (λ q. q.standing.held) vs i (OfPass p) at in omega arith;
+  zero_is_dead = λ z. zero_is_dead o cells c vs l i p at z;
+  floor = (EachPass-at _ vs i (OfPass p) l.front.floors at).0;
+  seen_front = (EachPass-at _ vs i (OfPass p) l.front.floors at).1;
+  read = EachPass-at _ vs i (OfPass p) l.guard.passes at;
+  releases = let most = releases_most o cells c vs l in let own = over_passes-at (λ q. q.releases) vs i (OfPass p) at in omega arith;
+}
+
+pub pass_knows : (o : Origin) (cells : Cells) (views : List View) (id : ℕ) (p : PassView) → Lawful o cells views → Sees views id (OfPass p) → PassKnows cells p
+pass_knows o cells [] id p l sees = absurd l
+pass_knows o cells (OfPass q ∷ vs) id p l sees = absurd l
+pass_knows o cells (Spent ∷ vs) id p l sees = absurd l
+pass_knows o cells (OfControl c ∷ vs) zero p l sees = cc
+pass_knows o cells (OfControl c ∷ vs) (suc i) p l sees = known o cells c vs l i p sees
+
+pub moment_knows : (p : PassView) (m : Moment (OfPass p)) → PassKnows m.cells p
+moment_knows p m = pass_knows m.origin m.cells m.views m.seat p m.lawful m.sees
+
+-- what the control knows of the memory
+pub record ControlKnows (cells : Cells) (c : ControlView) : Type 0 where
+  pub small : cells.shared.value < 2 ^ 49
+  pub base : count (holds_base c.standing.phase) ≤ cells.shared.value
+  pub zero : c.knows_zero ≡ true → cells.shared.zero ≡ true
+  pub settled : is_coming_back c.standing.phase ≡ true → c.knows_zero ≡ cells.shared.zero
+  pub may_be_zero : cells.shared.zero ≡ true → may_be_zero c.standing.phase ≡ true
+  pub words : c.words ≡ cells.words
+  pub front : c.front ≡ cells.front
+  pub kills : c.front + fronts_due c.standing.phase c.killing ≤ 2 * (c.standing.kills + 1)
+  pub few : c.standing.kills ≤ 2 ^ 40
+  pub parity : c.front % 2 ≡ count (has_odd_front c.standing.phase)
+  pub releases : c.releases ≤ 2 ^ 40 + 2
+
+control_known : (o : Origin) (cells : Cells) (c : ControlView) (vs : List View) (l : Laws o cells c vs) → ControlKnows cells c
+control_known o cells c vs l = let least = value-least o cells c vs l in let due = l.limit.front in let one = count-most o.dead in record {
+  small = value-most o cells c vs l;
+  base = omega arith;
+  zero = l.zero.known;
+  settled = l.zero.settled;
+  may_be_zero = l.zero.after_drop;
+  words = l.guard.known;
+  front = l.front.known;
+  kills = omega arith;
+  few = l.limit.kills;
+  parity = ap (λ (n : ℕ). n % 2) l.front.known ∙ l.front.parity;
+  releases = let most = releases_most o cells c vs l in omega arith;
+}
+
+same_control : (c d : ControlView) → some (OfControl c) ≡ some (OfControl d) → c ≡ d
+same_control c d e = cc
+
+pub control_knows : (o : Origin) (cells : Cells) (views : List View) (id : ℕ) (c : ControlView) → Lawful o cells views → Sees views id (OfControl c) → ControlKnows cells c
+control_knows o cells [] id c l sees = absurd l
+control_knows o cells (OfPass q ∷ vs) id c l sees = absurd l
+control_knows o cells (Spent ∷ vs) id c l sees = absurd l
+control_knows o cells (OfControl d ∷ vs) zero c l sees = subst (λ (x : ControlView). ControlKnows cells x) (same_control d c sees) (control_known o cells d vs l)
+control_knows o cells (OfControl d ∷ vs) (suc i) c l sees = absurd (EachPass-at _ vs i (OfControl c) l.limit.held sees)
+
+pub moment_known : (c : ControlView) (m : Moment (OfControl c)) → ControlKnows m.cells c
+moment_known c m = control_knows m.origin m.cells m.views m.seat c m.lawful m.sees
+
+-- where there is a pass, the control has one out
+pub pass_is_out : (o : Origin) (cells : Cells) (views : List View) (id other : ℕ) (c : ControlView) (p : PassView) → Lawful o cells views → Sees views id (OfControl c) → Sees views other (OfPass p) → 0 < c.passes
+pass_is_out o cells [] id other c p l sees there = absurd l
+pass_is_out o cells (OfPass q ∷ vs) id other c p l sees there = absurd l
+pass_is_out o cells (Spent ∷ vs) id other c p l sees there = absurd l
+pass_is_out o cells (OfControl d ∷ vs) id zero c p l sees there = cc
+pass_is_out o cells (OfControl d ∷ vs) (suc i) (suc j) c p l sees there = absurd (EachPass-at _ vs i (OfControl c) l.limit.held sees)
+pass_is_out o cells (OfControl d ∷ vs) zero (suc j) c p l sees there =
+    let one = over_passes-at (λ q. 1) vs j (OfPass p) there in let all = l.release.passes in let same = ap (λ (x : ControlView). x.passes) (same_control d c sees) in omega arith

@@ -1,0 +1,9 @@
+pub mod Known
+pub mod SharedWords
+pub mod Allowed
+pub mod PassSteps
+pub mod PassCalls
+pub mod Grounds
+pub mod ControlSteps
+pub mod ControlGrounds
+pub mod Making

@@ -1,0 +1,9 @@
+use Rattle.std.proofs.Common.{rules}
+use Rattle.percpu_gate.proofs.ControlSteps.{takes_base, base_taken_as}
+use Rattle.percpu_gate.proofs.control_seat.ControlSeat.take_base.Goals as goal
+
+pub fetch_add-requires : goal.fetch_add-requires
+fetch_add-requires c = (search rules, search rules, takes_base c.gate.inside.table.shared.key _ _ _ c.self.invariant (rw (← c.self.view_is) at c.requires.enabled))
+
+pub returns-clause-step : goal.returns-clause-step
+returns-clause-step c = rw (← c.self.view_is) (base_taken_as c.gate.inside.table.shared.key 0 0 _ c.self.invariant _ _ c.fetch_add.ensures.2)

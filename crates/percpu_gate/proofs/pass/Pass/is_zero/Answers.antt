@@ -1,0 +1,6 @@
+use Rattle.std.proofs.Common.{sym, ap, ◌∙◌}
+use Rattle.percpu_gate.proofs.Grounds.{found_zero, step_keeps_standing}
+use Rattle.percpu_gate.proofs.pass.Pass.is_zero.Goals as goal
+
+pub returns-clause-ground : goal.returns-clause-ground
+returns-clause-ground g c = λ zero. let found = found_zero _ _ _ c.look.ensures.step (sym c.is_zero.ensures ∙ zero) in (found.0, let stands = step_keeps_standing _ _ _ c.look.ensures.step in ap (λ s. s.held) stands ∙ found.1)

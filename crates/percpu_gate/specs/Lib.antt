@@ -1,0 +1,6 @@
+pub mod Layout
+pub mod Rule
+pub mod Seats
+pub mod Calls
+pub mod ControlCalls
+pub mod Exits

@@ -1,0 +1,50 @@
+//! The end of a gate.
+ghost use Rattle.std.specs.Prelude.{◌≡◌};
+ghost use Rattle.percpu_gate.specs.ControlCalls.{exit_number};
+
+use crate::control::Control;
+use crate::gate::Gate;
+use thiserror::Error;
+
+/// Why a gate may not end.
+#[derive(Clone, Copy, Debug, PartialEq, Eq, Error)]
+pub enum ExitWhy {
+    /// A kill begun by `mark_dead` has not reached `drop_base`.
+    #[error("mid switch")]
+    MidSwitch,
+    /// So many passes aren't retired.
+    #[error("{0} passes out")]
+    PassesOut(u32),
+}
+
+impl ExitWhy {
+    /// The refusal's number: 4 or 6.
+    pub fn number(&self) -> u8
+        ensures { result ≡ exit_number self.now }
+    {
+        match self {
+            ExitWhy::MidSwitch => 4,
+            ExitWhy::PassesOut(_) => 6,
+        }
+    }
+}
+
+/// A gate that may not end comes back with its control, both as they were.
+#[derive(Drop)]
+pub struct ExitFault<const W: usize> {
+    pub why: ExitWhy,
+    pub gate: Gate<W>,
+    pub control: Control<W>,
+}
+
+/// What is left of a gate that has ended.
+#[derive(Clone, Copy, Debug, PartialEq, Eq)]
+pub struct Final<const W: usize> {
+    /// Whether it was dead.
+    pub dead: bool,
+    pub kills: u64,
+    /// The releases that were won, by all its seats.
+    pub releases: u64,
+    /// The guarded words.
+    pub words: [u64; W],
+}

@@ -1,0 +1,111 @@
+//! A gate.
+ghost use Rattle.std.specs.Prelude.{◌≡◌, ◌≤◌, replicate, IfOk, IfErr, OnOk};
+ghost use Rattle.percpu_core.specs.Starts.{opening};
+ghost use Rattle.percpu_core.specs.Moments.{first_control, first_pass};
+ghost use Rattle.percpu_core.specs.ControlSteps.{is_dead};
+ghost use Rattle.percpu_gate.specs.ControlCalls.{exit_refusal};
+ghost use Rattle.percpu_gate.specs.Exits.{why_of};
+
+use crate::control::Control;
+use crate::control_seat::ControlSeat;
+use crate::exit::{ExitFault, Final};
+use crate::pass::Pass;
+use crate::rule::GateKey;
+use crate::table::GateTable;
+use percpu_core::{Memory, Phase, Start};
+use std::alloc::{AllocError, Global};
+use std::marker::Model;
+
+/// A gate, its control and its passes.
+pub type NewGate<const W: usize> = (Gate<W>, Control<W>, Vec<Pass<W>>);
+
+/// A gate with `W` guarded words. Threads share it by reference, and count on it by their passes.
+#[derive(Drop)]
+pub struct Gate<const W: usize> {
+    pub(crate) table: GateTable,
+}
+
+impl<const W: usize> Model for Gate<W> {
+    ghost use Rattle.std.specs.Prelude.{◌≡◌};
+    ghost use Rattle.percpu_gate.specs.Seats.{GateFacts};
+
+    ghost Value = { GateFacts };
+
+    ghost view = { λ g. record { id = g.table.id; slots = g.table.key.slots; start = g.table.key.start } };
+
+    ghost invariant = { λ g. g.table.key.count ≡ W };
+}
+
+/// So many passes, split off a control that has made none.
+fn make_passes<const W: usize>(
+    alloc: Global,
+    seat: &mut ControlSeat,
+    table: &GateTable,
+    passes: u32,
+) -> Result<Vec<Pass<W>>, AllocError>
+    requires own { seat.old.gate ≡ table.now.id }
+    requires none { seat.old.view.passes ≡ 0 }
+    requires few { passes ≤ 64 }
+    ensures seat { OnOk result (seat.new ≡ record seat.old { view = record seat.old.view { passes = passes } }) }
+    ensures passes { IfOk result (λ made. made.items ≡ replicate passes (record { gate = table.now.id; view = first_pass })) }
+{
+    let mut made = Vec::with_capacity(alloc, passes as usize)?;
+    for _ in 0..passes {
+        made.push(Pass::new(seat.make_pass(table)))?;
+    }
+    Ok(made)
+}
+
+impl<const W: usize> Gate<W> {
+    /// A gate with so many slots (1 to 64) and guarded words (up to 8), its control, and so many passes (1 to
+    /// 64) that hold nothing. Memory where a growth was refused. Linux: `percpu_ref_init`
+    /// (lib/percpu-refcount.c).
+    pub fn new(
+        alloc: Global,
+        slots: u32,
+        passes: u32,
+        start: Start,
+        words: [u64; W],
+    ) -> Result<NewGate<W>, Memory>
+        requires words { W ≤ 8 }
+        requires slots { (1 ≤ slots) × (slots ≤ 64) }
+        requires passes { (1 ≤ passes) × (passes ≤ 64) }
+        ensures gate { IfOk result (λ g. (g.0.slots ≡ slots) × (g.0.start ≡ start)) }
+        ensures control { IfOk result (λ g. g.1 ≡ record { gate = g.0.id; view = first_control (opening slots passes start 0 words.entry) }) }
+        ensures passes { IfOk result (λ g. g.2.items ≡ replicate passes (record { gate = g.0.id; view = first_pass })) }
+    {
+        let (table, mut seat) = GateTable::new(alloc, &GateKey::new(slots, start, &words))?;
+        let made = make_passes(alloc, &mut seat, &table, passes)?;
+        let control = Control::new(seat, start, words, passes);
+        Ok((Gate { table }, control, made))
+    }
+
+    /// The slots of the gate: 1 to 64.
+    #[inline]
+    pub fn slots(&self) -> u32
+        ensures { result ≡ self.now.slots }
+    {
+        self.table.slots()
+    }
+
+    /// Ends a gate whose passes are all retired. Refuses MidSwitch, PassesOut. Linux: `percpu_ref_exit`
+    /// (lib/percpu-refcount.c).
+    pub fn exit(self, control: Control<W>) -> Result<Final<W>, ExitFault<W>>
+        requires own { control.gate ≡ self.id }
+        ensures refused { exit_refusal control.entry.view.standing.phase control.entry.view.passes ≡ why_of result }
+        ensures unchanged { IfErr result (λ f. (f.gate ≡ self.entry) × (f.control ≡ control.entry)) }
+        ensures ended { IfOk result (λ f. (f.dead ≡ is_dead control.entry.view.standing.phase) × (f.kills ≡ control.entry.view.standing.kills)
+            × (f.releases ≡ control.entry.view.releases) × (f.words ≡ control.entry.view.words)) }
+    {
+        if let Some(why) = control.test_exit() {
+            let gate = self;
+            return Err(ExitFault { why, gate, control });
+        }
+        Ok(Final {
+            dead: control.phase() == Phase::Dead,
+            kills: control.kills(),
+            releases: control.releases(),
+            words: control.words(),
+        })
+    }
+}

@@ -1,0 +1,219 @@
+//! A pass: what a thread counts with.
+ghost use Rattle.std.specs.Prelude.{◌≡◌, ℕ, ◌∷◌, ◌+◌, ◌-◌, ◌%◌, ◌^◌, ◌<◌, ◌≤◌, true, if◌then◌else◌};
+ghost use Rattle.percpu_core.specs.declared.pass_event.PassEvent.TheVariants as events;
+ghost use Rattle.percpu_core.specs.declared.reply.Reply.TheVariants.{Number, Shared};
+ghost use Rattle.percpu_words.specs.SharedWord.{parts};
+ghost use Rattle.percpu_core.specs.Moments.{first_pass};
+ghost use Rattle.percpu_gate.specs.declared.tried.Tried.TheVariants.{Given};
+ghost use Rattle.percpu_gate.specs.Seats.{PassStep};
+ghost use Rattle.percpu_gate.specs.Calls.{holding, is_refused, after_put, TryLeaves, LookLeaves, HasRead};
+
+use crate::gate::Gate;
+use crate::pass_seat::PassSeat;
+use crate::tried::{Put, Tried};
+use percpu_words::{is_dead, is_zero};
+use std::marker::Model;
+
+/// What a thread counts with: a pass of one gate, which knows how many references it holds.
+///
+/// A pass moves between threads by ownership. One that is dropped keeps what it held.
+#[derive(Drop)]
+pub struct Pass<const W: usize> {
+    seat: PassSeat,
+    held: u32,
+    seen_front: u64,
+    releases: u64,
+}
+
+impl<const W: usize> Model for Pass<W> {
+    ghost use Rattle.std.specs.Prelude.{◌≡◌, ◌^◌, ◌≤◌};
+    ghost use Rattle.percpu_gate.specs.Seats.{PassFacts};
+    ghost use Rattle.percpu_gate.specs.Calls.{holding};
+
+    ghost Value = { PassFacts };
+
+    ghost view = { λ p. p.seat };
+
+    ghost invariant = { λ p. (p.seat.view.standing ≡ holding p.held) × (p.held ≤ 65535)
+        × (p.seat.view.seen_front ≡ p.seen_front) × (p.seat.view.releases ≡ p.releases) × (p.releases ≤ 2 ^ 41) };
+}
+
+impl<const W: usize> Pass<W> {
+    /// A new pass, which holds nothing.
+    pub(crate) fn new(seat: PassSeat) -> Pass<W>
+        requires { seat.view ≡ first_pass }
+        ensures { result ≡ seat }
+    {
+        Pass {
+            seat,
+            held: 0,
+            seen_front: 0,
+            releases: 0,
+        }
+    }
+
+    /// The references that this pass holds: 0 to 65,535.
+    #[inline]
+    pub fn held(&self) -> u32
+        ensures value { self.now.view.standing ≡ holding result }
+        ensures most { result ≤ 65535 }
+    {
+        self.held
+    }
+
+    /// The greatest front that this pass has seen, 0 before it has seen one.
+    #[inline]
+    pub fn seen_front(&self) -> u64
+        ensures { result ≡ self.now.view.seen_front }
+    {
+        self.seen_front
+    }
+
+    /// Takes a reference unless the gate has reached zero. A pass that holds one already always gets it.
+    /// Linux: `percpu_ref_tryget` (include/linux/percpu-refcount.h).
+    #[inline]
+    pub fn try_get(&mut self, gate: &Gate<W>, _slot: u32) -> Tried
+        requires own { self.old.gate ≡ gate.now.id }
+        requires slot { _slot < gate.now.slots }
+        requires room { self.old.view.standing.held < 65535 }
+        ensures own { self.new.gate ≡ self.old.gate }
+        ensures leaves { TryLeaves self.old.view self.new.view result }
+        ensures floor { self.new.view.floor ≡ self.old.view.floor }
+        ensures again { 0 < self.old.view.standing.held → result ≡ Given }
+        ensures ground { is_refused result ≡ true → (self.new.view.found_dead ≡ true) × (self.new.view.found_zero ≡ true) }
+    {
+        if self.seat.add_try(&gate.table) {
+            self.held += 1;
+            Tried::Given
+        } else {
+            let answer = self.seat.put_back(&gate.table);
+            self.releases += answer.released();
+            Tried::Refused(answer)
+        }
+    }
+
+    /// Takes a reference unless the gate was killed. Once the pass has seen the odd front of a kill, a later
+    /// reference is one of a later life. Linux: `percpu_ref_tryget_live`
+    /// (include/linux/percpu-refcount.h).
+    #[inline]
+    pub fn try_get_live(&mut self, gate: &Gate<W>, _slot: u32) -> Tried
+        requires own { self.old.gate ≡ gate.now.id }
+        requires slot { _slot < gate.now.slots }
+        requires room { self.old.view.standing.held < 65535 }
+        ensures own { self.new.gate ≡ self.old.gate }
+        ensures leaves { TryLeaves self.old.view self.new.view result }
+        ensures floor { self.new.view.floor ≡ (if is_refused result then self.old.view.floor else self.old.view.floor + self.old.view.floor % 2) }
+        ensures ground { is_refused result ≡ true → self.new.view.found_dead ≡ true }
+    {
+        if self.seat.add_live(&gate.table) {
+            self.held += 1;
+            Tried::Given
+        } else {
+            let answer = self.seat.put_back(&gate.table);
+            self.releases += answer.released();
+            Tried::Refused(answer)
+        }
+    }
+
+    /// Takes `n` references more, for a pass that holds one. Linux: `percpu_ref_get_many`
+    /// (include/linux/percpu-refcount.h).
+    #[inline]
+    pub fn get(&mut self, gate: &Gate<W>, _slot: u32, n: u32)
+        requires own { self.old.gate ≡ gate.now.id }
+        requires slot { _slot < gate.now.slots }
+        requires held { 1 ≤ self.old.view.standing.held }
+        requires amount { 1 ≤ n }
+        requires room { self.old.view.standing.held + n ≤ 65535 }
+        ensures own { self.new.gate ≡ self.old.gate }
+        ensures view { self.new.view ≡ record self.old.view { standing = holding (self.old.view.standing.held + n) } }
+    {
+        self.seat.add_get(&gate.table, n);
+        self.held += n;
+    }
+
+    /// Drops `n` references that the pass holds. `Last` is the release. Linux: `percpu_ref_put_many`
+    /// (include/linux/percpu-refcount.h).
+    #[inline]
+    pub fn put(&mut self, gate: &Gate<W>, _slot: u32, n: u32) -> Put
+        requires own { self.old.gate ≡ gate.now.id }
+        requires slot { _slot < gate.now.slots }
+        requires amount { 1 ≤ n }
+        requires held { n ≤ self.old.view.standing.held }
+        ensures own { self.new.gate ≡ self.old.gate }
+        ensures view { self.new.view ≡ after_put result (self.old.view.standing.held - n) self.old.view }
+    {
+        let answer = self.seat.drop_held(&gate.table, n);
+        self.held -= n;
+        self.releases += answer.released();
+        answer
+    }
+
+    /// The front: even while the gate is live, odd from the confirmation of a kill until it is revived. It
+    /// only grows.
+    #[inline]
+    pub fn front(&mut self, gate: &Gate<W>) -> u64
+        requires own { self.old.gate ≡ gate.now.id }
+        ensures own { self.new.gate ≡ self.old.gate }
+        ensures step { PassStep events.LoadFront self.old.view self.new.view (Number result) }
+        ensures view { self.new.view ≡ record self.old.view { seen_front = result; floor = result } }
+        ensures floor { self.old.view.floor ≤ result }
+        ensures greatest { self.old.view.seen_front ≤ result }
+    {
+        self.seen_front = self.seat.load_front(&gate.table);
+        self.seen_front
+    }
+
+    /// Whether the gate was killed and isn't revived yet, at this load. Linux: `percpu_ref_is_dying`
+    /// (include/linux/percpu-refcount.h).
+    #[inline]
+    pub fn is_dying(&mut self, gate: &Gate<W>) -> bool
+        requires own { self.old.gate ≡ gate.now.id }
+        ensures own { self.new.gate ≡ self.old.gate }
+        ensures step { (found : ℕ) × PassStep events.LookShared self.old.view self.new.view (Shared found) × (result ≡ (parts found).dead) }
+        ensures leaves { LookLeaves self.old.view self.new.view }
+        ensures ground { result ≡ true → self.new.view.found_dead ≡ true }
+    {
+        is_dead(self.seat.look(&gate.table))
+    }
+
+    /// Whether the count has reached zero since the kill, at this load. Linux: `percpu_ref_is_zero`
+    /// (include/linux/percpu-refcount.h).
+    #[inline]
+    pub fn is_zero(&mut self, gate: &Gate<W>) -> bool
+        requires own { self.old.gate ≡ gate.now.id }
+        ensures own { self.new.gate ≡ self.old.gate }
+        ensures step { (found : ℕ) × PassStep events.LookShared self.old.view self.new.view (Shared found) × (result ≡ (parts found).zero) }
+        ensures leaves { LookLeaves self.old.view self.new.view }
+        ensures ground { result ≡ true → (self.new.view.found_zero ≡ true) × (self.new.view.standing.held ≡ 0) }
+    {
+        is_zero(self.seat.look(&gate.table))
+    }
+
+    /// The guarded word `k`, for a pass that holds a reference: one value for as long as it holds one.
+    #[inline]
+    pub fn word(&mut self, gate: &Gate<W>, k: u32) -> u64
+        requires own { self.old.gate ≡ gate.now.id }
+        requires held { 1 ≤ self.old.view.standing.held }
+        requires word { k < W }
+        ensures own { self.new.gate ≡ self.old.gate }
+        ensures step { PassStep (events.LoadWord k) self.old.view self.new.view (Number result) }
+        ensures view { self.new.view ≡ record self.old.view { read = record { word = k; value = result } ∷ self.old.view.read } }
+        ensures same { (v : ℕ) → HasRead k v self.old.view.read → result ≡ v }
+    {
+        self.seat.load_word(&gate.table, k)
+    }
+
+    /// The seat, of a pass that ends, and the releases that it won.
+    pub(crate) fn into_parts(self) -> (PassSeat, u64)
+        ensures seat { (result.0 ≡ self.entry) × (self.entry.view.standing.held ≡ 0 → result.0.view.standing ≡ holding 0) }
+        ensures releases { (result.1 ≡ self.entry.view.releases) × (result.1 ≤ 2 ^ 41) }
+    {
+        let Self {
+            seat,
+            held: _,
+            seen_front: _,
+            releases,
+        } = self;
+        (seat, releases)
+    }
+}

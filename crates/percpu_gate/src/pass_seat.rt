@@ -1,0 +1,205 @@
+//! The atomic steps of a pass, each one event of the core's machine.
+ghost use Rattle.std.specs.Prelude.{◌≡◌, ◌-◌, ◌^◌, ◌≤◌, [], None, find};
+ghost use Rattle.percpu_core.specs.declared.pass_event.PassEvent.TheVariants as events;
+ghost use Rattle.percpu_core.specs.declared.pass_standing.Pending.TheVariants.{Nothing, OneToUndo};
+ghost use Rattle.percpu_core.specs.declared.reply.Reply.TheVariants.{Given, Shared, Number};
+ghost use Rattle.percpu_core.specs.declared.view.View.TheVariants.{OfPass};
+ghost use Rattle.percpu_core.specs.Machine.{order};
+ghost use Rattle.percpu_core.specs.PassSteps.{hinders_pass};
+ghost use Rattle.percpu_gate.specs.Seats.{SitsAsPass, pass_of, PassStep, tried, left, marked};
+ghost use Rattle.percpu_gate.specs.Calls.{after_put, owed};
+
+use crate::plays::{
+    AddsGet, AddsLive, AddsTry, LoadsFront, LoadsWord, Looks, Marks, Subtracts, Undoes,
+};
+use crate::table::{FIRST_WORD, FRONT, GateTable, SHARED};
+use crate::tried::Put;
+use atomic_table::Seat;
+use percpu_core::View;
+use percpu_words::{DEAD, ZERO, is_dead, is_zero};
+use std::marker::Model;
+
+/// A pass's seat at the table of its gate.
+#[derive(Drop)]
+pub(crate) struct PassSeat {
+    seat: Seat<(), View>,
+}
+
+impl Model for PassSeat {
+    ghost use Rattle.percpu_gate.specs.Seats.{PassFacts, pass_of, SitsAsPass};
+
+    ghost Value = { PassFacts };
+
+    ghost view = { λ p. record { gate = p.seat.table_id; view = pass_of p.seat.me.0 } };
+
+    ghost invariant = { λ p. SitsAsPass p.seat.me };
+}
+
+impl PassSeat {
+    /// A pass's seat at a table.
+    pub(crate) fn of(seat: Seat<(), View>) -> PassSeat
+        requires { SitsAsPass seat.me }
+        ensures { result ≡ record { gate = seat.table_id; view = pass_of seat.me.0 } }
+    {
+        PassSeat { seat }
+    }
+
+    /// The seat, of a pass that ends.
+    pub(crate) fn into_seat(self) -> Seat<(), View>
+        ensures { (result.table_id ≡ self.gate) × (result.me ≡ (OfPass self.view, [])) }
+    {
+        let Self { seat } = self;
+        seat
+    }
+
+    /// Adds 1 to the shared word. Whether ZERO was clear.
+    #[inline]
+    pub(crate) fn add_try(&mut self, gate: &GateTable) -> bool
+        requires own { self.old.gate ≡ gate.now.id }
+        requires enabled { find (hinders_pass gate.now.key.count self.old.view.standing events.AddTry) order ≡ None }
+        ensures own { self.new.gate ≡ self.old.gate }
+        ensures step { PassStep events.AddTry self.old.view self.new.view (tried result) }
+    {
+        let shared = &gate.table.shared;
+        let found = shared.fetch_add::<AddsTry>(&mut self.seat, SHARED, 1);
+        !is_zero(found)
+    }
+
+    /// Adds 1 to the shared word. Whether DEAD was clear.
+    #[inline]
+    pub(crate) fn add_live(&mut self, gate: &GateTable) -> bool
+        requires own { self.old.gate ≡ gate.now.id }
+        requires enabled { find (hinders_pass gate.now.key.count self.old.view.standing events.AddLive) order ≡ None }
+        ensures own { self.new.gate ≡ self.old.gate }
+        ensures step { PassStep events.AddLive self.old.view self.new.view (tried result) }
+    {
+        let shared = &gate.table.shared;
+        let found = shared.fetch_add::<AddsLive>(&mut self.seat, SHARED, 1);
+        !is_dead(found)
+    }
+
+    /// Adds to the shared word for a pass that holds a reference.
+    #[inline]
+    pub(crate) fn add_get(&mut self, gate: &GateTable, n: u32)
+        requires own { self.old.gate ≡ gate.now.id }
+        requires enabled { find (hinders_pass gate.now.key.count self.old.view.standing (events.AddGet n)) order ≡ None }
+        ensures own { self.new.gate ≡ self.old.gate }
+        ensures step { PassStep (events.AddGet n) self.old.view self.new.view Given }
+    {
+        let shared = &gate.table.shared;
+        shared.fetch_add::<AddsGet>(&mut self.seat, SHARED, u64::from(n));
+    }
+
+    /// Subtracts from the shared word. Whether that left DEAD alone.
+    #[inline]
+    pub(crate) fn subtract(&mut self, gate: &GateTable, n: u32) -> bool
+        requires own { self.old.gate ≡ gate.now.id }
+        requires enabled { find (hinders_pass gate.now.key.count self.old.view.standing (events.Sub n)) order ≡ None }
+        ensures own { self.new.gate ≡ self.old.gate }
+        ensures step { PassStep (events.Sub n) self.old.view self.new.view (left result) }
+    {
+        let n = u64::from(n);
+        let shared = &gate.table.shared;
+        let found = shared.fetch_sub::<Subtracts>(&mut self.seat, SHARED, n);
+        found.wrapping_sub(n) == DEAD
+    }
+
+    /// Takes back what a refused try added. Whether that left DEAD alone.
+    #[inline]
+    pub(crate) fn undo(&mut self, gate: &GateTable) -> bool
+        requires own { self.old.gate ≡ gate.now.id }
+        requires enabled { find (hinders_pass gate.now.key.count self.old.view.standing events.Undo) order ≡ None }
+        ensures own { self.new.gate ≡ self.old.gate }
+        ensures step { PassStep events.Undo self.old.view self.new.view (left result) }
+    {
+        let shared = &gate.table.shared;
+        let found = shared.fetch_sub::<Undoes>(&mut self.seat, SHARED, 1);
+        found.wrapping_sub(1) == DEAD
+    }
+
+    /// One exchange of DEAD alone for DEAD and ZERO. Winning it is the release.
+    #[inline]
+    pub(crate) fn mark(&mut self, gate: &GateTable) -> Put
+        requires own { self.old.gate ≡ gate.now.id }
+        requires enabled { find (hinders_pass gate.now.key.count self.old.view.standing events.Mark) order ≡ None }
+        ensures own { self.new.gate ≡ self.old.gate }
+        ensures step { PassStep events.Mark self.old.view self.new.view (marked result) }
+    {
+        let shared = &gate.table.shared;
+        let found = shared.compare_exchange::<Marks>(&mut self.seat, SHARED, DEAD, DEAD | ZERO);
+        Put::of(found == DEAD)
+    }
+
+    /// Loads the shared word.
+    #[inline]
+    pub(crate) fn look(&mut self, gate: &GateTable) -> u64
+        requires own { self.old.gate ≡ gate.now.id }
+        requires enabled { find (hinders_pass gate.now.key.count self.old.view.standing events.LookShared) order ≡ None }
+        ensures own { self.new.gate ≡ self.old.gate }
+        ensures step { PassStep events.LookShared self.old.view self.new.view (Shared result) }
+    {
+        gate.table.shared.load::<Looks>(&mut self.seat, SHARED)
+    }
+
+    /// Loads the front.
+    #[inline]
+    pub(crate) fn load_front(&mut self, gate: &GateTable) -> u64
+        requires own { self.old.gate ≡ gate.now.id }
+        requires enabled { find (hinders_pass gate.now.key.count self.old.view.standing events.LoadFront) order ≡ None }
+        ensures own { self.new.gate ≡ self.old.gate }
+        ensures step { PassStep events.LoadFront self.old.view self.new.view (Number result) }
+    {
+        gate.table.shared.load::<LoadsFront>(&mut self.seat, FRONT)
+    }
+
+    /// Loads the guarded word `k`.
+    #[inline]
+    pub(crate) fn load_word(&mut self, gate: &GateTable, k: u32) -> u64
+        requires own { self.old.gate ≡ gate.now.id }
+        requires enabled { find (hinders_pass gate.now.key.count self.old.view.standing (events.LoadWord k)) order ≡ None }
+        ensures own { self.new.gate ≡ self.old.gate }
+        ensures step { PassStep (events.LoadWord k) self.old.view self.new.view (Number result) }
+    {
+        let place = FIRST_WORD + k as usize;
+        gate.table.shared.load::<LoadsWord>(&mut self.seat, place)
+    }
+
+    /// Marks the zero that a subtraction left, if it left one.
+    #[inline]
+    fn settle(&mut self, gate: &GateTable, to_mark: bool) -> Put
+        requires own { self.old.gate ≡ gate.now.id }
+        requires owed { self.old.view.standing.pending ≡ owed to_mark }
+        ensures { self.new ≡ record self.old { view = after_put result self.old.view.standing.held self.old.view } }
+    {
+        if to_mark {
+            self.mark(gate)
+        } else {
+            Put::NotLast
+        }
+    }
+
+    /// Puts back the 1 that a refused try added.
+    #[inline]
+    pub(crate) fn put_back(&mut self, gate: &GateTable) -> Put
+        requires own { self.old.gate ≡ gate.now.id }
+        requires owed { self.old.view.standing.pending ≡ OneToUndo }
+        ensures view { self.new ≡ record self.old { view = after_put result self.old.view.standing.held self.old.view } }
+        ensures few { self.new.view.releases ≤ 2 ^ 41 }
+    {
+        let to_mark = self.undo(gate);
+        self.settle(gate, to_mark)
+    }
+
+    /// Drops references that the pass holds.
+    #[inline]
+    pub(crate) fn drop_held(&mut self, gate: &GateTable, n: u32) -> Put
+        requires own { self.old.gate ≡ gate.now.id }
+        requires owed { self.old.view.standing.pending ≡ Nothing }
+        requires held { (1 ≤ n) × (n ≤ self.old.view.standing.held) }
+        ensures view { self.new ≡ record self.old { view = after_put result (self.old.view.standing.held - n) self.old.view } }
+        ensures few { self.new.view.releases ≤ 2 ^ 41 }
+    {
+        let to_mark = self.subtract(gate, n);
+        self.settle(gate, to_mark)
+    }
+}

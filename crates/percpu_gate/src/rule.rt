@@ -1,0 +1,48 @@
+//! The rule of a gate's table: the laws of the core.
+ghost use Rattle.std.specs.Prelude.{◌≡◌, ◌≤◌, length, take};
+
+use atomic_table::TableRule;
+use percpu_core::{Start, View};
+
+/// The most guarded words of a gate.
+pub(crate) const MOST_WORDS: usize = 8;
+
+/// What a table of a gate is told once, when it is made.
+#[derive(Drop)]
+pub(crate) struct GateKey {
+    pub slots: u32,
+    pub start: Start,
+    /// The guarded words, of which there are `count`.
+    pub words: [u64; MOST_WORDS],
+    pub count: usize,
+}
+
+impl GateKey {
+    /// The key of a gate with so many slots and these guarded words.
+    pub(crate) fn new(slots: u32, start: Start, words: &[u64]) -> GateKey
+        requires { length words.now ≤ 8 }
+        ensures key { (result.slots ≡ slots) × (result.start ≡ start) × (result.count ≡ length words.now) }
+        ensures words { take result.count result.words ≡ words.now }
+    {
+        let count = words.len();
+        let mut padded = [0; MOST_WORDS];
+        padded[..count].copy_from_slice(words);
+        GateKey {
+            slots,
+            start,
+            words: padded,
+            count,
+        }
+    }
+}
+
+/// The laws, over the memory that the table's words spell.
+pub(crate) struct GateRule;
+
+impl TableRule<(), View, GateKey> for GateRule {
+    ghost use Rattle.percpu_gate.specs.Rule.{Ruled, first_view};
+
+    ghost holds = { Ruled };
+
+    ghost first = { first_view };
+}

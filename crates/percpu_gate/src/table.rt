@@ -1,0 +1,89 @@
+//! The words of a gate, which its seats step on.
+ghost use Rattle.std.specs.Prelude.{◌≡◌, ◌≤◌, ℕ, List, length, take, IfOk};
+ghost use Rattle.percpu_core.specs.Starts.{first_cells};
+ghost use Rattle.percpu_core.specs.Moments.{first_control};
+ghost use Rattle.percpu_gate.specs.Layout.{layout, words_in_all};
+ghost use Rattle.percpu_gate.specs.Rule.{opening_of};
+
+use crate::control_seat::ControlSeat;
+use crate::rule::{GateKey, GateRule};
+use atomic_table::Table;
+use percpu_core::View;
+use std::alloc::{AllocError, Global};
+use std::marker::Model;
+
+/// Where the shared word lies.
+pub(crate) const SHARED: usize = 0;
+
+/// Where the front lies.
+pub(crate) const FRONT: usize = 1;
+
+/// Where the first guarded word lies.
+pub(crate) const FIRST_WORD: usize = 2;
+
+/// Where the first slot lies, apart from the words before it by more than 128 bytes.
+const FIRST_SLOT: usize = 32;
+
+/// A slot is hot in every thread, so it is alone on 128 bytes.
+const WORDS_OF_A_SLOT: usize = 16;
+
+/// The words of a gate.
+#[derive(Drop)]
+pub(crate) struct GateTable {
+    pub(crate) table: Table<(), View, GateKey, GateRule, Global>,
+    slots: u32,
+}
+
+impl Model for GateTable {
+    ghost use Rattle.std.specs.Prelude.{◌≡◌, ◌≤◌};
+    ghost use Rattle.percpu_gate.specs.Layout.{words_in_all};
+    ghost use Rattle.percpu_gate.specs.Seats.{TableFacts};
+
+    ghost Value = { TableFacts };
+
+    ghost view = { λ t. record { id = t.table.shared.table_id; key = t.table.shared.key } };
+
+    ghost invariant = { λ t. (t.slots ≡ t.table.shared.key.slots) × (t.table.shared.key.count ≤ 8)
+        × (t.table.shared.table_id.words ≡ words_in_all t.slots) × (t.table.shared.table_id.slots ≡ 0) };
+}
+
+/// The words of a gate that isn't shared yet: the shared word, the front and the guarded words, and room for
+/// the slots.
+fn first_words(alloc: Global, key: &GateKey) -> Result<Vec<u64>, AllocError>
+    requires count { key.now.count ≤ 8 }
+    requires slots { key.now.slots ≤ 64 }
+    ensures words { IfOk result (λ ws. (rest : List ℕ) × (ws.items ≡ layout (first_cells (opening_of key.now)) rest)) }
+    ensures size { IfOk result (λ ws. length ws.items ≡ words_in_all key.now.slots) }
+    ensures count { IfOk result (λ ws. length (take key.now.count key.now.words) ≡ key.now.count) }
+{
+    let size = FIRST_SLOT + WORDS_OF_A_SLOT * key.slots as usize;
+    let mut words = Vec::with_capacity(alloc, size)?;
+    words.push(key.start.shared())?;
+    words.push(key.start.front(0))?;
+    words.extend_from_slice(&key.words[..key.count])?;
+    words.resize(size, 0)?;
+    Ok(words)
+}
+
+impl GateTable {
+    /// The words of a new gate, and the seat of its control, which has made no pass yet.
+    pub(crate) fn new(alloc: Global, key: &GateKey) -> Result<(GateTable, ControlSeat), AllocError>
+        requires count { key.now.count ≤ 8 }
+        requires slots { (1 ≤ key.now.slots) × (key.now.slots ≤ 64) }
+        ensures table { IfOk result (λ r. (r.0.key ≡ key.now) × (r.1.gate ≡ r.0.id)) }
+        ensures control { IfOk result (λ r. r.1.view ≡ record (first_control (opening_of key.now)) { passes = 0 }) }
+    {
+        let words = first_words(alloc, key)?;
+        let (table, seat) = Table::of_words(alloc, words.as_slice(), key)?;
+        let slots = key.slots;
+        Ok((GateTable { table, slots }, ControlSeat::of(seat)))
+    }
+
+    /// The slots of the gate.
+    #[inline]
+    pub(crate) fn slots(&self) -> u32
+        ensures { result ≡ self.now.key.slots }
+    {
+        self.slots
+    }
+}

@@ -1,0 +1,6 @@
+//! Worked rows by hand, limits, threads and the end.
+mod caller;
+mod ends;
+mod kills;
+mod revivals;
+mod threads;

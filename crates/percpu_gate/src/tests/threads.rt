@@ -1,0 +1,120 @@
+//! Two threads that count while the control kills and revives.
+ghost use Rattle.std.specs.Prelude.{◌≡◌, ◌<◌, IfOk};
+ghost use Rattle.std.specs.Thread.{IsSync};
+ghost use Rattle.percpu_gate.specs.Calls.{holding};
+
+use crate::{Control, Gate, Pass, Put, Tried};
+use percpu_core::Start;
+use std::process::Abort;
+use std::test::Fail;
+use std::thread;
+use std::thread::Threads;
+
+/// Takes a reference and puts it, so many times. How often that was the last.
+fn take_and_put(gate: &Gate<0>, mut pass: Pass<0>, times: u32) -> (Pass<0>, u64)
+    requires own { pass.gate ≡ gate.now.id }
+    requires slots { 0 < gate.now.slots }
+    requires none { pass.view.standing ≡ holding 0 }
+    ensures { (result.0.gate ≡ gate.now.id) × (result.0.view.standing ≡ holding 0) }
+{
+    let mut last = 0u64;
+    for _ in 0..times {
+        let answer = match pass.try_get_live(gate, 0) {
+            Tried::Given => pass.put(gate, 0, 1),
+            Tried::Refused(answer) => answer,
+        };
+        last = last.saturating_add(u64::from(answer == Put::Last));
+    }
+    (pass, last)
+}
+
+/// Kills and revives so many times. How often the kill was the last.
+fn kill_and_revive(gate: &Gate<0>, mut control: Control<0>, times: u32) -> (Control<0>, u64)
+    requires own { control.gate ≡ gate.now.id }
+    ensures { result.0.gate ≡ gate.now.id }
+{
+    let mut last = 0u64;
+    for _ in 0..times {
+        let answer = control.kill(gate);
+        last = last.saturating_add(u64::from(answer == Ok(Put::Last)));
+        let _revived = control.resurrect(gate);
+    }
+    (control, last)
+}
+
+/// Two threads count while this one waits for them.
+fn count_by_two<R: Threads + Sync>(
+    rt: &R,
+    gate: &Gate<0>,
+    first: Pass<0>,
+    second: Pass<0>,
+) -> ((Pass<0>, u64), (Pass<0>, u64))
+    requires own { (first.gate ≡ gate.now.id) × (second.gate ≡ gate.now.id) }
+    requires slots { 0 < gate.now.slots }
+    requires none { (first.view.standing ≡ holding 0) × (second.view.standing ≡ holding 0) }
+    ensures first { (result.0.0.gate ≡ gate.now.id) × (result.0.0.view.standing ≡ holding 0) }
+    ensures second { (result.1.0.gate ≡ gate.now.id) × (result.1.0.view.standing ≡ holding 0) }
+{
+    thread::join(
+        rt,
+        move || -> (Pass<0>, u64)
+            requires { (first.gate ≡ gate.now.id) × (0 < gate.now.slots) × (first.view.standing ≡ holding 0) }
+            ensures { (result.0.gate ≡ gate.entry.now.id) × (result.0.view.standing ≡ holding 0) }
+        { take_and_put(gate, first, 1000) },
+        move || -> (Pass<0>, u64)
+            requires { (second.gate ≡ gate.now.id) × (0 < gate.now.slots) × (second.view.standing ≡ holding 0) }
+            ensures { (result.0.gate ≡ gate.entry.now.id) × (result.0.view.standing ≡ holding 0) }
+        { take_and_put(gate, second, 1000) },
+    )
+}
+
+/// Everything was put, so a kill wins the release.
+#[test]
+fn two_count_then_a_kill(rt: HostRuntime) -> Result<(), Fail> {
+    let (gate, mut control, mut passes) = Gate::<0>::new(rt.alloc(), 2, 2, Start::Atomic, [])?;
+    let second = passes.pop().ok_or("a pass")?;
+    let first = passes.pop().ok_or("a pass")?;
+    let ((_first, earlier), (_second, later)) = count_by_two(&rt, &gate, first, second);
+    assert_eq!(rt; (earlier, later), (0, 0));
+    assert_eq!(rt; control.kill(&gate), Ok(Put::Last));
+    Ok(())
+}
+
+/// One thread counts while another kills and revives.
+fn count_under_kills<R: Threads + Sync>(
+    rt: &R,
+    gate: &Gate<0>,
+    pass: Pass<0>,
+    control: Control<0>,
+) -> ((Pass<0>, u64), (Control<0>, u64))
+    requires own { (pass.gate ≡ gate.now.id) × (control.gate ≡ gate.now.id) }
+    requires slots { 0 < gate.now.slots }
+    requires none { pass.view.standing ≡ holding 0 }
+    ensures pass { (result.0.0.gate ≡ gate.now.id) × (result.0.0.view.standing ≡ holding 0) }
+    ensures control { result.1.0.gate ≡ gate.now.id }
+{
+    thread::join(
+        rt,
+        move || -> (Pass<0>, u64)
+            requires { (pass.gate ≡ gate.now.id) × (0 < gate.now.slots) × (pass.view.standing ≡ holding 0) }
+            ensures { (result.0.gate ≡ gate.entry.now.id) × (result.0.view.standing ≡ holding 0) }
+        { take_and_put(gate, pass, 20_000) },
+        move || -> (Control<0>, u64)
+            requires { control.gate ≡ gate.now.id }
+            ensures { result.0.gate ≡ gate.entry.now.id }
+        { kill_and_revive(gate, control, 100) },
+    )
+}
+
+/// As many releases are told at the end as calls were the last.
+#[test]
+fn no_release_is_lost(rt: HostRuntime) -> Result<(), Fail> {
+    let (gate, control, mut passes) = Gate::<0>::new(rt.alloc(), 1, 1, Start::Atomic, [])?;
+    let pass = passes.pop().ok_or("a pass")?;
+    let ((pass, put), (mut control, killed)) = count_under_kills(&rt, &gate, pass, control);
+    control.retire(&gate, pass);
+    let ended = gate.exit(control).ok().ok_or("all are retired")?;
+    assert_eq!(rt; ended.kills, 100);
+    assert_eq!(rt; ended.releases, put.saturating_add(killed));
+    Ok(())
+}
