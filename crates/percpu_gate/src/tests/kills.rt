@@ -45,6 +45,24 @@ fn kill_with_confirm(rt: HostRuntime) -> Result<(), Fail> {
     Ok(())
 }
 
+/// While the closure of a kill runs, the front is stored and the initial reference still held: the gate is
+/// dying, isn't at zero, and gives references to a try that isn't for a live gate.
+#[test]
+fn closure_finds_the_base_held(rt: HostRuntime) -> Result<(), Fail> {
+    let (gate, mut control, mut passes) = Gate::<0>::new(rt.alloc(), 1, 1, Start::Atomic, [])?;
+    let mut pass = passes.pop().ok_or("a pass")?;
+    let seen = control.kill_and_confirm(&gate, |front| {
+        (
+            front == pass.front(&gate),
+            pass.is_dying(&gate),
+            pass.is_zero(&gate),
+        )
+    });
+    assert_eq!(rt; seen, Ok((Put::Last, (true, true, false))));
+    assert!(rt; control.is_zero(&gate));
+    Ok(())
+}
+
 /// The steps of a kill one at a time, and the calls that they refuse meanwhile.
 #[test]
 fn kill_by_steps(rt: HostRuntime) -> Result<(), Fail> {
