@@ -10,6 +10,9 @@ use std::test::Fail;
 use std::thread;
 use std::thread::Threads;
 
+/// What two threads that counted give back: each its pass, and how often it was the last.
+type TwoCounts = ((Pass<0>, u64), (Pass<0>, u64));
+
 /// Takes a reference and puts it, so many times. How often that was the last.
 fn take_and_put(gate: &Gate<0>, mut pass: Pass<0>, times: u32) -> (Pass<0>, u64)
     requires own { pass.gate ≡ gate.now.id }
@@ -48,7 +51,7 @@ fn count_by_two<R: Threads + Sync>(
     gate: &Gate<0>,
     first: Pass<0>,
     second: Pass<0>,
-) -> ((Pass<0>, u64), (Pass<0>, u64))
+) -> TwoCounts
     requires own { (first.gate ≡ gate.now.id) × (second.gate ≡ gate.now.id) }
     requires slots { 0 < gate.now.slots }
     requires none { (first.view.standing ≡ holding 0) × (second.view.standing ≡ holding 0) }
@@ -80,25 +83,27 @@ fn two_count_then_a_kill(rt: HostRuntime) -> Result<(), Fail> {
     Ok(())
 }
 
-/// One thread counts while another kills and revives.
+/// Two threads count while a third kills and revives.
 fn count_under_kills<R: Threads + Sync>(
     rt: &R,
     gate: &Gate<0>,
-    pass: Pass<0>,
+    first: Pass<0>,
+    second: Pass<0>,
     control: Control<0>,
-) -> ((Pass<0>, u64), (Control<0>, u64))
-    requires own { (pass.gate ≡ gate.now.id) × (control.gate ≡ gate.now.id) }
+) -> (TwoCounts, (Control<0>, u64))
+    requires own { (first.gate ≡ gate.now.id) × (second.gate ≡ gate.now.id) × (control.gate ≡ gate.now.id) }
     requires slots { 0 < gate.now.slots }
-    requires none { pass.view.standing ≡ holding 0 }
-    ensures pass { (result.0.0.gate ≡ gate.now.id) × (result.0.0.view.standing ≡ holding 0) }
+    requires none { (first.view.standing ≡ holding 0) × (second.view.standing ≡ holding 0) }
+    ensures first { (result.0.0.0.gate ≡ gate.now.id) × (result.0.0.0.view.standing ≡ holding 0) }
+    ensures second { (result.0.1.0.gate ≡ gate.now.id) × (result.0.1.0.view.standing ≡ holding 0) }
     ensures control { result.1.0.gate ≡ gate.now.id }
 {
     thread::join(
         rt,
-        move || -> (Pass<0>, u64)
-            requires { (pass.gate ≡ gate.now.id) × (0 < gate.now.slots) × (pass.view.standing ≡ holding 0) }
-            ensures { (result.0.gate ≡ gate.entry.now.id) × (result.0.view.standing ≡ holding 0) }
-        { take_and_put(gate, pass, 20_000) },
+        move || -> TwoCounts
+            requires { IsSync R.row × (first.gate ≡ gate.now.id) × (second.gate ≡ gate.now.id) × (0 < gate.now.slots) × (first.view.standing ≡ holding 0) × (second.view.standing ≡ holding 0) }
+            ensures { (result.0.0.gate ≡ gate.entry.now.id) × (result.0.0.view.standing ≡ holding 0) × (result.1.0.gate ≡ gate.entry.now.id) × (result.1.0.view.standing ≡ holding 0) }
+        { count_by_two(rt, gate, first, second) },
         move || -> (Control<0>, u64)
             requires { control.gate ≡ gate.now.id }
             ensures { result.0.gate ≡ gate.entry.now.id }
@@ -109,12 +114,18 @@ fn count_under_kills<R: Threads + Sync>(
 /// As many releases are told at the end as calls were the last.
 #[test]
 fn no_release_is_lost(rt: HostRuntime) -> Result<(), Fail> {
-    let (gate, control, mut passes) = Gate::<0>::new(rt.alloc(), 1, 1, Start::Atomic, [])?;
-    let pass = passes.pop().ok_or("a pass")?;
-    let ((pass, put), (mut control, killed)) = count_under_kills(&rt, &gate, pass, control);
-    control.retire(&gate, pass);
+    let (gate, control, mut passes) = Gate::<0>::new(rt.alloc(), 2, 2, Start::Atomic, [])?;
+    let second = passes.pop().ok_or("a pass")?;
+    let first = passes.pop().ok_or("a pass")?;
+    let (counts, (mut control, killed)) = count_under_kills(&rt, &gate, first, second, control);
+    let ((first, earlier), (second, later)) = counts;
+    control.retire(&gate, first);
+    control.retire(&gate, second);
     let ended = gate.exit(control).ok().ok_or("all are retired")?;
     assert_eq!(rt; ended.kills, 100);
-    assert_eq!(rt; ended.releases, put.saturating_add(killed));
+    assert_eq!(rt;
+        ended.releases,
+        killed.saturating_add(earlier).saturating_add(later)
+    );
     Ok(())
 }
