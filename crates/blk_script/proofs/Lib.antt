@@ -1,13 +1,4 @@
--- Lemmas over plain lists and numbers.
-pub mod Bitmaps
-pub mod Disks
-pub mod Fronts
+-- Joins: texts that join parts by a byte. Replies: one reply more. OneText: a script has one text.
 pub mod Joins
-pub mod LineLemmas
 pub mod OneText
-pub mod Overlaps
-pub mod PartnerLemmas
 pub mod Replies
-pub mod Rounds
-pub mod SpanLemmas
-pub mod WordLemmas

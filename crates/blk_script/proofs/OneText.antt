@@ -1,20 +1,22 @@
 -- A line has one reply, and a script one text.
-use Rattle.std.proofs.Common.{◌≡◌, ◌∙◌, sym, ap, refl, ℕ, List, [], ◌∷◌, ◌++◌, flat_map, Option, Some, None, MatchOption}
+use Rattle.std.proofs.Common.{◌≡◌, ◌∙◌, sym, ap, refl, ℕ, List, [], ◌∷◌, ◌++◌, flat_map}
 use Rattle.queue_limits.specs.Bounds.{Bounds}
 use Rattle.queue_limits.specs.Pieces.{IsSplit}
 use Rattle.ram_disk.specs.Disk.{sectors_read}
 use Rattle.ram_disk.specs.Runs.{IsRuns}
 use Rattle.ram_disk.specs.Sector.{bytes_of}
 use Rattle.blk_script.specs.Answer.{IsText}
-use Rattle.blk_script.specs.Meaning.{IsReply, IsAnswered, AreReplies, settled_reply, after, after_lines}
-use Rattle.blk_script.specs.Parsing.{Meant}
-use Rattle.blk_script.specs.State.{State, start_of}
+use Rattle.script_meaning.specs.Meaning.{State, start_of, IsReply, IsReplyTo, IsAnswered, AreReplies, after, after_lines}
+use Rattle.script_meaning.specs.Script.{Meant}
+use Rattle.script_meaning.specs.Taken.{outcome}
+use Rattle.script_meaning.specs.declared.outcome.Outcome.{Outcome}
+use Rattle.script_meaning.specs.declared.outcome.Outcome.TheVariants.{Accepted, Drained, Replied}
 use Rattle.blk_script.specs.Texts.{reply_line, disk_line}
-use Rattle.blk_script.specs.declared.line.Line.{Line}
-use Rattle.blk_script.specs.declared.line.What.{What}
-use Rattle.blk_script.specs.declared.line.What.TheVariants.{Read, Write}
-use Rattle.blk_script.specs.declared.reply.Reply.{Reply}
-use Rattle.blk_script.specs.declared.reply.Reply.TheVariants.{Data, Written}
+use Rattle.script_meaning.specs.declared.line.Line.{Line}
+use Rattle.script_meaning.specs.declared.line.What.{What}
+use Rattle.script_meaning.specs.declared.line.What.TheVariants.{Read, Write}
+use Rattle.script_meaning.specs.declared.reply.Reply.{Reply}
+use Rattle.script_meaning.specs.declared.reply.Reply.TheVariants.{Data, Written}
 
 -- the laws of the pieces and of the runs
 abbrev pub OneSplit : Type 0
@@ -25,22 +27,23 @@ OneRuns = (bytes : List ℕ) (a b : List (ℕ × ℕ)) → IsRuns a bytes → Is
 
 one_answered : OneSplit → OneRuns → (s : State) (what : What) (a b : Reply) → IsAnswered s what a → IsAnswered s what b → a ≡ b
 one_answered splits shown s (Read start count) (Data p r) (Data q t) x y =
-    let pieces : p ≡ q = splits s.limits start count p q x.0 y.0 in
+    let pieces : p ≡ q = splits s.queue.limits start count p q x.0 y.0 in
     let found : r ≡ t = shown (bytes_of (sectors_read start count s.disk)) r t x.1 y.1 in
     cc
 one_answered splits shown s (Read start count) (Data p r) b x y = absurd y
 one_answered splits shown s (Read start count) a b x y = absurd x
-one_answered splits shown s (Write start count pattern) (Written p) (Written q) x y = ap Written (splits s.limits start count p q x y)
+one_answered splits shown s (Write start count pattern) (Written p) (Written q) x y = ap Written (splits s.queue.limits start count p q x y)
 one_answered splits shown s (Write start count pattern) (Written p) b x y = absurd y
 one_answered splits shown s (Write start count pattern) a b x y = absurd x
 one_answered splits shown s what a b x y = absurd x
 
-by_settled : (P : Reply → Type 0) (settled : Option Reply) (a b : Reply) → (P a → P b → a ≡ b) → MatchOption settled (P a) (λ r. a ≡ r) → MatchOption settled (P b) (λ r. b ≡ r) → a ≡ b
-by_settled P None a b same x y = same x y
-by_settled P (Some r) a b same x y = x ∙ sym y
+by_outcome : OneSplit → OneRuns → (came : Outcome) (s : State) (what : What) (a b : Reply) → IsReplyTo came s what a → IsReplyTo came s what b → a ≡ b
+by_outcome splits shown (Accepted request) s what a b x y = one_answered splits shown s what a b x y
+by_outcome splits shown (Drained told) s what a b x y = x ∙ sym y
+by_outcome splits shown (Replied told) s what a b x y = x ∙ sym y
 
 one_reply : OneSplit → OneRuns → (s : State) (what : What) (a b : Reply) → IsReply s what a → IsReply s what b → a ≡ b
-one_reply splits shown s what a b = by_settled (IsAnswered s what) (settled_reply s what) a b (one_answered splits shown s what a b)
+one_reply splits shown s what a b = by_outcome splits shown (outcome s.queue what) s what a b
 
 one_list : OneSplit → OneRuns → (s : State) (lines : List Line) (a b : List (ℕ × Reply)) → AreReplies s lines a → AreReplies s lines b → a ≡ b
 one_list splits shown s [] [] [] x y = refl

@@ -5,12 +5,13 @@ use Rattle.std.proofs.lemmas.List.{append-nil}
 use Rattle.ram_disk.specs.Runs.{IsRuns}
 use Rattle.ram_disk.specs.Sector.{bytes_of}
 use Rattle.blk_script.specs.Answer.{IsText}
-use Rattle.blk_script.specs.Meaning.{IsReply, AreReplies, after, after_lines}
-use Rattle.blk_script.specs.Parsing.{Meant}
-use Rattle.blk_script.specs.State.{State, start_of}
+use Rattle.script_meaning.specs.Meaning.{IsReply, AreReplies, after, after_lines}
+use Rattle.script_meaning.specs.Script.{Meant}
+use Rattle.script_meaning.specs.Meaning.{State, start_of}
 use Rattle.blk_script.specs.Texts.{reply_line, disk_line}
-use Rattle.blk_script.specs.declared.line.Line.{Line}
-use Rattle.blk_script.specs.declared.reply.Reply.{Reply}
+use Rattle.script_meaning.proofs.Positions.{after_lines-push}
+use Rattle.script_meaning.specs.declared.line.Line.{Line}
+use Rattle.script_meaning.specs.declared.reply.Reply.{Reply}
 
 -- from the state `first`, the lines were replied to by this text, and left the state `last`
 pub record Told (first : State) (lines : List Line) (text : List ℕ) (last : State) : Type 0 where
@@ -21,10 +22,6 @@ pub record Told (first : State) (lines : List Line) (text : List ℕ) (last : St
 
 pub nothing_told : (first : State) → Told first [] [] first
 nothing_told first = record { replies = []; replied = tt; told = refl; left = refl }
-
-pub after_lines-push : (first : State) (lines : List Line) (line : Line) → after_lines first (lines ++ line ∷ []) ≡ after (after_lines first lines) line.what
-after_lines-push first [] line = refl
-after_lines-push first (next ∷ lines) line = after_lines-push (after first next.what) lines line
 
 AreReplies-push : (first : State) (lines : List Line) (replies : List (ℕ × Reply)) (line : Line) (reply : Reply) → AreReplies first lines replies → IsReply (after_lines first lines) line.what reply
     → AreReplies first (lines ++ line ∷ []) (replies ++ (line.number, reply) ∷ [])

@@ -2,11 +2,11 @@
 use Rattle.std.specs.Prelude.{◌≡◌, ℕ, ◌++◌, List, flat_map}
 use Rattle.ram_disk.specs.Runs.{IsRuns}
 use Rattle.ram_disk.specs.Sector.{bytes_of}
-use Rattle.blk_script.specs.Meaning.{AreReplies, after_lines}
-use Rattle.blk_script.specs.Parsing.{Meant}
-use Rattle.blk_script.specs.State.{start_of}
+use Rattle.script_meaning.specs.Meaning.{AreReplies, after_lines}
+use Rattle.script_meaning.specs.Script.{Meant}
+use Rattle.script_meaning.specs.Meaning.{start_of}
 use Rattle.blk_script.specs.Texts.{reply_line, disk_line}
-use Rattle.blk_script.specs.declared.reply.Reply.{Reply}
+use Rattle.script_meaning.specs.declared.reply.Reply.{Reply}
 
 -- the text is the lines of the replies, one after another, and then the line of the disk as it is in the end
 pub record IsText (script : Meant) (text : List ℕ) : Type 0 where

@@ -1,35 +1,18 @@
 -- What the words of one line say.
 use Rattle.std.specs.Prelude.{ℕ, Bool, true, ◌&&◌, if◌then◌else◌, List, [], ◌∷◌, Result, Ok, Err, codes}
 use Rattle.std.specs.Str.{bytes_eq}
-use Rattle.blk_script.specs.Numbers.{◌>>=◌, number_in, pattern_of}
-use Rattle.blk_script.specs.declared.mode.Mode.TheVariants.{Atomic, Slots}
-use Rattle.blk_script.specs.declared.fault.Why.{Why}
-use Rattle.blk_script.specs.declared.fault.Why.TheVariants.{NoVersion, NoDisk, UnknownWord, MissingWord, ExtraWord}
-use Rattle.blk_script.specs.declared.line.What.{What}
-use Rattle.blk_script.specs.declared.line.What.TheVariants.{Read, Write, Freeze, Thaw, SetMax, SetChunk, SetMode, Stat, Remove}
+use Rattle.line_text.specs.Hex.{hex_bytes}
+use Rattle.line_text.specs.Numbers.{◌>>=◌, number_in}
+use Rattle.line_text.specs.Words.{no_words, one_word, two_words, three_words}
+use Rattle.script_meaning.specs.declared.mode.Mode.TheVariants.{Atomic, Slots}
+use Rattle.line_text.specs.declared.fault.Why.{Why}
+use Rattle.line_text.specs.declared.fault.Why.TheVariants.{NoVersion, NoDisk, UnknownWord}
+use Rattle.script_meaning.specs.declared.line.What.{What}
+use Rattle.script_meaning.specs.declared.line.What.TheVariants.{Read, Write, Freeze, Thaw, SetMax, SetChunk, SetMode, Stat, Remove}
 
--- the words of a part of a line that has this many
-abbrev pub no_words : List (List ℕ) → Result Bool Why
-no_words [] = Ok true
-no_words (more ∷ words) = Err ExtraWord
-
-abbrev pub one_word : List (List ℕ) → Result (List ℕ) Why
-one_word [] = Err MissingWord
-one_word (word ∷ []) = Ok word
-one_word (word ∷ more ∷ words) = Err ExtraWord
-
-abbrev pub two_words : List (List ℕ) → Result (List ℕ × List ℕ) Why
-two_words [] = Err MissingWord
-two_words (first ∷ []) = Err MissingWord
-two_words (first ∷ second ∷ []) = Ok (first, second)
-two_words (first ∷ second ∷ more ∷ words) = Err ExtraWord
-
-abbrev pub three_words : List (List ℕ) → Result (List ℕ × List ℕ × List ℕ) Why
-three_words [] = Err MissingWord
-three_words (first ∷ []) = Err MissingWord
-three_words (first ∷ second ∷ []) = Err MissingWord
-three_words (first ∷ second ∷ third ∷ []) = Ok (first, second, third)
-three_words (first ∷ second ∷ third ∷ more ∷ words) = Err ExtraWord
+-- a write repeats 1 to 64 bytes
+abbrev pub pattern_of : List ℕ → Result (List ℕ) Why
+pattern_of word = hex_bytes 64 word
 
 -- the first line says `blkq 1`, and nothing else
 abbrev pub version_of : List (List ℕ) → Result Bool Why

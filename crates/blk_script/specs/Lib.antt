@@ -1,18 +1,7 @@
+-- Parsing and Grammar: which script a text means. Texts: the line of each reply. Answer: what a run on one thread writes. Machine is of the
+-- code behind that run.
 pub mod Answer
 pub mod Grammar
-pub mod Integers
-pub mod LineAnswers
 pub mod Machine
-pub mod Meaning
-pub mod Numbers
-pub mod Overlap
 pub mod Parsing
-pub mod Partners
-pub mod Span
-pub mod SpanOfRequests
-pub mod Standing
-pub mod State
-pub mod Statements
-pub mod Text
 pub mod Texts
-pub mod WhyNumber

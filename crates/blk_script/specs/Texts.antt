@@ -2,11 +2,12 @@
 use Rattle.std.specs.Prelude.{ℕ, ◌++◌, List, [], ◌∷◌, map, codes, decimal}
 use Rattle.std.specs.List.{join_with_byte}
 use Rattle.hex.specs.Hex.{encode_lower}
-use Rattle.blk_script.specs.declared.mode.Mode.{Mode}
-use Rattle.blk_script.specs.declared.mode.Mode.TheVariants.{Atomic, Slots}
-use Rattle.blk_script.specs.declared.reply.Stat.{Stat as Counts}
-use Rattle.blk_script.specs.declared.reply.Reply.{Reply}
-use Rattle.blk_script.specs.declared.reply.Reply.TheVariants.{Data, Written, Done, Depth, NotFrozen, DepthFull, Again, PastEnd, Invalid, Stat as Told, Removed, Gone}
+use Rattle.line_text.specs.Named.{named}
+use Rattle.script_meaning.specs.declared.mode.Mode.{Mode}
+use Rattle.script_meaning.specs.declared.mode.Mode.TheVariants.{Atomic, Slots}
+use Rattle.script_meaning.specs.declared.reply.Stat.{Stat as Counts}
+use Rattle.script_meaning.specs.declared.reply.Reply.{Reply}
+use Rattle.script_meaning.specs.declared.reply.Reply.TheVariants.{Data, Written, Done, Depth, NotFrozen, DepthFull, Again, PastEnd, Invalid, Stat as Told, Removed, Gone}
 
 -- lengths in decimal, joined by `+`
 abbrev pub pieces_text : List ℕ → List ℕ
@@ -23,10 +24,6 @@ runs_text runs = join_with_byte 44 (map run_text runs)
 abbrev pub mode_name : Mode → List ℕ
 mode_name Atomic = codes "atomic"
 mode_name Slots = codes "slots"
-
--- a name, and a number after it
-unfoldable pub named : List ℕ → ℕ → List ℕ
-named name number = name ++ decimal number
 
 -- a name, and a mode after it
 unfoldable pub named_mode : List ℕ → Mode → List ℕ

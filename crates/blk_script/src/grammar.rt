@@ -1,62 +1,21 @@
 //! What the words of one line say.
 ghost use Rattle.std.specs.Prelude.{◌≡◌, ◌≤◌, true, IfOk};
-ghost use Rattle.std.specs.Str.{bytes_eq};
-ghost use Rattle.blk_script.specs.Grammar.{no_words, one_word, two_words, three_words, version_of, sizes_of, disk_of, read_of, write_of, setting_of, mode_of, alone, what_of};
-ghost use Rattle.blk_script.specs.LineAnswers.{LineAnswers, Says};
+ghost use Rattle.blk_script.specs.Grammar.{version_of, sizes_of, disk_of, pattern_of, read_of, write_of, setting_of, mode_of, alone, what_of};
+ghost use Rattle.line_text.specs.Answers.{LineAnswers, Says};
 
-use crate::fault::{LineFault, Why};
-use crate::line::What;
-use crate::mode::Mode;
-use crate::numbers::{number_in, pattern_of};
-use crate::word_list::Words;
+use line_text::{
+    LineFault, Why, Words, hex_bytes, is_word, no_words, one_word, short_number, three_words,
+    two_words,
+};
+use ram_disk::MAX_PATTERN;
+use script_meaning::{Mode, Pattern, What};
 use std::alloc::Global;
 
-/// Whether a word is this text.
-pub fn is_word(word: &[u8], text: &str) -> bool
-    ensures { result ≡ bytes_eq word.now text.now }
+// The bytes that a write repeats.
+fn pattern(alloc: Global, word: &[u8]) -> Result<Pattern, LineFault>
+    ensures { LineAnswers result (pattern_of word.now) }
 {
-    word == text.as_bytes()
-}
-
-/// Tests that no words are left: else `ExtraWord`.
-pub fn no_words(mut words: Words<'_>) -> Result<(), Why>
-    ensures { Says (λ _. true) result (no_words words.entry) }
-{
-    match words.next() {
-        Some(_) => Err(Why::ExtraWord),
-        None => Ok(()),
-    }
-}
-
-/// The one word that is left. `MissingWord` where there is none, `ExtraWord` where there are more.
-pub fn one_word<'a>(mut words: Words<'a>) -> Result<&'a [u8], Why>
-    ensures { Says (λ word. word.now) result (one_word words.entry) }
-{
-    let word = words.next().ok_or(Why::MissingWord)?;
-    no_words(words)?;
-    Ok(word)
-}
-
-/// The two words that are left. `MissingWord` where there are fewer, `ExtraWord` where there are more.
-pub fn two_words<'a>(mut words: Words<'a>) -> Result<(&'a [u8], &'a [u8]), Why>
-    ensures { Says (λ word. (word.0.now, word.1.now)) result (two_words words.entry) }
-{
-    let first = words.next().ok_or(Why::MissingWord)?;
-    let second = words.next().ok_or(Why::MissingWord)?;
-    no_words(words)?;
-    Ok((first, second))
-}
-
-type ThreeWords<'a> = (&'a [u8], &'a [u8], &'a [u8]);
-
-fn three_words<'a>(mut words: Words<'a>) -> Result<ThreeWords<'a>, Why>
-    ensures { Says (λ word. (word.0.now, word.1.now, word.2.now)) result (three_words words.entry) }
-{
-    let first = words.next().ok_or(Why::MissingWord)?;
-    let second = words.next().ok_or(Why::MissingWord)?;
-    let third = words.next().ok_or(Why::MissingWord)?;
-    no_words(words)?;
-    Ok((first, second, third))
+    Ok(Pattern::new(hex_bytes(alloc, word, MAX_PATTERN)?))
 }
 
 /// Whether the line is that of the version.
@@ -78,11 +37,11 @@ fn sizes(words: Words<'_>) -> Result<(u32, u32), Why>
     ensures hardware { IfOk result (λ sizes. (1 ≤ sizes.1) × (sizes.1 ≤ 65535)) }
 {
     let (sectors, name, hardware) = three_words(words)?;
-    let sectors = number_in(sectors, 1, 4_096)?;
+    let sectors = short_number(sectors, 1, 4_096)?;
     if !is_word(name, "hw") {
         return Err(Why::UnknownWord);
     }
-    let hardware = number_in(hardware, 1, 65_535)?;
+    let hardware = short_number(hardware, 1, 65_535)?;
     Ok((sectors, hardware))
 }
 
@@ -103,18 +62,18 @@ fn read(words: Words<'_>) -> Result<What, Why>
     ensures { result ≡ read_of words.entry }
 {
     let (start, count) = two_words(words)?;
-    let start = number_in(start, 0, u32::MAX)?;
-    let count = number_in(count, 1, 65_535)?;
+    let start = short_number(start, 0, u32::MAX)?;
+    let count = short_number(count, 1, 65_535)?;
     Ok(What::Read { start, count })
 }
 
 fn write(alloc: Global, words: Words<'_>) -> Result<What, LineFault>
     ensures { LineAnswers result (write_of words.entry) }
 {
-    let (start, count, pattern) = three_words(words)?;
-    let start = number_in(start, 0, u32::MAX)?;
-    let count = number_in(count, 1, 65_535)?;
-    let pattern = pattern_of(alloc, pattern)?;
+    let (start, count, digits) = three_words(words)?;
+    let start = short_number(start, 0, u32::MAX)?;
+    let count = short_number(count, 1, 65_535)?;
+    let pattern = pattern(alloc, digits)?;
     Ok(What::Write {
         start,
         count,
@@ -127,9 +86,9 @@ fn setting(words: Words<'_>) -> Result<What, Why>
 {
     let (name, value) = two_words(words)?;
     if is_word(name, "max_sectors") {
-        Ok(What::SetMax(number_in(value, 0, u32::MAX)?))
+        Ok(What::SetMax(short_number(value, 0, u32::MAX)?))
     } else if is_word(name, "chunk_sectors") {
-        Ok(What::SetChunk(number_in(value, 0, u32::MAX)?))
+        Ok(What::SetChunk(short_number(value, 0, u32::MAX)?))
     } else {
         Err(Why::UnknownWord)
     }

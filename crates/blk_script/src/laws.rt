@@ -1,7 +1,7 @@
 //! What holds of the meaning of scripts, apart from the code.
 ghost use Rattle.std.specs.Prelude.{◌≡◌, ℕ, List};
 ghost use Rattle.blk_script.specs.Answer.{IsText};
-ghost use Rattle.blk_script.specs.Parsing.{Meant};
+ghost use Rattle.script_meaning.specs.Script.{Meant};
 
 use queue_limits::one_split;
 use ram_disk::one_list_of_runs;

@@ -1,40 +1,14 @@
 //! The texts of replies and of the disk.
 ghost use Rattle.std.specs.Prelude.{◌≡◌, ◌++◌, ◌∷◌, [], ℕ, List, OnOk, IfOk, IfErr, codes, decimal};
-ghost use Rattle.hex.specs.Hex.{encode_lower};
-ghost use Rattle.blk_script.specs.Texts.{pieces_text, run_text, runs_text, named, named_mode, counts_text, reply_text, reply_line, disk_line};
+ghost use Rattle.line_text.specs.Named.{named};
+ghost use Rattle.blk_script.specs.Texts.{pieces_text, run_text, runs_text, named_mode, counts_text, reply_text, reply_line, disk_line};
 ghost use Rattle.ram_disk.specs.Runs.{IsRuns};
 ghost use Rattle.ram_disk.specs.Sector.{bytes_of};
 
-use crate::fault::ScriptFault;
-use crate::mode::Mode;
-use crate::reply::{Reply, Stat};
-use itoa::Buffer;
+use line_text::{ScriptFault, push_hex, push_named, push_number, push_text};
 use ram_disk::Disk;
+use script_meaning::{Mode, Reply, Stat};
 use std::alloc::{AllocError, Global};
-
-/// Appends a number in decimal.
-pub fn push_number(out: &mut Vec<u8>, number: u64) -> Result<(), AllocError>
-    ensures { OnOk result (out.new.items ≡ out.old.items ++ decimal number) }
-{
-    let mut buffer = Buffer::new();
-    out.extend_from_slice(buffer.format(number).as_bytes())
-}
-
-/// Appends a text.
-pub fn push_text(out: &mut Vec<u8>, text: &str) -> Result<(), AllocError>
-    ensures { OnOk result (out.new.items ≡ out.old.items ++ text.now) }
-{
-    out.extend_from_slice(text.as_bytes())
-}
-
-// Appends a byte in two hexadecimal digits.
-fn push_hex(out: &mut Vec<u8>, byte: u8) -> Result<(), AllocError>
-    ensures { OnOk result (out.new.items ≡ out.old.items ++ encode_lower (byte ∷ [])) }
-{
-    let mut digits = [0; 2];
-    let _ = hex::encode_to_slice([byte].as_slice(), &mut digits);
-    out.extend_from_slice(&digits)
-}
 
 fn push_run(out: &mut Vec<u8>, run: (u8, u64)) -> Result<(), AllocError>
     ensures { OnOk result (out.new.items ≡ out.old.items ++ run_text run) }
@@ -77,15 +51,6 @@ fn push_mode(out: &mut Vec<u8>, name: &str, mode: Mode) -> Result<(), AllocError
         Mode::Atomic => push_text(out, "atomic"),
         Mode::Slots => push_text(out, "slots"),
     }
-}
-
-/// Appends a name, and a number after it in decimal.
-#[tactic(auto, unfolding(crate::specs::Texts::named))]
-pub fn push_named(out: &mut Vec<u8>, name: &str, number: u64) -> Result<(), AllocError>
-    ensures { OnOk result (out.new.items ≡ out.old.items ++ named name.now number) }
-{
-    push_text(out, name)?;
-    push_number(out, number)
 }
 
 fn push_counts(out: &mut Vec<u8>, counts: &Stat) -> Result<(), AllocError>

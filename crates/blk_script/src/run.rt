@@ -2,10 +2,10 @@
 ghost use Rattle.std.specs.Prelude.{◌≡◌, IfOk, IfErr};
 ghost use Rattle.blk_script.specs.Answer.{IsText};
 
-use crate::fault::ScriptFault;
 use crate::machine::Machine;
 use crate::rendering::{push_disk, push_line};
-use crate::script::Script;
+use line_text::ScriptFault;
+use script_meaning::Script;
 use std::alloc::Global;
 
 /// What a script's run on one thread writes: a line for each line that asks something, and then the disk's.

@@ -1,43 +1,43 @@
 //! Worked scripts, what the format says of odd input, and the texts of replies.
 use crate::{
-    ByteRuns, Mode, ParseFault, PieceLengths, Reply, ScriptFault, Stat, What, Why, parse, render,
-    render_disk, run_alone,
+    ByteRuns, Mode, ParseFault, PieceLengths, Reply, ScriptFault, Stat, What, Why, check, parse,
+    render, render_disk, run_alone,
 };
+use line_text::LONGEST_TEXT;
 use ram_disk::Disk;
 use std::alloc::Global;
 use std::process::Abort;
 use std::test::Fail;
 
-mod numbers;
 mod rows;
 
-// The text of a script's run, or that of its fault.
-fn answer(alloc: Global, text: &[u8]) -> Result<Vec<u8>, Fail> {
-    match parse(alloc, text) {
-        Ok(script) => Ok(run_alone(alloc, &script)?),
-        Err(fault) => {
-            let text = fault.to_string(alloc)?;
-            Ok(Vec::from_slice(alloc, text.as_bytes())?)
-        }
-    }
-}
-
-fn check_rows(rt: &(impl Abort + AllocGlobal), rows: &[rows::Row]) -> Result<(), Fail> {
-    for row in rows {
-        let found = answer(rt.alloc(), row.script)?;
+#[test]
+fn worked_scripts(rt: HostRuntime) -> Result<(), Fail> {
+    for row in rows::ROWS {
+        let script = parse(rt.alloc(), row.script)?;
+        check(rt.alloc(), &script)?;
+        let found = run_alone(rt.alloc(), &script)?;
         assert!(rt; found.as_slice() == row.answer, "{}", row.name);
     }
     Ok(())
 }
 
+// The 100,000 lines `thaw` of a script, each with its reply.
 #[test]
-fn worked_scripts(rt: HostRuntime) -> Result<(), Fail> {
-    check_rows(&rt, rows::ANSWERED)
-}
-
-#[test]
-fn refused_scripts(rt: HostRuntime) -> Result<(), Fail> {
-    check_rows(&rt, rows::REFUSED)
+fn many_lines(rt: HostRuntime) -> Result<(), Fail> {
+    let alloc = rt.alloc();
+    let mut text = Vec::from_slice(alloc, b"blkq 1\ndisk 1 hw 1\n")?;
+    let mut wanted = Vec::new(alloc);
+    for number in 3_u32..100_003 {
+        text.extend_from_slice(b"thaw\n")?;
+        let reply = format!(in alloc; "{number} not frozen\n")?;
+        wanted.extend_from_slice(reply.as_bytes())?;
+    }
+    wanted.extend_from_slice(b"disk 00*512\n")?;
+    let script = parse(alloc, &text)?;
+    check(alloc, &script)?;
+    assert!(rt; run_alone(alloc, &script)?.as_slice() == wanted.as_slice());
+    Ok(())
 }
 
 // A disk of 8 sectors, and this third line.
@@ -112,7 +112,7 @@ fn patterns_have_up_to_64_bytes(rt: HostRuntime) -> Result<(), Fail> {
 #[test]
 fn texts_have_up_to_a_mebibyte(rt: HostRuntime) -> Result<(), Fail> {
     let alloc = rt.alloc();
-    let longest = vec![in alloc; b'#'; crate::LONGEST_TEXT]?;
+    let longest = vec![in alloc; b'#'; LONGEST_TEXT]?;
     let wanted = ParseFault {
         line: 2,
         why: Why::NoVersion,
@@ -121,7 +121,7 @@ fn texts_have_up_to_a_mebibyte(rt: HostRuntime) -> Result<(), Fail> {
         parse(alloc, &longest).err(),
         Some(ScriptFault::Parse(wanted))
     );
-    let longer = vec![in alloc; b'#'; crate::LONGEST_TEXT + 1]?;
+    let longer = vec![in alloc; b'#'; LONGEST_TEXT + 1]?;
     let wanted = ParseFault {
         line: 1,
         why: Why::TooLong,
@@ -189,34 +189,10 @@ fn texts_of_replies(rt: HostRuntime) -> Result<(), Fail> {
         let line = render(alloc, 7, reply)?;
         assert!(rt; line.as_slice() == text.as_bytes(), "{text}");
     }
+    let line = render(alloc, u32::MAX, &Reply::Done)?;
+    assert!(rt; line.as_slice() == b"4294967295 ok\n".as_slice());
     let line = render_disk(alloc, &Disk::new(alloc, 4)?)?;
     assert!(rt; line.as_slice() == b"disk 00*2048\n".as_slice());
-    Ok(())
-}
-
-#[test]
-fn reasons_have_numbers_and_texts(rt: HostRuntime) -> Result<(), Fail> {
-    let texts = [
-        (Why::NotUtf8, 1, "not utf-8"),
-        (Why::NoVersion, 2, "no version"),
-        (Why::NoDisk, 3, "no disk"),
-        (Why::UnknownWord, 4, "unknown word"),
-        (Why::MissingWord, 5, "missing word"),
-        (Why::ExtraWord, 6, "extra word"),
-        (Why::BadNumber, 7, "bad number"),
-        (Why::OutOfRange, 8, "out of range"),
-        (Why::BadHex, 9, "bad hex"),
-        (Why::TooLong, 10, "too long"),
-        (Why::NoWorld, 11, "no world"),
-    ];
-    for (why, number, text) in texts {
-        assert_eq!(rt; why.number(), number);
-        assert_eq!(rt; why.to_string(rt.alloc())?.as_str(), text);
-    }
-    assert_eq!(rt;
-        ScriptFault::Memory.to_string(rt.alloc())?.as_str(),
-        "memory"
-    );
     Ok(())
 }
 
@@ -229,7 +205,7 @@ fn answer_or_memory(alloc: Global, text: &[u8]) -> Result<Vec<u8>, ScriptFault> 
 // Under `rt try --test --fail-alloc N` the N-th allocation is refused: then the answer is Memory or the text.
 #[test]
 fn want_of_memory(rt: HostRuntime) {
-    for row in rows::ANSWERED {
+    for row in rows::ROWS {
         match answer_or_memory(rt.alloc(), row.script) {
             Ok(text) => assert!(rt; text.as_slice() == row.answer, "{}", row.name),
             Err(fault) => assert_eq!(rt; fault, ScriptFault::Memory, "{}", row.name),

@@ -1,10 +1,7 @@
--- Lemmas on readers, writers, words and answers, over plain lists.
+-- What was read says as much as the whole input (Cutting, of an answer Answering, of a replay Showing), the statuses (Ending) and
+-- lists of one and of four words (Wording).
 pub mod Answering
 pub mod Cutting
 pub mod Ending
-pub mod Scheduling
-pub mod Sending
 pub mod Showing
-pub mod ShownRuns
-pub mod Taking
 pub mod Wording

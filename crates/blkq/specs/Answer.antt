@@ -1,9 +1,10 @@
 -- What the program answers to an input: a text, or the fault that the input is refused for.
 use Rattle.std.specs.Prelude.{◌≡◌, ℕ, List, Result, Ok, Err}
 use Rattle.blk_script.specs.Answer.{IsText}
-use Rattle.blk_script.specs.Overlap.{HasNoOverlap, IsReported}
-use Rattle.blk_script.specs.Parsing.{Meant, meaning_of}
-use Rattle.blk_script.specs.declared.fault.ParseFault.{ParseFault}
+use Rattle.script_overlap.specs.Overlap.{HasNoOverlap, IsReported}
+use Rattle.blk_script.specs.Parsing.{meaning_of}
+use Rattle.script_meaning.specs.Script.{Meant}
+use Rattle.line_text.specs.declared.fault.ParseFault.{ParseFault}
 use Rattle.blkq.specs.declared.fault.Fault.{Fault}
 use Rattle.blkq.specs.declared.fault.Fault.TheVariants.{Parse, Overlap}
 

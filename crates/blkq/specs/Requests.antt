@@ -1,6 +1,6 @@
 -- What the words after the program's name ask for.
 use Rattle.std.specs.Prelude.{◌≡◌, ◌⊎◌, ℕ, List, [], ◌∷◌, codes, Ok}
-use Rattle.blk_script.specs.Numbers.{number_in}
+use Rattle.line_text.specs.Numbers.{number_in}
 use Rattle.blkq.specs.Sizes.{Sizes, AreWithin}
 
 -- a word spells a number of 32 bits as a script spells its numbers

@@ -1,12 +1,11 @@
 //! What the words after the program's name ask for.
 ghost use Rattle.std.specs.Prelude.{◌≡◌, ◌↔◌, ℕ, map, string_bytes, Some};
-ghost use Rattle.blk_script.specs.Numbers.{number_in};
+ghost use Rattle.line_text.specs.Numbers.{number_in};
 ghost use Rattle.blkq.specs.Requests.{AsksReplay, AsksRun, Spells};
 ghost use Rattle.blkq.specs.Sizes.{Sizes, AreWithin};
 
 use crate::config::Config;
-use crate::schedule_numbers::short_number;
-use blk_script::Why;
+use line_text::{Why, short_number};
 
 /// What the program is asked to do.
 #[derive(Clone, Copy, Debug, PartialEq, Eq)]

@@ -1,21 +1,20 @@
 //! The program, over any reader and writers.
-ghost use Rattle.std.specs.Prelude.{◌≡◌, ◌⊎◌, [], ◌∷◌, map, string_bytes, Contains, IfSome, IsErr};
-ghost use Rattle.std.specs.Io.KnownBytes.{Appends, Keeps};
+ghost use Rattle.std.specs.Prelude.{◌≡◌, ◌⊎◌, [], ◌∷◌, map, string_bytes, Contains, IsErr, IsOkAnd};
+ghost use Rattle.counted_io.specs.Reading.{IfKnown, TakesUpTo};
+ghost use Rattle.counted_io.specs.Writing.{Takes, TakesNothing, TakesPart};
 ghost use Rattle.blkq.specs.Answer.{IsAnsweredBy, IsRefusedBy};
-ghost use Rattle.blkq.specs.Counted.{inner_of};
 ghost use Rattle.blkq.specs.Faults.{status_of};
 ghost use Rattle.blkq.specs.Requests.{AsksReplay, AsksSomeRun, AsksSomething};
-ghost use Rattle.blkq.specs.Shown.{EndsSo, shown_by};
-ghost use Rattle.blkq.specs.Taken.{TakesUpTo};
+ghost use Rattle.gate_replay.specs.Shown.{EndsSo, shown_by};
 
 use crate::arguments::{Request, requested};
 use crate::config::Config;
-use crate::counted::Counted;
 use crate::fault::Fault;
 use crate::replay_report::replay_reported;
-use crate::replayed::Replayed;
 use crate::run::run_bytes;
 use crate::stall::NoStall;
+use counted_io::Counted;
+use gate_replay::Replayed;
 use std::alloc::Global;
 use std::io;
 use std::io::{ErrorKind, Read, Write};
@@ -37,12 +36,14 @@ fn run_reported<R: Read, W: Write, E: Write>(
     errors: &mut E,
 ) -> u8
     ensures statuses { Contains (0 ∷ 2 ∷ 3 ∷ 4 ∷ []) result }
-    ensures success { result ≡ 0 → IfSome (R.remaining (inner_of reader.old)) (λ input. IsAnsweredBy input
-        (Appends (W.contents (inner_of writer.old)) (W.contents (inner_of writer.new)))) }
-    ensures refused { (result ≡ 2) ⊎ (result ≡ 3) → IfSome (R.remaining (inner_of reader.old))
+    ensures success { result ≡ 0 → IfKnown R.remaining reader.old (λ input. IsAnsweredBy input
+        (Takes W.contents writer.old writer.new)) }
+    ensures refused { (result ≡ 2) ⊎ (result ≡ 3) → IfKnown R.remaining reader.old
         (λ input. IsRefusedBy input (λ fault. status_of fault ≡ result)) }
-    ensures untouched { (result ≡ 2) ⊎ (result ≡ 3) → Keeps (W.contents (inner_of writer.old)) (W.contents (inner_of writer.new)) }
-    ensures taken { TakesUpTo (R.remaining (inner_of reader.old)) (R.remaining (inner_of reader.new)) 1048577 }
+    ensures untouched { (result ≡ 2) ⊎ (result ≡ 3) → TakesNothing W.contents writer.old writer.new }
+    ensures partly { result ≡ 4 → TakesNothing W.contents writer.old writer.new
+        ⊎ IfKnown R.remaining reader.old (λ input. IsAnsweredBy input (TakesPart W.contents writer.old writer.new)) }
+    ensures taken { TakesUpTo R.remaining reader.old reader.new 1048577 }
 {
     match run_bytes(rt, alloc, reader, writer, config, &NoStall) {
         Ok(()) => 0,
@@ -70,32 +71,40 @@ pub fn command<R: Read, W: Write, E: Write>(
     ensures statuses { Contains (0 ∷ 2 ∷ 3 ∷ 4 ∷ []) result }
 
     // The script's answer is a text, and exactly that text was written.
-    ensures success { AsksSomeRun (map string_bytes args.now) → result ≡ 0 → IfSome (R.remaining (inner_of reader.old)) (λ input. IsAnsweredBy input
-        (Appends (W.contents (inner_of writer.old)) (W.contents (inner_of writer.new)))) }
+    ensures success { AsksSomeRun (map string_bytes args.now) → result ≡ 0 → IfKnown R.remaining reader.old (λ input. IsAnsweredBy input
+        (Takes W.contents writer.old writer.new)) }
 
     // The script is refused for a fault of that status, and nothing was written.
-    ensures refused { AsksSomeRun (map string_bytes args.now) → (result ≡ 2) ⊎ (result ≡ 3) → IfSome (R.remaining (inner_of reader.old))
+    ensures refused { AsksSomeRun (map string_bytes args.now) → (result ≡ 2) ⊎ (result ≡ 3) → IfKnown R.remaining reader.old
         (λ input. IsRefusedBy input (λ fault. status_of fault ≡ result)) }
     ensures untouched { AsksSomeRun (map string_bytes args.now) → (result ≡ 2) ⊎ (result ≡ 3)
-        → Keeps (W.contents (inner_of writer.old)) (W.contents (inner_of writer.new)) }
+        → TakesNothing W.contents writer.old writer.new }
+
+    // Nothing of the script's answer went out, or its first bytes and not all.
+    ensures partly { AsksSomeRun (map string_bytes args.now) → result ≡ 4 → TakesNothing W.contents writer.old writer.new
+        ⊎ IfKnown R.remaining reader.old (λ input. IsAnsweredBy input (TakesPart W.contents writer.old writer.new)) }
 
     // Exactly what the schedule's replay shows was written, and the status tells how it ends.
-    ensures whole { AsksReplay (map string_bytes args.now) → result ≡ 0 → IfSome (R.remaining (inner_of reader.old)) (λ input. EndsSo input Replayed.Whole
-        (Appends (W.contents (inner_of writer.old)) (W.contents (inner_of writer.new)))) }
-    ensures stuck { AsksReplay (map string_bytes args.now) → result ≡ 3 → IfSome (R.remaining (inner_of reader.old)) (λ input. EndsSo input Replayed.Stuck
-        (Appends (W.contents (inner_of writer.old)) (W.contents (inner_of writer.new)))) }
+    ensures whole { AsksReplay (map string_bytes args.now) → result ≡ 0 → IfKnown R.remaining reader.old (λ input. EndsSo input Replayed.Whole
+        (Takes W.contents writer.old writer.new)) }
+    ensures stuck { AsksReplay (map string_bytes args.now) → result ≡ 3 → IfKnown R.remaining reader.old (λ input. EndsSo input Replayed.Stuck
+        (Takes W.contents writer.old writer.new)) }
 
     // The input is refused as a schedule, and nothing was written.
-    ensures no_schedule { AsksReplay (map string_bytes args.now) → result ≡ 2 → IfSome (R.remaining (inner_of reader.old)) (λ input. IsErr (shown_by input)) }
+    ensures no_schedule { AsksReplay (map string_bytes args.now) → result ≡ 2 → IfKnown R.remaining reader.old (λ input. IsErr (shown_by input)) }
     ensures unshown { AsksReplay (map string_bytes args.now) → result ≡ 2
-        → Keeps (W.contents (inner_of writer.old)) (W.contents (inner_of writer.new)) }
+        → TakesNothing W.contents writer.old writer.new }
+
+    // Nothing of what the replay shows went out, or its first bytes and not all.
+    ensures part_shown { AsksReplay (map string_bytes args.now) → result ≡ 4 → TakesNothing W.contents writer.old writer.new
+        ⊎ IfKnown R.remaining reader.old (λ input. IsOkAnd (shown_by input) (λ shown. TakesPart W.contents writer.old writer.new shown.text)) }
 
     // Where the words ask for neither, nothing is read and nothing is written.
     ensures usage { ¬ (AsksSomething (map string_bytes args.now)) → result ≡ 4 }
     ensures unread { ¬ (AsksSomething (map string_bytes args.now)) → reader.new ≡ reader.old }
     ensures unwritten { ¬ (AsksSomething (map string_bytes args.now)) → writer.new ≡ writer.old }
 
-    ensures taken { TakesUpTo (R.remaining (inner_of reader.old)) (R.remaining (inner_of reader.new)) 1048577 }
+    ensures taken { TakesUpTo R.remaining reader.old reader.new 1048577 }
 {
     match requested(args) {
         Request::Run(config) => run_reported(rt, alloc, config, reader, writer, errors),

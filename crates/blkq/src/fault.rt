@@ -2,9 +2,8 @@
 ghost use Rattle.std.specs.Prelude.{◌≡◌};
 ghost use Rattle.blkq.specs.Faults.{number_of, status_of};
 
-use crate::input::InputFault;
-use crate::output::WriteFault;
-use blk_script::{Overlap, ParseFault, ScriptFault};
+use counted_io::{InputFault, WriteFault};
+use line_text::{Overlap, ParseFault, ScriptFault};
 use thiserror::Error;
 
 /// Why a run answers nothing, or not all of its answer.

@@ -1,43 +1,29 @@
 //! A block request queue in front of a disk in memory.
 //!
 //! The program reads a script of requests from standard input and writes what a queue answers to them, line
-//! by line, and the disk that they leave. Data flows one way: [`arguments`] says what is asked for, [`input`]
-//! reads, [`answer`] answers, [`output`] writes, and [`run`] joins them; [`command`] is the program over any
-//! reader and writers, and `main` gives it the standard ones.
+//! by line, and the disk that they leave. Data flows one way: [`arguments`] says what is asked for,
+//! `counted_io` reads, [`answer`] answers, `counted_io` writes, and [`run`] joins them; [`command`] is the
+//! program over any reader and writers, and `main` gives it the standard ones.
 //!
 //! Or it reads a schedule, a gate's atomic steps one after another, and writes what each is answered:
-//! [`schedule_parser`] reads the text, [`replaying`] takes the steps, and [`replay_run`] joins them.
+//! `gate_replay` takes the steps, and [`replay_run`] reads and writes.
 #![tactic(auto)]
 
 mod answer;
 mod arguments;
 mod command;
 mod config;
-mod counted;
-mod event_line;
 mod fault;
-mod input;
 mod laws;
-mod output;
-mod replay_laws;
 mod replay_report;
 mod replay_run;
-#[cfg(test)]
-mod replay_tests;
-mod replay_text;
-mod replayed;
-mod replaying;
 mod run;
-mod schedule;
-mod schedule_numbers;
-mod schedule_parser;
 mod stall;
 #[cfg(test)]
 mod tests;
-mod world_line;
 
 use command::{command, refuse_words};
-use counted::Counted;
+use counted_io::Counted;
 use std::process::ExitCode;
 use std::rt::Env;
 use std::{env, io};

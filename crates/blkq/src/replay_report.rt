@@ -1,13 +1,12 @@
 //! A replay, told as a status.
-ghost use Rattle.std.specs.Prelude.{◌≡◌, [], ◌∷◌, Contains, IfSome, IsErr};
-ghost use Rattle.std.specs.Io.KnownBytes.{Appends, Keeps};
-ghost use Rattle.blkq.specs.Counted.{inner_of};
-ghost use Rattle.blkq.specs.Shown.{EndsSo, shown_by};
-ghost use Rattle.blkq.specs.Taken.{TakesUpTo};
+ghost use Rattle.std.specs.Prelude.{◌≡◌, ◌⊎◌, [], ◌∷◌, Contains, IsErr, IsOkAnd};
+ghost use Rattle.counted_io.specs.Reading.{IfKnown, TakesUpTo};
+ghost use Rattle.counted_io.specs.Writing.{Takes, TakesNothing, TakesPart};
+ghost use Rattle.gate_replay.specs.Shown.{EndsSo, shown_by};
 
-use crate::counted::Counted;
 use crate::replay_run::replay_bytes;
-use crate::replayed::Replayed;
+use counted_io::Counted;
+use gate_replay::Replayed;
 use std::alloc::Global;
 use std::io::{Read, Write};
 
@@ -23,13 +22,15 @@ pub(crate) fn replay_reported<R: Read, W: Write, E: Write>(
     errors: &mut E,
 ) -> u8
     ensures statuses { Contains (0 ∷ 2 ∷ 3 ∷ 4 ∷ []) result }
-    ensures whole { result ≡ 0 → IfSome (R.remaining (inner_of reader.old)) (λ input. EndsSo input Replayed.Whole
-        (Appends (W.contents (inner_of writer.old)) (W.contents (inner_of writer.new)))) }
-    ensures stuck { result ≡ 3 → IfSome (R.remaining (inner_of reader.old)) (λ input. EndsSo input Replayed.Stuck
-        (Appends (W.contents (inner_of writer.old)) (W.contents (inner_of writer.new)))) }
-    ensures refused { result ≡ 2 → IfSome (R.remaining (inner_of reader.old)) (λ input. IsErr (shown_by input)) }
-    ensures untouched { result ≡ 2 → Keeps (W.contents (inner_of writer.old)) (W.contents (inner_of writer.new)) }
-    ensures taken { TakesUpTo (R.remaining (inner_of reader.old)) (R.remaining (inner_of reader.new)) 1048577 }
+    ensures whole { result ≡ 0 → IfKnown R.remaining reader.old (λ input. EndsSo input Replayed.Whole
+        (Takes W.contents writer.old writer.new)) }
+    ensures stuck { result ≡ 3 → IfKnown R.remaining reader.old (λ input. EndsSo input Replayed.Stuck
+        (Takes W.contents writer.old writer.new)) }
+    ensures refused { result ≡ 2 → IfKnown R.remaining reader.old (λ input. IsErr (shown_by input)) }
+    ensures untouched { result ≡ 2 → TakesNothing W.contents writer.old writer.new }
+    ensures partly { result ≡ 4 → TakesNothing W.contents writer.old writer.new
+        ⊎ IfKnown R.remaining reader.old (λ input. IsOkAnd (shown_by input) (λ shown. TakesPart W.contents writer.old writer.new shown.text)) }
+    ensures taken { TakesUpTo R.remaining reader.old reader.new 1048577 }
 {
     match replay_bytes(alloc, reader, writer) {
         Ok(Replayed::Whole) => 0,

@@ -1,9 +1,19 @@
-//! Readers and writers that fail in every way there is, and the words that the program takes.
+//! The program on worked inputs, and with words, readers and writers of every kind.
 mod arguments;
-mod counting;
-mod fakes;
-mod reading;
-mod rows;
-mod running;
+mod driver;
 mod scripts;
-mod writing;
+mod texts;
+mod ways;
+
+use driver::play_all;
+use std::test::Fail;
+
+#[test]
+fn worked_scripts(rt: HostRuntime) -> Result<(), Fail> {
+    play_all(&rt, scripts::ROWS)
+}
+
+#[test]
+fn ways_to_call_and_to_fail(rt: HostRuntime) -> Result<(), Fail> {
+    play_all(&rt, ways::ROWS)
+}

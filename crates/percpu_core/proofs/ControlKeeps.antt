@@ -1,5 +1,6 @@
 -- A step of the control keeps the laws of the other views where it goes by its own.
-use Rattle.std.proofs.Common.{◌≡◌, ℕ, ◌+◌, ◌*◌, ◌%◌, ◌<◌, ◌≤◌, ◌⊎◌, ⊎_elim, true, List, [], ◌∷◌, arith, sym, ◌∙◌, subst}
+use Rattle.std.proofs.Common.{◌≡◌, ℕ, ◌+◌, ◌*◌, ◌%◌, ◌<◌, ◌≤◌, ◌⊎◌, ⊎_elim, true, List, [], ◌∷◌, length, arith, sym, ◌∙◌, subst}
+use Rattle.percpu_core.specs.declared.phase.Phase.TheVariants.{Opening}
 use Rattle.percpu_core.specs.declared.view.ControlView.{ControlView}
 use Rattle.percpu_core.specs.declared.view.View.{View}
 use Rattle.percpu_core.specs.declared.view.View.TheVariants.{OfControl, OfPass, Spent}
@@ -10,7 +11,8 @@ use Rattle.percpu_core.specs.Views.{count, held_by_all, additions_to_undo, zeros
 use Rattle.percpu_core.specs.SumLaw.{SumLaw}
 use Rattle.percpu_core.specs.GuardLaw.{AreNow}
 use Rattle.percpu_core.specs.ReleaseLaw.{Origin}
-use Rattle.percpu_core.specs.LimitLaw.{fronts_due, most_kills}
+use Rattle.percpu_core.specs.LimitLaw.{fronts_due}
+use Rattle.percpu_core.specs.declared.limits.TheConstants.{KILL_LIMIT}
 use Rattle.percpu_core.specs.Laws.{Laws}
 use Rattle.percpu_core.proofs.Passes.{EachPass-map}
 use Rattle.percpu_core.proofs.Counting.{balance}
@@ -22,7 +24,8 @@ pub record ControlChange (o : Origin) (cells : Cells) (c : ControlView) (vs : Li
   pub bias : has_bias d.standing.phase ≡ has_bias c.standing.phase
   pub open_slots : (k : ℕ) → is_open_in d.standing.phase k ≡ is_open_in c.standing.phase k
   pub closed : closed_so_far d.standing.phase ≡ closed_so_far c.standing.phase
-  pub uncollected : d.uncollected ≡ c.uncollected
+  pub opening : (k : ℕ) → d.standing.phase ≡ Opening k → k < length cells.slots
+  pub uncollected : d.standing.uncollected ≡ c.standing.uncollected
   pub dead : s.dead ≡ is_dead_in d.standing.phase d.killing
   pub killing : d.killing ≡ is_killing_in d.standing.phase d.killing
   pub after_drop : s.zero ≡ true → may_be_zero d.standing.phase ≡ true
@@ -43,7 +46,7 @@ pub record ControlChange (o : Origin) (cells : Cells) (c : ControlView) (vs : Li
   pub passes : d.passes ≡ c.passes
   pub found_dead : d.found_dead ≡ c.found_dead
   pub found_zero : d.found_zero ≡ c.found_zero
-  pub few_kills : d.standing.kills ≤ most_kills
+  pub few_kills : d.standing.kills ≤ KILL_LIMIT
   pub due : d.front + fronts_due d.standing.phase d.killing + 2 * c.standing.kills ≡ c.front + fronts_due c.standing.phase c.killing + 2 * d.standing.kills
 
 -- where nothing is held each pass holds nothing
@@ -65,7 +68,7 @@ module _ (o : Origin) (cells : Cells) (c : ControlView) (vs : List View) (l : La
   pub control_keeps : Laws o cells' d vs
   control_keeps = record {
     sum = sum;
-    phase = record { slots = λ k t e. l.phase.slots k t e ∙ sym (g.open_slots k); closed = rw g.closed l.phase.closed; dead = g.dead; killing = g.killing };
+    phase = record { slots = λ k t e. l.phase.slots k t e ∙ sym (g.open_slots k); closed = rw g.closed l.phase.closed; dead = g.dead; killing = g.killing; opening = g.opening };
     zero = record { after_drop = g.after_drop; nothing_held = g.nothing_held; known = g.known; settled = g.settled };
     mark = g.mark;
     guard = record {
@@ -86,6 +89,7 @@ module _ (o : Origin) (cells : Cells) (c : ControlView) (vs : List View) (l : La
     limit = record {
       passes = subst (λ (n : ℕ). n ≤ 64) (sym g.passes) l.limit.passes;
       held = l.limit.held;
+      some_slot = l.limit.some_slot;
       slots = l.limit.slots;
       deltas = l.limit.deltas;
       uncollected_most = rw (g.uncollected, g.closed) l.limit.uncollected_most;

@@ -1,20 +1,21 @@
 -- What the phase of the control tells, for the proofs of its steps.
-use Rattle.std.proofs.Common.{◌≡◌, ℕ, ◌%◌, ◌≤◌, Bool, true, false, ◌||◌, if◌then◌else◌, List, refl, arith, ap, sym, ◌∙◌, leb}
+use Rattle.std.proofs.Common.{◌≡◌, ℕ, ◌%◌, ◌≤◌, Bool, true, false, if◌then◌else◌, List, refl, arith, ap, sym, ◌∙◌, subst, leb}
 use Rattle.std.proofs.lemmas.Bool.Decides.{nat_tests}
 use Rattle.percpu_core.specs.declared.control_event.ControlEvent.{ControlEvent}
 use Rattle.percpu_core.specs.declared.phase.Phase.{Phase}
 use Rattle.percpu_core.specs.declared.reply.Reply.TheVariants.{NotLast, ToMark}
 use Rattle.percpu_core.specs.declared.view.ControlView.{ControlView}
 use Rattle.percpu_core.specs.declared.view.View.{View}
+use Rattle.percpu_core.specs.declared.slot.Slot.{Slot}
 use Rattle.percpu_core.specs.Cells.{Cells}
 use Rattle.percpu_core.specs.Phases.{holds_base, is_dead_in, is_killing_in, may_be_zero, has_odd_front}
 use Rattle.percpu_core.specs.Views.{count}
 use Rattle.percpu_core.specs.ReleaseLaw.{Origin}
 use Rattle.percpu_core.specs.LimitLaw.{fronts_due}
 use Rattle.percpu_core.specs.Laws.{Laws}
-use Rattle.percpu_core.specs.ControlSteps.{cells_after_control, shared_after_control, front_after, words_after, is_to_mark}
+use Rattle.percpu_core.specs.ControlSteps.{cells_after_control, shared_after_control, slots_after_control, front_after, words_after, is_to_mark}
 use Rattle.percpu_core.specs.ControlLearns.{control_view_after}
-use Rattle.percpu_core.specs.Machine.{won}
+use Rattle.percpu_core.proofs.Flags.{true_not_false}
 use Rattle.percpu_core.proofs.Counting.{value-least}
 use Rattle.percpu_core.proofs.ControlKeeps.{ControlChange, control_keeps}
 
@@ -22,43 +23,20 @@ pub left_is_to_mark : (b : Bool) → b ≡ true → count (is_to_mark (if b then
 left_is_to_mark true e = refl
 left_is_to_mark false e = cc
 
-pub left_wins : (b : Bool) → won (if b then ToMark else NotLast) ≡ 0
-left_wins true = refl
-left_wins false = refl
-
-pub true_not_false : {A : Type 0} → true ≡ false → A
-true_not_false e = cc
-
-pub or_cases : (a b : Bool) {P : Type 0} → (a ≡ true → P) → (b ≡ true → P) → (a || b) ≡ true → P
-or_cases true b f g h = f refl
-or_cases false b f g h = g h
-
-pub or_same : (a b : Bool) → a ≡ b → (a || b) ≡ b
-or_same true true e = refl
-or_same false b e = refl
-or_same true false e = cc
-
-pub or_right : (a : Bool) → (a || true) ≡ true
-or_right true = refl
-or_right false = refl
-
-pub or_false : (a : Bool) → (a || false) ≡ a
-or_false true = refl
-or_false false = refl
-
 pub from_first : (k : ℕ) → leb 0 k ≡ true
 from_first k = grind (arith, nat_tests)
 
 module _ (o : Origin) (cells : Cells) (c : ControlView) (vs : List View) (l : Laws o cells c vs) where
   -- the laws after the step
   abbrev pub After : ControlEvent → Type 0
-  After e = Laws o (cells_after_control e cells) (control_view_after e cells c) vs
+  After e = Laws o (cells_after_control e c.standing cells) (control_view_after e cells c) vs
 
+  -- of a step that leaves the slots
   abbrev pub Change : ControlEvent → Type 0
-  Change e = ControlChange o cells c vs (shared_after_control e cells.shared) (front_after e cells.front) (words_after e cells.words) (control_view_after e cells c)
+  Change e = ControlChange o cells c vs (shared_after_control e c.standing.uncollected cells.shared) (front_after e cells.front) (words_after e cells.words) (control_view_after e cells c)
 
-  pub keeps : (e : ControlEvent) → Change e → After e
-  keeps e g = control_keeps o cells c vs l _ _ _ (control_view_after e cells c) g
+  pub keeps : (e : ControlEvent) → slots_after_control e c.standing.phase cells.slots ≡ cells.slots → Change e → After e
+  keeps e same g = subst (λ (ss : List Slot). Laws o (record (cells_after_control e c.standing cells) { slots = ss }) (control_view_after e cells c) vs) (sym same) (control_keeps o cells c vs l _ _ _ (control_view_after e cells c) g)
 
   pub base : (x : Phase) → c.standing.phase ≡ x → count (holds_base c.standing.phase) ≡ count (holds_base x)
   base x is = ap (λ x. count (holds_base x)) is

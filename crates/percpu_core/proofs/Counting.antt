@@ -9,17 +9,24 @@ use Rattle.percpu_core.specs.declared.pass_standing.Pending.TheVariants.{Nothing
 use Rattle.percpu_core.specs.declared.view.ControlView.{ControlView}
 use Rattle.percpu_core.specs.declared.view.View.{View}
 use Rattle.percpu_core.specs.declared.view.View.TheVariants.{OfControl, OfPass, Spent}
-use Rattle.percpu_core.specs.Cells.{Cells, Slot, closed, opened, is_open, delta, open_deltas}
+use Rattle.percpu_words.specs.SlotWord.{most_delta, IsDelta}
+use Rattle.percpu_core.specs.declared.slot.Slot.{Slot}
+use Rattle.percpu_core.specs.declared.slot.Slot.TheVariants.{Closed, Open}
+use Rattle.percpu_core.specs.Cells.{Cells, is_open, delta, open_deltas}
 use Rattle.percpu_core.specs.Phases.{holds_base, has_bias, closed_so_far, is_open_in}
 use Rattle.percpu_core.specs.Views.{count, to_undo, EachPass, held_by_all, additions_to_undo, passes_left}
 use Rattle.percpu_core.specs.ReleaseLaw.{Origin}
-use Rattle.percpu_core.specs.LimitLaw.{AreSmall, most_delta}
+use Rattle.percpu_core.specs.LimitLaw.{AreSmall}
 use Rattle.percpu_core.specs.Laws.{Laws}
 use Rattle.percpu_core.proofs.Passes.{over_passes-most}
 
 -- both sides of the sum law change alike
 pub balance : (v v' n n' k : ℕ) (a b : ℤ) → pos v +ℤ a +ℤ b -ℤ pos k ≡ pos n → v' + n ≡ v + n' → pos v' +ℤ a +ℤ b -ℤ pos k ≡ pos n'
 balance v v' n n' k a b e h = omega (arith, ints)
+
+-- both sides, where slots change too
+pub balance_slots : (v v' n n' k x y : ℕ) (a a' b : ℤ) → pos v +ℤ a +ℤ b -ℤ pos k ≡ pos n → pos v' +ℤ a' +ℤ pos x ≡ pos v +ℤ a +ℤ pos y → n' + x ≡ n + y → pos v' +ℤ a' +ℤ b -ℤ pos k ≡ pos n'
+balance_slots v v' n n' k x y a a' b e f h = omega (arith, ints)
 
 bounded : (v n k : ℕ) (a b : ℤ) → pos v +ℤ a +ℤ b -ℤ pos k ≡ pos n → a ≤ℤ pos 67108864 → neg_ℤ (pos 67108864) ≤ℤ a → b ≤ℤ pos 67108864 → neg_ℤ (pos 67108864) ≤ℤ b → v ≤ n + k + 134217728
 bounded v n k a b e p q r s = omega (arith, ints)
@@ -42,17 +49,23 @@ add_most d a m n p q = omega (arith, ints)
 add_least : (d a : ℤ) (m n : ℕ) → neg_ℤ (pos m) ≤ℤ d → neg_ℤ (pos n) ≤ℤ a → neg_ℤ (pos (m + n)) ≤ℤ (d +ℤ a)
 add_least d a m n p q = omega (arith, ints)
 
+delta_most : (d : ℤ) → IsDelta d → d ≤ℤ pos most_delta
+delta_most d h = omega (arith, ints)
+
+delta_least : (d : ℤ) → IsDelta d → neg_ℤ (pos most_delta) ≤ℤ d
+delta_least d h = omega (arith, ints)
+
 deltas_most : (ss : List Slot) → AreSmall ss → open_deltas ss ≤ℤ pos (most_delta * length ss)
 deltas_most [] h = omega (arith, ints)
-deltas_most (s ∷ ss) h = wider _ _ _ (omega arith) (add_most (delta s) (open_deltas ss) _ _ h.0 (deltas_most ss h.2))
+deltas_most (s ∷ ss) h = wider _ _ _ (omega arith) (add_most (delta s) (open_deltas ss) _ _ (delta_most (delta s) h.0) (deltas_most ss h.1))
 
 deltas_least : (ss : List Slot) → AreSmall ss → neg_ℤ (pos (most_delta * length ss)) ≤ℤ open_deltas ss
 deltas_least [] h = omega (arith, ints)
-deltas_least (s ∷ ss) h = lower _ (most_delta + most_delta * length ss) _ (omega arith) (add_least (delta s) (open_deltas ss) most_delta (most_delta * length ss) h.1 (deltas_least ss h.2))
+deltas_least (s ∷ ss) h = lower _ (most_delta + most_delta * length ss) _ (omega arith) (add_least (delta s) (open_deltas ss) most_delta (most_delta * length ss) (delta_least (delta s) h.0) (deltas_least ss h.1))
 
-closed_delta : (s : Slot) → is_open s ≡ false → delta s ≡ pos 0
-closed_delta closed h = refl
-closed_delta (opened d) h = cc
+pub closed_delta : (s : Slot) → is_open s ≡ false → delta s ≡ pos 0
+closed_delta Closed h = refl
+closed_delta (Open d) h = cc
 
 pub open_deltas-closed : (ss : List Slot) → ((k : ℕ) (s : Slot) → slice_get ss k ≡ Some s → is_open s ≡ false) → open_deltas ss ≡ pos 0
 open_deltas-closed [] h = refl

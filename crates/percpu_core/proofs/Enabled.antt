@@ -1,6 +1,6 @@
 -- An enabled event keeps the laws: what the tests say, handed to the lemma of each event.
-use Rattle.std.proofs.Common.{◌≡◌, ℕ, ◌<◌, ◌≤◌, Bool, true, false, not, ◌||◌, ◌&&◌, cond, nat_lt, nat_le, List, [], ◌∷◌, length, set, Option, Some, None, refl, arith}
-use Rattle.std.specs.Prelude.{find}
+use Rattle.std.proofs.Common.{◌≡◌, ℕ, ◌<◌, ◌≤◌, Bool, true, false, not, ◌||◌, ◌&&◌, cond, nat_lt, nat_le, List, [], ◌∷◌, set, Option, Some, None, refl, arith}
+use Rattle.std.specs.Prelude.{find, ℤ, pos, ◌+ℤ◌, ◌-ℤ◌, ◌==◌}
 use Rattle.std.specs.List.{AllByRecursion}
 use Rattle.std.proofs.lemmas.Bool.Decides.{nat_tests}
 use mathlib.Core.Option.{some}
@@ -20,17 +20,21 @@ use Rattle.percpu_core.specs.declared.view.PassView.{PassView}
 use Rattle.percpu_core.specs.declared.view.ControlView.{ControlView}
 use Rattle.percpu_core.specs.declared.view.View.{View}
 use Rattle.percpu_core.specs.declared.view.View.TheVariants.{OfPass, Spent}
-use Rattle.percpu_core.specs.Cells.{Cells}
+use Rattle.percpu_core.specs.Cells.{Cells, sizes_of}
 use Rattle.percpu_core.specs.ReleaseLaw.{Origin}
 use Rattle.percpu_core.specs.Laws.{Laws}
-use Rattle.percpu_core.specs.PassSteps.{is_mid_call, is_out_of_turn, hinders_pass}
-use Rattle.percpu_core.specs.ControlSteps.{is_live, is_collected, is_confirmed, is_dead, is_reviving, is_fronted, is_nothing, hinders_control}
+use Rattle.percpu_words.specs.SlotWord.{IsDelta}
+use Rattle.percpu_core.specs.Phases.{is_phase, is_live}
+use Rattle.percpu_core.specs.PassSteps.{is_mid_call, is_out_of_turn, is_delta, hinders_pass}
+use Rattle.percpu_core.specs.ControlSteps.{is_nothing, hinders_control}
 use Rattle.percpu_core.specs.ControlLearns.{joined}
-use Rattle.percpu_core.specs.Machine.{order}
+use Rattle.percpu_core.specs.Machine.{order, IsEnabled}
 use Rattle.percpu_core.proofs.PassEvents as passes
+use Rattle.percpu_core.proofs.SlotEvents as slots
 use Rattle.percpu_core.proofs.ControlSetting.{After}
 use Rattle.percpu_core.proofs.KillEvents as kills
 use Rattle.percpu_core.proofs.RevivalEvents as revivals
+use Rattle.percpu_core.proofs.SwitchEvents as switches
 use Rattle.percpu_core.proofs.Joining.{join}
 
 first_not : {X : Type 0} (b : Bool) (x : X) (r : Option X) → cond b (Some x) r ≡ None → (b ≡ false) × (r ≡ None)
@@ -43,7 +47,7 @@ none_found p [] e = tt
 none_found p (x ∷ xs) e = let h = first_not (p x) x (find p xs) e in (h.0, none_found p xs h.1)
 
 -- where an event is enabled no reason holds against it
-pub no_reason : (p : NotEnabled → Bool) → find p order ≡ None → (why : NotEnabled) → p why ≡ false
+pub no_reason : (p : NotEnabled → Bool) → IsEnabled p → (why : NotEnabled) → p why ≡ false
 no_reason p h NoSuchActor = (none_found p order h).0
 no_reason p h NoSuchSlot = (none_found p order h).1.0
 no_reason p h NoSuchWord = (none_found p order h).1.1.0
@@ -76,12 +80,25 @@ owes_mark Nothing h g = cc
 owes_mark OneToUndo h g = cc
 owes_mark ZeroToMark h g = refl
 
+-- an exchange that is no bad amount leaves a delta within its limit
+pub good_amount : (b : Bool) (d e : ℤ) → (b || not (is_delta d && is_delta e)) ≡ false → IsDelta e
+good_amount true d e h = cc
+good_amount false d e h = within e (and_right (is_delta d) (is_delta e) h)
+  where
+    and_right : (a b : Bool) → not (a && b) ≡ false → b ≡ true
+    and_right true true h = refl
+    and_right true false h = cc
+    and_right false b h = cc
+
+    within : (e : ℤ) → is_delta e ≡ true → IsDelta e
+    within e h = grind (arith, nat_tests)
+
 module _ (o : Origin) (cells : Cells) (c : ControlView) (vs : List View) (l : Laws o cells c vs) (i : ℕ) (p : PassView) (at : get_elem? vs i ≡ some (OfPass p)) where
   -- no reason holds against the pass's step
-  free : (e : PassEvent) → find (hinders_pass (length cells.words) p.standing e) order ≡ None → (why : NotEnabled) → hinders_pass (length cells.words) p.standing e why ≡ false
-  free e h why = no_reason (hinders_pass (length cells.words) p.standing e) h why
+  free : (e : PassEvent) → IsEnabled (hinders_pass (sizes_of cells) p.standing e) → (why : NotEnabled) → hinders_pass (sizes_of cells) p.standing e why ≡ false
+  free e h why = no_reason (hinders_pass (sizes_of cells) p.standing e) h why
 
-  pub pass_keeps_laws : (e : PassEvent) → find (hinders_pass (length cells.words) p.standing e) order ≡ None → passes.After o cells c vs l i p at e
+  pub pass_keeps_laws : (e : PassEvent) → IsEnabled (hinders_pass (sizes_of cells) p.standing e) → passes.After o cells c vs l i p at e
   pass_keeps_laws pass.AddTry h = let n = free pass.AddTry h in
       passes.add_try o cells c vs l i p at (idle pass.AddTry refl refl p.standing.pending (n MidCall)) (not_lt _ _ (n HeldFull))
   pass_keeps_laws pass.AddLive h = let n = free pass.AddLive h in
@@ -92,6 +109,11 @@ module _ (o : Origin) (cells : Cells) (c : ControlView) (vs : List View) (l : La
       passes.sub o cells c vs l i p at k (idle (pass.Sub k) refl refl p.standing.pending (n MidCall)) (not_lt _ _ (n NothingHeld))
   pass_keeps_laws pass.Undo h = let n = free pass.Undo h in passes.undo o cells c vs l i p at (owes_undo p.standing.pending (n MidCall) (n WrongPhase))
   pass_keeps_laws pass.Mark h = let n = free pass.Mark h in passes.mark o cells c vs l i p at (owes_mark p.standing.pending (n MidCall) (n WrongPhase))
+  pass_keeps_laws (pass.Look s) h = let n = free (pass.Look s) h in slots.look o cells c vs l i p at (idle (pass.Look s) refl refl p.standing.pending (n MidCall)) s
+  pass_keeps_laws (pass.Take s d k) h = let n = free (pass.Take s d k) h in
+      slots.take o cells c vs l i p at (idle (pass.Take s d k) refl refl p.standing.pending (n MidCall)) s d (not_le _ _ (n NoSuchSlot)) k (good_amount (k == 0) d (d +ℤ pos k) (n BadAmount)) (not_lt _ _ (n HeldFull))
+  pass_keeps_laws (pass.Give s d k) h = let n = free (pass.Give s d k) h in
+      slots.give o cells c vs l i p at (idle (pass.Give s d k) refl refl p.standing.pending (n MidCall)) s d (not_le _ _ (n NoSuchSlot)) k (good_amount (k == 0) d (d -ℤ pos k) (n BadAmount)) (not_lt _ _ (n NothingHeld))
   pass_keeps_laws pass.LookShared h = let n = free pass.LookShared h in passes.look_shared o cells c vs l i p at (idle pass.LookShared refl refl p.standing.pending (n MidCall))
   pass_keeps_laws pass.LoadFront h = let n = free pass.LoadFront h in passes.load_front o cells c vs l i p at (idle pass.LoadFront refl refl p.standing.pending (n MidCall))
   pass_keeps_laws (pass.LoadWord k) h = let n = free (pass.LoadWord k) h in
@@ -106,64 +128,16 @@ both_hold true true e = (refl, refl)
 both_hold true false e = cc
 both_hold false b e = cc
 
-module _ (F : Phase → Bool) (x : Phase) where
-  abbrev pub Only : Type 0
-  Only = (y : Phase) → not (F y) ≡ false → y ≡ x
-
-pub collected : Only is_collected Collected
-collected LiveSlots h = cc
-collected LiveAtomic h = cc
-collected (Closing i) h = cc
-collected Collected h = refl
-collected Confirmed h = cc
-collected Dead h = cc
-collected Reviving h = cc
-collected Fronted h = cc
-collected (Opening i) h = cc
-
-pub confirmed : Only is_confirmed Confirmed
-confirmed LiveSlots h = cc
-confirmed LiveAtomic h = cc
-confirmed (Closing i) h = cc
-confirmed Collected h = cc
-confirmed Confirmed h = refl
-confirmed Dead h = cc
-confirmed Reviving h = cc
-confirmed Fronted h = cc
-confirmed (Opening i) h = cc
-
-pub dead : Only is_dead Dead
-dead LiveSlots h = cc
-dead LiveAtomic h = cc
-dead (Closing i) h = cc
-dead Collected h = cc
-dead Confirmed h = cc
-dead Dead h = refl
-dead Reviving h = cc
-dead Fronted h = cc
-dead (Opening i) h = cc
-
-pub reviving : Only is_reviving Reviving
-reviving LiveSlots h = cc
-reviving LiveAtomic h = cc
-reviving (Closing i) h = cc
-reviving Collected h = cc
-reviving Confirmed h = cc
-reviving Dead h = cc
-reviving Reviving h = refl
-reviving Fronted h = cc
-reviving (Opening i) h = cc
-
-pub fronted : Only is_fronted Fronted
-fronted LiveSlots h = cc
-fronted LiveAtomic h = cc
-fronted (Closing i) h = cc
-fronted Collected h = cc
-fronted Confirmed h = cc
-fronted Dead h = cc
-fronted Reviving h = cc
-fronted Fronted h = refl
-fronted (Opening i) h = cc
+-- the two phases are one where the test says so
+pub only : (x y : Phase) → not (is_phase x y) ≡ false → y ≡ x
+only LiveSlots LiveSlots h = refl
+only LiveAtomic LiveAtomic h = refl
+only Collected Collected h = refl
+only Confirmed Confirmed h = refl
+only Dead Dead h = refl
+only Reviving Reviving h = refl
+only Fronted Fronted h = refl
+only _ _ h = cc
 
 pub live : {P : Type 0} (y : Phase) → (y ≡ LiveAtomic → P) → (y ≡ LiveSlots → P) → not (is_live y) ≡ false → P
 live LiveSlots f g h = g refl
@@ -179,22 +153,26 @@ live (Opening i) f g h = cc
 module _ (o : Origin) (cells : Cells) (c : ControlView) (vs : List View) (l : Laws o cells c vs) where
   -- no reason holds against the control's step
   abbrev Free : Option PassStanding → ControlEvent → Type 0
-  Free q e = find (hinders_control (length cells.words) cells.shared.zero q c.standing e) order ≡ None
+  Free q e = IsEnabled (hinders_control (sizes_of cells) cells.shared.zero q c.standing e)
 
-  unhindered : (q : Option PassStanding) (e : ControlEvent) → Free q e → (why : NotEnabled) → hinders_control (length cells.words) cells.shared.zero q c.standing e why ≡ false
-  unhindered q e h why = no_reason (hinders_control (length cells.words) cells.shared.zero q c.standing e) h why
+  unhindered : (q : Option PassStanding) (e : ControlEvent) → Free q e → (why : NotEnabled) → hinders_control (sizes_of cells) cells.shared.zero q c.standing e why ≡ false
+  unhindered q e h why = no_reason (hinders_control (sizes_of cells) cells.shared.zero q c.standing e) h why
 
   pub control_keeps_laws : (e : ControlEvent) → ((k : ℕ) → e ≡ control.Join k → ⊥) → Free None e → After o cells c vs l e
   control_keeps_laws control.MarkDead j h = let n = unhindered None control.MarkDead h in let few = not_le _ _ (n WornOut) in
       live c.standing.phase (λ is. kills.mark_dead_atomic o cells c vs l is few) (λ is. kills.mark_dead_slots o cells c vs l is few) (n WrongPhase)
-  control_keeps_laws control.Confirm j h = let n = unhindered None control.Confirm h in kills.confirm o cells c vs l (collected c.standing.phase (n WrongPhase)) (neither _ _ (n MidCall)).0
-  control_keeps_laws control.DropBase j h = let n = unhindered None control.DropBase h in kills.drop_base o cells c vs l (confirmed c.standing.phase (n WrongPhase))
+  control_keeps_laws control.Close j h = let n = unhindered None control.Close h in switches.close o cells c vs l (n WrongPhase) (neither _ _ (n MidCall)).0
+  control_keeps_laws control.Collect j h = let n = unhindered None control.Collect h in switches.collect o cells c vs l (n WrongPhase) (neither _ _ (n MidCall)).0
+  control_keeps_laws control.AddBias j h = let n = unhindered None control.AddBias h in switches.add_bias o cells c vs l (only LiveAtomic c.standing.phase (n WrongPhase)) (neither _ _ (n MidCall)).0
+  control_keeps_laws control.OpenNext j h = let n = unhindered None control.OpenNext h in switches.open_next o cells c vs l (n WrongPhase) (neither _ _ (n MidCall)).0
+  control_keeps_laws control.Confirm j h = let n = unhindered None control.Confirm h in kills.confirm o cells c vs l (only Collected c.standing.phase (n WrongPhase)) (neither _ _ (n MidCall)).0
+  control_keeps_laws control.DropBase j h = let n = unhindered None control.DropBase h in kills.drop_base o cells c vs l (only Confirmed c.standing.phase (n WrongPhase))
   control_keeps_laws control.Mark j h = kills.mark o cells c vs l
-  control_keeps_laws control.TakeBase j h = let n = unhindered None control.TakeBase h in revivals.take_base o cells c vs l (dead c.standing.phase (n WrongPhase))
-  control_keeps_laws control.NextFront j h = let n = unhindered None control.NextFront h in revivals.next_front o cells c vs l (reviving c.standing.phase (n WrongPhase)) (neither _ _ (n MidCall)).0
-  control_keeps_laws control.ClearDead j h = let n = unhindered None control.ClearDead h in revivals.clear_dead o cells c vs l (fronted c.standing.phase (n WrongPhase))
-  control_keeps_laws (control.StoreWord k v) j h = let n = unhindered None (control.StoreWord k v) h in let both = both_hold (is_dead c.standing.phase) cells.shared.zero (n WrongPhase) in
-      revivals.store_word o cells c vs l k v (dead c.standing.phase both.0) both.1 (neither _ _ (n MidCall)).0
+  control_keeps_laws control.TakeBase j h = let n = unhindered None control.TakeBase h in revivals.take_base o cells c vs l (only Dead c.standing.phase (n WrongPhase))
+  control_keeps_laws control.NextFront j h = let n = unhindered None control.NextFront h in revivals.next_front o cells c vs l (only Reviving c.standing.phase (n WrongPhase)) (neither _ _ (n MidCall)).0
+  control_keeps_laws control.ClearDead j h = let n = unhindered None control.ClearDead h in revivals.clear_dead o cells c vs l (only Fronted c.standing.phase (n WrongPhase))
+  control_keeps_laws (control.StoreWord k v) j h = let n = unhindered None (control.StoreWord k v) h in let both = both_hold (is_phase Dead c.standing.phase) cells.shared.zero (n WrongPhase) in
+      revivals.store_word o cells c vs l k v (only Dead c.standing.phase both.0) both.1 (neither _ _ (n MidCall)).0
   control_keeps_laws (control.Join k) j h = absurd (j k refl)
   control_keeps_laws control.LookShared j h = let n = unhindered None control.LookShared h in revivals.look_shared o cells c vs l (neither _ _ (n MidCall)).0
 

@@ -6,7 +6,7 @@ use Rattle.percpu_core.specs.declared.view.View.{View}
 use Rattle.percpu_core.specs.declared.view.View.TheVariants.{OfControl, OfPass, Spent}
 use Rattle.percpu_core.specs.Views.{of_pass, held_by_all, passes_left}
 use Rattle.percpu_core.specs.Machine.{State, held_in, held_in_all}
-use Rattle.percpu_core.specs.Moments.{Moment, standing_of, IsLawful}
+use Rattle.percpu_core.specs.Snapshots.{Snapshot, standing_of, IsLawful}
 use Rattle.percpu_core.proofs.Passes.{over_passes-most}
 
 held_of : (v : View) → held_in (standing_of v) ≡ of_pass (λ p. p.standing.held) v
@@ -19,5 +19,5 @@ held_same [] = refl
 held_same (v ∷ vs) = let r = held_same vs in let h = held_of v in sum_by-cons held_in (standing_of v) (map standing_of vs) ∙ (omega arith)
 
 pub few_held : (s : State) → IsLawful s → held_in_all s ≤ 4194240
-few_held s l = let m : Moment = l.1 in let most = over_passes-most (λ p. p.standing.held) 65535 m.others l.3.limit.held in let few : passes_left m.others ≤ 64 = subst (λ (n : ℕ). n ≤ 64) l.3.release.passes l.3.limit.passes in
+few_held s l = let m : Snapshot = l.1 in let most = over_passes-most (λ p. p.standing.held) 65535 m.others l.3.limit.held in let few : passes_left m.others ≤ 64 = subst (λ (n : ℕ). n ≤ 64) l.3.release.passes l.3.limit.passes in
     let same = held_same m.others in subst (λ (s : State). held_in_all s ≤ 4194240) l.2 (omega arith)

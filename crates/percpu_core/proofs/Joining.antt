@@ -1,5 +1,5 @@
 -- Taking in a pass keeps the laws.
-use Rattle.std.proofs.Common.{◌≡◌, ℕ, ◌+◌, Bool, true, false, ◌||◌, List, set, refl, arith, ap, ◌∙◌}
+use Rattle.std.proofs.Common.{◌≡◌, ℕ, ◌+◌, List, set, arith, ap, ◌∙◌}
 use mathlib.Core.Option.{some}
 use lib.ListN.{get_elem?}
 use Rattle.percpu_core.specs.declared.pass_standing.Pending.TheVariants.{Nothing}
@@ -15,11 +15,8 @@ use Rattle.percpu_core.specs.ReleaseLaw.{Origin}
 use Rattle.percpu_core.specs.Laws.{Laws}
 use Rattle.percpu_core.specs.ControlLearns.{joined}
 use Rattle.percpu_core.proofs.Passes.{over_passes-set, EachPass-at, EachPass-set}
+use Rattle.percpu_core.proofs.Flags.{or_cases}
 use Rattle.percpu_core.proofs.Counting.{balance}
-
-either_found : (a b : Bool) {P : Type 0} → (a ≡ true → P) → (b ≡ true → P) → (a || b) ≡ true → P
-either_found true b f g h = f refl
-either_found false b f g h = g h
 
 module _ (o : Origin) (cells : Cells) (c : ControlView) (vs : List View) (l : Laws o cells c vs) (i : ℕ) (p : PassView) (at : get_elem? vs i ≡ some (OfPass p))
     (none : p.standing.held ≡ 0) (idle : p.standing.pending ≡ Nothing) where
@@ -42,7 +39,7 @@ module _ (o : Origin) (cells : Cells) (c : ControlView) (vs : List View) (l : La
   pub join : Laws o cells (joined c p) vs'
   join = record {
     sum = sum;
-    phase = record { slots = l.phase.slots; closed = l.phase.closed; dead = l.phase.dead; killing = l.phase.killing };
+    phase = record { slots = l.phase.slots; closed = l.phase.closed; opening = l.phase.opening; dead = l.phase.dead; killing = l.phase.killing };
     zero = record { after_drop = l.zero.after_drop; nothing_held = λ z. held ∙ l.zero.nothing_held z; known = l.zero.known; settled = l.zero.settled };
     mark = λ h. let seat = l.mark h in let m = marks in omega arith;
     guard = record { passes = EachPass-set _ _ (λ q h. h) vs i Spent l.guard.passes tt; known = l.guard.known };
@@ -54,12 +51,13 @@ module _ (o : Origin) (cells : Cells) (c : ControlView) (vs : List View) (l : La
       passes = let e = over_passes-set (λ p. 1) vs i (OfPass p) Spent at in let f = l.release.passes in omega arith;
       found_dead = EachPass-set _ _ (λ q h. h) vs i Spent l.release.found_dead tt;
       found_zero = EachPass-set _ _ (λ q h. h) vs i Spent l.release.found_zero tt;
-      control_found_dead = either_found c.found_dead p.found_dead l.release.control_found_dead (EachPass-at _ vs i (OfPass p) l.release.found_dead at);
-      control_found_zero = either_found c.found_zero p.found_zero l.release.control_found_zero (EachPass-at _ vs i (OfPass p) l.release.found_zero at);
+      control_found_dead = or_cases c.found_dead p.found_dead l.release.control_found_dead (EachPass-at _ vs i (OfPass p) l.release.found_dead at);
+      control_found_zero = or_cases c.found_zero p.found_zero l.release.control_found_zero (EachPass-at _ vs i (OfPass p) l.release.found_zero at);
     };
     limit = record {
       passes = let h = l.limit.passes in omega arith;
       held = EachPass-set _ _ (λ q h. h) vs i Spent l.limit.held tt;
+      some_slot = l.limit.some_slot;
       slots = l.limit.slots;
       deltas = l.limit.deltas;
       uncollected_most = l.limit.uncollected_most;

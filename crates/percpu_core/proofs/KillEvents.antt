@@ -1,5 +1,5 @@
 -- Each event of a kill keeps the laws: one lemma for each, whose premises speak of the control's own view and of the word found.
-use Rattle.std.proofs.Common.{◌≡◌, ◌+◌, ◌%◌, ◌<◌, inl, Bool, true, false, ◌||◌, if◌then◌else◌, List, refl, arith, ap, sym, subst, ◌∙◌}
+use Rattle.std.proofs.Common.{◌≡◌, ◌+◌, ◌%◌, ◌<◌, inl, Bool, true, false, ◌||◌, if◌then◌else◌, List, length, refl, arith, ap, sym, subst, ◌∙◌}
 use Rattle.percpu_core.specs.declared.control_event.ControlEvent.TheVariants.{MarkDead, Confirm, DropBase, Mark}
 use Rattle.percpu_core.specs.declared.phase.Phase.{Phase}
 use Rattle.percpu_core.specs.declared.phase.Phase.TheVariants.{LiveSlots, LiveAtomic, Closing, Collected, Confirmed}
@@ -10,7 +10,8 @@ use Rattle.percpu_core.specs.Cells.{Cells, is_dead_alone}
 use Rattle.percpu_core.specs.Phases.{holds_base, has_bias, is_open_in, closed_so_far}
 use Rattle.percpu_core.specs.Views.{count}
 use Rattle.percpu_core.specs.ReleaseLaw.{Origin}
-use Rattle.percpu_core.specs.LimitLaw.{fronts_due, most_kills}
+use Rattle.percpu_core.specs.LimitLaw.{fronts_due}
+use Rattle.percpu_core.specs.declared.limits.TheConstants.{KILL_LIMIT}
 use Rattle.percpu_core.specs.Laws.{Laws}
 use Rattle.percpu_core.specs.PassSteps.{minus, marked}
 use Rattle.percpu_core.specs.ControlSteps.{cells_after_control, shared_after_control, phase_after, is_to_mark}
@@ -18,19 +19,21 @@ use Rattle.percpu_core.specs.ControlLearns.{control_view_after}
 use Rattle.percpu_core.specs.Machine.{won}
 use Rattle.percpu_core.proofs.PassKeeps.{alone, alone_is_out, alone_is_unheld}
 use Rattle.percpu_core.proofs.ControlKeeps.{ControlChange, control_keeps}
-use Rattle.percpu_core.proofs.ControlSetting.{After, keeps, base, dead, killing, parity, due, never_zero, some_value, left_is_to_mark, left_wins, true_not_false, or_right, or_false, from_first}
+use Rattle.percpu_core.proofs.ControlSetting.{After, keeps, base, dead, killing, parity, due, never_zero, some_value, left_is_to_mark, from_first}
+use Rattle.percpu_core.proofs.Flags.{true_not_false, or_right, or_false}
+use Rattle.percpu_core.proofs.PassEvents.{left_wins}
 
 module _ (o : Origin) (cells : Cells) (c : ControlView) (vs : List View) (l : Laws o cells c vs) where
   -- a kill begins, from either live phase
   abbrev dead_view : Phase → ControlView
-  dead_view x = record (control_view_after MarkDead cells c) { standing = record { phase = x; kills = c.standing.kills + 1; to_mark = false } }
+  dead_view x = record (control_view_after MarkDead cells c) { standing = record { phase = x; kills = c.standing.kills + 1; to_mark = false; uncollected = c.standing.uncollected } }
 
-  keeps_dead : (x : Phase) → phase_after MarkDead c.standing.phase ≡ x
-      → ControlChange o cells c vs (shared_after_control MarkDead cells.shared) cells.front cells.words (dead_view x) → After o cells c vs l MarkDead
-  keeps_dead x is g = subst (λ (x : Phase). Laws o (cells_after_control MarkDead cells) (dead_view x) vs) (sym is) (control_keeps o cells c vs l _ _ _ (dead_view x) g)
+  keeps_dead : (x : Phase) → phase_after MarkDead (length cells.slots) cells.shared.dead c.standing.phase ≡ x
+      → ControlChange o cells c vs (shared_after_control MarkDead c.standing.uncollected cells.shared) cells.front cells.words (dead_view x) → After o cells c vs l MarkDead
+  keeps_dead x is g = subst (λ (x : Phase). Laws o (cells_after_control MarkDead c.standing cells) (dead_view x) vs) (sym is) (control_keeps o cells c vs l _ _ _ (dead_view x) g)
 
-  pub mark_dead_atomic : c.standing.phase ≡ LiveAtomic → c.standing.kills < most_kills → After o cells c vs l MarkDead
-  mark_dead_atomic is few = keeps_dead Collected (ap (phase_after MarkDead) is) (
+  pub mark_dead_atomic : c.standing.phase ≡ LiveAtomic → c.standing.kills < KILL_LIMIT → After o cells c vs l MarkDead
+  mark_dead_atomic is few = keeps_dead Collected (ap (phase_after MarkDead (length cells.slots) cells.shared.dead) is) (
       let base_in : count (holds_base c.standing.phase) ≡ 1 = base o cells c vs l LiveAtomic is in
       let f : fronts_due c.standing.phase c.killing ≡ 0 = due o cells c vs l LiveAtomic is in
       let clear : count cells.shared.dead ≡ 0 = ap count (dead o cells c vs l LiveAtomic is) in
@@ -39,6 +42,7 @@ module _ (o : Origin) (cells : Cells) (c : ControlView) (vs : List View) (l : La
         bias = sym (ap has_bias is);
         open_slots = λ k. sym (ap (λ x. is_open_in x k) is);
         closed = sym (ap closed_so_far is);
+        opening = λ j e. cc;
         uncollected = refl;
         dead = refl;
         killing = refl;
@@ -64,8 +68,8 @@ module _ (o : Origin) (cells : Cells) (c : ControlView) (vs : List View) (l : La
         due = omega arith;
       })
 
-  pub mark_dead_slots : c.standing.phase ≡ LiveSlots → c.standing.kills < most_kills → After o cells c vs l MarkDead
-  mark_dead_slots is few = keeps_dead (Closing 0) (ap (phase_after MarkDead) is) (
+  pub mark_dead_slots : c.standing.phase ≡ LiveSlots → c.standing.kills < KILL_LIMIT → After o cells c vs l MarkDead
+  mark_dead_slots is few = keeps_dead (Closing 0) (ap (phase_after MarkDead (length cells.slots) cells.shared.dead) is) (
       let base_in : count (holds_base c.standing.phase) ≡ 1 = base o cells c vs l LiveSlots is in
       let f : fronts_due c.standing.phase c.killing ≡ 0 = due o cells c vs l LiveSlots is in
       let clear : count cells.shared.dead ≡ 0 = ap count (dead o cells c vs l LiveSlots is) in
@@ -74,6 +78,7 @@ module _ (o : Origin) (cells : Cells) (c : ControlView) (vs : List View) (l : La
         bias = sym (ap has_bias is);
         open_slots = λ k. from_first k ∙ sym (ap (λ x. is_open_in x k) is);
         closed = sym (ap closed_so_far is);
+        opening = λ j e. cc;
         uncollected = refl;
         dead = refl;
         killing = refl;
@@ -100,7 +105,7 @@ module _ (o : Origin) (cells : Cells) (c : ControlView) (vs : List View) (l : La
       })
 
   pub confirm : c.standing.phase ≡ Collected → c.standing.to_mark ≡ false → After o cells c vs l Confirm
-  confirm is still = keeps o cells c vs l Confirm (
+  confirm is still = keeps o cells c vs l Confirm refl (
       let base_in : count (holds_base c.standing.phase) ≡ 1 = base o cells c vs l Collected is in
       let f : fronts_due c.standing.phase c.killing ≡ 2 = due o cells c vs l Collected is in
       let calm : count c.standing.to_mark ≡ 0 = ap count still in
@@ -110,6 +115,7 @@ module _ (o : Origin) (cells : Cells) (c : ControlView) (vs : List View) (l : La
         bias = sym (ap has_bias is);
         open_slots = λ k. sym (ap (λ x. is_open_in x k) is);
         closed = sym (ap closed_so_far is);
+        opening = λ j e. cc;
         uncollected = refl;
         dead = dead o cells c vs l Collected is;
         killing = killing o cells c vs l Collected is;
@@ -136,7 +142,7 @@ module _ (o : Origin) (cells : Cells) (c : ControlView) (vs : List View) (l : La
       })
 
   pub drop_base : c.standing.phase ≡ Confirmed → After o cells c vs l DropBase
-  drop_base is = keeps o cells c vs l DropBase (
+  drop_base is = keeps o cells c vs l DropBase refl (
       let base_in : count (holds_base c.standing.phase) ≡ 1 = base o cells c vs l Confirmed is in
       let f : fronts_due c.standing.phase c.killing ≡ 1 = due o cells c vs l Confirmed is in
       let b : Bool = is_dead_alone (minus 1 cells.shared) in
@@ -146,6 +152,7 @@ module _ (o : Origin) (cells : Cells) (c : ControlView) (vs : List View) (l : La
         bias = sym (ap has_bias is);
         open_slots = λ k. sym (ap (λ x. is_open_in x k) is);
         closed = sym (ap closed_so_far is);
+        opening = λ j e. cc;
         uncollected = refl;
         dead = dead o cells c vs l Confirmed is;
         killing = refl;
@@ -185,6 +192,7 @@ module _ (o : Origin) (cells : Cells) (c : ControlView) (vs : List View) (l : La
         bias = refl;
         open_slots = λ k. refl;
         closed = refl;
+        opening = l.phase.opening;
         uncollected = refl;
         dead = l.phase.dead;
         killing = l.phase.killing;
@@ -214,6 +222,7 @@ module _ (o : Origin) (cells : Cells) (c : ControlView) (vs : List View) (l : La
     bias = refl;
     open_slots = λ k. refl;
     closed = refl;
+    opening = l.phase.opening;
     uncollected = refl;
     dead = l.phase.dead;
     killing = l.phase.killing;

@@ -1,11 +1,15 @@
+pub mod Flags
 pub mod Passes
+pub mod SlotLists
 pub mod Counting
 pub mod PassKeeps
 pub mod PassEvents
+pub mod SlotEvents
 pub mod ControlKeeps
 pub mod ControlSetting
 pub mod KillEvents
 pub mod RevivalEvents
+pub mod SwitchEvents
 pub mod Joining
 pub mod Opening
 pub mod Enabled
@@ -17,4 +21,3 @@ pub mod Runs
 pub mod EveryRun
 pub mod Moves
 pub mod SeatSteps
-pub mod TableStep

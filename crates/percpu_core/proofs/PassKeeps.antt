@@ -1,5 +1,7 @@
 -- A step of a pass keeps the laws where what it changes in its own view matches what it changes in the shared word.
-use Rattle.std.proofs.Common.{◌≡◌, ℕ, ◌+◌, ◌<◌, ◌≤◌, ◌⊎◌, ⊎_elim, true, false, List, set, refl, arith, ap, sym, ◌∙◌}
+use Rattle.std.proofs.Common.{◌≡◌, ℕ, ◌+◌, ◌<◌, ◌≤◌, ◌⊎◌, ⊎_elim, true, false, List, length, set, refl, arith, ap, sym, ◌∙◌, subst}
+use Rattle.std.specs.Prelude.{ℤ, pos, ◌+ℤ◌}
+use Rattle.std.proofs.lemmas.Int.{ints}
 use Rattle.std.proofs.lemmas.Bool.Decides.{nat_tests}
 use mathlib.Core.Option.{some}
 use lib.ListN.{get_elem?}
@@ -10,22 +12,33 @@ use Rattle.percpu_core.specs.declared.view.ControlView.{ControlView}
 use Rattle.percpu_core.specs.declared.view.View.{View}
 use Rattle.percpu_core.specs.declared.view.View.TheVariants.{OfPass}
 use Rattle.percpu_words.specs.SharedWord.{SharedWord}
-use Rattle.percpu_core.specs.Cells.{Cells, is_dead_alone}
-use Rattle.percpu_core.specs.Phases.{holds_base, may_be_zero, is_coming_back, has_bias}
+use Rattle.percpu_core.specs.declared.slot.Slot.{Slot}
+use Rattle.percpu_core.specs.Cells.{Cells, open_deltas, is_dead_alone}
+use Rattle.percpu_core.specs.Phases.{holds_base, may_be_zero, is_coming_back, has_bias, is_open_in, closed_so_far}
 use Rattle.percpu_core.specs.Views.{count, to_undo, to_mark, held_by_all, additions_to_undo, zeros_to_mark, releases_of_passes, passes_left}
 use Rattle.percpu_core.specs.GuardLaw.{AreNow}
 use Rattle.percpu_core.specs.SumLaw.{SumLaw}
 use Rattle.percpu_core.specs.ZeroLaw.{ZeroLaw}
 use Rattle.percpu_core.specs.MarkLaw.{MarkLaw}
 use Rattle.percpu_core.specs.ReleaseLaw.{Origin, ReleaseLaw}
-use Rattle.percpu_core.specs.LimitLaw.{most_held}
+use Rattle.percpu_core.specs.LimitLaw.{AreSmall}
+use Rattle.percpu_core.specs.declared.limits.TheConstants.{HELD_LIMIT}
 use Rattle.percpu_core.specs.Laws.{Laws}
 use Rattle.percpu_core.proofs.Passes.{over_passes-set, over_passes-at, EachPass-set}
-use Rattle.percpu_core.proofs.Counting.{balance, value-least}
+use Rattle.percpu_core.proofs.Counting.{balance_slots, value-least}
+use Rattle.percpu_core.proofs.SlotLists.{OpenAs}
 
--- what a step of a pass may do, as far as its own view and the shared word tell
-pub record PassChange (cells : Cells) (c : ControlView) (p : PassView) (s : SharedWord) (w : PassView) : Type 0 where
-  pub sum : s.value + (p.standing.held + to_undo p.standing.pending) ≡ cells.shared.value + (w.standing.held + to_undo w.standing.pending)
+-- what the pass counts differently matches what changes in the shared word and in the slots, which stay open or closed
+pub record Recounts (cells : Cells) (c : ControlView) (p : PassView) (s : SharedWord) (ss : List Slot) (w : PassView) : Type 0 where
+  pub sum : pos s.value +ℤ open_deltas ss +ℤ pos (p.standing.held + to_undo p.standing.pending)
+      ≡ pos cells.shared.value +ℤ open_deltas cells.slots +ℤ pos (w.standing.held + to_undo w.standing.pending)
+  pub slots : OpenAs (is_open_in c.standing.phase) ss
+  pub size : length ss ≡ length cells.slots
+  pub small : AreSmall ss
+
+-- what a step of a pass may do, as far as its own view, the shared word and the slots tell
+pub record PassChange (cells : Cells) (c : ControlView) (p : PassView) (s : SharedWord) (ss : List Slot) (w : PassView) : Type 0 where
+  pub counts : Recounts cells c p s ss w
   pub dead : s.dead ≡ cells.shared.dead
   -- ZERO stays as it is and then nothing may come to be held, or it is set on DEAD alone and that is a release
   pub zero : ((s.zero ≡ cells.shared.zero) × (w.releases ≡ p.releases) × (cells.shared.zero ≡ true → w.standing.held ≤ p.standing.held))
@@ -34,7 +47,7 @@ pub record PassChange (cells : Cells) (c : ControlView) (p : PassView) (s : Shar
   pub read : 0 < w.standing.held → AreNow cells.words w.read
   pub floor : w.floor ≤ cells.front
   pub seen_front : w.seen_front ≤ w.floor
-  pub room : w.standing.held ≤ most_held
+  pub room : w.standing.held ≤ HELD_LIMIT
   pub found_dead : w.found_dead ≡ true → 1 ≤ c.revivals + count cells.shared.dead
   pub found_zero : w.found_zero ≡ true → 1 ≤ c.zeros_cleared + count cells.shared.zero
 
@@ -60,12 +73,20 @@ module _ (o : Origin) (cells : Cells) (c : ControlView) (vs : List View) (l : La
   pub alone_is_unheld : is_dead_alone cells.shared ≡ true → held_by_all vs ≡ 0
   alone_is_unheld h = let none = (alone cells.shared h).2 in let least = value-least o cells c vs l in omega arith
 
-  module _ (i : ℕ) (p w : PassView) (s : SharedWord) (at : get_elem? vs i ≡ some (OfPass p)) (g : PassChange cells c p s w) where
+  same_sum : (v v' x y : ℕ) (a : ℤ) → v' + x ≡ v + y → pos v' +ℤ a +ℤ pos x ≡ pos v +ℤ a +ℤ pos y
+  same_sum v v' x y a h = omega (arith, ints)
+
+  -- where no slot changes, the shared word alone has to match
+  pub on_shared : (p w : PassView) (s : SharedWord) → s.value + (p.standing.held + to_undo p.standing.pending) ≡ cells.shared.value + (w.standing.held + to_undo w.standing.pending)
+      → Recounts cells c p s cells.slots w
+  on_shared p w s h = record { sum = same_sum _ _ _ _ _ h; slots = l.phase.slots; size = refl; small = l.limit.deltas }
+
+  module _ (i : ℕ) (p w : PassView) (s : SharedWord) (ss : List Slot) (at : get_elem? vs i ≡ some (OfPass p)) (g : PassChange cells c p s ss w) where
     abbrev vs' : List View
     vs' = set vs i (OfPass w)
 
     abbrev cells' : Cells
-    cells' = record cells { shared = s }
+    cells' = record cells { shared = s; slots = ss }
 
     held : held_by_all vs' + p.standing.held ≡ held_by_all vs + w.standing.held
     held = over_passes-set (λ p. p.standing.held) vs i (OfPass p) (OfPass w) at
@@ -83,8 +104,9 @@ module _ (o : Origin) (cells : Cells) (c : ControlView) (vs : List View) (l : La
     left = let e = over_passes-set (λ p. 1) vs i (OfPass p) (OfPass w) at in omega arith
 
     sum : SumLaw cells' c vs'
-    sum = let base : ℕ = count (holds_base c.standing.phase) in let h = held in let u = undo in let e = g.sum in
-        balance cells.shared.value s.value (base + held_by_all vs + additions_to_undo vs) (base + held_by_all vs' + additions_to_undo vs') _ _ _ l.sum (omega arith)
+    sum = let base : ℕ = count (holds_base c.standing.phase) in let h = held in let u = undo in
+        balance_slots cells.shared.value s.value (base + held_by_all vs + additions_to_undo vs) (base + held_by_all vs' + additions_to_undo vs') _
+        (p.standing.held + to_undo p.standing.pending) (w.standing.held + to_undo w.standing.pending) _ _ _ l.sum g.counts.sum (omega arith)
 
     zero : ZeroLaw cells' c vs'
     zero = ⊎_elim
@@ -127,7 +149,13 @@ module _ (o : Origin) (cells : Cells) (c : ControlView) (vs : List View) (l : La
     pub pass_keeps : Laws o cells' c vs'
     pass_keeps = record {
       sum = sum;
-      phase = record { slots = l.phase.slots; closed = l.phase.closed; dead = g.dead ∙ l.phase.dead; killing = l.phase.killing };
+      phase = record {
+        slots = g.counts.slots;
+        closed = subst (λ (n : ℕ). closed_so_far c.standing.phase ≤ n) (sym g.counts.size) l.phase.closed;
+        opening = λ k is. subst (λ (n : ℕ). k < n) (sym g.counts.size) (l.phase.opening k is);
+        dead = g.dead ∙ l.phase.dead;
+        killing = l.phase.killing;
+      };
       zero = zero;
       mark = mark;
       guard = record { passes = EachPass-set _ _ (λ q h. h) vs i (OfPass w) l.guard.passes g.read; known = l.guard.known };
@@ -136,8 +164,9 @@ module _ (o : Origin) (cells : Cells) (c : ControlView) (vs : List View) (l : La
       limit = record {
         passes = l.limit.passes;
         held = EachPass-set _ _ (λ q h. h) vs i (OfPass w) l.limit.held g.room;
-        slots = l.limit.slots;
-        deltas = l.limit.deltas;
+        some_slot = subst (λ (n : ℕ). 1 ≤ n) (sym g.counts.size) l.limit.some_slot;
+        slots = subst (λ (n : ℕ). n ≤ 64) (sym g.counts.size) l.limit.slots;
+        deltas = g.counts.small;
         uncollected_most = l.limit.uncollected_most;
         uncollected_least = l.limit.uncollected_least;
         kills = l.limit.kills;

@@ -12,17 +12,19 @@ use Rattle.percpu_core.specs.LimitLaw.{fronts_due}
 use Rattle.percpu_core.specs.Laws.{Laws}
 use Rattle.percpu_core.proofs.Counting.{count-most}
 use Rattle.percpu_core.proofs.PassKeeps.{alone}
-use Rattle.percpu_core.proofs.ControlSetting.{After, keeps, base, dead, killing, parity, due, true_not_false, or_cases, or_same}
+use Rattle.percpu_core.proofs.ControlSetting.{After, keeps, base, dead, killing, parity, due}
+use Rattle.percpu_core.proofs.Flags.{true_not_false, or_cases, or_same}
 
 module _ (o : Origin) (cells : Cells) (c : ControlView) (vs : List View) (l : Laws o cells c vs) where
   pub take_base : c.standing.phase ≡ Dead → After o cells c vs l TakeBase
-  take_base is = keeps o cells c vs l TakeBase (
+  take_base is = keeps o cells c vs l TakeBase refl (
       let base_in : count (holds_base c.standing.phase) ≡ 0 = base o cells c vs l Dead is in
       let f : fronts_due c.standing.phase c.killing ≡ 1 = due o cells c vs l Dead is in record {
         sum = omega arith;
         bias = sym (ap has_bias is);
         open_slots = λ k. sym (ap (λ x. is_open_in x k) is);
         closed = sym (ap closed_so_far is);
+        opening = λ j e. cc;
         uncollected = refl;
         dead = dead o cells c vs l Dead is;
         killing = killing o cells c vs l Dead is;
@@ -49,7 +51,7 @@ module _ (o : Origin) (cells : Cells) (c : ControlView) (vs : List View) (l : La
       })
 
   pub next_front : c.standing.phase ≡ Reviving → c.standing.to_mark ≡ false → After o cells c vs l NextFront
-  next_front is still = keeps o cells c vs l NextFront (
+  next_front is still = keeps o cells c vs l NextFront refl (
       let base_in : count (holds_base c.standing.phase) ≡ 1 = base o cells c vs l Reviving is in
       let f : fronts_due c.standing.phase c.killing ≡ 1 = due o cells c vs l Reviving is in
       let calm : count c.standing.to_mark ≡ 0 = ap count still in
@@ -59,6 +61,7 @@ module _ (o : Origin) (cells : Cells) (c : ControlView) (vs : List View) (l : La
         bias = sym (ap has_bias is);
         open_slots = λ k. sym (ap (λ x. is_open_in x k) is);
         closed = sym (ap closed_so_far is);
+        opening = λ j e. cc;
         uncollected = refl;
         dead = dead o cells c vs l Reviving is;
         killing = killing o cells c vs l Reviving is;
@@ -85,7 +88,7 @@ module _ (o : Origin) (cells : Cells) (c : ControlView) (vs : List View) (l : La
       })
 
   pub clear_dead : c.standing.phase ≡ Fronted → After o cells c vs l ClearDead
-  clear_dead is = keeps o cells c vs l ClearDead (
+  clear_dead is = keeps o cells c vs l ClearDead refl (
       let base_in : count (holds_base c.standing.phase) ≡ 1 = base o cells c vs l Fronted is in
       let f : fronts_due c.standing.phase c.killing ≡ 0 = due o cells c vs l Fronted is in
       let set : count cells.shared.dead ≡ 1 = ap count (dead o cells c vs l Fronted is) in
@@ -95,6 +98,7 @@ module _ (o : Origin) (cells : Cells) (c : ControlView) (vs : List View) (l : La
         bias = sym (ap has_bias is);
         open_slots = λ k. sym (ap (λ x. is_open_in x k) is);
         closed = sym (ap closed_so_far is);
+        opening = λ j e. cc;
         uncollected = refl;
         dead = refl;
         killing = killing o cells c vs l Fronted is;
@@ -121,7 +125,7 @@ module _ (o : Origin) (cells : Cells) (c : ControlView) (vs : List View) (l : La
       })
 
   pub store_word : (k v : ℕ) → c.standing.phase ≡ Dead → cells.shared.zero ≡ true → c.standing.to_mark ≡ false → After o cells c vs l (StoreWord k v)
-  store_word k v is z still = keeps o cells c vs l (StoreWord k v) (
+  store_word k v is z still = keeps o cells c vs l (StoreWord k v) refl (
       let base_in : count (holds_base c.standing.phase) ≡ 0 = base o cells c vs l Dead is in
       let f : fronts_due c.standing.phase c.killing ≡ 1 = due o cells c vs l Dead is in
       let calm : count c.standing.to_mark ≡ 0 = ap count still in record {
@@ -129,6 +133,7 @@ module _ (o : Origin) (cells : Cells) (c : ControlView) (vs : List View) (l : La
         bias = refl;
         open_slots = λ k. refl;
         closed = refl;
+        opening = l.phase.opening;
         uncollected = refl;
         dead = l.phase.dead;
         killing = l.phase.killing;
@@ -155,12 +160,13 @@ module _ (o : Origin) (cells : Cells) (c : ControlView) (vs : List View) (l : La
       })
 
   pub look_shared : c.standing.to_mark ≡ false → After o cells c vs l LookShared
-  look_shared still = keeps o cells c vs l LookShared (
+  look_shared still = keeps o cells c vs l LookShared refl (
       let calm : count c.standing.to_mark ≡ 0 = ap count still in record {
         sum = omega arith;
         bias = refl;
         open_slots = λ k. refl;
         closed = refl;
+        opening = l.phase.opening;
         uncollected = refl;
         dead = l.phase.dead;
         killing = l.phase.killing;

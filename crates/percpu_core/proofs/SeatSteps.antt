@@ -1,5 +1,5 @@
 -- The laws over all views in one list.
-use Rattle.std.proofs.Common.{◌≡◌, ℕ, zero, suc, ◌+◌, ◌≤◌, true, false, List, [], ◌∷◌, ◌++◌, arith, ap, ◌∙◌, subst}
+use Rattle.std.proofs.Common.{◌≡◌, ℕ, zero, suc, ◌+◌, ◌≤◌, List, [], ◌∷◌, ◌++◌, arith, ap, ◌∙◌, subst}
 use mathlib.Core.Option.{some}
 use lib.ListN.{get_elem?}
 use Rattle.percpu_core.specs.declared.view.PassView.{PassView}
@@ -12,10 +12,11 @@ use Rattle.percpu_core.specs.Views.{count, to_undo, to_mark, of_pass, over_passe
 use Rattle.percpu_core.specs.SumLaw.{SumLaw}
 use Rattle.percpu_core.specs.ReleaseLaw.{Origin}
 use Rattle.percpu_core.specs.Laws.{Laws}
-use Rattle.percpu_core.specs.Moments.{first_pass}
+use Rattle.percpu_core.specs.Snapshots.{first_pass}
 use Rattle.percpu_core.specs.SeatLaws.{with_one_more, PassStepsKeepLaws, ControlStepsKeepLaws, KnownZeroIsSet, JoiningKeepsLaws, SplittingKeepsLaws}
 use Rattle.percpu_core.proofs.Passes.{EachPass-at}
 use Rattle.percpu_core.proofs.Counting.{balance}
+use Rattle.percpu_core.proofs.Flags.{never}
 use Rattle.percpu_core.proofs.Joining.{join}
 use Rattle.percpu_core.proofs.Enabled.{pass_keeps_laws, control_keeps_laws}
 
@@ -30,7 +31,7 @@ pass_steps_keep_laws o cells (OfControl c ∷ vs) zero p e l at free = not_contr
 pass_steps_keep_laws o cells (OfControl c ∷ vs) (suc i) p e l at free = pass_keeps_laws o cells c vs l i p at e free
 
 -- the control has the first view
-same_control : (c d : ControlView) → some (OfControl c) ≡ some (OfControl d) → c ≡ d
+pub same_control : (c d : ControlView) → some (OfControl c) ≡ some (OfControl d) → c ≡ d
 same_control c d e = cc
 
 no_other : {A : Type 0} (o : Origin) (cells : Cells) (c d : ControlView) (vs : List View) (i : ℕ) → Laws o cells c vs → get_elem? vs i ≡ some (OfControl d) → A
@@ -69,9 +70,6 @@ each_more : (P : PassView → Type 0) (vs : List View) (v : View) → EachPass P
 each_more P [] v e h = (h, tt)
 each_more P (x ∷ xs) v e h = (e.0, each_more P xs v e.1 h)
 
-never : {A : Type 0} → false ≡ true → A
-never e = cc
-
 module _ (o : Origin) (cells : Cells) (c : ControlView) (vs : List View) (l : Laws o cells c vs) (few : c.passes + 1 ≤ 64) where
   abbrev vs' : List View
   vs' = vs ++ OfPass first_pass ∷ []
@@ -84,7 +82,7 @@ module _ (o : Origin) (cells : Cells) (c : ControlView) (vs : List View) (l : La
   pub one_more : Laws o cells (with_one_more c) vs'
   one_more = record {
     sum = sum;
-    phase = record { slots = l.phase.slots; closed = l.phase.closed; dead = l.phase.dead; killing = l.phase.killing };
+    phase = record { slots = l.phase.slots; closed = l.phase.closed; opening = l.phase.opening; dead = l.phase.dead; killing = l.phase.killing };
     zero = record {
       after_drop = l.zero.after_drop;
       nothing_held = λ z. let none = l.zero.nothing_held z in let h = over_more (λ p. p.standing.held) vs (OfPass first_pass) in omega arith;
@@ -107,6 +105,7 @@ module _ (o : Origin) (cells : Cells) (c : ControlView) (vs : List View) (l : La
     limit = record {
       passes = few;
       held = each_more _ vs (OfPass first_pass) l.limit.held (omega arith);
+      some_slot = l.limit.some_slot;
       slots = l.limit.slots;
       deltas = l.limit.deltas;
       uncollected_most = l.limit.uncollected_most;

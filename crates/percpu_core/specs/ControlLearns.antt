@@ -1,5 +1,5 @@
 -- What the control knows after each of its steps.
-use Rattle.std.specs.Prelude.{ℕ, ◌+◌, ◌-◌, Bool, true, false, ◌||◌}
+use Rattle.std.specs.Prelude.{ℕ, ◌+◌, ◌-◌, Bool, true, false, ◌||◌, length}
 use Rattle.percpu_core.specs.declared.control_event.ControlEvent.{ControlEvent}
 use Rattle.percpu_core.specs.declared.control_event.ControlEvent.TheVariants.{MarkDead, DropBase, Mark, TakeBase, ClearDead, StoreWord, LookShared}
 use Rattle.percpu_core.specs.declared.view.PassView.{PassView}
@@ -36,14 +36,13 @@ knows_zero_after _ s knows = knows
 -- after each step but the one that takes in a pass
 abbrev pub control_view_after : ControlEvent → Cells → ControlView → ControlView
 control_view_after e cells c = record {
-  standing = control_standing_after e (control_reply e cells.shared) c.standing;
+  standing = control_standing_after e (control_reply e c.standing cells) (length cells.slots) cells.shared.dead c.standing;
   killing = killing_after e c.killing;
-  uncollected = c.uncollected;
   words = words_after e c.words;
   front = front_after e c.front;
   revivals = revivals_after e c.revivals;
   zeros_cleared = zeros_cleared_after e cells.shared c.zeros_cleared;
-  releases = c.releases + won (control_reply e cells.shared);
+  releases = c.releases + won (control_reply e c.standing cells);
   knows_zero = knows_zero_after e cells.shared c.knows_zero;
   passes = c.passes;
   found_dead = c.found_dead;

@@ -1,20 +1,25 @@
 -- The steps of the control: when each may be taken, what it answers and what it changes.
-use Rattle.std.specs.Prelude.{ℕ, ◌+◌, Bool, true, false, not, nat_lt, nat_le, ◌||◌, ◌&&◌, List, slice_set, Option, Some, is_none}
+use Rattle.std.specs.Prelude.{ℕ, ◌+◌, ◌-◌, ◌<◌, ◌≤◌, ◌==◌, ℤ, pos, negsuc, ◌+ℤ◌, Bool, true, false, not, nat_lt, nat_le, ◌||◌, ◌&&◌, if◌then◌else◌, List, slice_set, Option, Some, is_none}
+use Rattle.percpu_words.specs.SharedWord.{SharedWord, spelling, bias, dead_mark}
+use Rattle.percpu_core.specs.declared.limits.TheConstants.{KILL_LIMIT}
+use Rattle.percpu_core.specs.declared.slot.Slot.{Slot}
+use Rattle.percpu_core.specs.declared.slot.Slot.TheVariants.{Closed, Open}
+use Rattle.percpu_core.specs.declared.sizes.Sizes.{Sizes}
 use Rattle.percpu_core.specs.declared.control_event.ControlEvent.{ControlEvent}
-use Rattle.percpu_core.specs.declared.control_event.ControlEvent.TheVariants.{MarkDead, Confirm, DropBase, Mark, TakeBase, NextFront, ClearDead, StoreWord, Join, LookShared}
+use Rattle.percpu_core.specs.declared.control_event.ControlEvent.TheVariants.{MarkDead, Close, Collect, Confirm, DropBase, Mark, TakeBase, NextFront, ClearDead, AddBias, OpenNext, StoreWord, Join, LookShared}
 use Rattle.percpu_core.specs.declared.phase.Phase.{Phase}
-use Rattle.percpu_core.specs.declared.phase.Phase.TheVariants.{LiveSlots, LiveAtomic, Closing, Collected, Confirmed, Dead, Reviving, Fronted}
+use Rattle.percpu_core.specs.declared.phase.Phase.TheVariants.{LiveSlots, LiveAtomic, Closing, Confirmed, Dead, Reviving, Fronted, Opening}
+use Rattle.percpu_core.specs.declared.phase.Phase.TheVariants.{Collected as AllCollected}
 use Rattle.percpu_core.specs.declared.reply.Reply.{Reply}
-use Rattle.percpu_core.specs.declared.reply.Reply.TheVariants.{ToMark, Shared, Done}
+use Rattle.percpu_core.specs.declared.reply.Reply.TheVariants.{ToMark, Collected, Shared, Done}
 use Rattle.percpu_core.specs.declared.pass_standing.Pending.{Pending}
 use Rattle.percpu_core.specs.declared.pass_standing.Pending.TheVariants.{Nothing}
 use Rattle.percpu_core.specs.declared.pass_standing.PassStanding.{PassStanding}
 use Rattle.percpu_core.specs.declared.control_standing.ControlStanding.{ControlStanding}
 use Rattle.percpu_core.specs.declared.not_enabled.NotEnabled.{NotEnabled}
 use Rattle.percpu_core.specs.declared.not_enabled.NotEnabled.TheVariants.{NoSuchActor, WrongPhase, MidCall, WornOut, NoSuchWord, StillHeld}
-use Rattle.percpu_words.specs.SharedWord.{SharedWord, spelling}
-use Rattle.percpu_core.specs.Cells.{Cells}
-use Rattle.percpu_core.specs.LimitLaw.{most_kills}
+use Rattle.percpu_core.specs.Cells.{Cells, delta, slot_at}
+use Rattle.percpu_core.specs.Phases.{is_phase, is_live, next_slot}
 use Rattle.percpu_core.specs.PassSteps.{plus, minus, marked, left_reply, mark_reply}
 
 -- the guarded word isn't there
@@ -40,91 +45,116 @@ abbrev pub joins_holding : Option PassStanding → ControlEvent → Bool
 joins_holding (Some p) (Join k) = nat_lt 0 p.held
 joins_holding _ _ = false
 
--- the phases before and after the steps that have one
-abbrev pub is_live : Phase → Bool
-is_live LiveSlots = true
-is_live LiveAtomic = true
-is_live _ = false
+-- of so many slots one may be closed, all of them are closed, one may be opened
+abbrev pub has_slot_to_close : ℕ → Phase → Bool
+has_slot_to_close slots LiveSlots = true
+has_slot_to_close slots (Closing i) = nat_lt i slots
+has_slot_to_close slots _ = false
 
-abbrev pub is_collected : Phase → Bool
-is_collected Collected = true
-is_collected _ = false
+abbrev pub has_closed_all : ℕ → Phase → Bool
+has_closed_all slots (Closing i) = i == slots
+has_closed_all slots _ = false
 
-abbrev pub is_confirmed : Phase → Bool
-is_confirmed Confirmed = true
-is_confirmed _ = false
+abbrev pub is_opening : Phase → Bool
+is_opening (Opening i) = true
+is_opening _ = false
 
-abbrev pub is_dead : Phase → Bool
-is_dead Dead = true
-is_dead _ = false
-
-abbrev pub is_reviving : Phase → Bool
-is_reviving Reviving = true
-is_reviving _ = false
-
-abbrev pub is_fronted : Phase → Bool
-is_fronted Fronted = true
-is_fronted _ = false
-
--- the step belongs to this phase. A guarded word is stored in the phase dead with ZERO set
-abbrev pub is_in_turn : Bool → ControlStanding → ControlEvent → Bool
-is_in_turn zero c MarkDead = is_live c.phase
-is_in_turn zero c Confirm = is_collected c.phase
-is_in_turn zero c DropBase = is_confirmed c.phase
-is_in_turn zero c Mark = c.to_mark
-is_in_turn zero c TakeBase = is_dead c.phase
-is_in_turn zero c NextFront = is_reviving c.phase
-is_in_turn zero c ClearDead = is_fronted c.phase
-is_in_turn zero c (StoreWord k v) = is_dead c.phase && zero
-is_in_turn zero c (Join k) = true
-is_in_turn zero c LookShared = true
+-- the step belongs to this phase, at a gate with so many slots. A guarded word is stored in the phase dead with ZERO set
+abbrev pub is_in_turn : ℕ → Bool → ControlStanding → ControlEvent → Bool
+is_in_turn slots zero c MarkDead = is_live c.phase
+is_in_turn slots zero c Close = has_slot_to_close slots c.phase
+is_in_turn slots zero c Collect = has_closed_all slots c.phase
+is_in_turn slots zero c Confirm = is_phase AllCollected c.phase
+is_in_turn slots zero c DropBase = is_phase Confirmed c.phase
+is_in_turn slots zero c Mark = c.to_mark
+is_in_turn slots zero c TakeBase = is_phase Dead c.phase
+is_in_turn slots zero c NextFront = is_phase Reviving c.phase
+is_in_turn slots zero c ClearDead = is_phase Fronted c.phase
+is_in_turn slots zero c AddBias = is_phase LiveAtomic c.phase
+is_in_turn slots zero c OpenNext = is_opening c.phase
+is_in_turn slots zero c (StoreWord k v) = is_phase Dead c.phase && zero
+is_in_turn slots zero c (Join k) = true
+is_in_turn slots zero c LookShared = true
 
 abbrev pub wears_out : ℕ → ControlEvent → Bool
-wears_out kills MarkDead = nat_le most_kills kills
+wears_out kills MarkDead = nat_le KILL_LIMIT kills
 wears_out kills _ = false
 
 abbrev pub names_no_pass : Option PassStanding → ControlEvent → Bool
 names_no_pass p (Join k) = is_none p
 names_no_pass p _ = false
 
--- whether the reason holds against the step, of a control that stands so, at a gate with so many guarded words and ZERO set or not; p is the pass that is to join
-abbrev pub hinders_control : ℕ → Bool → Option PassStanding → ControlStanding → ControlEvent → NotEnabled → Bool
-hinders_control words zero p c e NoSuchActor = names_no_pass p e
-hinders_control words zero p c e NoSuchWord = stores_no_word words e
-hinders_control words zero p c e MidCall = must_mark c.to_mark e || joins_mid_call p e
-hinders_control words zero p c e WrongPhase = not (is_in_turn zero c e)
-hinders_control words zero p c e StillHeld = joins_holding p e
-hinders_control words zero p c e WornOut = wears_out c.kills e
-hinders_control words zero p c e _ = false
+-- whether the reason holds against the step, of a control that stands so, at a gate of these sizes with ZERO set or not; p is the pass that is to join
+abbrev pub hinders_control : Sizes → Bool → Option PassStanding → ControlStanding → ControlEvent → NotEnabled → Bool
+hinders_control sizes zero p c e NoSuchActor = names_no_pass p e
+hinders_control sizes zero p c e NoSuchWord = stores_no_word sizes.words e
+hinders_control sizes zero p c e MidCall = must_mark c.to_mark e || joins_mid_call p e
+hinders_control sizes zero p c e WrongPhase = not (is_in_turn sizes.slots zero c e)
+hinders_control sizes zero p c e StillHeld = joins_holding p e
+hinders_control sizes zero p c e WornOut = wears_out c.kills e
+hinders_control sizes zero p c e _ = false
 
-abbrev pub control_reply : ControlEvent → SharedWord → Reply
-control_reply DropBase s = left_reply (minus 1 s)
-control_reply Mark s = mark_reply s
-control_reply LookShared s = Shared (spelling s)
-control_reply _ s = Done
+-- what the control is answered, where it stands so and finds this memory. A slot that is closed tells its delta
+abbrev pub control_reply : ControlEvent → ControlStanding → Cells → Reply
+control_reply Close c cells = Collected (delta (slot_at cells.slots (next_slot c.phase)))
+control_reply DropBase c cells = left_reply (minus 1 cells.shared)
+control_reply Mark c cells = mark_reply cells.shared
+control_reply LookShared c cells = Shared (spelling cells.shared)
+control_reply _ c cells = Done
 
-abbrev pub phase_after : ControlEvent → Phase → Phase
-phase_after MarkDead LiveSlots = Closing 0
-phase_after MarkDead _ = Collected
-phase_after Confirm _ = Confirmed
-phase_after DropBase _ = Dead
-phase_after TakeBase _ = Reviving
-phase_after NextFront _ = Fronted
-phase_after ClearDead _ = LiveAtomic
-phase_after _ phase = phase
+-- the phase after the step, at a gate with so many slots and DEAD set or not. A slot is closed or opened at a time, from the first to the last
+abbrev pub phase_after : ControlEvent → ℕ → Bool → Phase → Phase
+phase_after MarkDead slots dead LiveSlots = Closing 0
+phase_after MarkDead slots dead _ = AllCollected
+phase_after Close slots dead phase = Closing (next_slot phase + 1)
+phase_after Collect slots dead _ = if dead then AllCollected else LiveAtomic
+phase_after Confirm slots dead _ = Confirmed
+phase_after DropBase slots dead _ = Dead
+phase_after TakeBase slots dead _ = Reviving
+phase_after NextFront slots dead _ = Fronted
+phase_after ClearDead slots dead _ = LiveAtomic
+phase_after AddBias slots dead _ = Opening 0
+phase_after OpenNext slots dead phase = if next_slot phase + 1 == slots then LiveSlots else Opening (next_slot phase + 1)
+phase_after _ slots dead phase = phase
 
-abbrev pub shared_after_control : ControlEvent → SharedWord → SharedWord
-shared_after_control MarkDead s = record s { dead = true }
-shared_after_control DropBase s = minus 1 s
-shared_after_control Mark s = marked s
-shared_after_control TakeBase s = plus 1 s
-shared_after_control ClearDead s = record s { zero = false; dead = false }
-shared_after_control _ s = s
+-- a signed number added to a number, which by the sum law is no less than what is taken off
+abbrev pub moved_by : ℤ → ℕ → ℕ
+moved_by (pos n) value = value + n
+moved_by (negsuc n) value = value - (n + 1)
 
--- what a step takes off the shared value
-abbrev pub taken_off : ControlEvent → ℕ
-taken_off DropBase = 1
-taken_off _ = 0
+-- the sum of what was closed comes to the shared word, and the bias off it, in one step
+abbrev pub collected : ℤ → SharedWord → SharedWord
+collected sum s = record s { value = moved_by sum s.value - bias }
+
+-- the shared word after the step of a control that has not collected this sum yet
+abbrev pub shared_after_control : ControlEvent → ℤ → SharedWord → SharedWord
+shared_after_control MarkDead sum s = record s { dead = true }
+shared_after_control Collect sum s = collected sum s
+shared_after_control DropBase sum s = minus 1 s
+shared_after_control Mark sum s = marked s
+shared_after_control TakeBase sum s = plus 1 s
+shared_after_control ClearDead sum s = record s { zero = false; dead = false }
+shared_after_control AddBias sum s = plus bias s
+shared_after_control _ sum s = s
+
+-- the step leaves a value that fits: it takes off what is there, and leaves room for what it adds
+abbrev pub ValueFits : ControlEvent → ℤ → ℕ → Type 0
+ValueFits Collect sum value = (bias ≤ moved_by sum value) × (moved_by sum value < dead_mark)
+ValueFits DropBase sum value = 1 ≤ value
+ValueFits TakeBase sum value = value + 1 < dead_mark
+ValueFits AddBias sum value = value + bias < dead_mark
+ValueFits _ sum value = Unit {0}
+
+-- the slot that the step closes or opens is among so many
+abbrev pub NextIsThere : ControlEvent → Phase → ℕ → Type 0
+NextIsThere Close phase slots = next_slot phase < slots
+NextIsThere OpenNext phase slots = next_slot phase < slots
+NextIsThere _ phase slots = Unit {0}
+
+abbrev pub slots_after_control : ControlEvent → Phase → List Slot → List Slot
+slots_after_control Close phase slots = slice_set slots (next_slot phase) Closed
+slots_after_control OpenNext phase slots = slice_set slots (next_slot phase) (Open (pos 0))
+slots_after_control _ phase slots = slots
 
 abbrev pub front_after : ControlEvent → ℕ → ℕ
 front_after Confirm front = front + 1
@@ -135,16 +165,38 @@ abbrev pub words_after : ControlEvent → List ℕ → List ℕ
 words_after (StoreWord k v) words = slice_set words k v
 words_after _ words = words
 
-abbrev pub cells_after_control : ControlEvent → Cells → Cells
-cells_after_control e c = record { shared = shared_after_control e c.shared; front = front_after e c.front; slots = c.slots; words = words_after e c.words }
+abbrev pub cells_after_control : ControlEvent → ControlStanding → Cells → Cells
+cells_after_control e c cells = record {
+  shared = shared_after_control e c.uncollected cells.shared;
+  front = front_after e cells.front;
+  slots = slots_after_control e c.phase cells.slots;
+  words = words_after e cells.words;
+}
 
 abbrev pub kills_after : ControlEvent → ℕ → ℕ
 kills_after MarkDead kills = kills + 1
 kills_after _ kills = kills
 
+-- the delta of the slot that was closed, as the answer tells it
+abbrev pub closed_delta : Reply → ℤ
+closed_delta (Collected d) = d
+closed_delta _ = pos 0
+
+-- the sum of the deltas that were closed and aren't collected yet
+abbrev pub uncollected_after : ControlEvent → Reply → ℤ → ℤ
+uncollected_after Close r sum = sum +ℤ closed_delta r
+uncollected_after Collect r sum = pos 0
+uncollected_after _ r sum = sum
+
 abbrev pub is_to_mark : Reply → Bool
 is_to_mark ToMark = true
 is_to_mark _ = false
 
-abbrev pub control_standing_after : ControlEvent → Reply → ControlStanding → ControlStanding
-control_standing_after e r c = record { phase = phase_after e c.phase; kills = kills_after e c.kills; to_mark = is_to_mark r }
+-- where the control stands once its step is answered, at a gate with so many slots and DEAD set or not
+abbrev pub control_standing_after : ControlEvent → Reply → ℕ → Bool → ControlStanding → ControlStanding
+control_standing_after e r slots dead c = record {
+  phase = phase_after e slots dead c.phase;
+  kills = kills_after e c.kills;
+  to_mark = is_to_mark r;
+  uncollected = uncollected_after e r c.uncollected;
+}

@@ -18,7 +18,7 @@ pub mod Machine
 pub mod Starts
 pub mod PassLearns
 pub mod ControlLearns
-pub mod Moments
+pub mod Snapshots
 pub mod Replays
 pub mod CounterMoves
 pub mod Interleavings

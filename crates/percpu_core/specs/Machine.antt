@@ -1,5 +1,5 @@
 -- The machine of a gate: what a world keeps, which events are enabled, and what each answers and changes.
-use Rattle.std.specs.Prelude.{◌≡◌, ℕ, ◌+◌, Option, Some, None, option_map, List, [], ◌∷◌, sum_by, find, length, slice_index_or, slice_set}
+use Rattle.std.specs.Prelude.{◌≡◌, ℕ, ◌+◌, Bool, Option, Some, None, option_map, List, [], ◌∷◌, sum_by, find, length, slice_index_or, slice_set}
 use Rattle.percpu_core.specs.declared.event.Event.{Event}
 use Rattle.percpu_core.specs.declared.event.Event.TheVariants.{Pass, Control}
 use Rattle.percpu_core.specs.declared.pass_event.PassEvent.{PassEvent}
@@ -11,8 +11,8 @@ use Rattle.percpu_core.specs.declared.pass_standing.PassStanding.{PassStanding}
 use Rattle.percpu_core.specs.declared.control_standing.ControlStanding.{ControlStanding}
 use Rattle.percpu_core.specs.declared.not_enabled.NotEnabled.{NotEnabled}
 use Rattle.percpu_core.specs.declared.not_enabled.NotEnabled.TheVariants.{NoSuchActor, NoSuchSlot, WrongPhase, NothingHeld, MidCall, HeldFull, WornOut, NoSuchWord, BadAmount, StillHeld}
-use Rattle.percpu_core.specs.Cells.{Cells}
-use Rattle.percpu_core.specs.PassSteps.{hinders_pass, pass_reply, shared_after_pass, standing_after}
+use Rattle.percpu_core.specs.Cells.{Cells, sizes_of}
+use Rattle.percpu_core.specs.PassSteps.{hinders_pass, pass_reply, cells_after_pass, standing_after}
 use Rattle.percpu_core.specs.ControlSteps.{hinders_control, control_reply, cells_after_control, control_standing_after}
 
 -- what a world keeps: the memory, where the control and each pass stand (a joined pass is gone), and the releases of all seats
@@ -25,6 +25,10 @@ pub record State : Type 0 where
 -- the order in which the reasons are tested
 abbrev pub order : List NotEnabled
 order = NoSuchActor ∷ NoSuchSlot ∷ NoSuchWord ∷ MidCall ∷ WrongPhase ∷ NothingHeld ∷ BadAmount ∷ HeldFull ∷ StillHeld ∷ WornOut ∷ []
+
+-- no reason holds against a step of which this tells whether one does
+abbrev pub IsEnabled : (NotEnabled → Bool) → Type 0
+IsEnabled hinders = find hinders order ≡ None
 
 -- where the pass of that number stands
 abbrev pub pass_at : State → ℕ → Option PassStanding
@@ -48,16 +52,16 @@ joining s _ = None
 -- why a pass's step isn't enabled; a pass that isn't there has no step
 abbrev pub pass_refusal : Cells → Option PassStanding → PassEvent → Option NotEnabled
 pass_refusal cells None e = Some NoSuchActor
-pass_refusal cells (Some p) e = find (hinders_pass (length cells.words) p e) order
+pass_refusal cells (Some p) e = find (hinders_pass (sizes_of cells) p e) order
 
 -- the first reason against the event, if there is one
 abbrev pub refusal : State → Event → Option NotEnabled
 refusal s (Pass k e) = pass_refusal s.cells (pass_at s k) e
-refusal s (Control e) = find (hinders_control (length s.cells.words) s.cells.shared.zero (joining s e) s.control e) order
+refusal s (Control e) = find (hinders_control (sizes_of s.cells) s.cells.shared.zero (joining s e) s.control e) order
 
 abbrev pub reply : State → Event → Reply
 reply s (Pass k e) = pass_reply e s.cells
-reply s (Control e) = control_reply e s.cells.shared
+reply s (Control e) = control_reply e s.control s.cells
 
 -- 1 for a release
 abbrev pub won : Reply → ℕ
@@ -71,21 +75,23 @@ passes_after _ passes = passes
 -- the state after an enabled event
 abbrev pub after : State → Event → State
 after s (Pass k e) = let r = pass_reply e s.cells in record {
-  cells = record s.cells { shared = shared_after_pass e s.cells.shared };
+  cells = cells_after_pass e s.cells;
   control = s.control;
   passes = slice_set s.passes k (option_map (standing_after e r) (pass_at s k));
   releases = s.releases + won r;
 }
-after s (Control e) = let r = control_reply e s.cells.shared in record {
-  cells = cells_after_control e s.cells;
-  control = control_standing_after e r s.control;
+after s (Control e) = let r = control_reply e s.control s.cells in record {
+  cells = cells_after_control e s.control s.cells;
+  control = control_standing_after e r (length s.cells.slots) s.cells.shared.dead s.control;
   passes = passes_after e s.passes;
   releases = s.releases + won r;
 }
 
--- there are as many passes and guarded words as before
-abbrev pub SameSizes : State → State → Type 0
-SameSizes old new = (length new.passes ≡ length old.passes) × (length new.cells.words ≡ length old.cells.words)
+-- there are as many passes, slots and guarded words as before
+pub record SameSizes (old new : State) : Type 0 where
+  pub passes : length new.passes ≡ length old.passes
+  pub slots : length new.cells.slots ≡ length old.cells.slots
+  pub words : length new.cells.words ≡ length old.cells.words
 
 -- these replies to these events, each enabled in the state before it, lead from old to new
 abbrev pub Run : State → List Event → List Reply → State → Type 0

@@ -1,10 +1,10 @@
 -- What a pass knows after each of its steps.
 use Rattle.std.specs.Prelude.{ℕ, ◌+◌, ◌%◌, ◌==◌, Bool, true, false, ◌||◌, ◌&&◌, if◌then◌else◌, List, [], ◌∷◌, slice_index}
 use Rattle.percpu_core.specs.declared.pass_event.PassEvent.{PassEvent}
-use Rattle.percpu_core.specs.declared.pass_event.PassEvent.TheVariants.{AddTry, AddLive, LookShared, LoadFront, LoadWord}
+use Rattle.percpu_core.specs.declared.pass_event.PassEvent.TheVariants.{AddTry, AddLive, Take, LookShared, LoadFront, LoadWord}
 use Rattle.percpu_core.specs.declared.view.WordRead.{WordRead}
 use Rattle.percpu_core.specs.declared.view.PassView.{PassView}
-use Rattle.percpu_core.specs.Cells.{Cells}
+use Rattle.percpu_core.specs.Cells.{Cells, slot_at, is_open_with}
 use Rattle.percpu_core.specs.PassSteps.{pass_reply, standing_after}
 use Rattle.percpu_core.specs.Machine.{won}
 
@@ -15,10 +15,14 @@ looks_for_marks AddLive = true
 looks_for_marks LookShared = true
 looks_for_marks _ = false
 
--- an answer Given begins the reading anew where nothing was held
+-- who comes to hold a reference where he held none begins to read anew
+abbrev pub begun : PassView → List WordRead
+begun p = if p.standing.held == 0 then [] else p.read
+
 abbrev pub read_after : PassEvent → Cells → PassView → List WordRead
-read_after AddTry cells p = if p.standing.held == 0 then [] else p.read
-read_after AddLive cells p = if p.standing.held == 0 then [] else p.read
+read_after AddTry cells p = begun p
+read_after AddLive cells p = begun p
+read_after (Take s d n) cells p = begun p
 read_after (LoadWord k) cells p = record { word = k; value = slice_index cells.words k } ∷ p.read
 read_after _ cells p = p.read
 
@@ -26,10 +30,15 @@ abbrev pub seen_front_after : PassEvent → Cells → PassView → ℕ
 seen_front_after LoadFront cells p = cells.front
 seen_front_after _ cells p = p.seen_front
 
--- while DEAD is clear the front is even, so a try that finds it clear is made at an even front
+-- the least even number that is no less
+abbrev pub next_even : ℕ → ℕ
+next_even n = n + n % 2
+
+-- while DEAD is clear or a slot is open the front is even, so a try that finds it so is made at an even front
 abbrev pub floor_after : PassEvent → Cells → PassView → ℕ
 floor_after LoadFront cells p = cells.front
-floor_after AddLive cells p = if cells.shared.dead then p.floor else p.floor + p.floor % 2
+floor_after AddLive cells p = if cells.shared.dead then p.floor else next_even p.floor
+floor_after (Take s d n) cells p = if is_open_with d (slot_at cells.slots s) then next_even p.floor else p.floor
 floor_after _ cells p = p.floor
 
 abbrev pub pass_view_after : PassEvent → Cells → PassView → PassView

@@ -3,6 +3,30 @@ use Rattle.std.specs.Prelude.{ℕ, Bool, true, false, nat_lt, nat_le}
 use Rattle.percpu_core.specs.declared.phase.Phase.{Phase}
 use Rattle.percpu_core.specs.declared.phase.Phase.TheVariants.{LiveSlots, LiveAtomic, Closing, Collected, Confirmed, Dead, Reviving, Fronted, Opening}
 
+-- the two phases are one, of those that count no slots
+abbrev pub is_phase : Phase → Phase → Bool
+is_phase LiveSlots LiveSlots = true
+is_phase LiveAtomic LiveAtomic = true
+is_phase Collected Collected = true
+is_phase Confirmed Confirmed = true
+is_phase Dead Dead = true
+is_phase Reviving Reviving = true
+is_phase Fronted Fronted = true
+is_phase _ _ = false
+
+-- live, on slots or on the shared word alone
+abbrev pub is_live : Phase → Bool
+is_live LiveSlots = true
+is_live LiveAtomic = true
+is_live _ = false
+
+-- from DEAD to the drop of the initial reference, and while a switch to the shared word closes slots
+abbrev pub is_mid_switch : Phase → Bool
+is_mid_switch (Closing i) = true
+is_mid_switch Collected = true
+is_mid_switch Confirmed = true
+is_mid_switch _ = false
+
 -- the initial reference is out in the phase dead alone
 abbrev pub holds_base : Phase → Bool
 holds_base Dead = false
@@ -56,6 +80,12 @@ is_open_in LiveSlots k = true
 is_open_in (Closing i) k = nat_le i k
 is_open_in (Opening i) k = nat_lt k i
 is_open_in _ k = false
+
+-- the slot that is closed or opened next
+abbrev pub next_slot : Phase → ℕ
+next_slot (Closing i) = i
+next_slot (Opening i) = i
+next_slot _ = 0
 
 -- how many slots were closed and aren't collected yet
 abbrev pub closed_so_far : Phase → ℕ

@@ -1,18 +1,25 @@
 //! The steps of the control.
-ghost use Rattle.std.specs.Prelude.{◌≡◌, ◌+◌, ◌^◌, ◌<◌, ◌≤◌};
-ghost use Rattle.percpu_words.specs.SharedWord.{parts, dead_mark};
+ghost use Rattle.std.specs.Prelude.{◌≡◌, ◌^◌, ◌<◌, ◌≤◌};
+ghost use Rattle.percpu_words.specs.SharedWord.{parts};
 ghost use Rattle.percpu_core.specs.ControlSteps as steps;
+ghost use Rattle.percpu_core.specs.Phases.{next_slot};
 
+use crate::control_standing::ControlStanding;
+use crate::limits::SLOT_LIMIT;
 use crate::phase::Phase;
-use crate::reply::Reply;
-use crate::shared_word::{left_reply, mark_reply, marked};
-use percpu_words::DEAD;
+use crate::shared_word::{collected, marked};
+use percpu_words::{BIAS, DEAD};
 
 /// A step of the control.
 #[derive(Clone, Copy, Debug, PartialEq, Eq)]
 pub enum ControlEvent {
     /// Sets DEAD, which begins a kill. Linux: `percpu_ref_kill_and_confirm`.
     MarkDead,
+    /// Closes the next slot by an exchange that tells its delta. Linux: the reading of every processor's count in
+    /// `percpu_ref_switch_to_atomic_rcu`.
+    Close,
+    /// Adds the sum of the closed deltas less the bias to the shared word. Linux: `percpu_ref_switch_to_atomic_rcu`.
+    Collect,
     /// Stores the odd front. Linux: the `confirm_kill` callback.
     Confirm,
     /// Drops the initial reference.
@@ -25,6 +32,10 @@ pub enum ControlEvent {
     NextFront,
     /// Clears DEAD and ZERO.
     ClearDead,
+    /// Adds the bias to the shared word. Linux: `__percpu_ref_switch_to_percpu`.
+    AddBias,
+    /// Opens the next slot with the delta 0. Linux: the same, which clears every processor's count.
+    OpenNext,
     /// Stores `v` in the guarded word `k`.
     StoreWord { k: u32, v: u64 },
     /// Takes in the pass of that number, which is gone from then on.
@@ -41,31 +52,19 @@ impl ControlEvent {
         matches!(self, ControlEvent::StoreWord { k, .. } if k as usize >= words)
     }
 
-    /// The answer, by the shared word that it finds.
-    pub(crate) fn reply(self, word: u64) -> Reply
-        requires { steps.taken_off self ≤ (parts word).value }
-        ensures { result ≡ steps.control_reply self (parts word) }
-    {
-        match self {
-            ControlEvent::DropBase => left_reply(word - 1),
-            ControlEvent::Mark => mark_reply(word),
-            ControlEvent::LookShared => Reply::Shared(word),
-            _ => Reply::Done,
-        }
-    }
-
-    /// The shared word after the step.
-    pub(crate) fn shared_after(self, word: u64) -> u64
-        requires adds { (parts word).value + 1 < dead_mark }
-        requires takes { steps.taken_off self ≤ (parts word).value }
-        ensures { parts result ≡ steps.shared_after_control self (parts word) }
+    /// The shared word after the step of a control that stands so.
+    pub(crate) fn shared_after(self, standing: ControlStanding, word: u64) -> u64
+        requires { steps.ValueFits self standing.uncollected (parts word).value }
+        ensures { parts result ≡ steps.shared_after_control self standing.uncollected (parts word) }
     {
         match self {
             ControlEvent::MarkDead => word | DEAD,
+            ControlEvent::Collect => collected(standing.uncollected, word),
             ControlEvent::DropBase => word - 1,
             ControlEvent::Mark => marked(word),
             ControlEvent::TakeBase => word + 1,
             ControlEvent::ClearDead => word & (DEAD - 1),
+            ControlEvent::AddBias => word + BIAS,
             _ => word,
         }
     }
@@ -81,19 +80,28 @@ impl ControlEvent {
         }
     }
 
-    /// The phase after the step.
-    pub(crate) fn phase_after(self, phase: Phase) -> Phase
-        ensures { result ≡ steps.phase_after self phase }
+    /// The phase after the step, at a gate with so many slots and DEAD set or not.
+    pub(crate) fn phase_after(self, slots: usize, dead: bool, phase: Phase) -> Phase
+        requires { next_slot phase ≤ SLOT_LIMIT }
+        ensures { result ≡ steps.phase_after self slots dead phase }
     {
-        match (self, phase) {
-            (ControlEvent::MarkDead, Phase::LiveSlots) => Phase::Closing(0),
-            (ControlEvent::MarkDead, _) => Phase::Collected,
-            (ControlEvent::Confirm, _) => Phase::Confirmed,
-            (ControlEvent::DropBase, _) => Phase::Dead,
-            (ControlEvent::TakeBase, _) => Phase::Reviving,
-            (ControlEvent::NextFront, _) => Phase::Fronted,
-            (ControlEvent::ClearDead, _) => Phase::LiveAtomic,
-            _ => phase,
+        match self {
+            ControlEvent::MarkDead if phase == Phase::LiveSlots => Phase::Closing(0),
+            ControlEvent::MarkDead => Phase::Collected,
+            ControlEvent::Close => Phase::Closing(phase.next_slot() + 1),
+            ControlEvent::Collect if dead => Phase::Collected,
+            ControlEvent::Confirm => Phase::Confirmed,
+            ControlEvent::DropBase => Phase::Dead,
+            ControlEvent::TakeBase => Phase::Reviving,
+            ControlEvent::NextFront => Phase::Fronted,
+            ControlEvent::Collect | ControlEvent::ClearDead => Phase::LiveAtomic,
+            ControlEvent::AddBias => Phase::Opening(0),
+            ControlEvent::OpenNext if phase.next_slot() as usize + 1 == slots => Phase::LiveSlots,
+            ControlEvent::OpenNext => Phase::Opening(phase.next_slot() + 1),
+            ControlEvent::Mark
+            | ControlEvent::StoreWord { .. }
+            | ControlEvent::Join(_)
+            | ControlEvent::LookShared => phase,
         }
     }
 }

@@ -1,45 +1,46 @@
 //! Where the control stands between two of its steps.
-ghost use Rattle.std.specs.Prelude.{◌≡◌, ◌<◌, ◌^◌, find};
+ghost use Rattle.std.specs.Prelude.{◌≡◌, ◌<◌, ◌≤◌, ◌^◌, find, unsigned_abs};
 ghost use Rattle.percpu_core.specs.ControlSteps as steps;
 ghost use Rattle.percpu_core.specs.Machine.{order};
+ghost use Rattle.percpu_core.specs.Phases.{next_slot};
 
 use crate::control_event::ControlEvent;
+use crate::limits::{KILL_LIMIT, SLOT_LIMIT};
 use crate::not_enabled::NotEnabled;
 use crate::pass_standing::{PassStanding, Pending};
 use crate::phase::Phase;
 use crate::reply::Reply;
+use crate::sizes::Sizes;
 
-/// The most kills of one gate.
-const MOST_KILLS: u64 = 1 << 40;
-
-/// The phase, the kills so far (those that the gate started with included), and whether the control
-/// has a zero to mark.
+/// The phase, the kills so far (those that the gate started with included), whether the control has a zero
+/// to mark, and the sum of the deltas that it has closed and not collected yet.
 #[derive(Clone, Copy, Debug, PartialEq, Eq)]
 pub struct ControlStanding {
     pub phase: Phase,
     pub kills: u64,
     pub to_mark: bool,
+    pub uncollected: i64,
 }
 
 impl ControlStanding {
-    /// Why the step may not be taken, at a gate with so many guarded words and ZERO set or not;
+    /// Why the step may not be taken, at a gate of these sizes with ZERO set or not;
     /// `joining` is the pass that is to join. The order of the tests is part of the answer.
     pub(crate) fn refusal(
         self,
-        words: usize,
+        sizes: Sizes,
         zero: bool,
         joining: Option<PassStanding>,
         event: ControlEvent,
     ) -> Option<NotEnabled>
-        ensures { result ≡ find (steps.hinders_control words zero joining self event) order }
+        ensures { result ≡ find (steps.hinders_control sizes zero joining self event) order }
     {
         if names_no_pass(joining, event) {
             Some(NotEnabled::NoSuchActor)
-        } else if event.stores_no_word(words) {
+        } else if event.stores_no_word(sizes.words) {
             Some(NotEnabled::NoSuchWord)
         } else if self.must_mark(event) || joins_mid_call(joining, event) {
             Some(NotEnabled::MidCall)
-        } else if !self.is_in_turn(zero, event) {
+        } else if !self.is_in_turn(sizes.slots, zero, event) {
             Some(NotEnabled::WrongPhase)
         } else if joins_holding(joining, event) {
             Some(NotEnabled::StillHeld)
@@ -59,17 +60,21 @@ impl ControlStanding {
 
     /// Whether the step belongs to this phase. A guarded word is stored in the phase dead with ZERO
     /// set.
-    fn is_in_turn(self, zero: bool, event: ControlEvent) -> bool
-        ensures { result ≡ steps.is_in_turn zero self event }
+    fn is_in_turn(self, slots: usize, zero: bool, event: ControlEvent) -> bool
+        ensures { result ≡ steps.is_in_turn slots zero self event }
     {
         match event {
             ControlEvent::MarkDead => self.phase.is_live(),
+            ControlEvent::Close => self.phase.has_slot_to_close(slots),
+            ControlEvent::Collect => self.phase.has_closed_all(slots),
             ControlEvent::Confirm => self.phase == Phase::Collected,
             ControlEvent::DropBase => self.phase == Phase::Confirmed,
             ControlEvent::Mark => self.to_mark,
             ControlEvent::TakeBase => self.phase == Phase::Dead,
             ControlEvent::NextFront => self.phase == Phase::Reviving,
             ControlEvent::ClearDead => self.phase == Phase::Fronted,
+            ControlEvent::AddBias => self.phase == Phase::LiveAtomic,
+            ControlEvent::OpenNext => matches!(self.phase, Phase::Opening(_)),
             ControlEvent::StoreWord { .. } => self.phase == Phase::Dead && zero,
             ControlEvent::Join(_) | ControlEvent::LookShared => true,
         }
@@ -79,21 +84,36 @@ impl ControlStanding {
     fn wears_out(self, event: ControlEvent) -> bool
         ensures { result ≡ steps.wears_out self.kills event }
     {
-        self.kills >= MOST_KILLS && matches!(event, ControlEvent::MarkDead)
+        self.kills >= KILL_LIMIT && matches!(event, ControlEvent::MarkDead)
     }
 
-    /// Where the control stands once its step is answered.
-    pub(crate) fn after(self, event: ControlEvent, reply: Reply) -> ControlStanding
-        requires { self.kills < 2 ^ 63 }
-        ensures { result ≡ steps.control_standing_after event reply self }
+    /// Where the control stands once its step is answered, at a gate with so many slots and DEAD set or
+    /// not.
+    pub(crate) fn after(
+        self,
+        event: ControlEvent,
+        reply: Reply,
+        slots: usize,
+        dead: bool,
+    ) -> ControlStanding
+        requires kills { self.kills < 2 ^ 63 }
+        requires place { next_slot self.phase ≤ SLOT_LIMIT }
+        requires sum { unsigned_abs self.uncollected ≤ 2 ^ 32 }
+        requires delta { unsigned_abs (steps.closed_delta reply) ≤ 2 ^ 32 }
+        ensures { result ≡ steps.control_standing_after event reply slots dead self }
     {
         ControlStanding {
-            phase: event.phase_after(self.phase),
+            phase: event.phase_after(slots, dead, self.phase),
             kills: match event {
                 ControlEvent::MarkDead => self.kills + 1,
                 _ => self.kills,
             },
             to_mark: reply == Reply::ToMark,
+            uncollected: match event {
+                ControlEvent::Close => self.uncollected + reply.closed_delta(),
+                ControlEvent::Collect => 0,
+                _ => self.uncollected,
+            },
         }
     }
 }

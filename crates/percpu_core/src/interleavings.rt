@@ -1,7 +1,7 @@
 //! What holds whichever steps the seats take, and in whatever order. The functions do nothing: each
 //! stands for the law in its contract.
 ghost use Rattle.percpu_core.specs.SeatLaws.{PassStepsKeepLaws, ControlStepsKeepLaws, KnownZeroIsSet, JoiningKeepsLaws, SplittingKeepsLaws, OpeningIsLawful};
-ghost use Rattle.percpu_core.specs.Interleavings.{LawsAlways, ReleasedAtZero, ReleasedOncePerKill, MovesOfTheCounter, NumbersStaySmall};
+ghost use Rattle.percpu_core.specs.Interleavings.{LawsAlways, ReleasedAtZero, ReleasedOncePerKill, ReleasedOnceInALife, MovesOfTheCounter, NumbersStaySmall};
 
 /// Each step of a seat, enabled by the view of that seat alone, keeps the laws of all memory and all
 /// views; so do the split of a new pass and the taking in of one, and a gate begins with them.
@@ -22,10 +22,12 @@ pub fn every_interleaving()
 {}
 
 /// A release is won only where the initial reference is out and nothing is held, and at most once for
-/// each kill.
+/// each kill: in any part of a run there is at most one more than there are kills in it, so none comes
+/// twice between two kills.
 pub fn a_release_is_the_last()
     ensures at_zero { ReleasedAtZero }
     ensures once { ReleasedOncePerKill }
+    ensures in_a_life { ReleasedOnceInALife }
 {}
 
 /// Each enabled event is a move of the plain counter, or changes none of its facts.

@@ -5,7 +5,12 @@
 //!
 //! - **Live.** Passes take and drop references on the shared word. One reference more, the initial one,
 //!   belongs to the gate itself, so the count can't reach zero.
-//! - **Killed.** The control sets DEAD, and a try for a live gate is refused from then on. It stores the
+//! - **Live on slots.** A count on one word is slow where many threads make it. So passes count on slots,
+//!   each by an exchange of the delta that it saw, and what doesn't fit there comes to the shared word. A
+//!   bias in the shared value keeps it from zero meanwhile. A switch, or a kill, closes the slots one after
+//!   another and collects their sum; a switch back adds the bias and opens them.
+//! - **Killed.** The control sets DEAD, and a try for a live gate that adds to the shared word after that is
+//!   refused; slots are closed, and what they count is collected. It stores the
 //!   odd front, by which everyone can see that the kill is complete, and drops the initial reference.
 //! - **Zero.** Whoever subtracts to DEAD alone marks ZERO by an exchange. Who wins it is the release:
 //!   everything was put, and it comes at most once for each kill. Now guarded words may be stored.
@@ -14,14 +19,15 @@
 //!
 //! A [`World`] is a gate as a value: `step` takes one atomic step of one seat, or says why it can't be
 //! taken; `replay` takes a list of them. What holds of every world, whatever its seats do and in
-//! whatever order, stands in the contracts of `interleavings`. Slots aren't opened yet: every count is
-//! on the shared word.
+//! whatever order, stands in the contracts of `interleavings`. docs/GATE.md tells the life of a gate step
+//! by step, and why each order is as it is.
 #![tactic(auto)]
 
 mod control_event;
 mod control_standing;
 mod event;
 mod interleavings;
+mod limits;
 mod memory;
 mod not_enabled;
 mod pass_event;
@@ -31,6 +37,9 @@ mod replay_fault;
 mod reply;
 mod schedule;
 mod shared_word;
+mod sizes;
+mod slot;
+mod slots;
 mod start;
 #[cfg(test)]
 mod tests;
@@ -44,6 +53,7 @@ pub use interleavings::{
     a_release_is_the_last, each_step_keeps_the_laws, events_are_moves, every_interleaving,
     numbers_stay_small,
 };
+pub use limits::{HELD_LIMIT, KILL_LIMIT, PASS_LIMIT, SLOT_LIMIT, WORD_LIMIT};
 pub use memory::Memory;
 pub use not_enabled::NotEnabled;
 pub use pass_event::PassEvent;
@@ -52,6 +62,8 @@ pub use phase::Phase;
 pub use replay_fault::ReplayFault;
 pub use reply::Reply;
 pub use schedule::replay;
+pub use sizes::Sizes;
+pub use slot::Slot;
 pub use start::Start;
 pub use view::{ControlView, PassView, View, WordRead};
 pub use world::World;

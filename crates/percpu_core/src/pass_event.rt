@@ -4,6 +4,7 @@ ghost use Rattle.percpu_words.specs.SharedWord.{parts, dead_mark};
 ghost use Rattle.percpu_core.specs.PassSteps as steps;
 
 use crate::shared_word::marked;
+use percpu_words::DELTA_MAX;
 
 /// A step of a pass.
 #[derive(Clone, Copy, Debug, PartialEq, Eq)]
@@ -20,6 +21,12 @@ pub enum PassEvent {
     Undo,
     /// Exchanges DEAD alone for DEAD and ZERO.
     Mark,
+    /// Loads the slot of that number. Linux: the test of `__ref_is_percpu` (include/linux/percpu-refcount.h).
+    Look(u32),
+    /// Exchanges the slot's delta `seen` for `seen + n`. Linux: `this_cpu_add` in `percpu_ref_tryget_many`.
+    Take { slot: u32, seen: i64, n: u32 },
+    /// Exchanges the slot's delta `seen` for `seen - n`. Linux: `this_cpu_sub` in `percpu_ref_put_many`.
+    Give { slot: u32, seen: i64, n: u32 },
     /// Loads the shared word.
     LookShared,
     /// Loads the front.
@@ -29,6 +36,17 @@ pub enum PassEvent {
 }
 
 impl PassEvent {
+    /// Whether it names a slot that isn't among so many.
+    pub(crate) fn names_no_slot(self, slots: usize) -> bool
+        ensures { result ≡ steps.names_no_slot slots self }
+    {
+        match self {
+            PassEvent::Look(slot) | PassEvent::Take { slot, .. } | PassEvent::Give { slot, .. } =>
+                slot as usize >= slots,
+            _ => false,
+        }
+    }
+
     /// Whether it loads a guarded word that isn't among so many.
     pub(crate) fn names_no_word(self, words: usize) -> bool
         ensures { result ≡ steps.names_no_word words self }
@@ -42,16 +60,27 @@ impl PassEvent {
     {
         match self {
             PassEvent::AddGet(_) | PassEvent::LoadWord(_) => 1,
-            PassEvent::Sub(n) => n,
+            PassEvent::Take { n: 1, .. } => 0,
+            PassEvent::Take { .. } => 1,
+            PassEvent::Sub(n) | PassEvent::Give { n, .. } => n,
             _ => 0,
         }
     }
 
-    /// Whether it counts by nothing.
+    /// Whether it counts by nothing, or would go beyond a delta's limit.
     pub(crate) fn has_bad_amount(self) -> bool
         ensures { result ≡ steps.has_bad_amount self }
     {
-        matches!(self, PassEvent::AddGet(0) | PassEvent::Sub(0))
+        match self {
+            PassEvent::AddGet(n) | PassEvent::Sub(n) => n == 0,
+            PassEvent::Take { seen, n, .. } => {
+                n == 0 || !(is_delta(seen) && is_delta(seen + i64::from(n)))
+            }
+            PassEvent::Give { seen, n, .. } => {
+                n == 0 || !(is_delta(seen) && is_delta(seen - i64::from(n)))
+            }
+            _ => false,
+        }
     }
 
     /// The shared word after the step.
@@ -66,7 +95,14 @@ impl PassEvent {
             PassEvent::Sub(n) => word - u64::from(n),
             PassEvent::Undo => word - 1,
             PassEvent::Mark => marked(word),
-            PassEvent::LookShared | PassEvent::LoadFront | PassEvent::LoadWord(_) => word,
+            _ => word,
         }
     }
+}
+
+/// Whether the delta is within its limit.
+fn is_delta(delta: i64) -> bool
+    ensures { result ≡ steps.is_delta delta }
+{
+    delta.unsigned_abs() <= DELTA_MAX.unsigned_abs()
 }

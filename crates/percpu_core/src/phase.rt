@@ -1,6 +1,7 @@
 //! The phases of a gate, as its control goes through them.
 ghost use Rattle.std.specs.Prelude.{◌≡◌};
-ghost use Rattle.percpu_core.specs.ControlSteps.{is_live as is_live_phase};
+ghost use Rattle.percpu_core.specs.Phases as phases;
+ghost use Rattle.percpu_core.specs.ControlSteps as steps;
 
 /// Where the control of a gate stands.
 ///
@@ -32,8 +33,50 @@ pub enum Phase {
 impl Phase {
     /// Whether the gate is live.
     pub(crate) fn is_live(self) -> bool
-        ensures { result ≡ is_live_phase self }
+        ensures { result ≡ phases.is_live self }
     {
         matches!(self, Phase::LiveSlots | Phase::LiveAtomic)
+    }
+
+    /// Whether a kill or a switch to the shared word is under way: from its first step to the drop of the
+    /// initial reference, or to the collecting.
+    pub fn is_mid_switch(self) -> bool
+        ensures { result ≡ phases.is_mid_switch self }
+    {
+        matches!(
+            self,
+            Phase::Closing(_) | Phase::Collected | Phase::Confirmed
+        )
+    }
+
+    /// Whether one of so many slots is to be closed, as the next step of a kill or of a switch.
+    pub(crate) fn has_slot_to_close(self, slots: usize) -> bool
+        ensures { result ≡ steps.has_slot_to_close slots self }
+    {
+        match self {
+            Phase::LiveSlots => true,
+            Phase::Closing(closed) => (closed as usize) < slots,
+            _ => false,
+        }
+    }
+
+    /// Whether each of so many slots is closed, and none collected.
+    pub(crate) fn has_closed_all(self, slots: usize) -> bool
+        ensures { result ≡ steps.has_closed_all slots self }
+    {
+        match self {
+            Phase::Closing(closed) => closed as usize == slots,
+            _ => false,
+        }
+    }
+
+    /// The slot that is closed or opened next.
+    pub(crate) fn next_slot(self) -> u32
+        ensures { result ≡ phases.next_slot self }
+    {
+        match self {
+            Phase::Closing(slot) | Phase::Opening(slot) => slot,
+            _ => 0,
+        }
     }
 }

@@ -1,5 +1,6 @@
 //! What a step answers.
 ghost use Rattle.std.specs.Prelude.{◌≡◌};
+ghost use Rattle.percpu_core.specs.ControlSteps.{closed_delta};
 ghost use Rattle.percpu_core.specs.Machine.{won};
 
 /// The answer to an enabled event.
@@ -15,8 +16,16 @@ pub enum Reply {
     ToMark,
     /// The mark was won: this is the release.
     Last,
-    /// The word wasn't DEAD alone any more.
+    /// The exchange found another word than it expected.
     Lost,
+    /// The exchange of a slot's delta was won.
+    Won,
+    /// The slot is open with this delta.
+    Opened(i64),
+    /// The slot is closed.
+    Closed,
+    /// The delta of the slot that was closed.
+    Collected(i64),
     /// The whole shared word.
     Shared(u64),
     /// The front, or a guarded word.
@@ -26,6 +35,16 @@ pub enum Reply {
 }
 
 impl Reply {
+    /// The delta of the slot that was closed.
+    pub(crate) fn closed_delta(self) -> i64
+        ensures { result ≡ closed_delta self }
+    {
+        match self {
+            Reply::Collected(delta) => delta,
+            _ => 0,
+        }
+    }
+
     /// 1 for a release, else 0.
     pub(crate) fn won(self) -> u64
         ensures { result ≡ won self }

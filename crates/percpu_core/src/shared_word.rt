@@ -1,11 +1,12 @@
-//! What the last put finds on the shared word, and what it leaves there.
-ghost use Rattle.std.specs.Prelude.{◌≡◌};
-ghost use Rattle.percpu_words.specs.SharedWord.{parts};
+//! What steps find on the shared word, and what they leave there.
+ghost use Rattle.std.specs.Prelude.{◌≡◌, ◌<◌, ◌≤◌};
+ghost use Rattle.percpu_words.specs.SharedWord.{parts, bias, dead_mark};
 ghost use Rattle.percpu_core.specs.Cells.{is_dead_alone};
 ghost use Rattle.percpu_core.specs.PassSteps as steps;
+ghost use Rattle.percpu_core.specs.ControlSteps as control;
 
 use crate::reply::Reply;
-use percpu_words::{DEAD, ZERO};
+use percpu_words::{BIAS, DEAD, ZERO};
 
 /// The answer of a subtraction that left this word.
 pub(crate) fn left_reply(word: u64) -> Reply
@@ -34,4 +35,18 @@ pub(crate) fn marked(word: u64) -> u64
     ensures { parts result ≡ steps.marked (parts word) }
 {
     if word == DEAD { DEAD | ZERO } else { word }
+}
+
+/// The word once the sum of the closed deltas has come to it, and the bias was taken off.
+pub(crate) fn collected(sum: i64, word: u64) -> u64
+    requires there { bias ≤ control.moved_by sum (parts word).value }
+    requires room { control.moved_by sum (parts word).value < dead_mark }
+    ensures { parts result ≡ control.collected sum (parts word) }
+{
+    let moved = if sum >= 0 {
+        word + sum.unsigned_abs()
+    } else {
+        word - sum.unsigned_abs()
+    };
+    moved - BIAS
 }

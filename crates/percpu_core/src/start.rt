@@ -1,15 +1,19 @@
 //! How a gate can start.
-ghost use Rattle.std.specs.Prelude.{◌≡◌, ◌≤◌, ◌^◌};
+ghost use Rattle.std.specs.Prelude.{◌≡◌, ◌≤◌};
 ghost use Rattle.percpu_words.specs.SharedWord.{parts};
-ghost use Rattle.percpu_core.specs.Starts.{first_shared, first_phase, first_front};
+ghost use Rattle.percpu_core.specs.Starts.{first_shared, first_phase, first_front, first_slot};
 
+use crate::limits::KILL_LIMIT;
 use crate::phase::Phase;
-use percpu_words::{DEAD, ZERO};
+use crate::slot::Slot;
+use percpu_words::{BIAS, DEAD, ZERO};
 
 /// How a gate starts. Linux: `PERCPU_REF_INIT_ATOMIC` and `PERCPU_REF_INIT_DEAD`
 /// (include/linux/percpu-refcount.h).
 #[derive(Clone, Copy, Debug, PartialEq, Eq)]
 pub enum Start {
+    /// Live, with every slot open and the initial reference held.
+    Slots,
     /// Live, with every slot closed and the initial reference held.
     Atomic,
     /// Killed and at zero, with every slot closed and the initial reference out.
@@ -22,6 +26,7 @@ impl Start {
         ensures { parts result ≡ first_shared self }
     {
         match self {
+            Start::Slots => BIAS + 1,
             Start::Atomic => 1,
             Start::Dead => DEAD | ZERO,
         }
@@ -32,6 +37,7 @@ impl Start {
         ensures { result ≡ first_phase self }
     {
         match self {
+            Start::Slots => Phase::LiveSlots,
             Start::Atomic => Phase::LiveAtomic,
             Start::Dead => Phase::Dead,
         }
@@ -39,12 +45,22 @@ impl Start {
 
     /// The front at the start: two for each kill, and the odd one of a dead start.
     pub fn front(self, kills: u64) -> u64
-        requires { kills ≤ 2 ^ 40 }
+        requires { kills ≤ KILL_LIMIT }
         ensures { result ≡ first_front self kills }
     {
         match self {
-            Start::Atomic => 2 * kills,
+            Start::Slots | Start::Atomic => 2 * kills,
             Start::Dead => 2 * kills + 1,
+        }
+    }
+
+    /// What each slot is at the start.
+    pub fn slot(self) -> Slot
+        ensures { result ≡ first_slot self }
+    {
+        match self {
+            Start::Slots => Slot::Open(0),
+            Start::Atomic | Start::Dead => Slot::Closed,
         }
     }
 }

@@ -8,6 +8,7 @@ use std::test::Fail;
 
 mod refusals;
 mod schedules;
+mod slots;
 
 /// The control's mark, and its look at the shared word.
 const CONTROL_MARK: Event = Event::Control(ControlEvent::Mark);

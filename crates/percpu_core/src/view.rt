@@ -30,8 +30,6 @@ pub struct ControlView {
     pub standing: ControlStanding,
     /// A kill is under way: begun, and the initial reference isn't dropped yet.
     pub killing: bool,
-    /// The sum of the deltas that are closed and not yet collected.
-    pub uncollected: i64,
     /// The guarded words, and the front.
     pub words: LinkedList<u64>,
     pub front: u64,

@@ -1,5 +1,7 @@
 -- A step of a seat is allowed by the rule of its table where it is an enabled event of the machine, and writes the word that the event changes.
-use Rattle.std.proofs.Common.{◌≡◌, ℕ, List, [], set, get_or, length, None, find, refl, ap, sym, ◌∙◌, subst}
+use Rattle.std.proofs.Common.{◌≡◌, ℕ, List, [], map, set, get_or, length, None, find, refl, ap, sym, ◌∙◌, subst}
+use Rattle.std.proofs.lemmas.List.{map-set}
+use Rattle.atomic_table.proofs.Lists.{at_map}
 use Rattle.atomic_table.specs.Table.{Me, keeps, Allows}
 use Rattle.percpu_core.specs.declared.pass_event.PassEvent.{PassEvent}
 use Rattle.percpu_core.specs.declared.control_event.ControlEvent.{ControlEvent}
@@ -8,21 +10,40 @@ use Rattle.percpu_core.specs.declared.view.PassView.{PassView}
 use Rattle.percpu_core.specs.declared.view.ControlView.{ControlView}
 use Rattle.percpu_core.specs.declared.view.View.{View}
 use Rattle.percpu_core.specs.declared.view.View.TheVariants.{OfControl, OfPass}
-use Rattle.percpu_core.specs.Cells.{Cells}
+use Rattle.percpu_core.specs.declared.sizes.Sizes.{Sizes}
+use Rattle.percpu_core.specs.Cells.{Cells, sizes_of}
 use Rattle.percpu_core.specs.Laws.{Lawful}
-use Rattle.percpu_core.specs.PassSteps.{hinders_pass}
+use Rattle.percpu_core.specs.PassSteps.{hinders_pass, cells_after_pass}
 use Rattle.percpu_core.specs.PassLearns.{pass_view_after}
 use Rattle.percpu_core.specs.ControlSteps.{hinders_control, cells_after_control}
 use Rattle.percpu_core.specs.ControlLearns.{control_view_after}
-use Rattle.percpu_core.specs.Machine.{order}
-use Rattle.percpu_core.specs.Moments.{view_after, cells_after_pass}
+use Rattle.percpu_core.specs.Machine.{order, IsEnabled}
+use Rattle.percpu_core.specs.Snapshots.{view_after}
 use Rattle.percpu_core.specs.SeatLaws.{Sees}
+use Rattle.percpu_core.proofs.SlotLists.{slots_after_pass-length, slots_after_control-length}
 use Rattle.percpu_core.proofs.SeatSteps.{pass_steps_keep_laws, control_steps_keep_laws}
 use Rattle.percpu_gate.specs.declared.rule.GateKey.{GateKey}
 use Rattle.percpu_gate.specs.Layout.{layout}
-use Rattle.percpu_gate.specs.Rule.{Ruled, origin, Took, control_after}
-use Rattle.percpu_gate.specs.Seats.{pass_of, SitsAsPass, control_of, SitsAsControl}
+use Rattle.percpu_gate.specs.declared.rule.SeatView.{SeatView}
+use Rattle.percpu_gate.specs.Rule.{Ruled, sizes_at, origin, seated, view_of, Took, control_after}
+use Rattle.percpu_gate.specs.Seats.{pass_of, control_of}
 use Rattle.percpu_gate.proofs.Known.{ControlKnows, control_knows}
+
+-- a seat at the gate of this key is a pass's, or the control's
+abbrev pub PassAt : GateKey → Me (Unit {0}) SeatView → Type 0
+PassAt k me = me ≡ (seated k (OfPass (pass_of me.0.view)), [])
+
+abbrev pub ControlAt : GateKey → Me (Unit {0}) SeatView → Type 0
+ControlAt k me = me ≡ (seated k (OfControl (control_of me.0.view)), [])
+
+-- the sizes of the memory are those of the gate
+pub sizes_are : (k : GateKey) (cells : Cells) → length cells.slots ≡ k.slots → length cells.words ≡ k.count → sizes_of cells ≡ sizes_at k
+sizes_are k cells slots words = λ j. record { slots = slots j; words = words j }
+
+-- the laws hold of the views after a step, as they do of the seats'
+pub lawful_seats : (k : GateKey) (cells : Cells) (views : List SeatView) (id : ℕ) (w : SeatView) → Lawful (origin k.start) cells (set (map view_of views) id w.view)
+    → Lawful (origin k.start) cells (map view_of (set views id w))
+lawful_seats k cells views id w l = subst (λ (vs : List View). Lawful (origin k.start) cells vs) (sym (map-set view_of views id w)) l
 
 -- the word at this place is that of the cells, and where it becomes f of itself the cells become these
 pub record Writes (at : ℕ) (f : ℕ → ℕ) (word : Cells → ℕ) (cells after : Cells) (rest : List ℕ) : Type 0 where
@@ -30,16 +51,17 @@ pub record Writes (at : ℕ) (f : ℕ → ℕ) (word : Cells → ℕ) (cells aft
   pub written : set (layout cells rest) at (f (word cells)) ≡ layout after rest
 
 abbrev pub PassWrites : GateKey → ℕ → ℕ → PassEvent → (ℕ → ℕ) → (Cells → ℕ) → PassView → Type 0
-PassWrites k id at e f word p = (cells : Cells) (rest : List ℕ) (views : List View) → Lawful (origin k) cells views → Sees views id (OfPass p) → length cells.words ≡ k.count
+PassWrites k id at e f word p = (cells : Cells) (rest : List ℕ) (views : List View) → Lawful (origin k.start) cells views → Sees views id (OfPass p) → length cells.words ≡ k.count
     → Writes at f word cells (cells_after_pass e cells) rest
 
 module _ (k : GateKey) (slots id at : ℕ) (e : PassEvent) (f : ℕ → ℕ) (word : Cells → ℕ) where
-  allowed : (p : PassView) → find (hinders_pass k.count p.standing e) order ≡ None → PassWrites k id at e f word p
-      → Allows (Ruled k) slots id (OfPass p, []) at f (Took (view_after e) word (OfPass p, []))
-  allowed p free writes s r _ sees _ =
-      let w = writes r.cells r.rest s.views r.lawful sees r.guarded in
+  allowed : (p : PassView) → IsEnabled (hinders_pass (sizes_at k) p.standing e) → PassWrites k id at e f word p
+      → Allows (Ruled k) slots id (seated k (OfPass p), []) at f (Took (view_after e) word (seated k (OfPass p), []))
+  allowed p free writes s r _ at_seat _ =
+      let sees = at_map view_of s.views id (seated k (OfPass p)) at_seat in
+      let w = writes r.cells r.rest (map view_of s.views) r.lawful sees r.guarded in
       let found : get_or s.words at 0 ≡ word r.cells = ap (λ (ws : List ℕ). get_or ws at 0) r.words ∙ w.found in (
-        OfPass (pass_view_after e r.cells p),
+        seated k (OfPass (pass_view_after e r.cells p)),
         keeps,
         tt,
         record {
@@ -47,60 +69,62 @@ module _ (k : GateKey) (slots id at : ℕ) (e : PassEvent) (f : ℕ → ℕ) (wo
           rest = r.rest;
           words = (λ j. set (r.words j) at (f (found j))) ∙ w.written;
           guarded = r.guarded;
-          slots = r.slots;
-          lawful = pass_steps_keep_laws (origin k) r.cells s.views id p e r.lawful sees (ap (λ (n : ℕ). find (hinders_pass n p.standing e) order) r.guarded ∙ free);
+          slots = slots_after_pass-length e r.cells.slots ∙ r.slots;
+          lawful = lawful_seats k (cells_after_pass e r.cells) s.views id (seated k (OfPass (pass_view_after e r.cells p)))
+              (pass_steps_keep_laws (origin k.start) r.cells (map view_of s.views) id p e r.lawful sees (ap (λ (n : Sizes). find (hinders_pass n p.standing e) order) (sizes_are k r.cells r.slots r.guarded) ∙ free));
         },
         record {
-          moment = record { origin = origin k; cells = r.cells; views = s.views; seat = id; lawful = r.lawful; sees = sees };
+          moment = record { cells = r.cells; slots = r.slots; guarded = r.guarded; views = map view_of s.views; seat = id; lawful = r.lawful; sees = sees };
           word_found = found;
           learned = refl;
         },
       )
 
-  pub pass_allowed : (me : Me (Unit {0}) View) → SitsAsPass me → find (hinders_pass k.count (pass_of me.0).standing e) order ≡ None → PassWrites k id at e f word (pass_of me.0)
+  pub pass_allowed : (me : Me (Unit {0}) SeatView) → PassAt k me → IsEnabled (hinders_pass (sizes_at k) (pass_of me.0.view).standing e) → PassWrites k id at e f word (pass_of me.0.view)
       → Allows (Ruled k) slots id me at f (Took (view_after e) word me)
-  pass_allowed me sits free writes = subst (λ (m : Me (Unit {0}) View). Allows (Ruled k) slots id m at f (Took (view_after e) word m)) (sym sits) (allowed (pass_of me.0) free writes)
+  pass_allowed me sits free writes = subst (λ (m : Me (Unit {0}) SeatView). Allows (Ruled k) slots id m at f (Took (view_after e) word m)) (sym sits) (allowed (pass_of me.0.view) free writes)
 
 -- the same for the control, where `told` is the number that the step tells: the one found, or at a store the one stored
 pub record Stores (at : ℕ) (f told : ℕ → ℕ) (word : Cells → ℕ) (cells after : Cells) (rest : List ℕ) : Type 0 where
   pub found : told (get_or (layout cells rest) at 0) ≡ word cells
   pub written : set (layout cells rest) at (f (get_or (layout cells rest) at 0)) ≡ layout after rest
   pub same_size : length after.words ≡ length cells.words
-  pub same_slots : length after.slots ≡ length cells.slots
 
 abbrev pub Enabled : GateKey → ControlEvent → ControlView → Cells → Type 0
-Enabled k e c cells = find (hinders_control k.count cells.shared.zero None c.standing e) order ≡ None
+Enabled k e c cells = IsEnabled (hinders_control (sizes_at k) cells.shared.zero None c.standing e)
 
 abbrev pub ControlWrites : GateKey → ℕ → ControlEvent → (ℕ → ℕ) → (ℕ → ℕ) → (Cells → ℕ) → ControlView → Type 0
 ControlWrites k at e f told word c = (cells : Cells) (rest : List ℕ) → ControlKnows cells c → length cells.words ≡ k.count
-    → Enabled k e c cells × Stores at f told word cells (cells_after_control e cells) rest
+    → Enabled k e c cells × Stores at f told word cells (cells_after_control e c.standing cells) rest
 
 module _ (k : GateKey) (slots id at : ℕ) (e : ControlEvent) (no_join : (j : ℕ) → e ≡ Join j → ⊥) (f told : ℕ → ℕ) (word : Cells → ℕ) where
   allowed_to_control : (c : ControlView) → ControlWrites k at e f told word c
-      → Allows (Ruled k) slots id (OfControl c, []) at f (λ n. Took (control_after e) word (OfControl c, []) (told n))
-  allowed_to_control c writes s r _ sees _ =
-      let both = writes r.cells r.rest (control_knows (origin k) r.cells s.views id c r.lawful sees) r.guarded in let w = both.1 in
+      → Allows (Ruled k) slots id (seated k (OfControl c), []) at f (λ n. Took (control_after e) word (seated k (OfControl c), []) (told n))
+  allowed_to_control c writes s r _ at_seat _ =
+      let sees = at_map view_of s.views id (seated k (OfControl c)) at_seat in
+      let both = writes r.cells r.rest (control_knows (origin k.start) r.cells (map view_of s.views) id c r.lawful sees) r.guarded in let w = both.1 in
       let found : told (get_or s.words at 0) ≡ word r.cells = ap (λ (ws : List ℕ). told (get_or ws at 0)) r.words ∙ w.found in (
-        OfControl (control_view_after e r.cells c),
+        seated k (OfControl (control_view_after e r.cells c)),
         keeps,
         tt,
         record {
-          cells = cells_after_control e r.cells;
+          cells = cells_after_control e c.standing r.cells;
           rest = r.rest;
           words = (λ j. set (r.words j) at (f (get_or (r.words j) at 0))) ∙ w.written;
           guarded = w.same_size ∙ r.guarded;
-          slots = w.same_slots ∙ r.slots;
-          lawful = control_steps_keep_laws (origin k) r.cells s.views id c e r.lawful sees no_join
-              (ap (λ (n : ℕ). find (hinders_control n r.cells.shared.zero None c.standing e) order) r.guarded ∙ both.0);
+          slots = slots_after_control-length e c.standing.phase r.cells.slots ∙ r.slots;
+          lawful = lawful_seats k (cells_after_control e c.standing r.cells) s.views id (seated k (OfControl (control_view_after e r.cells c)))
+              (control_steps_keep_laws (origin k.start) r.cells (map view_of s.views) id c e r.lawful sees no_join
+              (ap (λ (n : Sizes). find (hinders_control n r.cells.shared.zero None c.standing e) order) (sizes_are k r.cells r.slots r.guarded) ∙ both.0));
         },
         record {
-          moment = record { origin = origin k; cells = r.cells; views = s.views; seat = id; lawful = r.lawful; sees = sees };
+          moment = record { cells = r.cells; slots = r.slots; guarded = r.guarded; views = map view_of s.views; seat = id; lawful = r.lawful; sees = sees };
           word_found = found;
           learned = refl;
         },
       )
 
-  pub control_allowed : (me : Me (Unit {0}) View) → SitsAsControl me → ControlWrites k at e f told word (control_of me.0)
+  pub control_allowed : (me : Me (Unit {0}) SeatView) → ControlAt k me → ControlWrites k at e f told word (control_of me.0.view)
       → Allows (Ruled k) slots id me at f (λ n. Took (control_after e) word me (told n))
   control_allowed me sits writes =
-      subst (λ (m : Me (Unit {0}) View). Allows (Ruled k) slots id m at f (λ n. Took (control_after e) word m (told n))) (sym sits) (allowed_to_control (control_of me.0) writes)
+      subst (λ (m : Me (Unit {0}) SeatView). Allows (Ruled k) slots id m at f (λ n. Took (control_after e) word m (told n))) (sym sits) (allowed_to_control (control_of me.0.view) writes)

@@ -1,7 +1,8 @@
 -- What the laws tell a seat of a gate at a moment.
-use Rattle.std.proofs.Common.{◌≡◌, ℕ, zero, suc, ◌+◌, ◌*◌, ◌%◌, ◌^◌, ◌<◌, ◌≤◌, true, List, [], ◌∷◌, ap, ◌∙◌, subst, arith}
+use Rattle.std.proofs.Common.{◌≡◌, ℕ, zero, suc, ◌+◌, ◌*◌, ◌%◌, ◌^◌, ◌<◌, ◌≤◌, true, false, List, [], ◌∷◌, ap, sym, ◌∙◌, subst, arith}
 use mathlib.Core.Option.{some}
 use lib.ListN.{get_elem?}
+use Rattle.percpu_core.specs.declared.start.Start.{Start}
 use Rattle.percpu_core.specs.declared.view.PassView.{PassView}
 use Rattle.percpu_core.specs.declared.view.ControlView.{ControlView}
 use Rattle.percpu_core.specs.declared.view.View.{View}
@@ -16,8 +17,8 @@ use Rattle.percpu_core.specs.Laws.{Laws, Lawful}
 use Rattle.percpu_core.specs.SeatLaws.{Sees}
 use Rattle.percpu_core.proofs.Passes.{over_passes-at, EachPass-at}
 use Rattle.percpu_core.proofs.Counting.{count-most, value-least, value-most}
-use Rattle.percpu_gate.specs.Rule.{Moment}
-use Rattle.percpu_core.proofs.PassEvents.{zero_is_dead, held_in_value, undo_in_value}
+use Rattle.percpu_gate.specs.Rule.{MomentOf}
+use Rattle.percpu_core.proofs.PassEvents.{even_front, zero_is_dead, held_in_value, undo_in_value}
 
 -- what a pass knows of the memory
 pub record PassKnows (cells : Cells) (p : PassView) : Type 0 where
@@ -28,6 +29,7 @@ pub record PassKnows (cells : Cells) (p : PassView) : Type 0 where
   pub zero_is_dead : cells.shared.zero ≡ true → cells.shared.dead ≡ true
   pub floor : p.floor ≤ cells.front
   pub seen_front : p.seen_front ≤ p.floor
+  pub even : cells.shared.dead ≡ false → cells.front % 2 ≡ 0
   pub read : 0 < p.standing.held → AreNow cells.words p.read
   pub releases : p.releases ≤ 2 ^ 40 + 2
 
@@ -44,6 +46,7 @@ known o cells c vs l i p at = record {
   zero_is_dead = λ z. zero_is_dead o cells c vs l i p at z;
   floor = (EachPass-at _ vs i (OfPass p) l.front.floors at).0;
   seen_front = (EachPass-at _ vs i (OfPass p) l.front.floors at).1;
+  even = λ live. l.front.parity ∙ ap count (even_front c.standing.phase c.killing (sym l.phase.dead ∙ live));
   read = EachPass-at _ vs i (OfPass p) l.guard.passes at;
   releases = let most = releases_most o cells c vs l in let own = over_passes-at (λ q. q.releases) vs i (OfPass p) at in omega arith;
 }
@@ -55,8 +58,8 @@ pass_knows o cells (Spent ∷ vs) id p l sees = absurd l
 pass_knows o cells (OfControl c ∷ vs) zero p l sees = cc
 pass_knows o cells (OfControl c ∷ vs) (suc i) p l sees = known o cells c vs l i p sees
 
-pub moment_knows : (p : PassView) (m : Moment (OfPass p)) → PassKnows m.cells p
-moment_knows p m = pass_knows m.origin m.cells m.views m.seat p m.lawful m.sees
+pub moment_knows : {slots words : ℕ} {start : Start} (p : PassView) (m : MomentOf slots start words (OfPass p)) → PassKnows m.cells p
+moment_knows p m = pass_knows _ m.cells m.views m.seat p m.lawful m.sees
 
 -- what the control knows of the memory
 pub record ControlKnows (cells : Cells) (c : ControlView) : Type 0 where
@@ -97,8 +100,8 @@ control_knows o cells (Spent ∷ vs) id c l sees = absurd l
 control_knows o cells (OfControl d ∷ vs) zero c l sees = subst (λ (x : ControlView). ControlKnows cells x) (same_control d c sees) (control_known o cells d vs l)
 control_knows o cells (OfControl d ∷ vs) (suc i) c l sees = absurd (EachPass-at _ vs i (OfControl c) l.limit.held sees)
 
-pub moment_known : (c : ControlView) (m : Moment (OfControl c)) → ControlKnows m.cells c
-moment_known c m = control_knows m.origin m.cells m.views m.seat c m.lawful m.sees
+pub moment_known : {slots words : ℕ} {start : Start} (c : ControlView) (m : MomentOf slots start words (OfControl c)) → ControlKnows m.cells c
+moment_known c m = control_knows _ m.cells m.views m.seat c m.lawful m.sees
 
 -- where there is a pass, the control has one out
 pub pass_is_out : (o : Origin) (cells : Cells) (views : List View) (id other : ℕ) (c : ControlView) (p : PassView) → Lawful o cells views → Sees views id (OfControl c) → Sees views other (OfPass p) → 0 < c.passes

@@ -1,9 +1,25 @@
+-- what the laws tell a seat at a moment
 pub mod Known
+-- the shared word's number, and its parts
 pub mod SharedWords
+-- a step is allowed where it is an enabled event
 pub mod Allowed
+-- each step of a pass: what it writes, and what it is answered
 pub mod PassSteps
+-- the steps of a put, and of the end of a try, together
 pub mod PassCalls
+-- what a try found and leaves
+pub mod Tries
+-- what a look, a front and a word show
 pub mod Grounds
+-- what the control's steps share, and those of a kill, of a revival, and on guarded words
 pub mod ControlSteps
+pub mod KillSteps
+pub mod RevivalSteps
+pub mod WordSteps
+-- what the answers of the control's steps show
 pub mod ControlGrounds
+-- a new table, and the seats that are made and taken in
 pub mod Making
+-- the last moment of a gate
+pub mod Ending

@@ -1,6 +1,7 @@
 -- A table of a gate begins under its rule, and seats may be made and taken in.
-use Rattle.std.proofs.Common.{◌≡◌, ℕ, ◌+◌, ◌<◌, ◌≤◌, List, [], set, length, take, Bool, true, nat_lt, if◌then◌else◌, ap, sym, ◌∙◌, subst, arith}
-use Rattle.std.proofs.lemmas.List.{length-replicate}
+use Rattle.std.proofs.Common.{◌≡◌, ℕ, ◌+◌, ◌<◌, ◌≤◌, List, [], ◌∷◌, ◌++◌, map, set, length, take, Bool, true, nat_lt, if◌then◌else◌, ap, sym, ◌∙◌, subst, arith}
+use Rattle.std.proofs.lemmas.List.{length-replicate, map-set, map-append}
+use Rattle.atomic_table.proofs.Lists.{at_map}
 use mathlib.Core.Option.{some}
 use lib.ListN.{get_elem?}
 use Rattle.atomic_table.specs.Table.{Me, Splits, Joins}
@@ -11,19 +12,20 @@ use Rattle.percpu_core.specs.declared.view.PassView.{PassView}
 use Rattle.percpu_core.specs.declared.view.ControlView.{ControlView}
 use Rattle.percpu_core.specs.declared.view.View.{View}
 use Rattle.percpu_core.specs.declared.view.View.TheVariants.{OfControl, OfPass, Spent}
-use Rattle.percpu_core.specs.Cells.{closed}
 use Rattle.percpu_core.specs.Laws.{Lawful}
-use Rattle.percpu_core.specs.Starts.{IsWithinLimits, first_cells}
-use Rattle.percpu_core.specs.Moments.{first_pass}
+use Rattle.percpu_core.specs.Starts.{IsWithinLimits, first_slot, first_cells}
+use Rattle.percpu_core.specs.Snapshots.{first_pass}
 use Rattle.percpu_core.specs.SeatLaws.{with_one_more}
 use Rattle.percpu_core.specs.ControlLearns.{joined}
 use Rattle.percpu_core.proofs.Opening.{alone_lawful}
 use Rattle.percpu_core.proofs.SeatSteps.{splitting_keeps_laws, joining_keeps_laws}
 use Rattle.percpu_gate.specs.declared.rule.GateKey.{GateKey}
 use Rattle.percpu_gate.specs.Layout.{layout}
-use Rattle.percpu_gate.specs.Rule.{Ruled, origin, opening_of, first_view, one_more, taken_in, after_retire}
-use Rattle.percpu_gate.specs.Seats.{control_of, SitsAsControl}
+use Rattle.percpu_gate.specs.declared.rule.SeatView.{SeatView}
+use Rattle.percpu_gate.specs.Rule.{Ruled, origin, opening_of, seated, view_of, first_view, with_a_pass, fresh_seat, with_taken_in, spent_seat, after_retire}
+use Rattle.percpu_gate.specs.Seats.{control_of}
 use Rattle.percpu_gate.specs.Calls.{holding}
+use Rattle.percpu_gate.proofs.Allowed.{ControlAt}
 use Rattle.percpu_gate.proofs.Known.{pass_is_out}
 
 lt-true : (a b : ℕ) → a < b → nat_lt a b ≡ true
@@ -39,40 +41,57 @@ module _ (k : GateKey) (counted : length (take k.count k.words) ≡ k.count) (fe
     rest = rest;
     words = is;
     guarded = counted;
-    slots = length-replicate k.slots closed;
+    slots = length-replicate k.slots (first_slot k.start);
     lawful = alone_lawful (opening_of k) within;
   }
 
 module _ (k : GateKey) (id : ℕ) where
-  splits_control : (c : ControlView) → c.passes + 1 ≤ 64 → Splits {S = Unit {0}} (Ruled k) id (OfControl c) (OfControl (with_one_more c)) (OfPass first_pass)
-  splits_control c few s r sees = record {
+  abbrev Fresh : SeatView
+  Fresh = seated k (OfPass first_pass)
+
+  splits_control : (c : ControlView) → c.passes + 1 ≤ 64 → Splits {S = Unit {0}} (Ruled k) id (seated k (OfControl c)) (seated k (OfControl (with_one_more c))) Fresh
+  splits_control c few s r at_seat = let sees = at_map view_of s.views id (seated k (OfControl c)) at_seat in record {
     cells = r.cells;
     rest = r.rest;
     words = r.words;
     guarded = r.guarded;
     slots = r.slots;
-    lawful = splitting_keeps_laws (origin k) r.cells s.views id c r.lawful sees few;
-  }
-
-  pub splits : (me : Me (Unit {0}) View) → SitsAsControl me → (control_of me.0).passes + 1 ≤ 64 → Splits {S = Unit {0}} (Ruled k) id me.0 (one_more me.0) (OfPass first_pass)
-  splits me sits few = subst (λ (m : Me (Unit {0}) View). Splits {S = Unit {0}} (Ruled k) id m.0 (one_more m.0) (OfPass first_pass)) (sym sits) (splits_control (control_of me.0) few)
-
-  joins_pass : (other : ℕ) (c : ControlView) (p : PassView) → p.standing ≡ holding 0 → Joins {S = Unit {0}} (Ruled k) id (OfControl c) other (OfPass p) (OfControl (after_retire p c)) Spent
-  joins_pass other c p idle s r sees apart there = record {
-    cells = r.cells;
-    rest = r.rest;
-    words = r.words;
-    guarded = r.guarded;
-    slots = r.slots;
-    lawful = let at = elsewhere s.views there in let out = pass_is_out (origin k) r.cells s.views id other c p r.lawful sees at in
-        subst (λ (b : Bool). Lawful (origin k) r.cells (set (set s.views id (OfControl (if b then joined c p else c))) other Spent)) (sym (lt-true 0 c.passes out))
-        (joining_keeps_laws (origin k) r.cells s.views id other c p r.lawful sees at (ap (λ (x : PassStanding). x.held) idle) (ap (λ (x : PassStanding). x.pending) idle));
+    lawful = subst (λ (vs : List View). Lawful (origin k.start) r.cells vs) (sym (of_views s.views c)) (splitting_keeps_laws (origin k.start) r.cells (map view_of s.views) id c r.lawful sees few);
   }
     where
-      elsewhere : (views : List View) → get_elem? (set views id (OfControl (after_retire p c))) other ≡ some (OfPass p) → get_elem? views other ≡ some (OfPass p)
-      elsewhere views at = sym (set_else views id other (OfControl (after_retire p c)) apart) ∙ at
+      of_views : (views : List SeatView) (c : ControlView)
+          → map view_of (set views id (seated k (OfControl (with_one_more c))) ++ Fresh ∷ []) ≡ set (map view_of views) id (OfControl (with_one_more c)) ++ OfPass first_pass ∷ []
+      of_views views c = map-append view_of (set views id (seated k (OfControl (with_one_more c)))) (Fresh ∷ [])
+          ∙ ap (λ (vs : List View). vs ++ OfPass first_pass ∷ []) (map-set view_of views id (seated k (OfControl (with_one_more c))))
 
-  pub joins : (other : ℕ) (me : Me (Unit {0}) View) (w : View) (p : PassView) → SitsAsControl me → w ≡ OfPass p → p.standing ≡ holding 0
-      → Joins {S = Unit {0}} (Ruled k) id me.0 other w (taken_in me.0 w) Spent
-  joins other me w p sits is idle = subst (λ (m : Me (Unit {0}) View). Joins {S = Unit {0}} (Ruled k) id m.0 other w (taken_in m.0 w) Spent) (sym sits)
-      (subst (λ (v : View). Joins {S = Unit {0}} (Ruled k) id (OfControl (control_of me.0)) other v (taken_in (OfControl (control_of me.0)) v) Spent) (sym is) (joins_pass other (control_of me.0) p idle))
+  pub splits : (me : Me (Unit {0}) SeatView) → ControlAt k me → (control_of me.0.view).passes + 1 ≤ 64 → Splits {S = Unit {0}} (Ruled k) id me.0 (with_a_pass me.0) (fresh_seat me.0)
+  splits me sits few = subst (λ (m : Me (Unit {0}) SeatView). Splits {S = Unit {0}} (Ruled k) id m.0 (with_a_pass m.0) (fresh_seat m.0)) (sym sits) (splits_control (control_of me.0.view) few)
+
+  joins_pass : (other : ℕ) (c : ControlView) (w : SeatView) (p : PassView) → w.view ≡ OfPass p → p.standing ≡ holding 0
+      → Joins {S = Unit {0}} (Ruled k) id (seated k (OfControl c)) other w (seated k (OfControl (after_retire p c))) spent_seat
+  joins_pass other c w p is idle s r at_seat apart there = let sees = at_map view_of s.views id (seated k (OfControl c)) at_seat in record {
+    cells = r.cells;
+    rest = r.rest;
+    words = r.words;
+    guarded = r.guarded;
+    slots = r.slots;
+    lawful = let at = subst (λ (v : View). get_elem? (map view_of s.views) other ≡ some v) is (at_map view_of s.views other w (elsewhere s.views there)) in
+        let out = pass_is_out (origin k.start) r.cells (map view_of s.views) id other c p r.lawful sees at in
+        subst (λ (vs : List View). Lawful (origin k.start) r.cells vs) (sym (of_views s.views))
+        (subst (λ (b : Bool). Lawful (origin k.start) r.cells (set (set (map view_of s.views) id (OfControl (if b then joined c p else c))) other Spent)) (sym (lt-true 0 c.passes out))
+        (joining_keeps_laws (origin k.start) r.cells (map view_of s.views) id other c p r.lawful sees at (ap (λ (x : PassStanding). x.held) idle) (ap (λ (x : PassStanding). x.pending) idle)));
+  }
+    where
+      elsewhere : (views : List SeatView) → get_elem? (set views id (seated k (OfControl (after_retire p c)))) other ≡ some w → get_elem? views other ≡ some w
+      elsewhere views at = sym (set_else views id other (seated k (OfControl (after_retire p c))) apart) ∙ at
+
+      of_views : (views : List SeatView)
+          → map view_of (set (set views id (seated k (OfControl (after_retire p c)))) other spent_seat) ≡ set (set (map view_of views) id (OfControl (after_retire p c))) other Spent
+      of_views views = map-set view_of (set views id (seated k (OfControl (after_retire p c)))) other spent_seat
+          ∙ ap (λ (vs : List View). set vs other Spent) (map-set view_of views id (seated k (OfControl (after_retire p c))))
+
+  pub joins : (other : ℕ) (me : Me (Unit {0}) SeatView) (w : SeatView) (p : PassView) → ControlAt k me → w.view ≡ OfPass p → p.standing ≡ holding 0
+      → Joins {S = Unit {0}} (Ruled k) id me.0 other w (with_taken_in me.0 w) spent_seat
+  joins other me w p sits is idle = subst (λ (m : Me (Unit {0}) SeatView). Joins {S = Unit {0}} (Ruled k) id m.0 other w (with_taken_in m.0 w) spent_seat) (sym sits)
+      (subst (λ (v : View). Joins {S = Unit {0}} (Ruled k) id (seated k (OfControl (control_of me.0.view))) other w (with_taken_in (seated k (OfControl (control_of me.0.view))) (record w { view = v })) spent_seat)
+      (sym is) (joins_pass other (control_of me.0.view) w p is idle))

@@ -3,14 +3,15 @@ use Rattle.std.proofs.Common.{◌≡◌, ℕ, ◌+◌, ◌-◌, ◌^◌, ◌≤�
 use Rattle.percpu_core.specs.declared.pass_event.PassEvent.TheVariants as events
 use Rattle.percpu_core.specs.declared.pass_standing.Pending.{Pending}
 use Rattle.percpu_core.specs.declared.pass_standing.Pending.TheVariants.{Nothing}
+use Rattle.percpu_core.specs.declared.start.Start.{Start}
 use Rattle.percpu_core.specs.declared.view.PassView.{PassView}
 use Rattle.percpu_core.specs.PassSteps.{pending_after}
 use Rattle.percpu_core.specs.Machine.{won}
 use Rattle.percpu_gate.specs.declared.tried.Put.{Put}
 use Rattle.percpu_gate.specs.declared.tried.Put.TheVariants.{Last, NotLast}
 use Rattle.percpu_core.specs.declared.view.View.TheVariants.{OfPass}
-use Rattle.percpu_gate.specs.Rule.{Moment}
-use Rattle.percpu_gate.specs.Seats.{PassStep, left, marked}
+use Rattle.percpu_gate.specs.Rule.{MomentOf}
+use Rattle.percpu_gate.specs.Seats.{GateFacts, PassStep, left, marked}
 use Rattle.percpu_gate.proofs.Known.{moment_knows}
 use Rattle.percpu_gate.specs.Calls.{released, after_put, owed}
 
@@ -49,25 +50,25 @@ counted p held held' won won' owes owes' h w o = λ j. record p {
   found_zero = or_false p.found_zero j;
 }
 
-pub undone : (old new : PassView) (b : Bool) → PassStep events.Undo old new (left b) → new ≡ counts old old.standing.held 0 (owed b)
+pub undone : {g : GateFacts} (old new : PassView) (b : Bool) → PassStep g events.Undo old new (left b) → new ≡ counts old old.standing.held 0 (owed b)
 undone old new b s = s.learned ∙ counted old _ old.standing.held _ 0 _ (owed b) (omega arith) (ap won (sym s.answered) ∙ left_wins_none b) (ap pending_after (sym s.answered) ∙ left_owes b)
 
-pub subtracted : (n : ℕ) (old new : PassView) (b : Bool) → PassStep (events.Sub n) old new (left b) → new ≡ counts old (old.standing.held - n) 0 (owed b)
+pub subtracted : {g : GateFacts} (n : ℕ) (old new : PassView) (b : Bool) → PassStep g (events.Sub n) old new (left b) → new ≡ counts old (old.standing.held - n) 0 (owed b)
 subtracted n old new b s = s.learned ∙ counted old _ (old.standing.held - n) _ 0 _ (owed b) (omega arith) (ap won (sym s.answered) ∙ left_wins_none b) (ap pending_after (sym s.answered) ∙ left_owes b)
 
-pub marked_as_put : (old new : PassView) (r : Put) → PassStep events.Mark old new (marked r) → new ≡ after_put r old.standing.held old
+pub marked_as_put : {g : GateFacts} (old new : PassView) (r : Put) → PassStep g events.Mark old new (marked r) → new ≡ after_put r old.standing.held old
 marked_as_put old new r s = s.learned ∙ counted old _ old.standing.held _ (released r) _ Nothing (omega arith) (ap won (sym s.answered) ∙ mark_wins r) (ap pending_after (sym s.answered) ∙ mark_owes_none r)
 
 released-most : (r : Put) → released r ≤ 1
 released-most Last = omega arith
 released-most NotLast = omega arith
 
-few : (old mid : PassView) (m : Moment (OfPass old)) → mid.releases ≡ old.releases + 0 → (r : Put) → mid.releases + released r ≤ 2 ^ 41
+few : {slots words : ℕ} {start : Start} (old mid : PassView) (m : MomentOf slots start words (OfPass old)) → mid.releases ≡ old.releases + 0 → (r : Put) → mid.releases + released r ≤ 2 ^ 41
 few old mid m same r = let most = (moment_knows old m).releases in let one = released-most r in omega arith
 
 -- the releases stay few
-pub few_undone : (old mid : PassView) (b : Bool) (r : Put) → PassStep events.Undo old mid (left b) → mid.releases + released r ≤ 2 ^ 41
+pub few_undone : {g : GateFacts} (old mid : PassView) (b : Bool) (r : Put) → PassStep g events.Undo old mid (left b) → mid.releases + released r ≤ 2 ^ 41
 few_undone old mid b r s = few old mid s.moment (ap (λ (p : PassView). p.releases) (undone old mid b s)) r
 
-pub few_subtracted : (n : ℕ) (old mid : PassView) (b : Bool) (r : Put) → PassStep (events.Sub n) old mid (left b) → mid.releases + released r ≤ 2 ^ 41
+pub few_subtracted : {g : GateFacts} (n : ℕ) (old mid : PassView) (b : Bool) (r : Put) → PassStep g (events.Sub n) old mid (left b) → mid.releases + released r ≤ 2 ^ 41
 few_subtracted n old mid b r s = few old mid s.moment (ap (λ (p : PassView). p.releases) (subtracted n old mid b s)) r

@@ -1,9 +1,10 @@
 -- Each step of a pass writes what its event changes, and is answered as the event is.
-use Rattle.std.proofs.Common.{◌≡◌, ℕ, ◌+◌, ◌-◌, ◌%◌, ◌^◌, ◌<◌, ◌≤◌, Bool, nat_eq, List, [], ◌∷◌, ◌++◌, get_or, set, length, None, find, refl, ap, ◌∙◌, subst, arith}
+use Rattle.std.proofs.Common.{◌≡◌, ℕ, ◌+◌, ◌-◌, ◌%◌, ◌^◌, ◌<◌, ◌≤◌, Bool, nat_eq, List, [], ◌∷◌, ◌++◌, get_or, set, length, refl, ap, ◌∙◌, subst, arith}
 use Rattle.std.proofs.Math.ListN.{get_or-append}
 use Rattle.std.proofs.lemmas.List.{get_or-append-add, set-get_or}
 use mathlib.Core.Bool.{not}
 use prog.Atomic.{either}
+use Rattle.atomic_table.specs.Seated.{TableId}
 use Rattle.atomic_table.specs.Table.{Me, Allows}
 use Rattle.percpu_words.specs.SharedWord.{SharedWord, spelling, parts, dead_mark, zero_mark}
 use Rattle.percpu_words.proofs.SharedWordSteps.{parts_of_spelling, adding, subtracting}
@@ -14,19 +15,19 @@ use Rattle.percpu_core.specs.declared.not_enabled.NotEnabled.TheVariants.{NoSuch
 use Rattle.percpu_core.specs.declared.reply.Reply.{Reply}
 use Rattle.percpu_core.specs.declared.reply.Reply.TheVariants.{Given, Shared, Number}
 use Rattle.percpu_core.specs.declared.view.PassView.{PassView}
-use Rattle.percpu_core.specs.declared.view.View.{View}
 use Rattle.percpu_core.specs.declared.view.View.TheVariants.{OfPass}
 use Rattle.percpu_core.specs.Cells.{Cells, is_dead_alone}
 use Rattle.percpu_core.specs.Views.{to_undo}
 use Rattle.percpu_core.specs.PassSteps.{hinders_pass, shared_after_pass, pass_reply, minus, left_reply}
-use Rattle.percpu_core.specs.Machine.{order}
-use Rattle.percpu_core.specs.Moments.{view_after}
+use Rattle.percpu_core.specs.Machine.{IsEnabled}
+use Rattle.percpu_core.specs.Snapshots.{view_after}
 use Rattle.percpu_core.proofs.Enabled.{no_reason, not_lt, not_le, owes_undo}
 use Rattle.percpu_gate.specs.declared.rule.GateKey.{GateKey}
+use Rattle.percpu_gate.specs.declared.rule.SeatView.{SeatView}
 use Rattle.percpu_gate.specs.Layout.{layout}
-use Rattle.percpu_gate.specs.Rule.{Ruled, Took, origin, shared_number, front_number, guarded_number}
-use Rattle.percpu_gate.specs.Seats.{pass_of, SitsAsPass, PassStep, tried, left, marked, put_of}
-use Rattle.percpu_gate.proofs.Allowed.{pass_allowed}
+use Rattle.percpu_gate.specs.Rule.{Ruled, sizes_at, seated, Took, origin, shared_number, front_number, guarded_number}
+use Rattle.percpu_gate.specs.Seats.{GateFacts, gate_of, facts_of, pass_of, SitsAsPass, PassStep, tried, left, marked, put_of}
+use Rattle.percpu_gate.proofs.Allowed.{PassAt, pass_allowed}
 use Rattle.percpu_gate.proofs.Known.{PassKnows, pass_knows, moment_knows}
 use Rattle.percpu_gate.proofs.SharedWords as shared
 
@@ -36,17 +37,24 @@ word_found cells rest j there = get_or-append-add (spelling cells.shared ∷ cel
 pub minus_two : (j : ℕ) → 2 + j - 2 ≡ j
 minus_two j = omega arith
 
-abbrev Free : GateKey → PassEvent → Me (Unit {0}) View → Type 0
-Free k e me = find (hinders_pass k.count (pass_of me.0).standing e) order ≡ None
+-- a pass of the gate of this key sits at it
+pub pass_at : (k : GateKey) (table table' : TableId) (me : Me (Unit {0}) SeatView) → SitsAsPass me → gate_of table me.0 ≡ facts_of (record { id = table'; key = k }) → PassAt k me
+pass_at k table table' me sits own = sits ∙ (λ j. (record { slots = (own j).slots; start = (own j).start; words = (own j).words; view = OfPass (pass_of me.0.view) }, []))
 
-module _ (k : GateKey) (slots id : ℕ) (me : Me (Unit {0}) View) (sits : SitsAsPass me) where
+abbrev Free : GateKey → PassEvent → Me (Unit {0}) SeatView → Type 0
+Free k e me = IsEnabled (hinders_pass (sizes_at k) (pass_of me.0.view).standing e)
+
+module _ (k : GateKey) (slots id : ℕ) (me : Me (Unit {0}) SeatView) (sits : PassAt k me) where
   abbrev p : PassView
-  p = pass_of me.0
+  p = pass_of me.0.view
+
+  abbrev at_gate : TableId → GateFacts
+  at_gate table = facts_of record { id = table; key = k }
 
   on_shared : (e : PassEvent) (f : ℕ → ℕ) → ((cells : Cells) → PassKnows cells p → f (spelling cells.shared) ≡ spelling (shared_after_pass e cells.shared)) → Free k e me
       → Allows (Ruled k) slots id me 0 f (Took (view_after e) shared_number me)
   on_shared e f same free = pass_allowed k slots id 0 e f shared_number me sits free (λ cells rest views l sees sizes.
-      let q = pass_knows (origin k) cells views id p l sees in record { found = refl; written = ap (λ (n : ℕ). n ∷ cells.front ∷ cells.words ++ rest) (same cells q) })
+      let q = pass_knows (origin k.start) cells views id p l sees in record { found = refl; written = ap (λ (n : ℕ). n ∷ cells.front ∷ cells.words ++ rest) (same cells q) })
 
   pub adds_try : Free k events.AddTry me → Allows (Ruled k) slots id me 0 (λ n. (n + 1) % 2 ^ 64) (Took (view_after events.AddTry) shared_number me)
   adds_try = on_shared events.AddTry (λ n. (n + 1) % 2 ^ 64) (λ cells q. let small = q.small in adding cells.shared 1 (omega arith))
@@ -58,10 +66,10 @@ module _ (k : GateKey) (slots id : ℕ) (me : Me (Unit {0}) View) (sits : SitsAs
   adds_get n fits = on_shared (events.AddGet n) (λ w. (w + n) % 2 ^ 64) (λ cells q. let small = q.small in adding cells.shared n (omega arith))
 
   pub has_it : (n : ℕ) → Free k (events.Sub n) me → n ≤ p.standing.held
-  has_it n free = not_lt p.standing.held n (no_reason (hinders_pass k.count p.standing (events.Sub n)) free NothingHeld)
+  has_it n free = not_lt p.standing.held n (no_reason (hinders_pass (sizes_at k) p.standing (events.Sub n)) free NothingHeld)
 
   pub owes_one : Free k events.Undo me → p.standing.pending ≡ OneToUndo
-  owes_one free = let no = no_reason (hinders_pass k.count p.standing events.Undo) free in owes_undo p.standing.pending (no MidCall) (no WrongPhase)
+  owes_one free = let no = no_reason (hinders_pass (sizes_at k) p.standing events.Undo) free in owes_undo p.standing.pending (no MidCall) (no WrongPhase)
 
   pub subtracts : (n : ℕ) → Free k (events.Sub n) me → Allows (Ruled k) slots id me 0 (λ w. (w + (2 ^ 64 - n)) % 2 ^ 64) (Took (view_after (events.Sub n)) shared_number me)
   subtracts n free = on_shared (events.Sub n) (λ w. (w + (2 ^ 64 - n)) % 2 ^ 64) (λ cells q. let small = q.small in let holds = q.held in let has = has_it n free in
@@ -82,29 +90,29 @@ module _ (k : GateKey) (slots id : ℕ) (me : Me (Unit {0}) View) (sits : SitsAs
 
   pub loads_word : (j : ℕ) → Free k (events.LoadWord j) me → Allows (Ruled k) slots id me (2 + j) (λ n. n) (Took (view_after (events.LoadWord j)) (guarded_number j) me)
   loads_word j free = pass_allowed k slots id (2 + j) (events.LoadWord j) (λ n. n) (guarded_number j) me sits free (λ cells rest views l sees sizes.
-      let there = not_le k.count j (no_reason (hinders_pass k.count p.standing (events.LoadWord j)) free NoSuchWord) in let found = word_found cells rest j (omega arith) in
+      let there = not_le k.count j (no_reason (hinders_pass (sizes_at k) p.standing (events.LoadWord j)) free NoSuchWord) in let found = word_found cells rest j (omega arith) in
       record { found = found; written = subst (λ (n : ℕ). set (layout cells rest) (2 + j) n ≡ layout cells rest) found (set-get_or (layout cells rest) (2 + j) 0) })
 
   abbrev Knows : Cells → Type 0
   Knows cells = PassKnows cells p
 
-  took : (e : PassEvent) (word : Cells → ℕ) (found : ℕ) (new : Me (Unit {0}) View) (reply : Reply) → Took (view_after e) word me found new
-      → ((cells : Cells) → Knows cells → found ≡ word cells → reply ≡ pass_reply e cells) → PassStep e p (pass_of new.0) reply
-  took e word found new reply t answer = let own : Took (view_after e) word (OfPass p, []) found new = subst (λ (m : Me (Unit {0}) View). Took (view_after e) word m found new) sits t in record {
+  took : (table : TableId) (e : PassEvent) (word : Cells → ℕ) (found : ℕ) (new : Me (Unit {0}) SeatView) (reply : Reply) → Took (view_after e) word me found new
+      → ((cells : Cells) → Knows cells → found ≡ word cells → reply ≡ pass_reply e cells) → PassStep (at_gate table) e p (pass_of new.0.view) reply
+  took table e word found new reply t answer = let own : Took (view_after e) word (seated k (OfPass p), []) found new = subst (λ (m : Me (Unit {0}) SeatView). Took (view_after e) word m found new) sits t in record {
     moment = own.moment;
-    learned = ap (λ (m : Me (Unit {0}) View). pass_of m.0) own.learned;
+    learned = ap (λ (m : Me (Unit {0}) SeatView). pass_of m.0.view) own.learned;
     answered = answer own.moment.cells (moment_knows p own.moment) own.word_found;
   }
 
   exact : (cells : Cells) → Knows cells → (found : ℕ) → found ≡ shared_number cells → parts found ≡ cells.shared
   exact cells q found is = let small = q.small in ap parts is ∙ parts_of_spelling cells.shared (omega arith)
 
-  module _ (found : ℕ) (new : Me (Unit {0}) View) where
-    pub tried_as : Took (view_after events.AddTry) shared_number me found new → PassStep events.AddTry p (pass_of new.0) (tried (not (parts found).zero))
-    tried_as t = took events.AddTry shared_number found new _ t (λ cells q is. ap (λ (s : SharedWord). tried (not s.zero)) (exact cells q found is) ∙ shared.try_answer cells.shared.zero)
+  module _ (table : TableId) (found : ℕ) (new : Me (Unit {0}) SeatView) where
+    pub tried_as : Took (view_after events.AddTry) shared_number me found new → PassStep (at_gate table) events.AddTry p (pass_of new.0.view) (tried (not (parts found).zero))
+    tried_as t = took table events.AddTry shared_number found new _ t (λ cells q is. ap (λ (s : SharedWord). tried (not s.zero)) (exact cells q found is) ∙ shared.try_answer cells.shared.zero)
 
-    pub tried_live_as : Took (view_after events.AddLive) shared_number me found new → PassStep events.AddLive p (pass_of new.0) (tried (not (parts found).dead))
-    tried_live_as t = took events.AddLive shared_number found new _ t (λ cells q is. ap (λ (s : SharedWord). tried (not s.dead)) (exact cells q found is) ∙ shared.try_answer cells.shared.dead)
+    pub tried_live_as : Took (view_after events.AddLive) shared_number me found new → PassStep (at_gate table) events.AddLive p (pass_of new.0.view) (tried (not (parts found).dead))
+    tried_live_as t = took table events.AddLive shared_number found new _ t (λ cells q is. ap (λ (s : SharedWord). tried (not s.dead)) (exact cells q found is) ∙ shared.try_answer cells.shared.dead)
 
     left_as : (e : PassEvent) (cells : Cells) (n : ℕ) → Knows cells → n ≤ cells.shared.value → found ≡ shared_number cells
         → left (nat_eq ((found + (2 ^ 64 - n)) % 2 ^ 64) dead_mark) ≡ left_reply (minus n cells.shared)
@@ -113,26 +121,26 @@ module _ (k : GateKey) (slots id : ℕ) (me : Me (Unit {0}) View) (sits : SitsAs
         ∙ ap left (shared.alone_is (minus n cells.shared) (omega arith)) ∙ shared.left_answer (is_dead_alone (minus n cells.shared))
 
     pub subtracted_as : (n : ℕ) → Free k (events.Sub n) me → Took (view_after (events.Sub n)) shared_number me found new
-        → PassStep (events.Sub n) p (pass_of new.0) (left (nat_eq ((found + (2 ^ 64 - n)) % 2 ^ 64) dead_mark))
-    subtracted_as n free t = took (events.Sub n) shared_number found new _ t (λ cells q is. let has = has_it n free in let held = q.held in left_as (events.Sub n) cells n q (omega arith) is)
+        → PassStep (at_gate table) (events.Sub n) p (pass_of new.0.view) (left (nat_eq ((found + (2 ^ 64 - n)) % 2 ^ 64) dead_mark))
+    subtracted_as n free t = took table (events.Sub n) shared_number found new _ t (λ cells q is. let has = has_it n free in let held = q.held in left_as (events.Sub n) cells n q (omega arith) is)
 
     pub undone_as : Free k events.Undo me → Took (view_after events.Undo) shared_number me found new
-        → PassStep events.Undo p (pass_of new.0) (left (nat_eq ((found + (2 ^ 64 - 1)) % 2 ^ 64) dead_mark))
-    undone_as free t = took events.Undo shared_number found new _ t (λ cells q is. let undo = q.undo in let one : to_undo p.standing.pending ≡ 1 = ap to_undo (owes_one free) in
+        → PassStep (at_gate table) events.Undo p (pass_of new.0.view) (left (nat_eq ((found + (2 ^ 64 - 1)) % 2 ^ 64) dead_mark))
+    undone_as free t = took table events.Undo shared_number found new _ t (λ cells q is. let undo = q.undo in let one : to_undo p.standing.pending ≡ 1 = ap to_undo (owes_one free) in
         left_as events.Undo cells 1 q (omega arith) is)
 
-    pub marked_as : Took (view_after events.Mark) shared_number me found new → PassStep events.Mark p (pass_of new.0) (marked (put_of (nat_eq found dead_mark)))
-    marked_as t = took events.Mark shared_number found new _ t (λ cells q is. let small = q.small in
+    pub marked_as : Took (view_after events.Mark) shared_number me found new → PassStep (at_gate table) events.Mark p (pass_of new.0.view) (marked (put_of (nat_eq found dead_mark)))
+    marked_as t = took table events.Mark shared_number found new _ t (λ cells q is. let small = q.small in
         ap (λ (b : Bool). marked (put_of b)) (ap (λ (n : ℕ). nat_eq n dead_mark) is ∙ shared.alone_is cells.shared (omega arith)) ∙ shared.mark_answer (is_dead_alone cells.shared))
 
-    pub got_as : (n : ℕ) → Took (view_after (events.AddGet n)) shared_number me found new → PassStep (events.AddGet n) p (pass_of new.0) Given
-    got_as n t = took (events.AddGet n) shared_number found new _ t (λ cells q is. refl)
+    pub got_as : (n : ℕ) → Took (view_after (events.AddGet n)) shared_number me found new → PassStep (at_gate table) (events.AddGet n) p (pass_of new.0.view) Given
+    got_as n t = took table (events.AddGet n) shared_number found new _ t (λ cells q is. refl)
 
-    pub looked_as : Took (view_after events.LookShared) shared_number me found new → PassStep events.LookShared p (pass_of new.0) (Shared found)
-    looked_as t = took events.LookShared shared_number found new _ t (λ cells q is. ap Shared is)
+    pub looked_as : Took (view_after events.LookShared) shared_number me found new → PassStep (at_gate table) events.LookShared p (pass_of new.0.view) (Shared found)
+    looked_as t = took table events.LookShared shared_number found new _ t (λ cells q is. ap Shared is)
 
-    pub front_as : Took (view_after events.LoadFront) front_number me found new → PassStep events.LoadFront p (pass_of new.0) (Number found)
-    front_as t = took events.LoadFront front_number found new _ t (λ cells q is. ap Number is)
+    pub front_as : Took (view_after events.LoadFront) front_number me found new → PassStep (at_gate table) events.LoadFront p (pass_of new.0.view) (Number found)
+    front_as t = took table events.LoadFront front_number found new _ t (λ cells q is. ap Number is)
 
-    pub word_as : (j : ℕ) → Took (view_after (events.LoadWord j)) (guarded_number j) me found new → PassStep (events.LoadWord j) p (pass_of new.0) (Number found)
-    word_as j t = took (events.LoadWord j) (guarded_number j) found new _ t (λ cells q is. ap Number is)
+    pub word_as : (j : ℕ) → Took (view_after (events.LoadWord j)) (guarded_number j) me found new → PassStep (at_gate table) (events.LoadWord j) p (pass_of new.0.view) (Number found)
+    word_as j t = took table (events.LoadWord j) (guarded_number j) found new _ t (λ cells q is. ap Number is)

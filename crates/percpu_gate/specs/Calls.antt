@@ -1,14 +1,16 @@
 -- What the calls of a pass leave, and what each answer means.
-use Rattle.std.specs.Prelude.{◌≡◌, ℕ, ◌+◌, ◌<◌, ◌⊎◌, Bool, true, false, List, [], ◌∷◌}
+use Rattle.std.specs.Prelude.{◌≡◌, ℕ, ◌+◌, ◌%◌, ◌<◌, ◌≤◌, ◌⊎◌, Bool, true, false, not, ◌||◌, List, [], ◌∷◌}
 use Rattle.percpu_core.specs.declared.pass_standing.Pending.{Pending}
-use Rattle.percpu_core.specs.declared.pass_standing.Pending.TheVariants.{Nothing, ZeroToMark}
+use Rattle.percpu_core.specs.declared.pass_standing.Pending.TheVariants.{Nothing, OneToUndo, ZeroToMark}
 use Rattle.percpu_core.specs.declared.pass_standing.PassStanding.{PassStanding}
 use Rattle.percpu_core.specs.declared.view.WordRead.{WordRead}
 use Rattle.percpu_core.specs.declared.view.PassView.{PassView}
+use Rattle.percpu_core.specs.declared.view.View.TheVariants.{OfPass}
 use Rattle.percpu_gate.specs.declared.tried.Put.{Put}
 use Rattle.percpu_gate.specs.declared.tried.Put.TheVariants.{Last, NotLast}
 use Rattle.percpu_gate.specs.declared.tried.Tried.{Tried}
 use Rattle.percpu_gate.specs.declared.tried.Tried.TheVariants.{Given, Refused}
+use Rattle.percpu_gate.specs.Seats.{GateFacts, Moment, dead_at, zero_at, front_at, slot_open_at}
 
 -- so many references are held, and there is nothing to undo or to mark
 abbrev pub holding : ℕ → PassStanding
@@ -40,6 +42,16 @@ abbrev pub owed : Bool → Pending
 owed true = ZeroToMark
 owed false = Nothing
 
+-- what is owed after the addition of a try that was given, or refused
+abbrev pub to_take_back : Bool → Pending
+to_take_back true = Nothing
+to_take_back false = OneToUndo
+
+-- what the end of a try leaves: a refused one takes back what it added, and that may be the last put
+abbrev pub after_try : Tried → PassView → PassView
+after_try Given p = p
+after_try (Refused r) p = after_put r p.standing.held p
+
 -- what was found once stays found
 abbrev pub StaysFound : PassView → PassView → Type 0
 StaysFound old new = (old.found_dead ≡ true → new.found_dead ≡ true) × (old.found_zero ≡ true → new.found_zero ≡ true)
@@ -50,11 +62,42 @@ pub record TryLeaves (old new : PassView) (r : Tried) : Type 0 where
   pub held : new.standing ≡ holding (old.standing.held + taken r)
   pub releases : new.releases ≡ old.releases + released_by r
   pub seen_front : new.seen_front ≡ old.seen_front
-  -- the guarded words that were read stay known while a reference is held
+  -- a floor only rises, and where the try is refused it stays
+  pub floor : old.floor ≤ new.floor
+  pub same_floor : is_refused r ≡ true → new.floor ≡ old.floor
+  -- the guarded words that were read stay known while a reference is held, and reading begins anew where none was
   pub read : 0 < old.standing.held → new.read ≡ old.read
+  pub anew : old.standing.held ≡ 0 → new.read ≡ []
   pub found : StaysFound old new
 
--- what a look at the marks leaves: all but what it found
+-- what a try found, at a moment of its call: ZERO set where it is refused, and clear where it is given
+pub record TryFinds (g : GateFacts) (old : PassView) (r : Tried) : Type 0 where
+  pub moment : Moment g (OfPass old)
+  pub zero : zero_at moment ≡ is_refused r
+  pub dead : is_refused r ≡ true → dead_at moment ≡ true
+
+-- what a try for a live gate found, at a moment of its call: DEAD set where it is refused. Where it is given, DEAD clear or its slot open, at an even front
+pub record LiveTryFinds (g : GateFacts) (slot : ℕ) (old : PassView) (r : Tried) : Type 0 where
+  pub moment : Moment g (OfPass old)
+  pub refused : is_refused r ≡ true → dead_at moment ≡ true
+  pub given : is_refused r ≡ false → (not (dead_at moment) || slot_open_at slot moment) ≡ true
+  pub even : is_refused r ≡ false → front_at moment % 2 ≡ 0
+
+-- what a pass holds after `get`. A floor only rises
+pub record GetLeaves (old new : PassView) (n : ℕ) : Type 0 where
+  pub view : new ≡ record old { standing = holding (old.standing.held + n); floor = new.floor }
+  pub floor : old.floor ≤ new.floor
+
+-- what a look at the marks of a gate leaves: all but what it found, which stays found
+abbrev pub after_look : Bool → Bool → PassView → PassView
+after_look dead zero p = record p { found_dead = p.found_dead || dead; found_zero = p.found_zero || zero }
+
+-- a look at the marks, at a moment of its call
+pub record PassLook (g : GateFacts) (old new : PassView) : Type 0 where
+  pub moment : Moment g (OfPass old)
+  pub leaves : new ≡ after_look (dead_at moment) (zero_at moment) old
+
+-- the same, field by field
 pub record LookLeaves (old new : PassView) : Type 0 where
   pub standing : new.standing ≡ old.standing
   pub releases : new.releases ≡ old.releases

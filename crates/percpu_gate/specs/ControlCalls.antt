@@ -1,11 +1,13 @@
 -- What the calls of the control refuse, and what they leave.
-use Rattle.std.specs.Prelude.{◌≡◌, ℕ, ◌+◌, ◌*◌, ◌≤◌, Bool, true, false, ◌||◌, nat_le, if◌then◌else◌, Option, Some, None, Result, Ok, Err, slice_set}
+use Rattle.std.specs.Prelude.{◌≡◌, ℕ, ◌+◌, ◌*◌, ◌≤◌, pos, Bool, true, false, ◌||◌, nat_le, if◌then◌else◌, Option, Some, None, Result, Ok, Err, slice_set}
 use Rattle.percpu_core.specs.declared.phase.Phase.{Phase}
-use Rattle.percpu_core.specs.declared.phase.Phase.TheVariants.{LiveAtomic, Closing, Collected, Confirmed, Dead}
+use Rattle.percpu_core.specs.declared.phase.Phase.TheVariants.{LiveSlots, LiveAtomic, Closing, Collected, Confirmed, Dead, Reviving, Fronted, Opening}
 use Rattle.percpu_core.specs.declared.control_standing.ControlStanding.{ControlStanding}
 use Rattle.percpu_core.specs.declared.view.ControlView.{ControlView}
 use Rattle.percpu_core.specs.Views.{count}
-use Rattle.percpu_core.specs.LimitLaw.{most_kills, fronts_due}
+use Rattle.percpu_core.specs.Phases.{is_mid_switch}
+use Rattle.percpu_core.specs.LimitLaw.{fronts_due}
+use Rattle.percpu_core.specs.declared.limits.TheConstants.{KILL_LIMIT}
 use Rattle.percpu_gate.specs.declared.control_fault.ControlFault.{ControlFault}
 use Rattle.percpu_gate.specs.declared.control_fault.ControlFault.TheVariants.{AlreadyDead, NotDead, NotZero, MidSwitch, WornOut}
 use Rattle.percpu_gate.specs.declared.exit.ExitWhy.{ExitWhy}
@@ -16,6 +18,7 @@ use Rattle.percpu_gate.specs.declared.revived.Revived.TheVariants.{AtZero, Held}
 use Rattle.percpu_gate.specs.declared.tried.Put.{Put}
 use Rattle.percpu_gate.specs.declared.tried.Put.TheVariants.{Last, NotLast}
 use Rattle.percpu_gate.specs.Calls.{released}
+use Rattle.percpu_gate.specs.Seats.{GateFacts, ControlFacts, FindsZero}
 
 abbrev pub fault_number : ControlFault → ℕ
 fault_number AlreadyDead = 1
@@ -29,25 +32,32 @@ abbrev pub fault_of : {A : Type 0} → Result A ControlFault → Option ControlF
 fault_of (Ok x) = None
 fault_of (Err why) = Some why
 
--- where the control stands, with no zero to mark
+-- where the control stands, with no zero to mark and nothing to collect
 abbrev pub standing : Phase → ℕ → ControlStanding
-standing phase kills = record { phase = phase; kills = kills; to_mark = false }
+standing phase kills = record { phase = phase; kills = kills; to_mark = false; uncollected = pos 0 }
 
 -- why a kill is refused in this phase after so many kills: one is under way, the gate is dead, or it is worn out
 abbrev pub kill_refusal : Phase → ℕ → Option ControlFault
-kill_refusal (Closing i) kills = Some MidSwitch
-kill_refusal Collected kills = Some MidSwitch
-kill_refusal Confirmed kills = Some MidSwitch
 kill_refusal Dead kills = Some AlreadyDead
-kill_refusal _ kills = if nat_le most_kills kills then Some WornOut else None
+kill_refusal phase kills = if is_mid_switch phase then Some MidSwitch else (if nat_le KILL_LIMIT kills then Some WornOut else None)
 
 abbrev pub is_last : Put → Bool
 is_last Last = true
 is_last NotLast = false
 
+-- where a kill goes on once DEAD is set: slots that are open are closed first
+abbrev pub phase_of_kill : Phase → Phase
+phase_of_kill LiveSlots = Closing 0
+phase_of_kill _ = Collected
+
+-- how many slots a kill has to close, at a gate with so many
+abbrev pub to_close : Phase → ℕ → ℕ
+to_close LiveSlots slots = slots
+to_close _ slots = 0
+
 -- what each step of a kill leaves
 abbrev pub after_mark_dead : ControlView → ControlView
-after_mark_dead c = record c { standing = standing Collected (c.standing.kills + 1); killing = true }
+after_mark_dead c = record c { standing = standing (phase_of_kill c.standing.phase) (c.standing.kills + 1); killing = true }
 
 abbrev pub after_confirm : ControlView → ControlView
 after_confirm c = record c { standing = standing Confirmed c.standing.kills; front = c.front + 1 }
@@ -59,34 +69,37 @@ after_drop_base r c = record c { standing = standing Dead c.standing.kills; kill
 abbrev pub after_kill : Put → ControlView → ControlView
 after_kill r c = after_drop_base r (after_confirm (after_mark_dead c))
 
--- between two calls of the control, with all slots closed
+-- where the control can stand between two of its calls
 abbrev pub IsBetweenCalls : Phase → Type 0
-IsBetweenCalls LiveAtomic = Unit {0}
-IsBetweenCalls Collected = Unit {0}
-IsBetweenCalls Confirmed = Unit {0}
-IsBetweenCalls Dead = Unit {0}
-IsBetweenCalls _ = ⊥
+IsBetweenCalls Reviving = ⊥
+IsBetweenCalls Fronted = ⊥
+IsBetweenCalls (Opening i) = ⊥
+IsBetweenCalls _ = Unit {0}
+
+-- the same of a gate whose slots are all closed
+abbrev pub IsInAtomicMode : Phase → Type 0
+IsInAtomicMode LiveSlots = ⊥
+IsInAtomicMode (Closing i) = ⊥
+IsInAtomicMode phase = IsBetweenCalls phase
 
 -- the front leaves room for those that are due
 abbrev pub HasRoom : Phase → ℕ → ℕ → Type 0
-HasRoom phase kills front = (kills ≤ most_kills) × (front + fronts_due phase true ≤ 2 * (kills + 1))
+HasRoom phase kills front = (kills ≤ KILL_LIMIT) × (front + fronts_due phase true ≤ 2 * (kills + 1))
 
 -- why a call for a dead gate is refused
 abbrev pub dead_refusal : Phase → Option ControlFault
-dead_refusal (Closing i) = Some MidSwitch
-dead_refusal Collected = Some MidSwitch
-dead_refusal Confirmed = Some MidSwitch
 dead_refusal Dead = None
-dead_refusal _ = Some NotDead
+dead_refusal phase = if is_mid_switch phase then Some MidSwitch else Some NotDead
 
 -- why a call for a gate at zero is refused, by whether its load found ZERO
 abbrev pub zero_refusal : Phase → Bool → Option ControlFault
 zero_refusal Dead zero = if zero then None else Some NotZero
 zero_refusal phase zero = dead_refusal phase
 
--- what its load found: ZERO, where the control knew it
-pub record LooksForZero (old : ControlView) (refusal : Option ControlFault) : Type 0 where
+-- what the load of a call for a gate at zero found: ZERO, where the control knew it. A gate that isn't dead is refused before the load
+pub record LooksForZero (g : GateFacts) (old : ControlView) (refusal : Option ControlFault) : Type 0 where
   pub zero : Bool
+  pub found : old.standing.phase ≡ Dead → FindsZero g old zero
   pub known : old.knows_zero ≡ true → zero ≡ true
   pub refused : refusal ≡ zero_refusal old.standing.phase zero
 
@@ -94,10 +107,14 @@ abbrev pub is_at_zero : Revived → Bool
 is_at_zero AtZero = true
 is_at_zero Held = false
 
--- what a revival leaves, from a gate at zero or not
-abbrev pub after_revival : Bool → ControlView → ControlView
-after_revival zero c = record c {
-  standing = standing LiveAtomic c.standing.kills;
+-- the phase of a live gate, by the mode that its control wants: until slots are opened, every gate is in atomic mode
+abbrev pub live_phase : ControlFacts → Phase
+live_phase c = LiveAtomic
+
+-- what a revival to this phase leaves, from a gate at zero or not
+abbrev pub after_revival : Phase → Bool → ControlView → ControlView
+after_revival phase zero c = record c {
+  standing = standing phase c.standing.kills;
   front = c.front + 1;
   revivals = c.revivals + 1;
   zeros_cleared = c.zeros_cleared + count zero;
@@ -110,10 +127,7 @@ after_store k v c = record c { words = slice_set c.words k v; knows_zero = true 
 
 -- why a gate may not end: a kill is under way, or so many passes aren't retired
 abbrev pub exit_refusal : Phase → ℕ → Option ExitWhy
-exit_refusal (Closing i) passes = Some ExitMidSwitch
-exit_refusal Collected passes = Some ExitMidSwitch
-exit_refusal Confirmed passes = Some ExitMidSwitch
-exit_refusal _ passes = if nat_le 1 passes then Some (PassesOut passes) else None
+exit_refusal phase passes = if is_mid_switch phase then Some ExitMidSwitch else (if nat_le 1 passes then Some (PassesOut passes) else None)
 
 abbrev pub exit_number : ExitWhy → ℕ
 exit_number ExitMidSwitch = 4

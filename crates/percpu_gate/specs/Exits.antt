@@ -1,9 +1,28 @@
--- What the end of a gate refuses.
-use Rattle.std.specs.Prelude.{ℕ, Option, Some, None, Result, Ok, Err}
+-- What the end of a gate refuses, and what it tells.
+use Rattle.std.specs.Prelude.{◌≡◌, ℕ, ◌+◌, ◌≤◌, true, Option, Some, None, Result, Ok, Err}
+use Rattle.percpu_core.specs.declared.phase.Phase.TheVariants.{Dead}
+use Rattle.percpu_core.specs.declared.view.ControlView.{ControlView}
+use Rattle.percpu_core.specs.declared.view.View.TheVariants.{OfControl}
+use Rattle.percpu_core.specs.Phases.{is_phase}
+use Rattle.percpu_core.specs.Starts.{starts_dead}
+use Rattle.percpu_core.specs.Views.{count}
 use Rattle.percpu_gate.specs.declared.exit.ExitWhy.{ExitWhy}
 use Rattle.percpu_gate.specs.declared.exit.ExitFault.{ExitFault}
+use Rattle.percpu_gate.specs.Seats.{GateFacts, Moment, zero_at}
 
 -- the refusal of a result, if it is one
 abbrev pub why_of : {A : Type 0} {W : ℕ} → Result A (ExitFault W) → Option ExitWhy
 why_of (Ok x) = None
 why_of (Err f) = Some f.why
+
+-- what the control knows of a gate that has ended: the last moment of the gate, of which all laws hold and after which there is no step
+pub record Ended (g : GateFacts) (c : ControlView) : Type 0 where
+  pub last : Moment g (OfControl c)
+  -- a dead gate had ZERO set: everything was put, and its release was won
+  pub at_zero : zero_at last ≡ is_phase Dead c.standing.phase
+  -- releases + (1 if it started dead) = zeros cleared + (1 if it is dead), and they are no more than the kills
+  pub releases : c.releases + count (starts_dead g.start) ≡ c.zeros_cleared + count (is_phase Dead c.standing.phase)
+  pub at_most : c.releases ≤ c.standing.kills
+  -- where a retired pass had found DEAD there was a kill, and where it had found ZERO a release, or the gate started dead
+  pub found_dead : c.found_dead ≡ true → 1 ≤ c.standing.kills + count (starts_dead g.start)
+  pub found_zero : c.found_zero ≡ true → 1 ≤ c.releases + count (starts_dead g.start)

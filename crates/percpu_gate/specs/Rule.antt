@@ -1,6 +1,9 @@
 -- The rule of a gate's table: its words spell some memory of which, with what the seats know, the laws hold.
-use Rattle.std.specs.Prelude.{◌≡◌, ℕ, ◌+◌, List, length, take, slice_index, nat_lt, if◌then◌else◌}
+use Rattle.std.specs.Prelude.{◌≡◌, ℕ, ◌+◌, List, length, map, take, slice_index, nat_lt, if◌then◌else◌}
 use Rattle.atomic_table.specs.Table.{State, Me}
+use Rattle.percpu_core.specs.declared.sizes.Sizes.{Sizes}
+use Rattle.percpu_core.specs.declared.start.Start.{Start}
+use Rattle.percpu_core.specs.declared.start.Start.TheVariants.{Atomic}
 use Rattle.percpu_core.specs.declared.control_event.ControlEvent.{ControlEvent}
 use Rattle.percpu_core.specs.declared.view.PassView.{PassView}
 use Rattle.percpu_core.specs.declared.view.ControlView.{ControlView}
@@ -11,34 +14,48 @@ use Rattle.percpu_core.specs.Cells.{Cells}
 use Rattle.percpu_core.specs.ReleaseLaw.{Origin}
 use Rattle.percpu_core.specs.Laws.{Lawful}
 use Rattle.percpu_core.specs.ControlLearns.{control_view_after, joined}
-use Rattle.percpu_core.specs.Starts.{Opening, opening}
-use Rattle.percpu_core.specs.Moments.{first_control, origin_of}
+use Rattle.percpu_core.specs.Starts.{Opening, opening, starts_dead}
+use Rattle.percpu_core.specs.Snapshots.{first_control, first_pass}
 use Rattle.percpu_core.specs.SeatLaws.{Sees, with_one_more}
 use Rattle.percpu_gate.specs.declared.rule.GateKey.{GateKey}
+use Rattle.percpu_gate.specs.declared.rule.SeatView.{SeatView}
 use Rattle.percpu_gate.specs.Layout.{layout}
 
 -- how the gate of this key opens; its passes come afterwards
 abbrev pub opening_of : GateKey → Opening
 opening_of k = opening k.slots 1 k.start 0 (take k.count k.words)
 
-abbrev pub origin : GateKey → Origin
-origin k = origin_of (opening_of k)
+-- its sizes
+abbrev pub sizes_at : GateKey → Sizes
+sizes_at k = record { slots = k.slots; words = k.count }
 
-pub record Ruled (k : GateKey) (s : State (Unit {0}) View) : Type 0 where
+-- a gate starts with no kill behind it
+abbrev pub origin : Start → Origin
+origin start = record { dead = starts_dead start; kills = 0 }
+
+-- what a seat of the gate of this key is told with its view
+abbrev pub seated : GateKey → View → SeatView
+seated k v = record { slots = k.slots; start = k.start; words = k.count; view = v }
+
+abbrev pub view_of : SeatView → View
+view_of w = w.view
+
+pub record Ruled (k : GateKey) (s : State (Unit {0}) SeatView) : Type 0 where
   pub cells : Cells
   pub rest : List ℕ
   pub words : s.words ≡ layout cells rest
   pub guarded : length cells.words ≡ k.count
   pub slots : length cells.slots ≡ k.slots
-  pub lawful : Lawful (origin k) cells s.views
+  pub lawful : Lawful (origin k.start) cells (map view_of s.views)
 
--- a gate between two steps, seen by one seat: the memory and all views, of which the laws hold
-pub record Moment (view : View) : Type 0 where
-  pub origin : Origin
+-- a gate with so many slots and guarded words between two steps, seen by one seat: the memory and all views, of which the laws hold
+pub record MomentOf (gate_slots : ℕ) (start : Start) (gate_words : ℕ) (view : View) : Type 0 where
   pub cells : Cells
+  pub slots : length cells.slots ≡ gate_slots
+  pub guarded : length cells.words ≡ gate_words
   pub views : List View
   pub seat : ℕ
-  pub lawful : Lawful origin cells views
+  pub lawful : Lawful (origin start) cells views
   pub sees : Sees views seat view
 
 -- the view after a step of the control
@@ -47,11 +64,11 @@ control_after e cells (OfControl c) = OfControl (control_view_after e cells c)
 control_after e cells (OfPass p) = OfPass p
 control_after e cells Spent = Spent
 
--- what a step tells its seat: there was a moment at which the event was taken, and the number found is the word's
-pub record Took (after : Cells → View → View) (word : Cells → ℕ) (me : Me (Unit {0}) View) (found : ℕ) (new : Me (Unit {0}) View) : Type 0 where
-  pub moment : Moment me.0
+-- what a step tells its seat: there was a moment of its gate at which the event was taken, and the number found is the word's
+pub record Took (after : Cells → View → View) (word : Cells → ℕ) (me : Me (Unit {0}) SeatView) (found : ℕ) (new : Me (Unit {0}) SeatView) : Type 0 where
+  pub moment : MomentOf me.0.slots me.0.start me.0.words me.0.view
   pub word_found : found ≡ word moment.cells
-  pub learned : new ≡ (after moment.cells me.0, me.1)
+  pub learned : new ≡ (record me.0 { view = after moment.cells me.0.view }, me.1)
 
 -- the number of the shared word
 abbrev pub shared_number : Cells → ℕ
@@ -69,14 +86,20 @@ abbrev pub next_front_number : Cells → ℕ
 next_front_number cells = cells.front + 1
 
 -- the control comes first, and splits off the passes
-abbrev pub first_view : GateKey → View
-first_view k = OfControl (record (first_control (opening_of k)) { passes = 0 })
+abbrev pub first_view : GateKey → SeatView
+first_view k = seated k (OfControl (record (first_control (opening_of k)) { passes = 0 }))
 
--- the control's view once it has split off one more pass, and once it has taken one in
+-- the control's view once it has split off one more pass, and that pass's
 abbrev pub one_more : View → View
 one_more (OfControl c) = OfControl (with_one_more c)
 one_more (OfPass p) = OfPass p
 one_more Spent = Spent
+
+abbrev pub with_a_pass : SeatView → SeatView
+with_a_pass w = record w { view = one_more w.view }
+
+abbrev pub fresh_seat : SeatView → SeatView
+fresh_seat w = record w { view = OfPass first_pass }
 
 -- The control takes in a pass. It has one out wherever there is one, by the laws; where it has none out it takes none in
 abbrev pub after_retire : PassView → ControlView → ControlView
@@ -88,3 +111,10 @@ taken_in (OfControl c) (OfControl d) = OfControl c
 taken_in (OfControl c) Spent = OfControl c
 taken_in (OfPass p) w = OfPass p
 taken_in Spent w = Spent
+
+abbrev pub with_taken_in : SeatView → SeatView → SeatView
+with_taken_in v w = record v { view = taken_in v.view w.view }
+
+-- what is left of a seat that was taken in
+abbrev pub spent_seat : SeatView
+spent_seat = record { slots = 0; start = Atomic; words = 0; view = Spent }

@@ -1,5 +1,5 @@
 -- What the seats of a gate are to a caller.
-use Rattle.std.specs.Prelude.{◌≡◌, ℕ, Bool, true, false, []}
+use Rattle.std.specs.Prelude.{◌≡◌, ℕ, Bool, true, false, List, []}
 use Rattle.atomic_table.specs.Seated.{TableId}
 use Rattle.atomic_table.specs.Table.{Me}
 use Rattle.percpu_core.specs.declared.pass_event.PassEvent.{PassEvent}
@@ -19,30 +19,65 @@ use Rattle.percpu_core.specs.PassLearns.{pass_view_after}
 use Rattle.percpu_core.specs.ControlSteps.{control_reply}
 use Rattle.percpu_core.specs.ControlLearns.{control_view_after}
 use Rattle.percpu_core.specs.Starts.{opening}
-use Rattle.percpu_core.specs.Moments.{first_pass, first_control}
+use Rattle.percpu_core.specs.Snapshots.{first_pass, first_control}
+use Rattle.percpu_core.specs.Cells.{slot_at, is_open}
 use Rattle.percpu_words.specs.SharedWord.{spelling}
 use Rattle.percpu_gate.specs.declared.rule.GateKey.{GateKey}
-use Rattle.percpu_gate.specs.Rule.{Moment}
+use Rattle.percpu_gate.specs.declared.rule.SeatView.{SeatView}
+use Rattle.percpu_gate.specs.Rule.{MomentOf}
 
 -- which table a gate has, and what it was told
 pub record TableFacts : Type 0 where
   pub id : TableId
   pub key : GateKey
 
--- which gate it is, its slots and how it started
+-- which gate it is, and how it was made: its slots, how it started, and its number of guarded words
 pub record GateFacts : Type 0 where
   pub id : TableId
   pub slots : ℕ
   pub start : Start
+  pub words : ℕ
+
+abbrev pub facts_of : TableFacts → GateFacts
+facts_of t = record { id = t.id; slots = t.key.slots; start = t.key.start; words = t.key.count }
 
 -- which gate a pass belongs to, and what it knows
 pub record PassFacts : Type 0 where
-  pub gate : TableId
+  pub gate : GateFacts
   pub view : PassView
 
 pub record ControlFacts : Type 0 where
-  pub gate : TableId
+  pub gate : GateFacts
   pub view : ControlView
+
+-- the gate that a seat was told of
+abbrev pub gate_of : TableId → SeatView → GateFacts
+gate_of id w = record { id = id; slots = w.slots; start = w.start; words = w.words }
+
+-- what a pass and the control of a new gate know
+abbrev pub fresh_pass : GateFacts → PassFacts
+fresh_pass g = record { gate = g; view = first_pass }
+
+abbrev pub fresh_control : GateFacts → ℕ → List ℕ → ControlFacts
+fresh_control g passes words = record { gate = g; view = first_control (opening g.slots passes g.start 0 words) }
+
+-- this gate between two steps, seen by a seat with this view
+abbrev pub Moment : GateFacts → View → Type 0
+Moment g v = MomentOf g.slots g.start g.words v
+
+-- whether DEAD, or ZERO, was set at a moment, and the front
+abbrev pub dead_at : {slots words : ℕ} {start : Start} {v : View} → MomentOf slots start words v → Bool
+dead_at m = m.cells.shared.dead
+
+abbrev pub zero_at : {slots words : ℕ} {start : Start} {v : View} → MomentOf slots start words v → Bool
+zero_at m = m.cells.shared.zero
+
+abbrev pub front_at : {slots words : ℕ} {start : Start} {v : View} → MomentOf slots start words v → ℕ
+front_at m = m.cells.front
+
+-- whether the slot was open
+abbrev pub slot_open_at : {slots words : ℕ} {start : Start} {v : View} → ℕ → MomentOf slots start words v → Bool
+slot_open_at i m = is_open (slot_at m.cells.slots i)
 
 abbrev pub pass_of : View → PassView
 pass_of (OfPass p) = p
@@ -50,39 +85,39 @@ pass_of (OfControl c) = first_pass
 pass_of Spent = first_pass
 
 -- a seat of a pass holds no value of the table
-abbrev pub SitsAsPass : Me (Unit {0}) View → Type 0
-SitsAsPass me = me ≡ (OfPass (pass_of me.0), [])
+abbrev pub SitsAsPass : Me (Unit {0}) SeatView → Type 0
+SitsAsPass me = me ≡ (record me.0 { view = OfPass (pass_of me.0.view) }, [])
 
 abbrev pub control_of : View → ControlView
 control_of (OfControl c) = c
 control_of (OfPass p) = first_control (opening 1 1 Atomic 0 [])
 control_of Spent = first_control (opening 1 1 Atomic 0 [])
 
-abbrev pub SitsAsControl : Me (Unit {0}) View → Type 0
-SitsAsControl me = me ≡ (OfControl (control_of me.0), [])
+abbrev pub SitsAsControl : Me (Unit {0}) SeatView → Type 0
+SitsAsControl me = me ≡ (record me.0 { view = OfControl (control_of me.0.view) }, [])
 
 -- an event of the machine, taken by a pass at some moment of its gate, at which all laws held
-pub record PassStep (e : PassEvent) (old new : PassView) (reply : Reply) : Type 0 where
-  pub moment : Moment (OfPass old)
+pub record PassStep (g : GateFacts) (e : PassEvent) (old new : PassView) (reply : Reply) : Type 0 where
+  pub moment : Moment g (OfPass old)
   pub learned : new ≡ pass_view_after e moment.cells old
   pub answered : reply ≡ pass_reply e moment.cells
 
 -- the same for the control
-pub record ControlStep (e : ControlEvent) (old new : ControlView) (reply : Reply) : Type 0 where
-  pub moment : Moment (OfControl old)
+pub record ControlStep (g : GateFacts) (e : ControlEvent) (old new : ControlView) (reply : Reply) : Type 0 where
+  pub moment : Moment g (OfControl old)
   pub learned : new ≡ control_view_after e moment.cells old
-  pub answered : reply ≡ control_reply e moment.cells.shared
+  pub answered : reply ≡ control_reply e old.standing moment.cells
 
 -- the same where the control is told the shared word that it found
-pub record ControlFinds (e : ControlEvent) (old new : ControlView) (found : ℕ) : Type 0 where
-  pub moment : Moment (OfControl old)
+pub record ControlFinds (g : GateFacts) (e : ControlEvent) (old new : ControlView) (found : ℕ) : Type 0 where
+  pub moment : Moment g (OfControl old)
   pub learned : new ≡ control_view_after e moment.cells old
   pub word_found : found ≡ spelling moment.cells.shared
 
--- ZERO was set, or not, when the control took the initial reference back
-pub record TakesBaseBack (old : ControlView) (zero : Bool) : Type 0 where
-  pub moment : Moment (OfControl old)
-  pub found : moment.cells.shared.zero ≡ zero
+-- the control found ZERO set, or not, at a moment of its gate
+pub record FindsZero (g : GateFacts) (old : ControlView) (zero : Bool) : Type 0 where
+  pub moment : Moment g (OfControl old)
+  pub found : zero_at moment ≡ zero
 
 -- what a try answers, by whether it was given
 abbrev pub tried : Bool → Reply

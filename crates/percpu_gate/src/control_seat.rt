@@ -1,14 +1,15 @@
 //! The atomic steps of the control, each one event of the core's machine.
-ghost use Rattle.std.specs.Prelude.{◌≡◌, ◌+◌, ◌^◌, ◌<◌, ◌≤◌, None, find, true};
+ghost use Rattle.std.specs.Prelude.{◌≡◌, ◌+◌, ◌^◌, ◌<◌, ◌≤◌, [], None, true};
 ghost use Rattle.percpu_core.specs.declared.control_event.ControlEvent.TheVariants as events;
-ghost use Rattle.percpu_core.specs.declared.phase.Phase.TheVariants.{Confirmed, Dead};
+ghost use Rattle.percpu_core.specs.declared.phase.Phase.TheVariants.{LiveAtomic, Confirmed, Dead};
 ghost use Rattle.percpu_core.specs.declared.reply.Reply.TheVariants.{Done, Shared};
-ghost use Rattle.percpu_core.specs.Machine.{order};
+ghost use Rattle.percpu_core.specs.declared.view.View.TheVariants.{OfControl};
+ghost use Rattle.percpu_core.specs.Machine.{IsEnabled};
 ghost use Rattle.percpu_core.specs.ControlSteps.{hinders_control};
-ghost use Rattle.percpu_gate.specs.Seats.{TakesBaseBack, SitsAsControl, control_of, ControlFinds, ControlStep, left, marked};
-ghost use Rattle.percpu_core.specs.Moments.{first_pass};
+ghost use Rattle.percpu_gate.specs.Seats.{FindsZero, SitsAsControl, facts_of, gate_of, control_of, ControlFinds, ControlStep, left, marked};
+ghost use Rattle.percpu_core.specs.Snapshots.{first_pass};
 ghost use Rattle.percpu_core.specs.SeatLaws.{with_one_more};
-ghost use Rattle.percpu_gate.specs.Rule.{after_retire};
+ghost use Rattle.percpu_gate.specs.Rule.{sizes_at, after_retire};
 ghost use Rattle.percpu_gate.specs.Calls.{holding};
 ghost use Rattle.percpu_gate.specs.ControlCalls.{standing, after_drop_base, after_revival};
 
@@ -17,41 +18,49 @@ use crate::control_plays::{
     StoresWord, TakesBase, TakesIn,
 };
 use crate::pass_seat::PassSeat;
+use crate::rule::SeatView;
 use crate::table::{FIRST_WORD, FRONT, GateTable, SHARED};
 use crate::tried::Put;
 use atomic_table::Seat;
-use percpu_core::View;
 use percpu_words::{DEAD, ZERO, is_zero};
 use std::marker::Model;
 
 /// The control's seat at the table of its gate.
 #[derive(Drop)]
 pub(crate) struct ControlSeat {
-    seat: Seat<(), View>,
+    seat: Seat<(), SeatView>,
 }
 
 impl Model for ControlSeat {
-    ghost use Rattle.percpu_gate.specs.Seats.{ControlFacts, control_of, SitsAsControl};
+    ghost use Rattle.percpu_gate.specs.Seats.{ControlFacts, gate_of, control_of, SitsAsControl};
 
     ghost Value = { ControlFacts };
 
-    ghost view = { λ c. record { gate = c.seat.table_id; view = control_of c.seat.me.0 } };
+    ghost view = { λ c. record { gate = gate_of c.seat.table_id c.seat.me.0; view = control_of c.seat.me.0.view } };
 
     ghost invariant = { λ c. SitsAsControl c.seat.me };
 }
 
 impl ControlSeat {
     /// The control's seat at a table.
-    pub(crate) fn of(seat: Seat<(), View>) -> ControlSeat
+    pub(crate) fn of(seat: Seat<(), SeatView>) -> ControlSeat
         requires { SitsAsControl seat.me }
-        ensures { result ≡ record { gate = seat.table_id; view = control_of seat.me.0 } }
+        ensures { result ≡ record { gate = gate_of seat.table_id seat.me.0; view = control_of seat.me.0.view } }
     {
         ControlSeat { seat }
     }
 
+    /// The seat, of a control that ends.
+    pub(crate) fn into_seat(self) -> Seat<(), SeatView>
+        ensures { (gate_of result.table_id result.me.0 ≡ self.gate) × (result.me ≡ (record result.me.0 { view = OfControl self.view }, [])) }
+    {
+        let Self { seat } = self;
+        seat
+    }
+
     /// A seat of a new pass. A control has at most 64.
     pub(crate) fn make_pass(&mut self, gate: &GateTable) -> PassSeat
-        requires own { self.old.gate ≡ gate.now.id }
+        requires own { self.old.gate ≡ facts_of gate.now }
         requires few { self.old.view.passes < 64 }
         ensures view { self.new ≡ record self.old { view = with_one_more self.old.view } }
         ensures pass { result ≡ record { gate = self.old.gate; view = first_pass } }
@@ -61,7 +70,7 @@ impl ControlSeat {
 
     /// Takes in a pass that holds nothing.
     pub(crate) fn take_in(&mut self, gate: &GateTable, pass: PassSeat)
-        requires own { (self.old.gate ≡ gate.now.id) × (pass.gate ≡ gate.now.id) }
+        requires own { (self.old.gate ≡ facts_of gate.now) × (pass.gate ≡ facts_of gate.now) }
         requires idle { pass.view.standing ≡ holding 0 }
         ensures view { self.new ≡ record self.old { view = after_retire pass.view self.old.view } }
     {
@@ -72,10 +81,10 @@ impl ControlSeat {
     /// Sets DEAD.
     #[inline]
     pub(crate) fn set_dead(&mut self, gate: &GateTable)
-        requires own { self.old.gate ≡ gate.now.id }
-        requires enabled { find (hinders_control gate.now.key.count true None self.old.view.standing events.MarkDead) order ≡ None }
+        requires own { self.old.gate ≡ facts_of gate.now }
+        requires enabled { IsEnabled (hinders_control (sizes_at gate.now.key) true None self.old.view.standing events.MarkDead) }
         ensures own { self.new.gate ≡ self.old.gate }
-        ensures step { ControlStep events.MarkDead self.old.view self.new.view Done }
+        ensures step { ControlStep (facts_of gate.now) events.MarkDead self.old.view self.new.view Done }
     {
         let shared = &gate.table.shared;
         shared.fetch_or::<SetsDead>(&mut self.seat, SHARED, DEAD);
@@ -84,11 +93,11 @@ impl ControlSeat {
     /// Stores the odd front of a kill.
     #[inline]
     pub(crate) fn confirm(&mut self, gate: &GateTable, front: u64)
-        requires own { self.old.gate ≡ gate.now.id }
+        requires own { self.old.gate ≡ facts_of gate.now }
         requires next { front ≡ self.old.view.front + 1 }
-        requires enabled { find (hinders_control gate.now.key.count true None self.old.view.standing events.Confirm) order ≡ None }
+        requires enabled { IsEnabled (hinders_control (sizes_at gate.now.key) true None self.old.view.standing events.Confirm) }
         ensures own { self.new.gate ≡ self.old.gate }
-        ensures step { ControlStep events.Confirm self.old.view self.new.view Done }
+        ensures step { ControlStep (facts_of gate.now) events.Confirm self.old.view self.new.view Done }
     {
         gate.table
             .shared
@@ -98,10 +107,10 @@ impl ControlSeat {
     /// Drops the initial reference. Whether that left DEAD alone.
     #[inline]
     pub(crate) fn drop_base(&mut self, gate: &GateTable) -> bool
-        requires own { self.old.gate ≡ gate.now.id }
-        requires enabled { find (hinders_control gate.now.key.count true None self.old.view.standing events.DropBase) order ≡ None }
+        requires own { self.old.gate ≡ facts_of gate.now }
+        requires enabled { IsEnabled (hinders_control (sizes_at gate.now.key) true None self.old.view.standing events.DropBase) }
         ensures own { self.new.gate ≡ self.old.gate }
-        ensures step { ControlStep events.DropBase self.old.view self.new.view (left result) }
+        ensures step { ControlStep (facts_of gate.now) events.DropBase self.old.view self.new.view (left result) }
     {
         let shared = &gate.table.shared;
         let found = shared.fetch_sub::<DropsBase>(&mut self.seat, SHARED, 1);
@@ -111,10 +120,10 @@ impl ControlSeat {
     /// One exchange of DEAD alone for DEAD and ZERO. Winning it is the release.
     #[inline]
     pub(crate) fn mark(&mut self, gate: &GateTable) -> Put
-        requires own { self.old.gate ≡ gate.now.id }
-        requires enabled { find (hinders_control gate.now.key.count true None self.old.view.standing events.Mark) order ≡ None }
+        requires own { self.old.gate ≡ facts_of gate.now }
+        requires enabled { IsEnabled (hinders_control (sizes_at gate.now.key) true None self.old.view.standing events.Mark) }
         ensures own { self.new.gate ≡ self.old.gate }
-        ensures step { ControlStep events.Mark self.old.view self.new.view (marked result) }
+        ensures step { ControlStep (facts_of gate.now) events.Mark self.old.view self.new.view (marked result) }
     {
         let shared = &gate.table.shared;
         let found = shared.compare_exchange::<MarksZero>(&mut self.seat, SHARED, DEAD, DEAD | ZERO);
@@ -124,10 +133,10 @@ impl ControlSeat {
     /// Takes the initial reference back. The shared word as it was.
     #[inline]
     pub(crate) fn take_base(&mut self, gate: &GateTable) -> u64
-        requires own { self.old.gate ≡ gate.now.id }
-        requires enabled { find (hinders_control gate.now.key.count true None self.old.view.standing events.TakeBase) order ≡ None }
+        requires own { self.old.gate ≡ facts_of gate.now }
+        requires enabled { IsEnabled (hinders_control (sizes_at gate.now.key) true None self.old.view.standing events.TakeBase) }
         ensures own { self.new.gate ≡ self.old.gate }
-        ensures step { ControlFinds events.TakeBase self.old.view self.new.view result }
+        ensures step { ControlFinds (facts_of gate.now) events.TakeBase self.old.view self.new.view result }
     {
         let shared = &gate.table.shared;
         shared.fetch_add::<TakesBase>(&mut self.seat, SHARED, 1)
@@ -136,11 +145,11 @@ impl ControlSeat {
     /// Stores the even front of the life that begins.
     #[inline]
     pub(crate) fn next_front(&mut self, gate: &GateTable, front: u64)
-        requires own { self.old.gate ≡ gate.now.id }
+        requires own { self.old.gate ≡ facts_of gate.now }
         requires next { front ≡ self.old.view.front + 1 }
-        requires enabled { find (hinders_control gate.now.key.count true None self.old.view.standing events.NextFront) order ≡ None }
+        requires enabled { IsEnabled (hinders_control (sizes_at gate.now.key) true None self.old.view.standing events.NextFront) }
         ensures own { self.new.gate ≡ self.old.gate }
-        ensures step { ControlStep events.NextFront self.old.view self.new.view Done }
+        ensures step { ControlStep (facts_of gate.now) events.NextFront self.old.view self.new.view Done }
     {
         gate.table
             .shared
@@ -150,10 +159,10 @@ impl ControlSeat {
     /// Clears DEAD and ZERO.
     #[inline]
     pub(crate) fn clear_dead(&mut self, gate: &GateTable)
-        requires own { self.old.gate ≡ gate.now.id }
-        requires enabled { find (hinders_control gate.now.key.count true None self.old.view.standing events.ClearDead) order ≡ None }
+        requires own { self.old.gate ≡ facts_of gate.now }
+        requires enabled { IsEnabled (hinders_control (sizes_at gate.now.key) true None self.old.view.standing events.ClearDead) }
         ensures own { self.new.gate ≡ self.old.gate }
-        ensures step { ControlStep events.ClearDead self.old.view self.new.view Done }
+        ensures step { ControlStep (facts_of gate.now) events.ClearDead self.old.view self.new.view Done }
     {
         let shared = &gate.table.shared;
         shared.fetch_and::<ClearsDead>(&mut self.seat, SHARED, DEAD - 1);
@@ -162,11 +171,11 @@ impl ControlSeat {
     /// Stores a guarded word, for a control that knows ZERO.
     #[inline]
     pub(crate) fn store_word(&mut self, gate: &GateTable, k: u32, v: u64)
-        requires own { self.old.gate ≡ gate.now.id }
+        requires own { self.old.gate ≡ facts_of gate.now }
         requires zero { self.old.view.knows_zero ≡ true }
-        requires enabled { find (hinders_control gate.now.key.count true None self.old.view.standing (events.StoreWord k v)) order ≡ None }
+        requires enabled { IsEnabled (hinders_control (sizes_at gate.now.key) true None self.old.view.standing (events.StoreWord k v)) }
         ensures own { self.new.gate ≡ self.old.gate }
-        ensures step { ControlStep (events.StoreWord k v) self.old.view self.new.view Done }
+        ensures step { ControlStep (facts_of gate.now) (events.StoreWord k v) self.old.view self.new.view Done }
     {
         let place = FIRST_WORD + k as usize;
         gate.table
@@ -177,10 +186,10 @@ impl ControlSeat {
     /// Loads the shared word.
     #[inline]
     pub(crate) fn look(&mut self, gate: &GateTable) -> u64
-        requires own { self.old.gate ≡ gate.now.id }
-        requires enabled { find (hinders_control gate.now.key.count true None self.old.view.standing events.LookShared) order ≡ None }
+        requires own { self.old.gate ≡ facts_of gate.now }
+        requires enabled { IsEnabled (hinders_control (sizes_at gate.now.key) true None self.old.view.standing events.LookShared) }
         ensures own { self.new.gate ≡ self.old.gate }
-        ensures step { ControlStep events.LookShared self.old.view self.new.view (Shared result) }
+        ensures step { ControlStep (facts_of gate.now) events.LookShared self.old.view self.new.view (Shared result) }
     {
         gate.table
             .shared
@@ -189,7 +198,7 @@ impl ControlSeat {
 
     /// Drops the initial reference and marks the zero that this left, if it left one.
     pub(crate) fn drop_initial(&mut self, gate: &GateTable) -> Put
-        requires own { self.old.gate ≡ gate.now.id }
+        requires own { self.old.gate ≡ facts_of gate.now }
         requires confirmed { self.old.view.standing ≡ standing Confirmed self.old.view.standing.kills }
         ensures view { self.new ≡ record self.old { view = after_drop_base result self.old.view } }
         ensures few { self.new.view.releases ≤ 2 ^ 41 }
@@ -204,11 +213,11 @@ impl ControlSeat {
     /// Takes the initial reference back, stores the next front and clears both marks. Whether ZERO was set
     /// when the reference was taken.
     pub(crate) fn revive(&mut self, gate: &GateTable, front: u64) -> bool
-        requires own { self.old.gate ≡ gate.now.id }
+        requires own { self.old.gate ≡ facts_of gate.now }
         requires dead { self.old.view.standing ≡ standing Dead self.old.view.standing.kills }
         requires next { front ≡ self.old.view.front + 1 }
-        ensures view { self.new ≡ record self.old { view = after_revival result self.old.view } }
-        ensures base { TakesBaseBack self.old.view result }
+        ensures view { self.new ≡ record self.old { view = after_revival LiveAtomic result self.old.view } }
+        ensures base { FindsZero (facts_of gate.now) self.old.view result }
     {
         let found = self.take_base(gate);
         self.next_front(gate, front);

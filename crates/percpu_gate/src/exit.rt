@@ -37,6 +37,15 @@ pub struct ExitFault<const W: usize> {
     pub control: Control<W>,
 }
 
+impl<const W: usize> ExitFault<W> {
+    /// The refusal's number: 4 or 6.
+    pub fn number(&self) -> u8
+        ensures { result ≡ exit_number self.now.why }
+    {
+        self.why.number()
+    }
+}
+
 /// What is left of a gate that has ended.
 #[derive(Clone, Copy, Debug, PartialEq, Eq)]
 pub struct Final<const W: usize> {

@@ -1,10 +1,11 @@
 //! A gate.
 ghost use Rattle.std.specs.Prelude.{◌≡◌, ◌≤◌, replicate, IfOk, IfErr, OnOk};
-ghost use Rattle.percpu_core.specs.Starts.{opening};
-ghost use Rattle.percpu_core.specs.Moments.{first_control, first_pass};
-ghost use Rattle.percpu_core.specs.ControlSteps.{is_dead};
+ghost use Rattle.percpu_core.specs.declared.phase.Phase.TheVariants.{Dead};
+ghost use Rattle.percpu_core.specs.Phases.{is_phase};
+ghost use Rattle.percpu_core.specs.Starts.{first_slot};
 ghost use Rattle.percpu_gate.specs.ControlCalls.{exit_refusal};
-ghost use Rattle.percpu_gate.specs.Exits.{why_of};
+ghost use Rattle.percpu_gate.specs.Exits.{why_of, Ended};
+ghost use Rattle.percpu_gate.specs.Seats.{facts_of, fresh_pass, fresh_control};
 
 use crate::control::Control;
 use crate::control_seat::ControlSeat;
@@ -12,7 +13,7 @@ use crate::exit::{ExitFault, Final};
 use crate::pass::Pass;
 use crate::rule::GateKey;
 use crate::table::GateTable;
-use percpu_core::{Memory, Phase, Start};
+use percpu_core::{Memory, PASS_LIMIT, Phase, SLOT_LIMIT, Slot, Start, WORD_LIMIT};
 use std::alloc::{AllocError, Global};
 use std::marker::Model;
 
@@ -27,11 +28,11 @@ pub struct Gate<const W: usize> {
 
 impl<const W: usize> Model for Gate<W> {
     ghost use Rattle.std.specs.Prelude.{◌≡◌};
-    ghost use Rattle.percpu_gate.specs.Seats.{GateFacts};
+    ghost use Rattle.percpu_gate.specs.Seats.{GateFacts, facts_of};
 
     ghost Value = { GateFacts };
 
-    ghost view = { λ g. record { id = g.table.id; slots = g.table.key.slots; start = g.table.key.start } };
+    ghost view = { λ g. facts_of g.table };
 
     ghost invariant = { λ g. g.table.key.count ≡ W };
 }
@@ -43,11 +44,11 @@ fn make_passes<const W: usize>(
     table: &GateTable,
     passes: u32,
 ) -> Result<Vec<Pass<W>>, AllocError>
-    requires own { seat.old.gate ≡ table.now.id }
+    requires own { seat.old.gate ≡ facts_of table.now }
     requires none { seat.old.view.passes ≡ 0 }
-    requires few { passes ≤ 64 }
+    requires few { passes ≤ PASS_LIMIT }
     ensures seat { OnOk result (seat.new ≡ record seat.old { view = record seat.old.view { passes = passes } }) }
-    ensures passes { IfOk result (λ made. made.items ≡ replicate passes (record { gate = table.now.id; view = first_pass })) }
+    ensures passes { IfOk result (λ made. made.items ≡ replicate passes (fresh_pass (facts_of table.now))) }
 {
     let mut made = Vec::with_capacity(alloc, passes as usize)?;
     for _ in 0..passes {
@@ -58,7 +59,7 @@ fn make_passes<const W: usize>(
 
 impl<const W: usize> Gate<W> {
     /// A gate with so many slots (1 to 64) and guarded words (up to 8), its control, and so many passes (1 to
-    /// 64) that hold nothing. Memory where a growth was refused. Linux: `percpu_ref_init`
+    /// 64) that hold nothing. Its slots are closed at the start. Memory where a growth was refused. Linux: `percpu_ref_init`
     /// (lib/percpu-refcount.c).
     pub fn new(
         alloc: Global,
@@ -67,12 +68,13 @@ impl<const W: usize> Gate<W> {
         start: Start,
         words: [u64; W],
     ) -> Result<NewGate<W>, Memory>
-        requires words { W ≤ 8 }
-        requires slots { (1 ≤ slots) × (slots ≤ 64) }
-        requires passes { (1 ≤ passes) × (passes ≤ 64) }
-        ensures gate { IfOk result (λ g. (g.0.slots ≡ slots) × (g.0.start ≡ start)) }
-        ensures control { IfOk result (λ g. g.1 ≡ record { gate = g.0.id; view = first_control (opening slots passes start 0 words.entry) }) }
-        ensures passes { IfOk result (λ g. g.2.items ≡ replicate passes (record { gate = g.0.id; view = first_pass })) }
+        requires words { W ≤ WORD_LIMIT }
+        requires slots { (1 ≤ slots) × (slots ≤ SLOT_LIMIT) }
+        requires passes { (1 ≤ passes) × (passes ≤ PASS_LIMIT) }
+        requires start { first_slot start ≡ Slot.Closed }
+        ensures gate { IfOk result (λ g. (g.0.slots ≡ slots) × (g.0.start ≡ start) × (g.0.words ≡ W)) }
+        ensures control { IfOk result (λ g. g.1 ≡ fresh_control g.0 passes words.entry) }
+        ensures passes { IfOk result (λ g. g.2.items ≡ replicate passes (fresh_pass g.0)) }
     {
         let (table, mut seat) = GateTable::new(alloc, &GateKey::new(slots, start, &words))?;
         let made = make_passes(alloc, &mut seat, &table, passes)?;
@@ -91,21 +93,24 @@ impl<const W: usize> Gate<W> {
     /// Ends a gate whose passes are all retired. Refuses MidSwitch, PassesOut. Linux: `percpu_ref_exit`
     /// (lib/percpu-refcount.c).
     pub fn exit(self, control: Control<W>) -> Result<Final<W>, ExitFault<W>>
-        requires own { control.gate ≡ self.id }
+        requires own { control.gate ≡ self }
         ensures refused { exit_refusal control.entry.view.standing.phase control.entry.view.passes ≡ why_of result }
         ensures unchanged { IfErr result (λ f. (f.gate ≡ self.entry) × (f.control ≡ control.entry)) }
-        ensures ended { IfOk result (λ f. (f.dead ≡ is_dead control.entry.view.standing.phase) × (f.kills ≡ control.entry.view.standing.kills)
+        ensures ended { IfOk result (λ f. (f.dead ≡ is_phase Dead control.entry.view.standing.phase) × (f.kills ≡ control.entry.view.standing.kills)
             × (f.releases ≡ control.entry.view.releases) × (f.words ≡ control.entry.view.words)) }
+        ensures nothing_lost { IfOk result (λ f. Ended self.entry control.entry.view) }
     {
-        if let Some(why) = control.test_exit() {
+        if let Some(why) = control.refuse_exit() {
             let gate = self;
             return Err(ExitFault { why, gate, control });
         }
-        Ok(Final {
+        let ended = Final {
             dead: control.phase() == Phase::Dead,
             kills: control.kills(),
             releases: control.releases(),
             words: control.words(),
-        })
+        };
+        self.table.close(control.into_seat());
+        Ok(ended)
     }
 }

@@ -1,16 +1,17 @@
 //! A pass: what a thread counts with.
-ghost use Rattle.std.specs.Prelude.{◌≡◌, ℕ, ◌∷◌, ◌+◌, ◌-◌, ◌%◌, ◌^◌, ◌<◌, ◌≤◌, true, if◌then◌else◌};
+ghost use Rattle.std.specs.Prelude.{◌≡◌, ℕ, ◌∷◌, ◌+◌, ◌-◌, ◌%◌, ◌^◌, ◌<◌, ◌≤◌, true, false, if◌then◌else◌};
 ghost use Rattle.percpu_core.specs.declared.pass_event.PassEvent.TheVariants as events;
-ghost use Rattle.percpu_core.specs.declared.reply.Reply.TheVariants.{Number, Shared};
-ghost use Rattle.percpu_words.specs.SharedWord.{parts};
-ghost use Rattle.percpu_core.specs.Moments.{first_pass};
+ghost use Rattle.percpu_core.specs.declared.reply.Reply.TheVariants.{Number};
+ghost use Rattle.percpu_core.specs.PassLearns.{next_even};
+ghost use Rattle.percpu_core.specs.Snapshots.{first_pass};
 ghost use Rattle.percpu_gate.specs.declared.tried.Tried.TheVariants.{Given};
-ghost use Rattle.percpu_gate.specs.Seats.{PassStep};
-ghost use Rattle.percpu_gate.specs.Calls.{holding, is_refused, after_put, TryLeaves, LookLeaves, HasRead};
+ghost use Rattle.percpu_gate.specs.Seats.{PassStep, dead_at, zero_at};
+ghost use Rattle.percpu_gate.specs.Calls.{holding, is_refused, after_put, TryLeaves, TryFinds, LiveTryFinds, GetLeaves, PassLook, LookLeaves, HasRead};
 
 use crate::gate::Gate;
 use crate::pass_seat::PassSeat;
 use crate::tried::{Put, Tried};
+use percpu_core::HELD_LIMIT;
 use percpu_words::{is_dead, is_zero};
 use std::marker::Model;
 
@@ -27,6 +28,7 @@ pub struct Pass<const W: usize> {
 
 impl<const W: usize> Model for Pass<W> {
     ghost use Rattle.std.specs.Prelude.{◌≡◌, ◌^◌, ◌≤◌};
+    ghost use Rattle.percpu_core.specs.declared.limits.TheConstants.{HELD_LIMIT};
     ghost use Rattle.percpu_gate.specs.Seats.{PassFacts};
     ghost use Rattle.percpu_gate.specs.Calls.{holding};
 
@@ -34,8 +36,8 @@ impl<const W: usize> Model for Pass<W> {
 
     ghost view = { λ p. p.seat };
 
-    ghost invariant = { λ p. (p.seat.view.standing ≡ holding p.held) × (p.held ≤ 65535)
-        × (p.seat.view.seen_front ≡ p.seen_front) × (p.seat.view.releases ≡ p.releases) × (p.releases ≤ 2 ^ 41) };
+    ghost invariant = { λ p. (p.seat.view.standing ≡ holding p.held) × (p.held ≤ HELD_LIMIT)
+        × (p.seat.view.seen_front ≡ p.seen_front) × (p.seen_front ≤ p.seat.view.floor) × (p.seat.view.releases ≡ p.releases) × (p.releases ≤ 2 ^ 41) };
 }
 
 impl<const W: usize> Pass<W> {
@@ -56,15 +58,16 @@ impl<const W: usize> Pass<W> {
     #[inline]
     pub fn held(&self) -> u32
         ensures value { self.now.view.standing ≡ holding result }
-        ensures most { result ≤ 65535 }
+        ensures most { result ≤ HELD_LIMIT }
     {
         self.held
     }
 
-    /// The greatest front that this pass has seen, 0 before it has seen one.
+    /// The greatest front that this pass has seen, 0 before it has seen one. Its floor is no less.
     #[inline]
     pub fn seen_front(&self) -> u64
-        ensures { result ≡ self.now.view.seen_front }
+        ensures value { result ≡ self.now.view.seen_front }
+        ensures floor { result ≤ self.now.view.floor }
     {
         self.seen_front
     }
@@ -73,59 +76,55 @@ impl<const W: usize> Pass<W> {
     /// Linux: `percpu_ref_tryget` (include/linux/percpu-refcount.h).
     #[inline]
     pub fn try_get(&mut self, gate: &Gate<W>, _slot: u32) -> Tried
-        requires own { self.old.gate ≡ gate.now.id }
+        requires own { self.old.gate ≡ gate.now }
         requires slot { _slot < gate.now.slots }
-        requires room { self.old.view.standing.held < 65535 }
+        requires room { self.old.view.standing.held < HELD_LIMIT }
         ensures own { self.new.gate ≡ self.old.gate }
         ensures leaves { TryLeaves self.old.view self.new.view result }
-        ensures floor { self.new.view.floor ≡ self.old.view.floor }
+        ensures finds { TryFinds gate.now self.old.view result }
         ensures again { 0 < self.old.view.standing.held → result ≡ Given }
         ensures ground { is_refused result ≡ true → (self.new.view.found_dead ≡ true) × (self.new.view.found_zero ≡ true) }
     {
-        if self.seat.add_try(&gate.table) {
-            self.held += 1;
-            Tried::Given
-        } else {
-            let answer = self.seat.put_back(&gate.table);
-            self.releases += answer.released();
-            Tried::Refused(answer)
-        }
+        let is_given = self.seat.add_try(&gate.table);
+        let answer = self.seat.end_try(&gate.table, is_given);
+        self.held += answer.taken();
+        self.releases += answer.released();
+        answer
     }
 
-    /// Takes a reference unless the gate was killed. Once the pass has seen the odd front of a kill, a later
-    /// reference is one of a later life. Linux: `percpu_ref_tryget_live`
-    /// (include/linux/percpu-refcount.h).
+    /// Takes a reference unless the gate was killed. Once the pass has seen the odd front `f` of a kill, a
+    /// reference that it is given belongs to a later life: its floor is `f + 1` or more. Linux:
+    /// `percpu_ref_tryget_live` (include/linux/percpu-refcount.h).
     #[inline]
     pub fn try_get_live(&mut self, gate: &Gate<W>, _slot: u32) -> Tried
-        requires own { self.old.gate ≡ gate.now.id }
+        requires own { self.old.gate ≡ gate.now }
         requires slot { _slot < gate.now.slots }
-        requires room { self.old.view.standing.held < 65535 }
+        requires room { self.old.view.standing.held < HELD_LIMIT }
         ensures own { self.new.gate ≡ self.old.gate }
         ensures leaves { TryLeaves self.old.view self.new.view result }
-        ensures floor { self.new.view.floor ≡ (if is_refused result then self.old.view.floor else self.old.view.floor + self.old.view.floor % 2) }
+        ensures finds { LiveTryFinds gate.now _slot self.old.view result }
+        ensures floor { self.new.view.floor ≡ (if is_refused result then self.old.view.floor else next_even self.old.view.floor) }
+        ensures later { is_refused result ≡ false → self.old.view.seen_front % 2 ≡ 1 → self.old.view.seen_front + 1 ≤ self.new.view.floor }
         ensures ground { is_refused result ≡ true → self.new.view.found_dead ≡ true }
     {
-        if self.seat.add_live(&gate.table) {
-            self.held += 1;
-            Tried::Given
-        } else {
-            let answer = self.seat.put_back(&gate.table);
-            self.releases += answer.released();
-            Tried::Refused(answer)
-        }
+        let is_given = self.seat.add_live(&gate.table);
+        let answer = self.seat.end_try(&gate.table, is_given);
+        self.held += answer.taken();
+        self.releases += answer.released();
+        answer
     }
 
     /// Takes `n` references more, for a pass that holds one. Linux: `percpu_ref_get_many`
     /// (include/linux/percpu-refcount.h).
     #[inline]
     pub fn get(&mut self, gate: &Gate<W>, _slot: u32, n: u32)
-        requires own { self.old.gate ≡ gate.now.id }
+        requires own { self.old.gate ≡ gate.now }
         requires slot { _slot < gate.now.slots }
         requires held { 1 ≤ self.old.view.standing.held }
         requires amount { 1 ≤ n }
-        requires room { self.old.view.standing.held + n ≤ 65535 }
+        requires room { self.old.view.standing.held + n ≤ HELD_LIMIT }
         ensures own { self.new.gate ≡ self.old.gate }
-        ensures view { self.new.view ≡ record self.old.view { standing = holding (self.old.view.standing.held + n) } }
+        ensures leaves { GetLeaves self.old.view self.new.view n }
     {
         self.seat.add_get(&gate.table, n);
         self.held += n;
@@ -135,7 +134,7 @@ impl<const W: usize> Pass<W> {
     /// (include/linux/percpu-refcount.h).
     #[inline]
     pub fn put(&mut self, gate: &Gate<W>, _slot: u32, n: u32) -> Put
-        requires own { self.old.gate ≡ gate.now.id }
+        requires own { self.old.gate ≡ gate.now }
         requires slot { _slot < gate.now.slots }
         requires amount { 1 ≤ n }
         requires held { n ≤ self.old.view.standing.held }
@@ -148,13 +147,13 @@ impl<const W: usize> Pass<W> {
         answer
     }
 
-    /// The front: even while the gate is live, odd from the confirmation of a kill until it is revived. It
-    /// only grows.
+    /// The front, which only grows: odd from the confirmation of a kill to the first step of the next life,
+    /// which stores the next even one.
     #[inline]
     pub fn front(&mut self, gate: &Gate<W>) -> u64
-        requires own { self.old.gate ≡ gate.now.id }
+        requires own { self.old.gate ≡ gate.now }
         ensures own { self.new.gate ≡ self.old.gate }
-        ensures step { PassStep events.LoadFront self.old.view self.new.view (Number result) }
+        ensures step { PassStep gate.now events.LoadFront self.old.view self.new.view (Number result) }
         ensures view { self.new.view ≡ record self.old.view { seen_front = result; floor = result } }
         ensures floor { self.old.view.floor ≤ result }
         ensures greatest { self.old.view.seen_front ≤ result }
@@ -167,9 +166,9 @@ impl<const W: usize> Pass<W> {
     /// (include/linux/percpu-refcount.h).
     #[inline]
     pub fn is_dying(&mut self, gate: &Gate<W>) -> bool
-        requires own { self.old.gate ≡ gate.now.id }
+        requires own { self.old.gate ≡ gate.now }
         ensures own { self.new.gate ≡ self.old.gate }
-        ensures step { (found : ℕ) × PassStep events.LookShared self.old.view self.new.view (Shared found) × (result ≡ (parts found).dead) }
+        ensures step { (look : PassLook gate.now self.old.view self.new.view) × (result ≡ dead_at look.moment) }
         ensures leaves { LookLeaves self.old.view self.new.view }
         ensures ground { result ≡ true → self.new.view.found_dead ≡ true }
     {
@@ -180,9 +179,9 @@ impl<const W: usize> Pass<W> {
     /// (include/linux/percpu-refcount.h).
     #[inline]
     pub fn is_zero(&mut self, gate: &Gate<W>) -> bool
-        requires own { self.old.gate ≡ gate.now.id }
+        requires own { self.old.gate ≡ gate.now }
         ensures own { self.new.gate ≡ self.old.gate }
-        ensures step { (found : ℕ) × PassStep events.LookShared self.old.view self.new.view (Shared found) × (result ≡ (parts found).zero) }
+        ensures step { (look : PassLook gate.now self.old.view self.new.view) × (result ≡ zero_at look.moment) }
         ensures leaves { LookLeaves self.old.view self.new.view }
         ensures ground { result ≡ true → (self.new.view.found_zero ≡ true) × (self.new.view.standing.held ≡ 0) }
     {
@@ -192,11 +191,11 @@ impl<const W: usize> Pass<W> {
     /// The guarded word `k`, for a pass that holds a reference: one value for as long as it holds one.
     #[inline]
     pub fn word(&mut self, gate: &Gate<W>, k: u32) -> u64
-        requires own { self.old.gate ≡ gate.now.id }
+        requires own { self.old.gate ≡ gate.now }
         requires held { 1 ≤ self.old.view.standing.held }
         requires word { k < W }
         ensures own { self.new.gate ≡ self.old.gate }
-        ensures step { PassStep (events.LoadWord k) self.old.view self.new.view (Number result) }
+        ensures step { PassStep gate.now (events.LoadWord k) self.old.view self.new.view (Number result) }
         ensures view { self.new.view ≡ record self.old.view { read = record { word = k; value = result } ∷ self.old.view.read } }
         ensures same { (v : ℕ) → HasRead k v self.old.view.read → result ≡ v }
     {

@@ -1,62 +1,62 @@
 //! What each atomic step of a pass tells it: which event of the core's machine it was.
 ghost use Rattle.std.specs.Prelude.{◌-◌};
 ghost use Rattle.percpu_core.specs.declared.pass_event.PassEvent.TheVariants as events;
-ghost use Rattle.percpu_core.specs.Moments.{view_after};
+ghost use Rattle.percpu_core.specs.Snapshots.{view_after};
 ghost use Rattle.percpu_gate.specs.Rule.{Took, shared_number, front_number, guarded_number};
 
+use crate::rule::SeatView;
 use atomic_table::Play;
-use percpu_core::View;
 
 pub(crate) struct AddsTry;
 
-impl Play<(), View> for AddsTry {
+impl Play<(), SeatView> for AddsTry {
     ghost then = { λ s. Took (view_after events.AddTry) shared_number };
 }
 
 pub(crate) struct AddsLive;
 
-impl Play<(), View> for AddsLive {
+impl Play<(), SeatView> for AddsLive {
     ghost then = { λ s. Took (view_after events.AddLive) shared_number };
 }
 
 pub(crate) struct AddsGet;
 
-impl Play<(), View> for AddsGet {
+impl Play<(), SeatView> for AddsGet {
     ghost then = { λ s. Took (view_after (events.AddGet s.first)) shared_number };
 }
 
 pub(crate) struct Subtracts;
 
-impl Play<(), View> for Subtracts {
+impl Play<(), SeatView> for Subtracts {
     ghost then = { λ s. Took (view_after (events.Sub s.first)) shared_number };
 }
 
 pub(crate) struct Undoes;
 
-impl Play<(), View> for Undoes {
+impl Play<(), SeatView> for Undoes {
     ghost then = { λ s. Took (view_after events.Undo) shared_number };
 }
 
 pub(crate) struct Marks;
 
-impl Play<(), View> for Marks {
+impl Play<(), SeatView> for Marks {
     ghost then = { λ s. Took (view_after events.Mark) shared_number };
 }
 
 pub(crate) struct Looks;
 
-impl Play<(), View> for Looks {
+impl Play<(), SeatView> for Looks {
     ghost then = { λ s. Took (view_after events.LookShared) shared_number };
 }
 
 pub(crate) struct LoadsFront;
 
-impl Play<(), View> for LoadsFront {
+impl Play<(), SeatView> for LoadsFront {
     ghost then = { λ s. Took (view_after events.LoadFront) front_number };
 }
 
 pub(crate) struct LoadsWord;
 
-impl Play<(), View> for LoadsWord {
+impl Play<(), SeatView> for LoadsWord {
     ghost then = { λ s. Took (view_after (events.LoadWord (s.word - 2))) (guarded_number (s.word - 2)) };
 }

@@ -1,14 +1,15 @@
 //! The words of a gate, which its seats step on.
 ghost use Rattle.std.specs.Prelude.{◌≡◌, ◌≤◌, ℕ, List, length, take, IfOk};
 ghost use Rattle.percpu_core.specs.Starts.{first_cells};
-ghost use Rattle.percpu_core.specs.Moments.{first_control};
+ghost use Rattle.percpu_core.specs.Snapshots.{first_control};
 ghost use Rattle.percpu_gate.specs.Layout.{layout, words_in_all};
 ghost use Rattle.percpu_gate.specs.Rule.{opening_of};
+ghost use Rattle.percpu_gate.specs.Seats.{facts_of, Moment};
+ghost use Rattle.percpu_core.specs.declared.view.View.TheVariants.{OfControl};
 
 use crate::control_seat::ControlSeat;
-use crate::rule::{GateKey, GateRule};
+use crate::rule::{GateKey, GateRule, SeatView};
 use atomic_table::Table;
-use percpu_core::View;
 use std::alloc::{AllocError, Global};
 use std::marker::Model;
 
@@ -30,7 +31,7 @@ const WORDS_OF_A_SLOT: usize = 16;
 /// The words of a gate.
 #[derive(Drop)]
 pub(crate) struct GateTable {
-    pub(crate) table: Table<(), View, GateKey, GateRule, Global>,
+    pub(crate) table: Table<(), SeatView, GateKey, GateRule, Global>,
     slots: u32,
 }
 
@@ -70,13 +71,22 @@ impl GateTable {
     pub(crate) fn new(alloc: Global, key: &GateKey) -> Result<(GateTable, ControlSeat), AllocError>
         requires count { key.now.count ≤ 8 }
         requires slots { (1 ≤ key.now.slots) × (key.now.slots ≤ 64) }
-        ensures table { IfOk result (λ r. (r.0.key ≡ key.now) × (r.1.gate ≡ r.0.id)) }
+        ensures table { IfOk result (λ r. (r.0.key ≡ key.now) × (r.1.gate ≡ facts_of r.0)) }
         ensures control { IfOk result (λ r. r.1.view ≡ record (first_control (opening_of key.now)) { passes = 0 }) }
     {
         let words = first_words(alloc, key)?;
         let (table, seat) = Table::of_words(alloc, words.as_slice(), key)?;
         let slots = key.slots;
         Ok((GateTable { table, slots }, ControlSeat::of(seat)))
+    }
+
+    /// Ends the table, with the control's seat. There was a last moment, of which the laws hold.
+    pub(crate) fn close(self, control: ControlSeat)
+        requires own { control.gate ≡ facts_of self }
+        ensures { Moment (facts_of self) (OfControl control.view) }
+    {
+        let closed = self.table.close_with(control.into_seat());
+        closed.free();
     }
 
     /// The slots of the gate.

@@ -4,3 +4,4 @@ mod ends;
 mod kills;
 mod revivals;
 mod threads;
+mod trial;

@@ -1,6 +1,6 @@
 //! What the counting calls answer.
 ghost use Rattle.std.specs.Prelude.{◌≡◌};
-ghost use Rattle.percpu_gate.specs.Calls.{released};
+ghost use Rattle.percpu_gate.specs.Calls.{released, taken, released_by};
 ghost use Rattle.percpu_gate.specs.Seats.{put_of};
 
 /// What a put answers.
@@ -15,6 +15,7 @@ pub enum Put {
 
 impl Put {
     /// The answer where the exchange that marks zero was won, or lost.
+    #[inline]
     pub(crate) fn of(is_won: bool) -> Put
         ensures { result ≡ put_of is_won }
     {
@@ -22,6 +23,7 @@ impl Put {
     }
 
     /// 1 for a release, else 0.
+    #[inline]
     pub(crate) fn released(self) -> u64
         ensures { result ≡ released self }
     {
@@ -39,4 +41,28 @@ pub enum Tried {
     Given,
     /// No reference was given. The try had added 1, and putting that back answered this.
     Refused(Put),
+}
+
+impl Tried {
+    /// The references that it gives: 1 or 0.
+    #[inline]
+    pub(crate) fn taken(self) -> u32
+        ensures { result ≡ taken self }
+    {
+        match self {
+            Tried::Given => 1,
+            Tried::Refused(_) => 0,
+        }
+    }
+
+    /// 1 for a release, else 0.
+    #[inline]
+    pub(crate) fn released(self) -> u64
+        ensures { result ≡ released_by self }
+    {
+        match self {
+            Tried::Given => 0,
+            Tried::Refused(answer) => answer.released(),
+        }
+    }
 }

@@ -1,2 +1,4 @@
 pub mod SharedWord
 pub mod Words
+pub mod SlotWord
+pub mod SlotWords

@@ -14,6 +14,10 @@ zero_mark = 2 ^ 63
 abbrev pub dead_mark : ℕ
 dead_mark = 2 ^ 62
 
+-- what is added to the value while slots are open, so that it can't reach zero
+abbrev pub bias : ℕ
+bias = 2 ^ 48
+
 -- the number that spells a word whose value is below 2 ^ 62
 abbrev pub spelling : SharedWord → ℕ
 spelling s = (if s.zero then zero_mark else 0) + (if s.dead then dead_mark else 0) + s.value

@@ -3,11 +3,17 @@
 //! A gate counts references in a *shared word*. Bits 0 to 61 are the count. Bit 62, `DEAD`, says that
 //! the gate was killed, and bit 63, `ZERO`, that the count has reached zero since. All three change
 //! together in one atomic step, and adding to the count leaves the marks alone.
+//!
+//! While a gate counts on slots, each is a word of its own: bit 63 alone where it is closed, else `2^32 + d` for the delta `d`,
+//! what was taken on it less what was given back on it. The shared value has a bias in it then, so that it can't reach zero
+//! by what the slots hold.
 #![tactic(auto)]
 
 mod shared_word;
+mod slot;
 
 pub use shared_word::{
-    DEAD, ZERO, counting_keeps_the_marks, is_dead, is_zero, marking_keeps_the_value,
+    BIAS, DEAD, ZERO, counting_keeps_the_marks, is_dead, is_zero, marking_keeps_the_value,
     shared_word_is_its_parts, value,
 };
+pub use slot::{CLOSED, DELTA_MAX, each_delta_has_its_word, is_closed, slot_delta, slot_word};

@@ -1,3 +1,4 @@
 pub mod SectorBytes
 pub mod RunLists
 pub mod PatternSectors
+pub mod SectorWrites

@@ -3,7 +3,7 @@ use Rattle.std.proofs.Common.{◌≡◌, ℕ, zero, suc, ◌+◌, ◌-◌, ◌*�
 use Rattle.std.specs.List.{range_with_len, slice_index}
 use Rattle.std.proofs.Math.Nat.{add-mul-mod_self_right, div-add-mod', mod-add-mod, mod-lt}
 use Rattle.std.proofs.lemmas.List.{length-replicate, get_or-replicate, length-take-le, get_or-take, get_or-drop}
-use Rattle.std.proofs.lemmas.List.Elements.{All-from_get_or}
+use Rattle.std.proofs.lemmas.List.Elements.{All-from_get_or, All-get_or, All-map}
 use Rattle.std.proofs.lemmas.List.FromFn.{fill_by_all, map-range_with_len_more, length-map-range_with_len, get_or-map-range_with_len}
 use Rattle.ram_disk.specs.declared.sector.TheConstants.{SECTOR_BYTES}
 use Rattle.ram_disk.specs.Sector.{IsSector, bytes_of, filled_with}
@@ -80,16 +80,24 @@ length-pattern_sectors pattern count = length-map-range_with_len (pattern_sector
 pub get_or-pattern_sectors : (pattern : List ℕ) (count number : ℕ) (other : List ℕ) → number < count → get_or (pattern_sectors pattern count) number other ≡ pattern_sector pattern number
 get_or-pattern_sectors pattern count number other below = get_or-map-range_with_len (pattern_sector pattern) 0 count number number other below (omega arith)
 
-IsSector-pattern_sector : (pattern : List ℕ) (number : ℕ) → IsSector (pattern_sector pattern number)
-unfolding pattern_sector
-IsSector-pattern_sector pattern number = length-map-range_with_len (λ place. pattern_byte pattern (number * SECTOR_BYTES + place)) 0 SECTOR_BYTES
+byte-pattern_byte : (pattern : List ℕ) (place : ℕ) → All (λ byte. byte < 256) pattern → 0 < length pattern → pattern_byte pattern place < 256
+byte-pattern_byte pattern place small some = All-get_or (λ byte. byte < 256) pattern (place % length pattern) 0 (mod-lt place some) small
 
-pub All-pattern_sectors : (pattern : List ℕ) (count : ℕ) → All IsSector (pattern_sectors pattern count)
-All-pattern_sectors pattern count =
+IsSector-pattern_sector : (pattern : List ℕ) (number : ℕ) → All (λ byte. byte < 256) pattern → 0 < length pattern → IsSector (pattern_sector pattern number)
+unfolding pattern_sector
+IsSector-pattern_sector pattern number small some = (
+  length-map-range_with_len (λ place. pattern_byte pattern (number * SECTOR_BYTES + place)) 0 SECTOR_BYTES,
+  All-map (λ byte. byte < 256) (λ place. pattern_byte pattern (number * SECTOR_BYTES + place)) (range_with_len 0 SECTOR_BYTES)
+      (All-from_get_or (λ place. pattern_byte pattern (number * SECTOR_BYTES + place) < 256) (range_with_len 0 SECTOR_BYTES) 0
+      (λ i below. byte-pattern_byte pattern (number * SECTOR_BYTES + get_or (range_with_len 0 SECTOR_BYTES) i 0) small some)),
+)
+
+pub All-pattern_sectors : (pattern : List ℕ) (count : ℕ) → All (λ byte. byte < 256) pattern → 0 < length pattern → All IsSector (pattern_sectors pattern count)
+All-pattern_sectors pattern count small some =
     All-from_get_or IsSector (pattern_sectors pattern count) []
     (λ i below.
     let size = length-pattern_sectors pattern count in
-    rw (get_or-pattern_sectors pattern count i [] (omega arith)) (IsSector-pattern_sector pattern i))
+    rw (get_or-pattern_sectors pattern count i [] (omega arith)) (IsSector-pattern_sector pattern i small some))
 
 -- ---- the bytes of these sectors
 

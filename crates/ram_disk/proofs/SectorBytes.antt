@@ -1,15 +1,15 @@
 -- The bytes of sectors laid end to end.
-use Rattle.std.proofs.Common.{◌≡◌, ℕ, zero, suc, ◌+◌, ◌*◌, ◌≤◌, List, [], ◌∷◌, ◌++◌, length, take, drop, replicate, All, refl, sym, ap, ◌∙◌, append_assoc, length-append, length-drop, arith}
+use Rattle.std.proofs.Common.{◌≡◌, ℕ, zero, suc, ◌+◌, ◌*◌, ◌<◌, ◌≤◌, List, [], ◌∷◌, ◌++◌, length, take, drop, replicate, All, refl, sym, ap, ◌∙◌, append_assoc, length-append, length-drop, arith}
 use Rattle.std.proofs.lemmas.List.{append-nil, length-replicate, replicate-append-replicate, take_at, drop_at, take-append-drop, length-take-le}
-use Rattle.std.proofs.lemmas.List.Elements.{All-head, All-tail, All-take, All-drop}
+use Rattle.std.proofs.lemmas.List.Elements.{All-head, All-tail, All-take, All-drop, All-replicate}
 use Rattle.ram_disk.specs.declared.sector.TheConstants.{SECTOR_BYTES}
 use Rattle.ram_disk.specs.Sector.{IsSector, filled_with, bytes_of}
 use Rattle.ram_disk.specs.Disk.{sectors_read, sectors_written}
 
 -- a sector of one byte is a sector
-pub IsSector-filled_with : (byte : ℕ) → IsSector (filled_with byte)
+pub IsSector-filled_with : (byte : ℕ) → byte < 256 → IsSector (filled_with byte)
 unfolding filled_with
-IsSector-filled_with byte = length-replicate 512 byte
+IsSector-filled_with byte small = (length-replicate 512 byte, All-replicate (λ b. b < 256) 512 byte small)
 
 pub bytes_of-append : (sectors others : List (List ℕ)) → bytes_of (sectors ++ others) ≡ bytes_of sectors ++ bytes_of others
 bytes_of-append [] others = refl
@@ -24,7 +24,7 @@ length-bytes_of [] whole = refl
 length-bytes_of (sector ∷ sectors) whole =
     let first = All-head IsSector sector sectors whole in
     let rest = length-bytes_of sectors (All-tail IsSector sector sectors whole) in
-    omega (arith, first, rest, length-append sector (bytes_of sectors))
+    omega (arith, first.0, rest, length-append sector (bytes_of sectors))
 
 -- the first sectors hold the first bytes, and the sectors after them the bytes after them
 pub bytes_of-take : (count : ℕ) (sectors : List (List ℕ)) → All IsSector sectors → count ≤ length sectors → bytes_of (take count sectors) ≡ take (count * SECTOR_BYTES) (bytes_of sectors)

@@ -3,3 +3,4 @@ pub mod Sector
 pub mod Disk
 pub mod Pattern
 pub mod Runs
+pub mod Writes

@@ -1,10 +1,10 @@
 -- What a sector is, and the bytes of sectors laid end to end.
-use Rattle.std.specs.Prelude.{◌≡◌, ℕ, List, [], ◌∷◌, ◌++◌, length, replicate}
+use Rattle.std.specs.Prelude.{◌≡◌, ℕ, ◌<◌, List, [], ◌∷◌, ◌++◌, length, replicate, All}
 use Rattle.ram_disk.specs.declared.sector.TheConstants.{SECTOR_BYTES}
 
--- a sector holds 512 bytes
+-- a sector holds 512 numbers, each of them a byte
 abbrev pub IsSector : List ℕ → Type 0
-IsSector bytes = length bytes ≡ SECTOR_BYTES
+IsSector bytes = (length bytes ≡ SECTOR_BYTES) × All (λ byte. byte < 256) bytes
 
 -- the sector that has one byte at every place
 unfoldable pub filled_with : ℕ → List ℕ

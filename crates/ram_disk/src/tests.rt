@@ -1,4 +1,7 @@
 //! Examples by hand, and the calls compared with plain loops over bytes.
+ghost use Rattle.std.specs.Prelude.{◌≤◌, length};
+ghost use Rattle.ram_disk.specs.declared.pattern.TheConstants.{MAX_PATTERN};
+
 use crate::{Disk, DiskFault, SECTOR_BYTES, Sector, patterned, runs};
 use std::alloc::Global;
 use std::process::Abort;
@@ -137,6 +140,13 @@ fn writes_go_where_asked(rt: HostRuntime) -> Result<(), Fail> {
     Ok(())
 }
 
+fn runs_of_pattern(alloc: Global, pattern: &[u8], count: u32) -> Result<usize, DiskFault>
+    requires { (1 ≤ length pattern.now) × (length pattern.now ≤ MAX_PATTERN) }
+{
+    let sectors = patterned(alloc, pattern, count)?;
+    Ok(runs(alloc, &sectors)?.len())
+}
+
 #[test]
 fn the_largest_disk(rt: HostRuntime) -> Result<(), Fail> {
     let alloc = rt.alloc();
@@ -147,6 +157,8 @@ fn the_largest_disk(rt: HostRuntime) -> Result<(), Fail> {
     );
     assert_eq!(rt; disk.share(alloc, 4095, 1)?.len(), 1);
     assert_eq!(rt; disk.share(alloc, 0, 4097).err(), Some(DiskFault::PastEnd));
+    // Of a pattern with no two equal neighbours each byte is a run, and a whole disk of them isn't too many.
+    assert_eq!(rt; runs_of_pattern(alloc, &SAMPLE, 4096)?, 4096 * SECTOR_BYTES);
     disk.install(0, patterned(alloc, &[255], 4096)?);
     assert_eq!(rt;
         disk.all_runs(alloc)?.as_slice(),

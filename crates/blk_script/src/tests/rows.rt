@@ -1,4 +1,4 @@
-//! Worked scripts, each with what it answers: the text, or the line and reason of its fault.
+//! Worked scripts, each with the text that its run on one thread writes.
 
 pub(super) struct Row {
     pub(super) name: &'static str,
@@ -6,8 +6,7 @@ pub(super) struct Row {
     pub(super) answer: &'static [u8],
 }
 
-/// Scripts that are answered.
-pub(super) const ANSWERED: &[Row] = &[
+pub(super) const ROWS: &[Row] = &[
     Row {
         name: "carriage_returns",
         script: b"blkq 1\r\ndisk 1 hw 1\r\nread 0 1\r\n",
@@ -27,6 +26,16 @@ pub(super) const ANSWERED: &[Row] = &[
         name: "one_write_one_read",
         script: b"blkq 1\ndisk 4 hw 2\nwrite 0 3 61\nread 3 1\n",
         answer: b"3 ok 2+1\n4 ok 1 00*512\ndisk 61*1536,00*512\n",
+    },
+    Row {
+        name: "overlap_of_reads",
+        script: b"blkq 1\ndisk 8 hw 8\nread 0 4\nread 2 4\nwrite 6 1 ff\n",
+        answer: b"3 ok 4 00*2048\n4 ok 4 00*2048\n5 ok 1\ndisk 00*3072,ff*512,00*512\n",
+    },
+    Row {
+        name: "drained_overlap",
+        script: b"blkq 1\ndisk 8 hw 8\nwrite 6 1 ff\nfreeze\nthaw\nread 6 2\n",
+        answer: b"3 ok 1\n4 depth 1\n5 depth 0\n6 ok 2 ff*512,00*512\ndisk 00*3072,ff*512,00*512\n",
     },
     Row {
         name: "past_the_end",
@@ -62,84 +71,5 @@ pub(super) const ANSWERED: &[Row] = &[
         name: "thaw_below_zero",
         script: b"blkq 1\ndisk 1 hw 1\nthaw\nread 0 1\n",
         answer: b"3 not frozen\n4 ok 1 00*512\ndisk 00*512\n",
-    },
-];
-
-/// Texts that mean no script.
-pub(super) const REFUSED: &[Row] = &[
-    Row {
-        name: "empty_input",
-        script: b"",
-        answer: b"line 1: no version",
-    },
-    Row {
-        name: "refused_disk_fixed_word",
-        script: b"blkq 1\ndisk 4 kw 8\n",
-        answer: b"line 2: unknown word",
-    },
-    Row {
-        name: "refused_disk_missing_word",
-        script: b"blkq 1\ndisk 4 hw\n",
-        answer: b"line 2: missing word",
-    },
-    Row {
-        name: "refused_disk_out_of_range",
-        script: b"blkq 1\ndisk 4097 hw 8\n",
-        answer: b"line 2: out of range",
-    },
-    Row {
-        name: "refused_no_disk",
-        script: b"blkq 1\n",
-        answer: b"line 2: no disk",
-    },
-    Row {
-        name: "refused_not_utf8",
-        script: b"blkq 1\ndisk 8 hw 8\nr\xff\n",
-        answer: b"line 3: not utf-8",
-    },
-    Row {
-        name: "refused_other_version",
-        script: b"blkq 3\n",
-        answer: b"line 1: no version",
-    },
-    Row {
-        name: "refused_read_bad_number",
-        script: b"blkq 1\ndisk 8 hw 8\nread x 1\n",
-        answer: b"line 3: bad number",
-    },
-    Row {
-        name: "refused_read_extra_word",
-        script: b"blkq 1\ndisk 8 hw 8\nread 0 1 2\n",
-        answer: b"line 3: extra word",
-    },
-    Row {
-        name: "refused_read_missing_word",
-        script: b"blkq 1\ndisk 8 hw 8\nread 0\n",
-        answer: b"line 3: missing word",
-    },
-    Row {
-        name: "refused_read_out_of_range",
-        script: b"blkq 1\ndisk 8 hw 8\nread 0 0\n",
-        answer: b"line 3: out of range",
-    },
-    Row {
-        name: "refused_set_word",
-        script: b"blkq 1\ndisk 8 hw 8\nset nr_requests 4\n",
-        answer: b"line 3: unknown word",
-    },
-    Row {
-        name: "refused_trim",
-        script: b"blkq 1\ndisk 8 hw 8\ntrim 0 1\n",
-        answer: b"line 3: unknown word",
-    },
-    Row {
-        name: "refused_write_long_hex",
-        script: b"blkq 1\ndisk 8 hw 8\nwrite 0 1 6161616161616161616161616161616161616161616161616161616161616161616161616161616161616161616161616161616161616161616161616161616161\n",
-        answer: b"line 3: bad hex",
-    },
-    Row {
-        name: "refused_write_odd_hex",
-        script: b"blkq 1\ndisk 8 hw 8\nwrite 0 1 6\n",
-        answer: b"line 3: bad hex",
     },
 ];

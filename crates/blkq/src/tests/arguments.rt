@@ -1,16 +1,8 @@
 //! The words that the program takes, and those that it doesn't.
+use super::driver::words;
 use crate::arguments::{Request, requested};
 use crate::config::Config;
-use std::alloc::{AllocError, Global};
 use std::test::Fail;
-
-fn words(alloc: Global, line: &str) -> Result<Vec<String>, AllocError> {
-    let mut all = Vec::new(alloc);
-    for word in line.split_whitespace() {
-        all.push(String::from_str(alloc, word)?)?;
-    }
-    Ok(all)
-}
 
 #[test]
 fn runs(rt: HostRuntime) -> Result<(), Fail> {
@@ -71,18 +63,4 @@ fn other_words(rt: HostRuntime) -> Result<(), Fail> {
         );
     }
     Ok(())
-}
-
-#[test]
-fn shapes_outside_the_limits(rt: HostRuntime) {
-    for (workers, slots, tags) in [
-        (0, 1, 1),
-        (33, 1, 1),
-        (1, 0, 1),
-        (1, 65, 1),
-        (1, 1, 0),
-        (1, 1, 64),
-    ] {
-        assert_eq!(rt; Config::new(workers, slots, tags), None);
-    }
 }

@@ -1,35 +1,51 @@
 //! Worked schedules with their replies.
+use super::slots::KILLED_IN_SLOTS;
 use super::{CONTROL_LOOK, CONTROL_MARK, answers, refuses};
 use crate::ControlEvent::{
     ClearDead, Confirm, DropBase, Join, MarkDead, NextFront, StoreWord, TakeBase,
 };
 use crate::Event::{Control, Pass};
 use crate::PassEvent::{AddLive, AddTry, LoadFront, LoadWord, LookShared, Mark, Sub, Undo};
-use crate::{Memory, NotEnabled, Phase, ReplayFault, Reply, Start, World, replay};
+use crate::{Event, Memory, NotEnabled, Phase, ReplayFault, Reply, Start, World, replay};
 use std::test::Fail;
+
+/// Two passes, killed and revived twice.
+const TWO_KILLS: [Event; 17] = [
+    Pass(0, AddTry),
+    Pass(1, AddTry),
+    Control(MarkDead),
+    Control(Confirm),
+    Control(DropBase),
+    Pass(1, Sub(1)),
+    Pass(0, Sub(1)),
+    Control(TakeBase),
+    Control(NextFront),
+    Control(ClearDead),
+    Pass(1, AddTry),
+    Control(MarkDead),
+    Control(Confirm),
+    Control(DropBase),
+    Pass(1, Sub(1)),
+    Pass(0, Mark),
+    Pass(1, Mark),
+];
+
+/// A gate that starts dead, revived and killed.
+const DEAD_START: [Event; 9] = [
+    Pass(0, AddTry),
+    Control(TakeBase),
+    Control(NextFront),
+    Control(ClearDead),
+    Control(MarkDead),
+    Control(Confirm),
+    Control(DropBase),
+    Pass(0, Undo),
+    Pass(0, Mark),
+];
 
 #[test]
 fn replay_two_kills(rt: HostRuntime) -> Result<(), Fail> {
     let mut world = World::new(rt.alloc(), 1, 2, Start::Atomic, &[])?;
-    let events = [
-        Pass(0, AddTry),
-        Pass(1, AddTry),
-        Control(MarkDead),
-        Control(Confirm),
-        Control(DropBase),
-        Pass(1, Sub(1)),
-        Pass(0, Sub(1)),
-        Control(TakeBase),
-        Control(NextFront),
-        Control(ClearDead),
-        Pass(1, AddTry),
-        Control(MarkDead),
-        Control(Confirm),
-        Control(DropBase),
-        Pass(1, Sub(1)),
-        Pass(0, Mark),
-        Pass(1, Mark),
-    ];
     let want = [
         Reply::Given,
         Reply::Given,
@@ -49,7 +65,7 @@ fn replay_two_kills(rt: HostRuntime) -> Result<(), Fail> {
         Reply::Last,
         Reply::Lost,
     ];
-    answers(&rt, rt.alloc(), &mut world, &events, &want)?;
+    answers(&rt, rt.alloc(), &mut world, &TWO_KILLS, &want)?;
     assert_eq!(rt; world.shared(), 13_835_058_055_282_163_712);
     assert_eq!(rt; world.front(), 3);
     assert_eq!(rt; world.kills(), 2);
@@ -62,17 +78,6 @@ fn replay_two_kills(rt: HostRuntime) -> Result<(), Fail> {
 #[test]
 fn replay_dead_start(rt: HostRuntime) -> Result<(), Fail> {
     let mut world = World::new(rt.alloc(), 1, 1, Start::Dead, &[])?;
-    let events = [
-        Pass(0, AddTry),
-        Control(TakeBase),
-        Control(NextFront),
-        Control(ClearDead),
-        Control(MarkDead),
-        Control(Confirm),
-        Control(DropBase),
-        Pass(0, Undo),
-        Pass(0, Mark),
-    ];
     let want = [
         Reply::Refused,
         Reply::Done,
@@ -84,7 +89,7 @@ fn replay_dead_start(rt: HostRuntime) -> Result<(), Fail> {
         Reply::ToMark,
         Reply::Last,
     ];
-    answers(&rt, rt.alloc(), &mut world, &events, &want)?;
+    answers(&rt, rt.alloc(), &mut world, &DEAD_START, &want)?;
     assert_eq!(rt; world.shared(), 13_835_058_055_282_163_712);
     assert_eq!(rt; world.front(), 3);
     assert_eq!(rt; world.kills(), 1);
@@ -195,27 +200,21 @@ fn guarded_words(rt: HostRuntime) -> Result<(), Fail> {
 /// The first part of a schedule and then the rest answer what the whole does.
 #[test]
 fn cut_anywhere(rt: HostRuntime) -> Result<(), Fail> {
-    let events = [
-        Pass(0, AddTry),
-        Control(MarkDead),
-        Control(Confirm),
-        Pass(0, LookShared),
-        Control(DropBase),
-        Pass(0, LoadFront),
-        Pass(0, Sub(1)),
-        Pass(0, Mark),
-        Pass(0, AddLive),
-        Pass(0, Undo),
-        Control(TakeBase),
+    let cases: [(Start, &[Event]); 3] = [
+        (Start::Atomic, &TWO_KILLS),
+        (Start::Dead, &DEAD_START),
+        (Start::Slots, &KILLED_IN_SLOTS),
     ];
-    let mut world = World::new(rt.alloc(), 1, 1, Start::Atomic, &[])?;
-    let whole = replay(rt.alloc(), &mut world, &events)?;
-    for at in 0..=events.len() {
-        let (first, rest) = events.split_at(at);
-        let mut world = World::new(rt.alloc(), 1, 1, Start::Atomic, &[])?;
-        let mut replies = replay(rt.alloc(), &mut world, first)?;
-        replies.extend_from_slice(replay(rt.alloc(), &mut world, rest)?.as_slice())?;
-        assert_eq!(rt; replies.as_slice(), whole.as_slice());
+    for (start, events) in cases {
+        let mut world = World::new(rt.alloc(), 2, 2, start, &[])?;
+        let whole = replay(rt.alloc(), &mut world, events)?;
+        for at in 0..=events.len() {
+            let (first, rest) = events.split_at(at);
+            let mut world = World::new(rt.alloc(), 2, 2, start, &[])?;
+            let mut replies = replay(rt.alloc(), &mut world, first)?;
+            replies.extend_from_slice(replay(rt.alloc(), &mut world, rest)?.as_slice())?;
+            assert_eq!(rt; replies.as_slice(), whole.as_slice());
+        }
     }
     Ok(())
 }

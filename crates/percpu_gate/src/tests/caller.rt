@@ -2,15 +2,14 @@
 ghost use Rattle.std.specs.Prelude.{◌≡◌, ◌<◌, ◌≤◌, true};
 ghost use Rattle.percpu_gate.specs.Calls.{holding};
 
-use crate::{Gate, Pass, Tried};
-use percpu_core::Start;
+use crate::{Gate, Pass, Start, Tried};
 use std::process::Abort;
 use std::test::Fail;
 
 /// A pass that was given a reference is given another by `try_get`, whatever the control does meanwhile. Once
 /// it has put both it holds none. All that the contract needs is told by the contracts of the calls.
 fn given_again<const W: usize>(gate: &Gate<W>, pass: &mut Pass<W>) -> bool
-    requires own { pass.old.gate ≡ gate.now.id }
+    requires own { pass.old.gate ≡ gate.now }
     requires slots { 0 < gate.now.slots }
     requires none { pass.old.view.standing ≡ holding 0 }
     ensures { (result ≡ true) × (pass.new.view.standing ≡ holding 0) }

@@ -1,47 +1,152 @@
 //! Kills, and what they refuse.
-use crate::{ControlFault, Gate, Put, Tried};
-use percpu_core::{Memory, Phase, Start};
+use super::trial::Answer::{
+    Confirmed, Done, Flag, In, Killed, NotAllowed, Number, Put, Revived, Set, ToClose, Tried,
+};
+use super::trial::Call::{Control, Pass};
+use super::trial::{Answer, Call, ControlCall, PassCall, Trial};
+use crate::ControlFault::{AlreadyDead, MidSwitch};
+use crate::Put::{Last, NotLast};
+use crate::Tried::{Given, Refused};
+use crate::{ControlFault, Gate, Memory, Phase, Start};
 use std::process::Abort;
 use std::test::Fail;
 
 /// Two passes, a kill while both hold, and the last put.
+const COUNTS_AND_IS_KILLED: [(Call, Answer); 15] = [
+    (Pass(0, PassCall::TryGet { slot: 0 }), Tried(Given)),
+    (Pass(1, PassCall::TryGetLive { slot: 0 }), Tried(Given)),
+    (Control(ControlCall::Kill), Killed(Ok(NotLast))),
+    (Control(ControlCall::Kill), Killed(Err(AlreadyDead))),
+    (
+        Pass(1, PassCall::TryGetLive { slot: 0 }),
+        Tried(Refused(NotLast)),
+    ),
+    (Pass(0, PassCall::IsDying), Flag(true)),
+    (Pass(0, PassCall::IsZero), Flag(false)),
+    (Pass(0, PassCall::Front), Number(1)),
+    (Pass(0, PassCall::SeenFront), Number(1)),
+    (Pass(0, PassCall::Put { slot: 0, n: 1 }), Put(NotLast)),
+    (Pass(1, PassCall::Put { slot: 0, n: 1 }), Put(Last)),
+    (
+        Pass(0, PassCall::TryGet { slot: 0 }),
+        Tried(Refused(NotLast)),
+    ),
+    (Control(ControlCall::IsZero), Flag(true)),
+    (Control(ControlCall::Kills), Number(1)),
+    (Control(ControlCall::Releases), Number(0)),
+];
+
+/// The closure of a kill is given the odd front, and its answer is handed back.
+const KILL_WITH_CONFIRM: [(Call, Answer); 3] = [
+    (
+        Control(ControlCall::KillAndConfirm),
+        Confirmed(Ok((Last, 1))),
+    ),
+    (
+        Control(ControlCall::KillAndConfirm),
+        Confirmed(Err(AlreadyDead)),
+    ),
+    (Control(ControlCall::Releases), Number(1)),
+];
+
+/// The steps of a kill one at a time, and the calls that they refuse meanwhile.
+const KILL_BY_STEPS: [(Call, Answer); 21] = [
+    (Control(ControlCall::Confirm), NotAllowed),
+    (Control(ControlCall::InPhase), In(Phase::LiveAtomic)),
+    (Control(ControlCall::MarkDead), ToClose(Ok(0))),
+    (Control(ControlCall::InPhase), In(Phase::Collected)),
+    (Pass(0, PassCall::Front), Number(0)),
+    (
+        Pass(0, PassCall::TryGetLive { slot: 63 }),
+        Tried(Refused(NotLast)),
+    ),
+    (Pass(0, PassCall::TryGet { slot: 63 }), Tried(Given)),
+    (Control(ControlCall::Kill), Killed(Err(MidSwitch))),
+    (Control(ControlCall::MarkDead), ToClose(Err(MidSwitch))),
+    (Control(ControlCall::Reinit), Set(Err(MidSwitch))),
+    (Control(ControlCall::Resurrect), Revived(Err(MidSwitch))),
+    (
+        Control(ControlCall::StoreWord { k: 0, v: 8 }),
+        Set(Err(MidSwitch)),
+    ),
+    (Control(ControlCall::DropBase), NotAllowed),
+    (Control(ControlCall::Confirm), Number(1)),
+    (Control(ControlCall::InPhase), In(Phase::Confirmed)),
+    (Pass(0, PassCall::Front), Number(1)),
+    (Control(ControlCall::DropBase), Put(NotLast)),
+    (Control(ControlCall::InPhase), In(Phase::Dead)),
+    (Pass(0, PassCall::Put { slot: 0, n: 1 }), Put(Last)),
+    (Pass(0, PassCall::Put { slot: 0, n: 1 }), NotAllowed),
+    (Pass(1, PassCall::Held), NotAllowed),
+];
+
+/// A gate that starts dead is at zero, and gives nothing until it is revived.
+const DEAD_START: [(Call, Answer); 12] = [
+    (Control(ControlCall::InPhase), In(Phase::Dead)),
+    (Control(ControlCall::Kills), Number(0)),
+    (Control(ControlCall::IsZero), Flag(true)),
+    (Control(ControlCall::Kill), Killed(Err(AlreadyDead))),
+    (Pass(0, PassCall::IsDying), Flag(true)),
+    (Pass(0, PassCall::IsZero), Flag(true)),
+    (Pass(0, PassCall::Front), Number(1)),
+    (
+        Pass(0, PassCall::TryGet { slot: 0 }),
+        Tried(Refused(NotLast)),
+    ),
+    (
+        Pass(0, PassCall::TryGetLive { slot: 0 }),
+        Tried(Refused(NotLast)),
+    ),
+    (Control(ControlCall::Reinit), Set(Ok(()))),
+    (Pass(0, PassCall::Front), Number(2)),
+    (Pass(0, PassCall::TryGetLive { slot: 0 }), Tried(Given)),
+];
+
+/// The most passes, and the most references of one.
+const AS_MANY_AS_MAY_BE: [(Call, Answer); 9] = [
+    (Pass(63, PassCall::TryGet { slot: 0 }), Tried(Given)),
+    (Pass(63, PassCall::Get { slot: 1, n: 65_534 }), Done),
+    (Pass(63, PassCall::Held), Number(65_535)),
+    (Pass(63, PassCall::TryGet { slot: 0 }), NotAllowed),
+    (Control(ControlCall::Kill), Killed(Ok(NotLast))),
+    (Pass(63, PassCall::Put { slot: 2, n: 65_534 }), Put(NotLast)),
+    (Pass(63, PassCall::Held), Number(1)),
+    (Pass(63, PassCall::Put { slot: 3, n: 1 }), Put(Last)),
+    (Pass(64, PassCall::Held), NotAllowed),
+];
+
 #[test]
 fn counts_and_is_killed(rt: HostRuntime) -> Result<(), Fail> {
-    let (gate, mut control, mut passes) = Gate::<0>::new(rt.alloc(), 1, 2, Start::Atomic, [])?;
-    let mut second = passes.pop().ok_or("a pass")?;
-    let mut first = passes.pop().ok_or("a pass")?;
-    assert_eq!(rt; gate.slots(), 1);
-    assert_eq!(rt; first.try_get(&gate, 0), Tried::Given);
-    assert_eq!(rt; second.try_get_live(&gate, 0), Tried::Given);
-    assert_eq!(rt; control.kill(&gate), Ok(Put::NotLast));
-    assert_eq!(rt; control.kill(&gate), Err(ControlFault::AlreadyDead));
-    assert_eq!(rt; second.try_get_live(&gate, 0), Tried::Refused(Put::NotLast));
-    assert!(rt; first.is_dying(&gate));
-    assert!(rt; !first.is_zero(&gate));
-    assert_eq!(rt; first.front(&gate), 1);
-    assert_eq!(rt; first.seen_front(), 1);
-    assert_eq!(rt; first.put(&gate, 0, 1), Put::NotLast);
-    assert_eq!(rt; second.put(&gate, 0, 1), Put::Last);
-    assert_eq!(rt; first.try_get(&gate, 0), Tried::Refused(Put::NotLast));
-    assert!(rt; control.is_zero(&gate));
-    assert_eq!(rt; control.kills(), 1);
-    assert_eq!(rt; control.releases(), 0);
+    let mut trial = Trial::<0>::new(rt.alloc(), 1, 2, Start::Atomic, [])?;
+    assert_eq!(rt; trial.differs(&COUNTS_AND_IS_KILLED), None);
     Ok(())
 }
 
-/// The closure of a kill is given the odd front, and its answer is handed back.
 #[test]
 fn kill_with_confirm(rt: HostRuntime) -> Result<(), Fail> {
-    let (gate, mut control, _passes) = Gate::<1>::new(rt.alloc(), 3, 1, Start::Atomic, [7])?;
-    assert_eq!(rt;
-        control.kill_and_confirm(&gate, |front| front),
-        Ok((Put::Last, 1))
-    );
-    assert_eq!(rt;
-        control.kill_and_confirm(&gate, |front| front),
-        Err(ControlFault::AlreadyDead)
-    );
-    assert_eq!(rt; control.releases(), 1);
+    let mut trial = Trial::<1>::new(rt.alloc(), 3, 1, Start::Atomic, [7])?;
+    assert_eq!(rt; trial.differs(&KILL_WITH_CONFIRM), None);
+    Ok(())
+}
+
+#[test]
+fn kill_by_steps(rt: HostRuntime) -> Result<(), Fail> {
+    let mut trial = Trial::<1>::new(rt.alloc(), 64, 1, Start::Atomic, [7])?;
+    assert_eq!(rt; trial.differs(&KILL_BY_STEPS), None);
+    Ok(())
+}
+
+#[test]
+fn dead_start(rt: HostRuntime) -> Result<(), Fail> {
+    let mut trial = Trial::<0>::new(rt.alloc(), 1, 1, Start::Dead, [])?;
+    assert_eq!(rt; trial.differs(&DEAD_START), None);
+    Ok(())
+}
+
+#[test]
+fn as_many_as_may_be(rt: HostRuntime) -> Result<(), Fail> {
+    let mut trial = Trial::<0>::new(rt.alloc(), 64, 64, Start::Atomic, [])?;
+    assert_eq!(rt; trial.differs(&AS_MANY_AS_MAY_BE), None);
     Ok(())
 }
 
@@ -58,72 +163,8 @@ fn closure_finds_the_base_held(rt: HostRuntime) -> Result<(), Fail> {
             pass.is_zero(&gate),
         )
     });
-    assert_eq!(rt; seen, Ok((Put::Last, (true, true, false))));
+    assert_eq!(rt; seen, Ok((Last, (true, true, false))));
     assert!(rt; control.is_zero(&gate));
-    Ok(())
-}
-
-/// The steps of a kill one at a time, and the calls that they refuse meanwhile.
-#[test]
-fn kill_by_steps(rt: HostRuntime) -> Result<(), Fail> {
-    let (gate, mut control, mut passes) = Gate::<1>::new(rt.alloc(), 64, 1, Start::Atomic, [7])?;
-    let mut pass = passes.pop().ok_or("a pass")?;
-    assert_eq!(rt; control.phase(), Phase::LiveAtomic);
-    assert_eq!(rt; control.mark_dead(&gate), Ok(0));
-    assert_eq!(rt; control.phase(), Phase::Collected);
-    assert_eq!(rt; pass.front(&gate), 0);
-    assert_eq!(rt; pass.try_get_live(&gate, 63), Tried::Refused(Put::NotLast));
-    assert_eq!(rt; pass.try_get(&gate, 63), Tried::Given);
-    assert_eq!(rt; control.kill(&gate), Err(ControlFault::MidSwitch));
-    assert_eq!(rt; control.mark_dead(&gate), Err(ControlFault::MidSwitch));
-    assert_eq!(rt; control.reinit(&gate), Err(ControlFault::MidSwitch));
-    assert_eq!(rt; control.resurrect(&gate), Err(ControlFault::MidSwitch));
-    assert_eq!(rt;
-        control.store_word(&gate, 0, 8),
-        Err(ControlFault::MidSwitch)
-    );
-    assert_eq!(rt; control.confirm(&gate), 1);
-    assert_eq!(rt; control.phase(), Phase::Confirmed);
-    assert_eq!(rt; pass.front(&gate), 1);
-    assert_eq!(rt; control.drop_base(&gate), Put::NotLast);
-    assert_eq!(rt; control.phase(), Phase::Dead);
-    assert_eq!(rt; pass.put(&gate, 0, 1), Put::Last);
-    Ok(())
-}
-
-/// A gate that starts dead is at zero, and gives nothing until it is revived.
-#[test]
-fn dead_start(rt: HostRuntime) -> Result<(), Fail> {
-    let (gate, mut control, mut passes) = Gate::<0>::new(rt.alloc(), 1, 1, Start::Dead, [])?;
-    let mut pass = passes.pop().ok_or("a pass")?;
-    assert_eq!(rt; control.phase(), Phase::Dead);
-    assert_eq!(rt; control.kills(), 0);
-    assert!(rt; control.is_zero(&gate));
-    assert_eq!(rt; control.kill(&gate), Err(ControlFault::AlreadyDead));
-    assert!(rt; pass.is_dying(&gate));
-    assert!(rt; pass.is_zero(&gate));
-    assert_eq!(rt; pass.front(&gate), 1);
-    assert_eq!(rt; pass.try_get(&gate, 0), Tried::Refused(Put::NotLast));
-    assert_eq!(rt; pass.try_get_live(&gate, 0), Tried::Refused(Put::NotLast));
-    assert_eq!(rt; control.reinit(&gate), Ok(()));
-    assert_eq!(rt; pass.front(&gate), 2);
-    assert_eq!(rt; pass.try_get_live(&gate, 0), Tried::Given);
-    Ok(())
-}
-
-/// The most passes, and the most references of one.
-#[test]
-fn as_many_as_may_be(rt: HostRuntime) -> Result<(), Fail> {
-    let (gate, mut control, mut passes) = Gate::<0>::new(rt.alloc(), 64, 64, Start::Atomic, [])?;
-    assert_eq!(rt; passes.len(), 64);
-    let mut pass = passes.pop().ok_or("a pass")?;
-    assert_eq!(rt; pass.try_get(&gate, 0), Tried::Given);
-    pass.get(&gate, 1, 65_534);
-    assert_eq!(rt; pass.held(), 65_535);
-    assert_eq!(rt; control.kill(&gate), Ok(Put::NotLast));
-    assert_eq!(rt; pass.put(&gate, 2, 65_534), Put::NotLast);
-    assert_eq!(rt; pass.held(), 1);
-    assert_eq!(rt; pass.put(&gate, 3, 1), Put::Last);
     Ok(())
 }
 

@@ -1,8 +1,8 @@
-use Rattle.std.proofs.Common.{◌≡◌, ◌∙◌, sym, ap, subst, ◌+◌, List, [], ◌∷◌, ◌++◌, take}
+use Rattle.std.proofs.Common.{◌≡◌, ◌∙◌, sym, ap, subst, arith, ◌+◌, List, [], ◌∷◌, ◌++◌, take}
 use Rattle.std.proofs.lemmas.List.{take_more}
-use Rattle.blk_script.specs.declared.line.Line.{Line}
+use Rattle.script_meaning.specs.declared.line.Line.{Line}
 use Rattle.blk_script.specs.Machine.{state_of}
-use Rattle.blk_script.specs.State.{start_of}
+use Rattle.script_meaning.specs.Meaning.{start_of}
 use Rattle.blk_script.proofs.Replies.{Told, told_more}
 use Rattle.blk_script.proofs.run.run_alone.Goals as goal
 
@@ -16,5 +16,5 @@ loop-line-preserved c =
     record {
       told = subst P (sym more) (told_more (start_of c.args.script.now) (take c.loop-line.line-index c.lines-line-items.result.now) c.loop-line.out.items (state_of c.loop-line.machine) (state_of c.reply.new.self)
           c.line-item.result c.in_ok-reply.reply c.push_line.new.out.items c.loop-line.invariant.told c.in_ok-reply.ensures.reply c.in_ok-reply.ensures.after c.in_ok-push_line.ensures);
-      counts = c.in_ok-reply.ensures.counts c.loop-line.line-index c.loop-line.invariant.counts;
+      counts = omega (arith, c.in_ok-reply.ensures.counts, c.loop-line.invariant.counts);
     }

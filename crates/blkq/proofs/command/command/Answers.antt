@@ -1,6 +1,6 @@
 use Rattle.std.proofs.Common.{lit<, refl, inl}
 use Rattle.std.proofs.KnownBytes.{Keeps-refl}
-use Rattle.blkq.proofs.Taking.{TakesUpTo-none}
+use Rattle.counted_io.proofs.Taking.{LosesUpTo-none}
 use Rattle.blkq.proofs.command.command.Goals as goal
 
 pub returns-in-Run-clause-usage : goal.returns-in-Run-clause-usage
@@ -16,4 +16,4 @@ pub returns-in-Usage-clause-statuses : goal.returns-in-Usage-clause-statuses
 returns-in-Usage-clause-statuses g c = (3, lit< tt, refl)
 
 pub returns-in-Usage-clause-taken : goal.returns-in-Usage-clause-taken
-returns-in-Usage-clause-taken g c = TakesUpTo-none _ _ _ (Keeps-refl _)
+returns-in-Usage-clause-taken g c = LosesUpTo-none _ _ _ (Keeps-refl _)

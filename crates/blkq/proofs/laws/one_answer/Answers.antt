@@ -1,9 +1,10 @@
 use Rattle.std.proofs.Common.{◌≡◌, ◌∙◌, sym, ap, ℕ, List, Result, Ok, Err}
 use Rattle.blk_script.specs.Answer.{IsText}
-use Rattle.blk_script.specs.Overlap.{IsReported}
-use Rattle.blk_script.specs.Parsing.{Meant, meaning_of}
-use Rattle.blk_script.specs.declared.fault.Overlap.{Overlap as Pair}
-use Rattle.blk_script.specs.declared.fault.ParseFault.{ParseFault}
+use Rattle.script_overlap.specs.Overlap.{IsReported}
+use Rattle.blk_script.specs.Parsing.{meaning_of}
+use Rattle.script_meaning.specs.Script.{Meant}
+use Rattle.line_text.specs.declared.fault.Overlap.{Overlap as Pair}
+use Rattle.line_text.specs.declared.fault.ParseFault.{ParseFault}
 use Rattle.blkq.specs.Answer.{IsAnswerTo, IsAnswer}
 use Rattle.blkq.specs.declared.fault.Fault.{Fault}
 use Rattle.blkq.specs.declared.fault.Fault.TheVariants.{Parse, Overlap}

@@ -14,7 +14,7 @@ loop-at-preserved c = record {
       let reply = c.in-Ok.ensures.reply in let change = c.in-Ok.ensures.change in
       rw (take_more c.args.events.now c.loop-at.at first c.loop-at-test.true, items, reply, change)
       (Run-more c.args.world.now (take c.loop-at.at c.args.events.now) c.loop-at.replies.items c.loop-at.world (get_or c.args.events.now c.loop-at.at first) c.loop-at.invariant.run (c.in-Ok.ensures.enabled.0 refl));
-  sizes = let before = c.loop-at.invariant.sizes in let step = c.in-Ok.ensures.sizes in (step.0 ∙ before.0, step.1 ∙ before.1);
+  sizes = let before = c.loop-at.invariant.sizes in let step = c.in-Ok.ensures.sizes in record { passes = step.passes ∙ before.passes; slots = step.slots ∙ before.slots; words = step.words ∙ before.words };
   count = let len : vec_len c.push.new.self ≡ vec_len c.loop-at.replies + 1 = rw c.unwrap.ensures at c.push.ensures.len in let so_far = c.loop-at.invariant.count in omega arith;
   room = let before = c.loop-at.invariant.room in let grows = c.push.ensures.capacity in omega arith;
 }

@@ -1,9 +1,10 @@
-use Rattle.std.proofs.Common.{rules, refl}
-use Rattle.percpu_gate.proofs.ControlSteps.{clears_dead, done_as}
+use Rattle.std.proofs.Common.{ap, rules, refl}
+use Rattle.percpu_gate.proofs.ControlSteps.{control_at, done_as}
+use Rattle.percpu_gate.proofs.RevivalSteps.{clears_dead}
 use Rattle.percpu_gate.proofs.control_seat.ControlSeat.clear_dead.Goals as goal
 
 pub fetch_and-requires : goal.fetch_and-requires
-fetch_and-requires c = (search rules, search rules, clears_dead c.gate.inside.table.shared.key _ _ _ c.self.invariant (rw (← c.self.view_is) at c.requires.enabled))
+fetch_and-requires c = (rw (← c.gate.view_is, ← c.self.view_is) at (ap (λ g. g.id) c.requires.own), search rules, clears_dead c.gate.inside.table.shared.key _ _ _ (control_at c.gate.inside.table.shared.key _ _ _ c.self.invariant (rw (← c.gate.view_is, ← c.self.view_is) at c.requires.own)) (rw (← c.self.view_is) at c.requires.enabled))
 
 pub returns-clause-step : goal.returns-clause-step
-returns-clause-step c = rw (← c.self.view_is) (done_as c.gate.inside.table.shared.key 0 0 _ c.self.invariant _ _ _ _ (λ s. refl) c.fetch_and.ensures.2)
+returns-clause-step c = rw (← c.gate.view_is, ← c.self.view_is) (done_as c.gate.inside.table.shared.key 0 0 _ (control_at c.gate.inside.table.shared.key _ _ _ c.self.invariant (rw (← c.gate.view_is, ← c.self.view_is) at c.requires.own)) _ _ _ _ _ (λ s cells. refl) c.fetch_and.ensures.2)

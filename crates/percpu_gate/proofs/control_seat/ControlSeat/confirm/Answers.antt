@@ -1,6 +1,7 @@
-use Rattle.std.proofs.Common.{rules}
-use Rattle.percpu_gate.proofs.ControlSteps.{confirms}
+use Rattle.std.proofs.Common.{ap, rules}
+use Rattle.percpu_gate.proofs.ControlSteps.{control_at}
+use Rattle.percpu_gate.proofs.KillSteps.{confirms}
 use Rattle.percpu_gate.proofs.control_seat.ControlSeat.confirm.Goals as goal
 
 pub store-requires : goal.store-requires
-store-requires c = (search rules, search rules, confirms c.gate.inside.table.shared.key _ _ _ c.self.invariant c.args.front (rw (← c.self.view_is) at c.requires.next) (rw (← c.self.view_is) at c.requires.enabled))
+store-requires c = (rw (← c.gate.view_is, ← c.self.view_is) at (ap (λ g. g.id) c.requires.own), search rules, confirms c.gate.inside.table.shared.key _ _ _ (control_at c.gate.inside.table.shared.key _ _ _ c.self.invariant (rw (← c.gate.view_is, ← c.self.view_is) at c.requires.own)) c.args.front (rw (← c.self.view_is) at c.requires.next) (rw (← c.self.view_is) at c.requires.enabled))

@@ -1,9 +1,10 @@
-use Rattle.std.proofs.Common.{rules}
-use Rattle.percpu_gate.proofs.ControlSteps.{marks_zero, zero_marked_as}
+use Rattle.std.proofs.Common.{ap, rules}
+use Rattle.percpu_gate.proofs.ControlSteps.{control_at}
+use Rattle.percpu_gate.proofs.KillSteps.{marks_zero, zero_marked_as}
 use Rattle.percpu_gate.proofs.control_seat.ControlSeat.mark.Goals as goal
 
 pub compare_exchange-found-requires : goal.compare_exchange-found-requires
-compare_exchange-found-requires c = (search rules, search rules, marks_zero c.gate.inside.table.shared.key _ _ _ c.self.invariant (rw (← c.self.view_is) at c.requires.enabled))
+compare_exchange-found-requires c = (rw (← c.gate.view_is, ← c.self.view_is) at (ap (λ g. g.id) c.requires.own), search rules, marks_zero c.gate.inside.table.shared.key _ _ _ (control_at c.gate.inside.table.shared.key _ _ _ c.self.invariant (rw (← c.gate.view_is, ← c.self.view_is) at c.requires.own)) (rw (← c.self.view_is) at c.requires.enabled))
 
 pub returns-clause-step : goal.returns-clause-step
-returns-clause-step c = rw (← c.self.view_is, c.of.ensures) (zero_marked_as c.gate.inside.table.shared.key 0 0 _ c.self.invariant _ _ c.compare_exchange-found.ensures.2)
+returns-clause-step c = rw (← c.gate.view_is, ← c.self.view_is, c.of.ensures) (zero_marked_as c.gate.inside.table.shared.key 0 0 _ (control_at c.gate.inside.table.shared.key _ _ _ c.self.invariant (rw (← c.gate.view_is, ← c.self.view_is) at c.requires.own)) _ _ _ c.compare_exchange-found.ensures.2)

@@ -1,9 +1,15 @@
-use Rattle.std.proofs.Common.{arith}
-use Rattle.percpu_gate.proofs.Grounds.{refused_at_zero}
+use Rattle.std.proofs.Common.{ap}
+use Rattle.percpu_gate.proofs.Tries.{try_finds, try_leaves, given_again, refused_found}
 use Rattle.percpu_gate.proofs.pass.Pass.try_get.Goals as goal
 
-pub returns-else-add_try-clause-again : goal.returns-else-add_try-clause-again
-returns-else-add_try-clause-again g c = λ some. let none = (refused_at_zero _ _ c.if-add_try.ensures.step).2 in let held = rw (← c.self.view_is) at some in absurd (omega arith)
+pub returns-clause-leaves : goal.returns-clause-leaves
+returns-clause-leaves g c = rw (← c.self.view_is) (try_leaves _ _ _ _ _ c.add_try-is_given.ensures.step (ap (λ s. s.view) c.end_try-answer.ensures.view) c.end_try-answer.ensures.answer)
 
-pub returns-else-add_try-clause-ground : goal.returns-else-add_try-clause-ground
-returns-else-add_try-clause-ground g c = λ refused. let found = refused_at_zero _ _ c.if-add_try.ensures.step in rw c.put_back-answer.ensures.view (found.0, found.1)
+pub returns-clause-finds : goal.returns-clause-finds
+returns-clause-finds g c = rw (← c.gate.view_is, ← c.self.view_is) (try_finds _ _ _ _ c.add_try-is_given.ensures.step c.end_try-answer.ensures.answer)
+
+pub returns-clause-again : goal.returns-clause-again
+returns-clause-again g c = rw (← c.self.view_is) (given_again _ _ (try_finds _ _ _ _ c.add_try-is_given.ensures.step c.end_try-answer.ensures.answer))
+
+pub returns-clause-ground : goal.returns-clause-ground
+returns-clause-ground g c = refused_found _ _ _ _ _ c.add_try-is_given.ensures.step (ap (λ s. s.view) c.end_try-answer.ensures.view) c.end_try-answer.ensures.answer

@@ -3,4 +3,4 @@ use Rattle.percpu_gate.proofs.tests.threads.kill_and_revive.Given as goal
 
 -- the control is of this gate
 abbrev pub invariant-loop : goal.invariant-loop
-invariant-loop l = l.control.gate ≡ l.fn.gate.id
+invariant-loop l = l.control.gate ≡ l.fn.gate

@@ -4,4 +4,4 @@ use Rattle.percpu_gate.proofs.tests.threads.take_and_put.Given as goal
 
 -- the pass is of this gate, and holds nothing between two turns
 abbrev pub invariant-loop : goal.invariant-loop
-invariant-loop l = (l.pass.gate ≡ l.fn.gate.id) × (l.pass.view.standing ≡ holding 0)
+invariant-loop l = (l.pass.gate ≡ l.fn.gate) × (l.pass.view.standing ≡ holding 0)

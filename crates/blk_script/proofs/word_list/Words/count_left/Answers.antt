@@ -1,6 +1,0 @@
-use Rattle.std.proofs.Common.{inl, ap, arith, length}
-use Rattle.blk_script.proofs.WordLemmas.{length-words_of-le}
-use Rattle.blk_script.proofs.word_list.Words.count_left.Goals as goal
-
-pub count-requires-clause-fits : goal.count-requires-clause-fits
-count-requires-clause-fits c = inl (omega (arith, ap length c.new.ensures, length-words_of-le c.self.inside.rest.now, c.self.told.1))

@@ -1,0 +1,11 @@
+use Rattle.std.proofs.Common.{sym, subst}
+use Rattle.blk_workers.specs.Desk.{Stands}
+use Rattle.blk_workers.proofs.Desks.{on_ok, stands_settled}
+use Rattle.blk_workers.proofs.desk.Desk.settle.Goals as goal
+
+pub returns-clause-stands : goal.returns-clause-stands
+returns-clause-stands c =
+    on_ok c.push.result _ _
+    (λ is. subst (λ replies. Stands c.args._script.now replies c.args.self.now.disk) (sym is)
+    (stands_settled c.args._script.now c.args.self.now.replies c.args.self.now.disk c.args.text.items c.requires.stands c.requires.refused c.requires.passes c.requires.reply))
+    c.push.ensures.ok

@@ -1,0 +1,33 @@
+-- The disk of a run while requests of its script are under way: they were accepted, and their completions aren't collected yet.
+use Rattle.std.specs.Prelude.{◌≡◌, ℕ, ◌+◌, ◌<◌, ◌≤◌, Bool, true, false, List, length, Some}
+use Rattle.ram_disk.specs.Disk.{sectors_read}
+use Rattle.ram_disk.specs.Writes.{sector_at}
+use Rattle.script_meaning.specs.Requests.{accepted_at, drains_at, state_at}
+use Rattle.script_meaning.specs.Script.{Meant}
+use Rattle.script_meaning.specs.declared.request.Request.{Request}
+use Rattle.script_overlap.specs.Overlap.{HasSector, HasNoOverlap}
+
+-- the positions of the requests that are under way stand before this one, and no line between drains
+pub record AreInSpan (script : Meant) (owed : ℕ → Bool) (here : ℕ) : Type 0 where
+  pub before : (position : ℕ) → owed position ≡ true → position < here
+  pub one_span : (position : ℕ) → owed position ≡ true → (cut : ℕ) → position < cut → cut < here → drains_at script cut ≡ false
+
+-- a write that is under way touches the sector
+pub record IsAwaited (script : Meant) (owed : ℕ → Bool) (sector : ℕ) : Type 0 where
+  pub position : ℕ
+  pub request : Request
+  pub is_owed : owed position ≡ true
+  pub accepted : accepted_at script position ≡ Some request
+  pub writes : request.writes ≡ true
+  pub inside : HasSector request sector
+
+-- every sector that no write under way touches is the one that a single thread has before the line at this position
+pub record IsDiskBut (script : Meant) (owed : ℕ → Bool) (here : ℕ) (disk : List (List ℕ)) : Type 0 where
+  pub whole : length disk ≡ script.sectors
+  pub others : (sector : ℕ) → (IsAwaited script owed sector → ⊥) → sector_at disk sector ≡ sector_at (state_at script here).disk sector
+
+-- where no requests overlap, one reads what a single thread reads at its line, whichever writes of its span were installed before
+abbrev pub ReadsStandInASpan : Type 0
+ReadsStandInASpan = (script : Meant) (owed : ℕ → Bool) (here : ℕ) (disk : List (List ℕ)) (request : Request) → HasNoOverlap script
+    → AreInSpan script owed here → IsDiskBut script owed here disk → accepted_at script here ≡ Some request → request.start + request.count ≤ script.sectors
+    → sectors_read request.start request.count disk ≡ sectors_read request.start request.count (state_at script here).disk

@@ -1,0 +1,91 @@
+//! The disk and the replies of the thread that submits and collects.
+ghost use Rattle.std.specs.Prelude.{◌≡◌, ◌+◌, length, IfOk, OnOk, OnErr, Some, None};
+ghost use Rattle.ram_disk.specs.Disk.{sectors_read};
+ghost use Rattle.script_meaning.specs.Requests.{accepted_at, state_at};
+ghost use Rattle.script_overlap.specs.Overlap.{HasNoOverlap};
+ghost use Rattle.blk_workers.specs.Desk.{FitsAt, installed, MayPass, Stands};
+ghost use Rattle.blk_workers.specs.Requests.{IsAnswer, IsReplyLine};
+
+use crate::answer::Answer;
+use crate::replies::Replies;
+use ram_disk::{Disk, DiskFault, Sector};
+use script_meaning::{Request, Script, What};
+use std::alloc::{AllocError, Global};
+
+/// The disk and the replies of a run, of which the thread that submits is the one owner.
+#[derive(Drop)]
+pub(crate) struct Desk {
+    pub(crate) disk: Disk,
+    pub(crate) replies: Replies,
+}
+
+// Installs the sectors that a line leaves, where it writes.
+fn install(disk: &mut Disk, what: &What, sectors: Vec<Sector>)
+    requires { FitsAt what.now sectors.items disk.old }
+    ensures { disk.new ≡ installed what.now sectors.items disk.old }
+{
+    if let What::Write { start, .. } = what {
+        disk.install(u64::from(*start), sectors);
+    }
+}
+
+impl Desk {
+    /// Takes the answer to a request: installs what a write leaves, and keeps the reply. An answer that isn't
+    /// owed is dropped.
+    pub(crate) fn take(&mut self, script: &Script, position: usize, answer: Answer)
+        requires no_overlap { HasNoOverlap script.now }
+        requires stands { Stands script.now self.old.replies self.old.disk }
+        requires answer { IsAnswer script.now position answer.text.items answer.sectors.items }
+        ensures stands { Stands script.now self.new.replies self.new.disk }
+        ensures lines { length self.new.replies ≡ length self.old.replies }
+    {
+        if !self.replies.is_owed(position) {
+            return;
+        }
+        let Answer { text, sectors } = answer;
+        let line = &script.lines()[position];
+        install(&mut self.disk, &line.what, sectors);
+        self.replies.fill(position, text);
+    }
+
+    /// The sectors that a request finds that the queue accepts at the next line: those that a single thread finds
+    /// there.
+    pub(crate) fn find(
+        &self,
+        alloc: Global,
+        script: &Script,
+        request: Request,
+    ) -> Result<Vec<Sector>, DiskFault>
+        requires no_overlap { HasNoOverlap script.now }
+        requires stands { Stands script.now self.now.replies self.now.disk }
+        requires accepted { accepted_at script.now (length self.now.replies) ≡ Some request }
+        ensures { IfOk result (λ found. found.items ≡ sectors_read request.start request.count (state_at script.now (length self.now.replies)).disk) }
+    {
+        self.disk
+            .share(alloc, u64::from(request.start), request.count)
+    }
+
+    /// Takes the next line, whose reply is there. Where the line drains, nothing may be owed.
+    pub(crate) fn settle(&mut self, _script: &Script, text: Vec<u8>) -> Result<(), AllocError>
+        requires stands { Stands _script.now self.old.replies self.old.disk }
+        requires refused { accepted_at _script.now (length self.old.replies) ≡ None }
+        requires passes { MayPass _script.now self.old.replies }
+        requires reply { IsReplyLine _script.now (length self.old.replies) text.items }
+        ensures stands { OnOk result (Stands _script.now self.new.replies self.new.disk) }
+        ensures lines { OnOk result (length self.new.replies ≡ length self.old.replies + 1) }
+        ensures err { OnErr result ((self.new.replies ≡ self.old.replies) × (self.new.disk ≡ self.old.disk)) }
+    {
+        self.replies.push(text)
+    }
+
+    /// Takes the next line, an accepted request that is under way from now on.
+    pub(crate) fn submit(&mut self, _script: &Script, _request: Request) -> Result<(), AllocError>
+        requires stands { Stands _script.now self.old.replies self.old.disk }
+        requires accepted { accepted_at _script.now (length self.old.replies) ≡ Some _request }
+        ensures stands { OnOk result (Stands _script.now self.new.replies self.new.disk) }
+        ensures lines { OnOk result (length self.new.replies ≡ length self.old.replies + 1) }
+        ensures err { OnErr result ((self.new.replies ≡ self.old.replies) × (self.new.disk ≡ self.old.disk)) }
+    {
+        self.replies.push_owed()
+    }
+}

@@ -1,0 +1,11 @@
+-- So far each try was interrupted: nothing was taken, and the count grew with each.
+use Rattle.std.proofs.Common.{◌<◌, ◌≤◌}
+use Rattle.std.specs.Io.KnownBytes.{Keeps}
+use Rattle.counted_io.specs.Failures.{HasFailed}
+use Rattle.counted_io.proofs.input.read_piece.Given as goal
+
+abbrev pub invariant-loop : goal.invariant-loop
+invariant-loop g l =
+    Keeps (g.R.Read.remaining l.initial.reader.inner) (g.R.Read.remaining l.reader.inner)
+    × (l.initial.reader.failures ≤ l.reader.failures)
+    × (0 < l.counter → HasFailed l.initial.reader l.reader)

@@ -1,0 +1,11 @@
+-- So far each try was interrupted: nothing was taken, and the count grew with each.
+use Rattle.std.proofs.Common.{◌<◌, ◌≤◌}
+use Rattle.std.specs.Io.KnownBytes.{Keeps}
+use Rattle.counted_io.specs.Failures.{HasFailed}
+use Rattle.counted_io.proofs.output.write_piece.Given as goal
+
+abbrev pub invariant-loop : goal.invariant-loop
+invariant-loop g l =
+    Keeps (g.W.Write.contents l.initial.writer.inner) (g.W.Write.contents l.writer.inner)
+    × (l.initial.writer.failures ≤ l.writer.failures)
+    × (0 < l.counter → HasFailed l.initial.writer l.writer)

@@ -1,0 +1,71 @@
+//! A text, written whole or as far as the writer takes it.
+ghost use Rattle.std.specs.Prelude.{◌≡◌, ◌<◌, ◌≤◌, length, take, IfErr, IfOk, OnErr, OnOk};
+ghost use Rattle.counted_io.specs.Failures.{HasFailed};
+ghost use Rattle.counted_io.specs.Writing.{Takes, TakesNothing};
+
+use crate::TRIES;
+use crate::counted::Counted;
+use std::io::{ErrorKind, Write};
+use thiserror::Error;
+
+/// A writer that failed, and how much it had taken.
+#[derive(Clone, Copy, Debug, PartialEq, Eq, Error)]
+#[error("write")]
+pub struct WriteFault {
+    /// The bytes that went out.
+    pub written: u64,
+}
+
+/// A writer that takes nothing more.
+#[derive(Clone, Copy)]
+struct Refused;
+
+/// One write, tried again where a signal interrupts it, and the number of bytes it took: one at least.
+/// `Err` where the writer fails, takes nothing, or is interrupted `TRIES` times in a row.
+fn write_piece<W: Write>(writer: &mut Counted<W>, text: &[u8]) -> Result<usize, Refused>
+    requires { 0 < length text.now }
+    ensures some { IfOk result (λ n. 0 < n) }
+    ensures bound { IfOk result (λ n. n ≤ length text.now) }
+    ensures appended { IfOk result (λ n. Takes W.contents writer.old writer.new (take n text.now)) }
+    ensures none { OnErr result (TakesNothing W.contents writer.old writer.new) }
+    ensures grown { OnErr result (HasFailed writer.old writer.new) }
+    ensures counts { writer.old.failures ≤ writer.new.failures }
+{
+    for _ in 0..TRIES {
+        match writer.write(text) {
+            Ok(0) => return Err(Refused),
+            Ok(n) => return Ok(n),
+            Err(e) => {
+                if e.kind() != ErrorKind::Interrupted {
+                    return Err(Refused);
+                }
+            }
+        }
+    }
+    Err(Refused)
+}
+
+/// Writes `text`, all that is left of it each time, so that it takes as few writes as the writer allows.
+/// Nothing is flushed: a writer that keeps bytes back is its owner's to flush.
+///
+/// `Err` where the writer fails or takes nothing: then the first `written` bytes went out, and no more. A
+/// write that a signal interrupts is tried again, up to [`TRIES`] times in a row.
+pub fn write_whole<W: Write>(writer: &mut Counted<W>, text: &[u8]) -> Result<(), WriteFault>
+    ensures whole { OnOk result (Takes W.contents writer.old writer.new text.now) }
+    ensures part { IfErr result (λ fault. Takes W.contents writer.old writer.new (take fault.written text.now)) }
+    ensures short { IfErr result (λ fault. fault.written < length text.now) }
+    ensures grown { OnErr result (HasFailed writer.old writer.new) }
+{
+    let mut written = 0;
+    while written < text.len() {
+        match write_piece(writer, &text[written..]) {
+            Ok(count) => written += count,
+            Err(Refused) => {
+                return Err(WriteFault {
+                    written: written as u64,
+                });
+            }
+        }
+    }
+    Ok(())
+}

@@ -1,0 +1,2 @@
+pub mod ToldLimits
+pub mod Emptied

@@ -1,0 +1,7 @@
+use Rattle.std.proofs.Common.{◌≡◌, ◌≤◌}
+use Rattle.freeze_queue.proofs.queue.BlockQueue.enter.Given as goal
+
+abbrev pub invariant-loop : goal.invariant-loop
+invariant-loop g l =
+    (goal.iterator-loop g).can_next l.iterator' × (goal.iterator-loop g).is_finite l.iterator'
+    × (l.tag ≡ record l.initial.tag { releases = l.tag.releases }) × (l.initial.tag.releases ≤ l.tag.releases)

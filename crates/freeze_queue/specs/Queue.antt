@@ -1,0 +1,130 @@
+-- A queue that can be frozen: what its parts know, and what each call leaves. Beside each thing stands what it is in
+-- Linux (block/blk-core.c, block/blk-mq.c, block/blk-settings.c).
+use Rattle.std.specs.Prelude.{◌≡◌, ℕ, ◌+◌, ◌-◌, ◌^◌, ◌<◌, ◌≤◌, ◌==◌, ◌&&◌, nat_le, nat_lt, Bool, true, false, if◌then◌else◌, Option, Some, None, Result, Ok, Err}
+use Rattle.queue_limits.specs.Bounds.{Bounds, AreAllowed}
+use Rattle.percpu_gate.specs.declared.tried.Put.{Put}
+use Rattle.percpu_gate.specs.Seats.{GateFacts}
+use Rattle.percpu_gate.specs.Calls.{released}
+use Rattle.freeze_queue.specs.declared.fault.FreezeFault.{FreezeFault}
+use Rattle.freeze_queue.specs.declared.fault.FreezeFault.TheVariants.{DepthFull, NotFrozen, NotDrained, TagsOut, WornOut}
+
+-- Which queue it is: the gate that its requests pass, with its slots, and what its device takes in one request.
+-- Linux: struct request_queue, by q_usage_counter and limits.max_hw_sectors
+pub record QueueFacts : Type 0 where
+  pub gate : GateFacts
+  pub hardware : ℕ
+
+-- What a tag knows: the right to have one request under way. It goes from thread to thread with the request.
+pub record TagFacts : Type 0 where
+  pub queue : QueueFacts
+  -- it has entered and not left. Linux: between blk_queue_enter and blk_queue_exit
+  pub entered : Bool
+  -- the limits that it was told since it entered, once it has asked: they hold still until it leaves. Linux: q->limits
+  pub limits : Option Bounds
+  -- how often its drop was the last. Linux: blk_queue_usage_counter_release
+  pub releases : ℕ
+
+-- what a freezer knows
+pub record FreezerFacts : Type 0 where
+  pub queue : QueueFacts
+  -- the freezes that aren't thawed yet. Linux: q->mq_freeze_depth
+  pub depth : ℕ
+  -- a tag may enter. Linux: not percpu_ref_is_dying(&q->q_usage_counter)
+  pub live : Bool
+  -- every tag has left, and none can enter. Linux: what blk_mq_freeze_queue_wait waits for
+  pub drained : Bool
+  -- the limits in force, which the guarded words spell. Linux: q->limits
+  pub limits : Bounds
+  -- how often the gate was killed. Linux: percpu_ref_kill in blk_freeze_queue_start
+  pub kills : ℕ
+  -- the drops that were the last: the freezer's own, and those of tags that it took back
+  pub releases : ℕ
+  -- the tags that it hasn't taken back
+  pub tags : ℕ
+
+abbrev pub most_depth : ℕ
+most_depth = 1000
+
+abbrev pub most_kills : ℕ
+most_kills = 2 ^ 40
+
+-- what holds of every freezer
+pub record IsFreezer (f : FreezerFacts) : Type 0 where
+  -- the queue is live exactly where no freeze is under way
+  pub live : f.live ≡ (f.depth == 0)
+  -- so a drained queue is a frozen one
+  pub drained : f.depth ≡ 0 → f.drained ≡ false
+  pub depth : f.depth ≤ most_depth
+  pub allowed : AreAllowed f.limits
+  pub hardware : f.limits.hardware ≡ f.queue.hardware
+
+-- a new tag, and a new freezer: the queue is live, and its limits are those that were handed in
+abbrev pub first_tag : QueueFacts → TagFacts
+first_tag queue = record { queue = queue; entered = false; limits = None; releases = 0 }
+
+abbrev pub first_freezer : QueueFacts → Bounds → ℕ → FreezerFacts
+first_freezer queue limits tags = record { queue = queue; depth = 0; live = true; drained = false; limits = limits; kills = 0; releases = 0; tags = tags }
+
+-- Linux: blk_queue_enter where the queue is live
+abbrev pub after_entering : TagFacts → TagFacts
+after_entering t = record t { entered = true; limits = None }
+
+-- where it isn't, nothing changes but that the drop of a refused try may have been the last
+abbrev pub after_refusal : Put → TagFacts → TagFacts
+after_refusal r t = record t { releases = t.releases + released r }
+
+-- Linux: blk_queue_exit
+abbrev pub after_leaving : Put → TagFacts → TagFacts
+after_leaving r t = record t { entered = false; limits = None; releases = t.releases + released r }
+
+-- Linux: blk_freeze_queue_start, which kills the gate at the first freeze. `last`: nobody was in the queue then
+abbrev pub after_freeze : Put → FreezerFacts → FreezerFacts
+after_freeze last f =
+    if f.depth == 0
+    then record f { depth = 1; live = false; drained = released last == 1; kills = f.kills + 1; releases = f.releases + released last }
+    else record f { depth = f.depth + 1 }
+
+-- Linux: blk_mq_unfreeze_queue, which revives the gate at the last thaw, drained or not
+abbrev pub after_thaw : FreezerFacts → FreezerFacts
+after_thaw f =
+    if f.depth == 1
+    then record f { depth = 0; live = true; drained = false }
+    else record f { depth = f.depth - 1 }
+
+-- Linux: queue_limits_commit_update, under a freeze
+abbrev pub after_set : Bounds → FreezerFacts → FreezerFacts
+after_set limits f = record f { limits = limits; drained = true }
+
+-- what a freezer knows once it has taken a tag back: where it has no tag out there is none to take
+abbrev pub after_return : TagFacts → FreezerFacts → FreezerFacts
+after_return t f = if nat_lt 0 f.tags then record f { tags = f.tags - 1; releases = f.releases + t.releases } else f
+
+-- why a freeze is refused
+abbrev pub freeze_refusal : FreezerFacts → Option FreezeFault
+freeze_refusal f =
+    if nat_le most_depth f.depth then Some DepthFull
+    else if f.depth == 0 && nat_le most_kills f.kills then Some WornOut
+    else None
+
+-- why a thaw is refused
+abbrev pub thaw_refusal : FreezerFacts → Option FreezeFault
+thaw_refusal f = if f.depth == 0 then Some NotFrozen else None
+
+-- why a removal with so many tags is refused: some are missing, or the kill that it needs is
+abbrev pub remove_refusal : FreezerFacts → ℕ → Option FreezeFault
+remove_refusal f tags =
+    if nat_le 1 (f.tags - tags) then Some (TagsOut (f.tags - tags))
+    else if f.depth == 0 && nat_le most_kills f.kills then Some WornOut
+    else None
+
+-- the refusal of a result, if it is one
+abbrev pub fault_of : {A : Type 0} → Result A FreezeFault → Option FreezeFault
+fault_of (Ok x) = None
+fault_of (Err why) = Some why
+
+abbrev pub fault_number : FreezeFault → ℕ
+fault_number DepthFull = 1
+fault_number NotFrozen = 2
+fault_number NotDrained = 3
+fault_number (TagsOut n) = 4
+fault_number WornOut = 5

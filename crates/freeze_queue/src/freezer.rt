@@ -1,0 +1,242 @@
+//! The freezer: it freezes a queue, sets its limits and thaws it.
+ghost use Rattle.std.specs.Prelude.{◌≡◌, ℕ, ◌+◌, ◌<◌, ◌≤◌, true, false, IfOk, OnOk, OnErr};
+ghost use Rattle.percpu_gate.specs.Seats.{fresh_control};
+ghost use Rattle.percpu_core.specs.declared.phase.Phase.TheVariants as phases;
+ghost use Rattle.percpu_core.specs.declared.start.Start.TheVariants.{Atomic};
+ghost use Rattle.queue_limits.specs.Words.{to_words};
+ghost use Rattle.percpu_gate.specs.declared.tried.Put.{Put};
+ghost use Rattle.freeze_queue.specs.Queue.{IsFreezer, first_freezer, after_freeze, after_thaw, after_set, after_return, freeze_refusal, thaw_refusal, fault_of};
+ghost use Rattle.freeze_queue.specs.Sets.{LooksForDrained};
+ghost use Rattle.freeze_queue.specs.AtTheGate.{IsFound};
+
+use crate::fault::FreezeFault;
+use crate::queue::BlockQueue;
+use crate::tag::{LIMIT_WORDS, Tag};
+use crossbeam_utils::sync::Parker;
+use percpu_gate::Control;
+use queue_limits::Limits;
+use std::marker::Model;
+use std::sync::Wait;
+
+/// The most freezes that may be under way at once.
+pub const MOST_DEPTH: u32 = 1_000;
+
+/// The one freezer of a queue: it counts freezes, and sets the limits while the queue is drained.
+///
+/// It moves between threads by ownership; [`SharedFreezer`](crate::SharedFreezer) shares it.
+#[derive(Drop)]
+pub struct Freezer {
+    control: Control<LIMIT_WORDS>,
+    depth: u32,
+    limits: Limits,
+    tags: u32,
+    sleeper: Parker,
+}
+
+impl Model for Freezer {
+    ghost use Rattle.freeze_queue.specs.Queue.{FreezerFacts};
+
+    ghost Value = { FreezerFacts };
+
+    ghost use Rattle.freeze_queue.specs.Readings.{freezer_facts, Keeps};
+
+    ghost view = { λ f. freezer_facts f.control f.depth f.limits };
+
+    ghost invariant = { λ f. Keeps f.control.view f.depth f.limits f.tags };
+}
+
+impl Freezer {
+    /// The freezer of a new queue.
+    pub(crate) fn new(
+        control: Control<LIMIT_WORDS>,
+        limits: Limits,
+        tags: u32,
+        sleeper: Parker,
+    ) -> Freezer
+        requires new { control ≡ fresh_control control.gate tags (to_words limits) }
+        requires live { control.gate.start ≡ Atomic }
+        ensures { result ≡ first_freezer (record { gate = control.gate; hardware = limits.hardware }) limits tags }
+    {
+        Freezer {
+            control,
+            depth: 0,
+            limits,
+            tags,
+            sleeper,
+        }
+    }
+
+    /// The freezes that aren't thawed yet: 0 to 1,000. The queue is live exactly where there is none. Linux:
+    /// `mq_freeze_depth` (include/linux/blkdev.h).
+    #[inline]
+    pub fn depth(&self) -> u32
+        ensures value { result ≡ self.now.depth }
+        ensures kept { IsFreezer self.now }
+    {
+        let _ = &self.control;
+        self.depth
+    }
+
+    /// The tags that it hasn't taken back.
+    pub(crate) fn tags(&self) -> u32
+        ensures { result ≡ self.now.tags }
+    {
+        self.tags
+    }
+
+    /// The limits in force.
+    #[inline]
+    pub fn limits(&self) -> Limits
+        ensures value { result ≡ self.now.limits }
+        ensures kept { IsFreezer self.now }
+    {
+        let _ = &self.control;
+        self.limits
+    }
+
+    /// Begins a freeze: the depth that this gives. The first one kills the gate, so that no tag enters from then
+    /// on. Refuses DepthFull, WornOut. Linux: `blk_freeze_queue_start` (block/blk-mq.c).
+    pub fn start_freeze(&mut self, queue: &BlockQueue) -> Result<u32, FreezeFault>
+        requires own { self.old.queue ≡ queue.now }
+        ensures refused { fault_of result ≡ freeze_refusal self.old }
+        ensures unchanged { OnErr result (self.new ≡ self.old) }
+        ensures frozen { IfOk result (λ depth. (depth ≡ self.old.depth + 1) × (r : Put) × (self.new ≡ after_freeze r self.old)) }
+    {
+        if self.depth >= MOST_DEPTH {
+            return Err(FreezeFault::DepthFull);
+        }
+        if self.depth == 0 && self.control.kill(&queue.gate).is_err() {
+            return Err(FreezeFault::WornOut);
+        }
+        self.depth += 1;
+        Ok(self.depth)
+    }
+
+    /// Whether the queue is frozen and every tag has left, at this look. Once it was true it is true until the
+    /// last thaw. Linux: `percpu_ref_is_zero` in `blk_mq_freeze_queue_wait` (block/blk-mq.c).
+    pub fn poll_drained(&mut self, queue: &BlockQueue) -> bool
+        requires own { self.old.queue ≡ queue.now }
+        ensures look { self.new ≡ record self.old { drained = result } }
+        ensures found { IsFound queue.now.gate result }
+        ensures known { self.old.drained ≡ true → result ≡ true }
+        ensures frozen { result ≡ true → 0 < self.old.depth }
+    {
+        self.control.is_zero(&queue.gate)
+    }
+
+    /// Freezes, and waits until the queue is drained: the depth. Refuses DepthFull, WornOut. Linux:
+    /// `blk_mq_freeze_queue` (block/blk-mq.c).
+    pub fn freeze<R: Wait>(&mut self, rt: &R, queue: &BlockQueue) -> Result<u32, FreezeFault>
+        requires own { self.old.queue ≡ queue.now }
+        ensures refused { fault_of result ≡ freeze_refusal self.old }
+        ensures unchanged { OnErr result (self.new ≡ self.old) }
+        ensures frozen { IfOk result (λ depth. (depth ≡ self.old.depth + 1) × (r : Put) × (self.new ≡ record (after_freeze r self.old) { drained = true })) }
+    {
+        let depth = self.start_freeze(queue)?;
+        self.wait_drained(rt, queue);
+        Ok(depth)
+    }
+
+    /// Waits until the queue is drained.
+    fn wait_drained<R: Wait>(&mut self, rt: &R, queue: &BlockQueue)
+        requires own { self.old.queue ≡ queue.now }
+        ensures { self.new ≡ record self.old { drained = true } }
+    {
+        for _ in rt.forever() {
+            if self.poll_drained(queue) {
+                return;
+            }
+            self.sleeper.park(rt);
+        }
+        unreachable!()
+    }
+
+    /// Sets the limits of a drained queue. Refuses NotFrozen, NotDrained. Linux: `queue_limits_commit_update`
+    /// (block/blk-settings.c), under a freeze.
+    pub fn set(&mut self, queue: &BlockQueue, limits: Limits) -> Result<(), FreezeFault>
+        requires own { self.old.queue ≡ queue.now }
+        requires hardware { limits.hardware ≡ self.old.queue.hardware }
+        ensures looks { LooksForDrained self.old (fault_of result) }
+        ensures unchanged { OnErr result (self.new ≡ self.old) }
+        ensures set { OnOk result (self.new ≡ after_set limits self.old) }
+    {
+        if self.depth == 0 {
+            return Err(FreezeFault::NotFrozen);
+        }
+        if !self.poll_drained(queue) {
+            return Err(FreezeFault::NotDrained);
+        }
+        self.store(queue, limits);
+        Ok(())
+    }
+
+    /// Stores the limits where the control knows that nothing is held.
+    fn store(&mut self, queue: &BlockQueue, limits: Limits)
+        requires own { self.old.queue ≡ queue.now }
+        requires hardware { limits.hardware ≡ self.old.queue.hardware }
+        requires drained { self.old.drained ≡ true }
+        ensures { self.new ≡ after_set limits self.old }
+    {
+        let [max, chunk] = limits.to_words();
+        let _stored = self.control.store_word(&queue.gate, 0, max);
+        let _stored = self.control.store_word(&queue.gate, 1, chunk);
+        self.limits = limits;
+    }
+
+    /// Ends a freeze: the depth that is left. The last thaw brings the gate back, drained or not. Refuses
+    /// NotFrozen. Linux: `blk_mq_unfreeze_queue` (block/blk-mq.c).
+    pub fn thaw(&mut self, queue: &BlockQueue) -> Result<u32, FreezeFault>
+        requires own { self.old.queue ≡ queue.now }
+        ensures refused { fault_of result ≡ thaw_refusal self.old }
+        ensures unchanged { OnErr result (self.new ≡ self.old) }
+        ensures thawed { IfOk result (λ depth. (depth + 1 ≡ self.old.depth) × (self.new ≡ after_thaw self.old)) }
+    {
+        if self.depth == 0 {
+            return Err(FreezeFault::NotFrozen);
+        }
+        if self.depth == 1 {
+            self.revive(queue);
+        } else {
+            self.depth -= 1;
+        }
+        Ok(self.depth)
+    }
+
+    /// Brings the gate back, and wakes those who wait to enter.
+    fn revive(&mut self, queue: &BlockQueue)
+        requires own { self.old.queue ≡ queue.now }
+        requires last { self.old.depth ≡ 1 }
+        ensures { self.new ≡ after_thaw self.old }
+    {
+        let _revived = self.control.resurrect(&queue.gate);
+        self.depth = 0;
+        queue.wake_submitters();
+    }
+
+    /// Takes a tag back.
+    pub(crate) fn take_back(&mut self, queue: &BlockQueue, tag: Tag)
+        requires own { (self.old.queue ≡ queue.now) × (tag.queue ≡ queue.now) }
+        requires out { tag.entered ≡ false }
+        ensures { self.new ≡ after_return tag self.old }
+    {
+        self.control.retire(&queue.gate, tag.into_pass());
+        self.tags = self.tags.saturating_sub(1);
+    }
+
+    /// The control of a freezer that ends.
+    pub(crate) fn into_control(self) -> Control<LIMIT_WORDS>
+        ensures own { result.gate ≡ self.queue.gate }
+        ensures dead { self.live ≡ false → result.view.standing.phase ≡ phases.Dead }
+        ensures counts { (result.view.standing.kills ≡ self.kills) × (result.view.releases ≡ self.releases) × (result.view.passes ≡ self.tags) }
+        ensures words { result.view.words ≡ to_words self.limits }
+    {
+        let Self {
+            control,
+            depth: _,
+            limits: _,
+            tags: _,
+            sleeper: _,
+        } = self;
+        control
+    }
+}

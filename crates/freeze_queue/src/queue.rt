@@ -1,0 +1,198 @@
+//! The queue: what tags enter and leave.
+ghost use Rattle.std.specs.Prelude.{◌≡◌, ℕ, ◌<◌, ◌≤◌, true, false, All, vec_len, replicate, Some, IfSome, IfOk};
+ghost use Rattle.percpu_gate.specs.Seats.{fresh_pass};
+ghost use Rattle.queue_limits.specs.Bounds.{Bounds};
+ghost use Rattle.freeze_queue.specs.declared.tag.Enter.TheVariants.{Entered, Again};
+ghost use Rattle.freeze_queue.specs.Queue.{first_tag, first_freezer, after_entering, after_refusal, after_leaving};
+ghost use Rattle.freeze_queue.specs.AtTheGate.{AreInForce};
+
+use crate::freezer::Freezer;
+use crate::tag::{Enter, LIMIT_WORDS, Tag};
+use crossbeam_utils::Backoff;
+use crossbeam_utils::sync::{EventCount, Parker, Unparker};
+use percpu_gate::{Gate, Memory, Pass, Put, Start, Tried};
+use queue_limits::Limits;
+use std::alloc::{AllocError, Global};
+use std::marker::Model;
+use std::sync::Wait;
+
+/// The most tags of a queue.
+pub const MOST_TAGS: u32 = 63;
+
+/// A queue, its freezer and its tags.
+pub type NewQueue = (BlockQueue, Freezer, Vec<Tag>);
+
+/// A queue that requests enter and leave, and that can be frozen. Threads share it by reference. Linux:
+/// `struct request_queue` (include/linux/blkdev.h).
+#[derive(Drop)]
+pub struct BlockQueue {
+    pub(crate) gate: Gate<LIMIT_WORDS>,
+    hardware: u32,
+    /// Wakes the freezer once the queue is drained.
+    drained: Unparker,
+    /// Those who wait to enter.
+    thawed: EventCount,
+}
+
+impl Model for BlockQueue {
+    ghost use Rattle.queue_limits.specs.Bounds.{IsHardwareLimit};
+    ghost use Rattle.freeze_queue.specs.Queue.{QueueFacts};
+
+    ghost Value = { QueueFacts };
+
+    ghost view = { λ q. record { gate = q.gate; hardware = q.hardware } };
+
+    ghost invariant = { λ q. IsHardwareLimit q.hardware };
+}
+
+/// A tag for each of the new passes of a gate.
+fn make_tags(
+    alloc: Global,
+    gate: &Gate<LIMIT_WORDS>,
+    passes: Vec<Pass<LIMIT_WORDS>>,
+    hardware: u32,
+) -> Result<Vec<Tag>, AllocError>
+    requires new { All (λ p. p ≡ fresh_pass gate.now) passes.items }
+    ensures { IfOk result (λ made. made.items ≡ replicate (vec_len passes) (first_tag (record { gate = gate.now; hardware = hardware }))) }
+{
+    let mut tags = Vec::with_capacity(alloc, passes.len())?;
+    for pass in passes {
+        tags.push(Tag::new(pass, hardware))?;
+    }
+    Ok(tags)
+}
+
+impl BlockQueue {
+    /// A live queue of these limits, with so many slots (1 to 64) and tags (1 to 63), none of them entered, and
+    /// its freezer. Memory where a growth was refused. Linux: `blk_mq_alloc_queue` (block/blk-mq.c).
+    pub fn new(alloc: Global, limits: Limits, slots: u32, tags: u32) -> Result<NewQueue, Memory>
+        requires slots { (1 ≤ slots) × (slots ≤ 64) }
+        requires tags { (1 ≤ tags) × (tags ≤ 63) }
+        ensures queue { IfOk result (λ q. (q.0.gate.slots ≡ slots) × (q.0.hardware ≡ limits.hardware)) }
+        ensures freezer { IfOk result (λ q. q.1 ≡ first_freezer q.0 limits tags) }
+        ensures tags { IfOk result (λ q. q.2.items ≡ replicate tags (first_tag q.0)) }
+    {
+        let sleeper = Parker::new(alloc)?;
+        let drained = sleeper.unparker().clone()?;
+        let words = limits.to_words();
+        let (gate, control, passes) = Gate::new(alloc, slots, tags, Start::Atomic, words)?;
+        let hardware = limits.hw();
+        let made = make_tags(alloc, &gate, passes, hardware)?;
+        let queue = BlockQueue {
+            gate,
+            hardware,
+            drained,
+            thawed: EventCount::new(),
+        };
+        Ok((queue, Freezer::new(control, limits, tags, sleeper), made))
+    }
+
+    /// The slots of the queue: 1 to 64.
+    #[inline]
+    pub fn slots(&self) -> u32
+        ensures { result ≡ self.now.gate.slots }
+    {
+        self.gate.slots()
+    }
+
+    /// Wakes the freezer where a drop was the last.
+    #[inline]
+    fn wake_freezer(&self, put: Put) {
+        if put == Put::Last {
+            self.drained.unpark();
+        }
+    }
+
+    /// Wakes those who wait to enter.
+    pub(crate) fn wake_submitters(&self) {
+        self.thawed.notify_all();
+    }
+
+    /// Enters unless the queue is frozen. Linux: `blk_queue_enter` with BLK_MQ_REQ_NOWAIT (block/blk-core.c).
+    #[inline]
+    pub fn try_enter(&self, tag: &mut Tag, slot: u32) -> Enter
+        requires own { tag.old.queue ≡ self.now }
+        requires slot { slot < self.now.gate.slots }
+        requires out { tag.old.entered ≡ false }
+        ensures entered { result ≡ Entered → tag.new ≡ after_entering tag.old }
+        ensures again { result ≡ Again → (r : Put) × (tag.new ≡ after_refusal r tag.old) }
+    {
+        match tag.take(&self.gate, slot) {
+            Tried::Given => Enter::Entered,
+            Tried::Refused(put) => {
+                self.wake_freezer(put);
+                Enter::Again
+            }
+        }
+    }
+
+    /// Enters, and waits while the queue is frozen. Linux: `blk_queue_enter` (block/blk-core.c), which sleeps on
+    /// `mq_freeze_wq`.
+    pub fn enter<R: Wait>(&self, rt: &R, tag: &mut Tag, slot: u32)
+        requires own { tag.old.queue ≡ self.now }
+        requires slot { slot < self.now.gate.slots }
+        requires out { tag.old.entered ≡ false }
+        ensures entered { tag.new ≡ record (after_entering tag.old) { releases = tag.new.releases } }
+        ensures releases { tag.old.releases ≤ tag.new.releases }
+    {
+        let backoff = Backoff::new();
+        for _ in rt.forever() {
+            // A wait is announced before the try, so that a thaw after it ends the wait. Before the backoff is
+            // completed nobody waits, so that entering a live queue writes nothing but the count.
+            let thaw = if backoff.is_completed() {
+                Some(self.thawed.prepare_wait())
+            } else {
+                None
+            };
+            if self.try_enter(tag, slot) == Enter::Entered {
+                return;
+            }
+            match thaw {
+                Some(thaw) => thaw.wait(rt),
+                None => backoff.snooze(),
+            }
+        }
+        unreachable!()
+    }
+
+    /// Leaves. `Last` where that was the last drop of a freeze: the queue is drained. Linux: `blk_queue_exit`
+    /// (block/blk-core.c).
+    #[inline]
+    pub fn leave(&self, tag: &mut Tag, slot: u32) -> Put
+        requires own { tag.old.queue ≡ self.now }
+        requires slot { slot < self.now.gate.slots }
+        requires entered { tag.old.entered ≡ true }
+        ensures { tag.new ≡ after_leaving result tag.old }
+    {
+        let put = tag.put(&self.gate, slot);
+        self.wake_freezer(put);
+        put
+    }
+
+    /// The limits in force, for an entered tag: the same at each call until it leaves, in whichever threads the
+    /// calls are made.
+    #[inline]
+    pub fn limits(&self, tag: &mut Tag) -> Limits
+        requires own { tag.old.queue ≡ self.now }
+        requires entered { tag.old.entered ≡ true }
+        ensures told { tag.new ≡ record tag.old { limits = Some result } }
+        ensures in_force { AreInForce self.now.gate self.now.hardware result }
+        ensures same { IfSome tag.old.limits (λ l. result ≡ l) }
+        ensures hardware { result.hardware ≡ self.now.hardware }
+    {
+        Limits::from_words(self.hardware, tag.words(&self.gate))
+    }
+
+    /// The gate of a queue that ends.
+    pub(crate) fn into_gate(self) -> Gate<LIMIT_WORDS>
+        ensures { result ≡ self.gate }
+    {
+        let Self {
+            gate,
+            hardware: _,
+            drained: _,
+            thawed: _,
+        } = self;
+        gate
+    }
+}

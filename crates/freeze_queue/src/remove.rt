@@ -1,0 +1,83 @@
+//! The removal of a queue.
+ghost use Rattle.std.specs.Prelude.{◌≡◌, ◌≤◌, ◌+◌, ℕ, All, vec_len, length, sum_by, true, false, IfOk, IfErr};
+ghost use Rattle.queue_limits.specs.Words.{to_words};
+ghost use Rattle.freeze_queue.specs.Queue.{remove_refusal};
+ghost use Rattle.freeze_queue.specs.Removal.{why_of, IsRemoved};
+
+use crate::fault::FreezeFault;
+use crate::freezer::Freezer;
+use crate::queue::BlockQueue;
+use crate::tag::{LIMIT_WORDS, Tag};
+use percpu_gate::Final;
+
+/// A queue that may not end comes back with its freezer and tags, all as they were.
+#[derive(Drop)]
+pub struct RemoveFault {
+    pub why: FreezeFault,
+    pub freezer: Freezer,
+    pub queue: BlockQueue,
+    pub tags: Vec<Tag>,
+}
+
+/// Takes all tags back from a frozen queue, and ends it.
+fn end(mut freezer: Freezer, queue: BlockQueue, tags: Vec<Tag>) -> Final<LIMIT_WORDS>
+    requires own { freezer.queue ≡ queue }
+    requires tags { All (λ t. t.queue ≡ queue) tags.items }
+    requires out { All (λ t. t.entered ≡ false) tags.items }
+    requires frozen { freezer.live ≡ false }
+    requires all { freezer.tags ≤ vec_len tags }
+    ensures dead { result.dead ≡ true }
+    ensures kills { result.kills ≡ freezer.kills }
+    ensures words { result.words ≡ to_words freezer.limits }
+    ensures releases { length tags.items ≡ freezer.tags → result.releases ≡ freezer.releases + sum_by (λ t. t.releases) tags.items }
+{
+    for tag in tags {
+        freezer.take_back(&queue, tag);
+    }
+    match queue.into_gate().exit(freezer.into_control()) {
+        Ok(left) => left,
+        Err(_) => unreachable!(),
+    }
+}
+
+impl Freezer {
+    /// Ends a queue that no tag has entered, with all its tags: kills a live gate, takes the tags back and ends
+    /// the gate. Refuses TagsOut where tags are missing, WornOut. Linux: `blk_mq_destroy_queue`
+    /// (block/blk-mq.c).
+    pub fn remove(
+        mut self,
+        queue: BlockQueue,
+        tags: Vec<Tag>,
+    ) -> Result<Final<LIMIT_WORDS>, RemoveFault>
+        requires own { self.queue ≡ queue }
+        requires tags { All (λ t. t.queue ≡ queue) tags.items }
+        requires out { All (λ t. t.entered ≡ false) tags.items }
+        ensures refused { why_of result ≡ remove_refusal self (vec_len tags) }
+        ensures unchanged { IfErr result (λ f. (f.freezer ≡ self) × (f.queue ≡ queue) × (f.tags ≡ tags)) }
+        ensures removed { IfOk result (λ left. IsRemoved self tags.items left) }
+    {
+        let missing = (self.tags() as usize).saturating_sub(tags.len());
+        if missing > 0 {
+            let why = FreezeFault::TagsOut(missing as u32);
+            let freezer = self;
+            return Err(RemoveFault {
+                why,
+                freezer,
+                queue,
+                tags,
+            });
+        }
+        if self.depth() == 0
+            && let Err(why) = self.start_freeze(&queue)
+        {
+            let freezer = self;
+            return Err(RemoveFault {
+                why,
+                freezer,
+                queue,
+                tags,
+            });
+        }
+        Ok(end(self, queue, tags))
+    }
+}

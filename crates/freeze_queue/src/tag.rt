@@ -1,0 +1,112 @@
+//! A tag: the right to have one request under way.
+ghost use Rattle.std.specs.Prelude.{◌≡◌, ℕ, ◌<◌, ◌≤◌, true, false, Some, None, IfSome};
+ghost use Rattle.percpu_gate.specs.Seats.{fresh_pass};
+ghost use Rattle.queue_limits.specs.Bounds.{Bounds};
+ghost use Rattle.queue_limits.specs.Words.{from_words};
+ghost use Rattle.percpu_gate.specs.declared.tried.Tried.TheVariants.{Given, Refused};
+ghost use Rattle.freeze_queue.specs.Queue.{first_tag, after_entering, after_refusal, after_leaving};
+ghost use Rattle.freeze_queue.specs.AtTheGate.{AreInForce};
+
+use percpu_gate::{Gate, Pass, Put, Tried};
+use std::marker::Model;
+
+/// How many guarded words hold the limits of a queue.
+pub const LIMIT_WORDS: usize = 2;
+
+/// What an attempt to enter answers.
+#[derive(Clone, Copy, Debug, PartialEq, Eq)]
+pub enum Enter {
+    /// The tag is entered, until it leaves.
+    Entered,
+    /// The queue is frozen. Linux: EAGAIN of `blk_queue_enter` with BLK_MQ_REQ_NOWAIT (block/blk-core.c).
+    Again,
+}
+
+/// The right to have one request under way in one queue. Linux: a request's tag (block/blk-mq-tag.c).
+///
+/// It moves between threads with its request. One that is dropped while it is entered keeps the queue from
+/// ever being drained.
+#[derive(Drop)]
+pub struct Tag {
+    pass: Pass<LIMIT_WORDS>,
+    hardware: u32,
+}
+
+impl Model for Tag {
+    ghost use Rattle.std.specs.Prelude.{◌≤◌};
+    ghost use Rattle.freeze_queue.specs.Queue.{TagFacts};
+
+    ghost Value = { TagFacts };
+
+    ghost use Rattle.freeze_queue.specs.Readings.{tag_facts};
+
+    ghost view = { λ t. tag_facts t.pass t.hardware };
+
+    ghost invariant = { λ t. t.pass.view.standing.held ≤ 1 };
+}
+
+impl Tag {
+    /// A tag that hasn't entered.
+    pub(crate) fn new(pass: Pass<LIMIT_WORDS>, hardware: u32) -> Tag
+        requires { pass ≡ fresh_pass pass.gate }
+        ensures { result ≡ first_tag (record { gate = pass.gate; hardware = hardware }) }
+    {
+        Tag { pass, hardware }
+    }
+
+    /// Whether it has entered its queue and not left.
+    #[inline]
+    pub fn entered(&self) -> bool
+        ensures value { result ≡ self.now.entered }
+        ensures told { result ≡ false → self.now.limits ≡ None }
+    {
+        self.pass.held() == 1
+    }
+
+    /// Takes the one reference of a tag, unless the gate was killed.
+    #[inline]
+    pub(crate) fn take(&mut self, gate: &Gate<LIMIT_WORDS>, slot: u32) -> Tried
+        requires own { self.old.queue.gate ≡ gate.now }
+        requires slot { slot < gate.now.slots }
+        requires out { self.old.entered ≡ false }
+        ensures given { result ≡ Given → self.new ≡ after_entering self.old }
+        ensures refused { (r : Put) → result ≡ Refused r → self.new ≡ after_refusal r self.old }
+    {
+        self.pass.try_get_live(gate, slot)
+    }
+
+    /// Drops it.
+    #[inline]
+    pub(crate) fn put(&mut self, gate: &Gate<LIMIT_WORDS>, slot: u32) -> Put
+        requires own { self.old.queue.gate ≡ gate.now }
+        requires slot { slot < gate.now.slots }
+        requires entered { self.old.entered ≡ true }
+        ensures { self.new ≡ after_leaving result self.old }
+    {
+        self.pass.put(gate, slot, 1)
+    }
+
+    /// Loads the words that hold the limits.
+    #[inline]
+    pub(crate) fn words(&mut self, gate: &Gate<LIMIT_WORDS>) -> [u64; LIMIT_WORDS]
+        requires own { self.old.queue.gate ≡ gate.now }
+        requires entered { self.old.entered ≡ true }
+        ensures told { self.new ≡ record self.old { limits = Some (from_words self.old.queue.hardware result) } }
+        ensures in_force { AreInForce gate.now self.old.queue.hardware (from_words self.old.queue.hardware result) }
+        ensures same { (l : Bounds) → self.old.limits ≡ Some l → from_words self.old.queue.hardware result ≡ l }
+    {
+        let max = self.pass.word(gate, 0);
+        let chunk = self.pass.word(gate, 1);
+        [max, chunk]
+    }
+
+    /// The pass of a tag that ends.
+    pub(crate) fn into_pass(self) -> Pass<LIMIT_WORDS>
+        ensures own { result.gate ≡ self.queue.gate }
+        ensures releases { result.view.releases ≡ self.releases }
+        ensures out { self.entered ≡ false → result.view.standing.held ≡ 0 }
+    {
+        let Self { pass, hardware: _ } = self;
+        pass
+    }
+}

@@ -1,0 +1,4 @@
+mod by_hand;
+mod caller;
+mod rounds;
+mod threads;

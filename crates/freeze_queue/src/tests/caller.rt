@@ -1,0 +1,70 @@
+//! How a caller reasons: from the contracts of the public calls alone.
+ghost use Rattle.std.specs.Prelude.{◌≡◌, ◌<◌, ◌+◌, true, OnOk, IfOk, Some};
+ghost use Rattle.std.specs.Thread.{IsSync};
+
+use crate::{BlockQueue, Enter, FreezeFault, Freezer, Tag};
+use queue_limits::Limits;
+use std::process::Abort;
+use std::sync::Wait;
+use std::test::Fail;
+use std::thread;
+use std::thread::Threads;
+
+/// A tag that entered here tells its limits in another thread.
+fn read_elsewhere(queue: &BlockQueue, mut tag: Tag) -> (Tag, Limits)
+    requires own { tag.queue ≡ queue.now }
+    requires entered { tag.entered ≡ true }
+    ensures { (result.0.queue ≡ queue.now) × (result.0.entered ≡ true) × (result.0.limits ≡ Some result.1) }
+{
+    let limits = queue.limits(&mut tag);
+    (tag, limits)
+}
+
+/// What two threads read under one tag is equal, whatever a freezer does meanwhile.
+fn two_reads_agree<R: Threads>(rt: &R, queue: &BlockQueue, tag: Tag) -> (Tag, bool)
+    requires own { tag.queue ≡ queue.now }
+    requires entered { tag.entered ≡ true }
+    ensures { (result.0.queue ≡ queue.now) × (result.0.entered ≡ true) × (result.1 ≡ true) }
+{
+    let ((mut tag, there), _) = thread::join(
+        rt,
+        move || -> (Tag, Limits)
+            requires { (tag.queue ≡ queue.now) × (tag.entered ≡ true) }
+            ensures { (result.0.queue ≡ queue.entry.now) × (result.0.entered ≡ true) × (result.0.limits ≡ Some result.1) }
+        { read_elsewhere(queue, tag) },
+        || (),
+    );
+    let here = queue.limits(&mut tag);
+    (tag, here == there)
+}
+
+/// A freeze, a set and a thaw, in this order, leave the new limits in force, at the depth from before.
+pub(super) fn change_limits<R: Wait>(
+    rt: &R,
+    queue: &BlockQueue,
+    freezer: &mut Freezer,
+    limits: Limits,
+) -> Result<u32, FreezeFault>
+    requires own { freezer.old.queue ≡ queue.now }
+    requires hardware { limits.hardware ≡ freezer.old.queue.hardware }
+    ensures own { freezer.new.queue ≡ freezer.old.queue }
+    ensures limits { OnOk result (freezer.new.limits ≡ limits) }
+    ensures depth { IfOk result (λ depth. (depth ≡ freezer.old.depth) × (freezer.new.depth ≡ freezer.old.depth)) }
+{
+    freezer.freeze(rt, queue)?;
+    freezer.set(queue, limits)?;
+    freezer.thaw(queue)
+}
+
+#[test]
+fn callers_by_hand(rt: HostRuntime) -> Result<(), Fail> {
+    let (queue, mut freezer, mut tags) = BlockQueue::new(rt.alloc(), Limits::start(8)?, 1, 1)?;
+    let mut tag = tags.pop().ok_or("a tag")?;
+    let narrow = Limits::new(8, 3, 2)?;
+    assert_eq!(rt; change_limits(&rt, &queue, &mut freezer, narrow), Ok(0));
+    assert_eq!(rt; queue.try_enter(&mut tag, 0), Enter::Entered);
+    assert_eq!(rt; queue.limits(&mut tag), narrow);
+    let (_tag, agree) = two_reads_agree(&rt, &queue, tag);
+    assert!(rt; agree);
+    Ok(())
+}

@@ -1,0 +1,24 @@
+-- What a replay shows is a run of the gate's machine.
+use Rattle.std.specs.Prelude.{◌≡◌, ℕ, Some, List, ◌∷◌, ◌++◌, map}
+use Rattle.std.specs.List.{flat_map}
+use Rattle.percpu_core.specs.declared.event.Event.{Event}
+use Rattle.percpu_core.specs.declared.not_enabled.NotEnabled.{NotEnabled}
+use Rattle.percpu_core.specs.declared.reply.Reply.{Reply}
+use Rattle.percpu_core.specs.Machine.{State, Run, refusal}
+use Rattle.gate_replay.specs.ReplyLines.{reply_line, stuck_line, end_line}
+use Rattle.gate_replay.specs.Shown.{shown_from}
+use Rattle.gate_replay.specs.declared.replay.Replayed.TheVariants.{Whole, Stuck}
+
+abbrev pub step_of : ℕ × Event → Event
+step_of e = e.1
+
+-- where the machine takes all steps, their replies are shown, and then the state that they leave
+abbrev pub WholeRunsAreShown : Type 0
+WholeRunsAreShown = (first : State) (events : List (ℕ × Event)) (replies : List Reply) (last : State) → Run first (map step_of events) replies last
+    → shown_from first events ≡ record { text = flat_map reply_line replies ++ end_line last; ended = Whole }
+
+-- where it takes some, and the next one isn't enabled, the replies are shown, and then the line of that one
+abbrev pub StuckRunsAreShown : Type 0
+StuckRunsAreShown = (first : State) (before : List (ℕ × Event)) (replies : List Reply) (here : State) (line : ℕ) (event : Event) (why : NotEnabled) (later : List (ℕ × Event))
+    → Run first (map step_of before) replies here → refusal here event ≡ Some why
+    → shown_from first (before ++ (line, event) ∷ later) ≡ record { text = flat_map reply_line replies ++ stuck_line line why; ended = Stuck }

@@ -1,0 +1,54 @@
+-- What the first two lines of a schedule say: its version, and the world.
+use Rattle.std.specs.Prelude.{ℕ, Bool, true, ◌&&◌, if◌then◌else◌, nat_lt, List, [], ◌∷◌, length, Result, Ok, Err, codes}
+use Rattle.std.specs.Str.{bytes_eq}
+use Rattle.line_text.specs.Numbers.{◌>>=◌, number_in}
+use Rattle.line_text.specs.declared.fault.Why.{Why}
+use Rattle.line_text.specs.declared.fault.Why.TheVariants.{NoVersion, NoWorld, UnknownWord, MissingWord, ExtraWord}
+use Rattle.percpu_core.specs.declared.start.Start.{Start}
+use Rattle.percpu_core.specs.declared.start.Start.TheVariants.{Slots, Atomic, Dead}
+use Rattle.percpu_core.specs.Starts.{Opening, opening}
+
+-- the first line says `gate 1`, and nothing else
+abbrev pub gate_of : List (List ℕ) → Result Bool Why
+gate_of (name ∷ number ∷ []) = if bytes_eq name (codes "gate") && bytes_eq number (codes "1") then Ok true else Err NoVersion
+gate_of words = Err NoVersion
+
+-- how the world starts
+abbrev pub start_of : List ℕ → Result Start Why
+start_of word =
+    if bytes_eq word (codes "slots") then Ok Slots
+    else if bytes_eq word (codes "atomic") then Ok Atomic
+    else if bytes_eq word (codes "dead") then Ok Dead
+    else Err UnknownWord
+
+-- the guarded words
+abbrev pub values_of : List (List ℕ) → Result (List ℕ) Why
+values_of [] = Ok []
+values_of (word ∷ words) =
+    number_in 0 18446744073709551615 word >>= λ value.
+    values_of words >>= λ values.
+    Ok (value ∷ values)
+
+-- the world of these sizes, this start and these kills, with the guarded words that follow
+abbrev pub with_words : ℕ → ℕ → Start → ℕ → List (List ℕ) → Result Opening Why
+with_words slots passes start kills words = values_of words >>= λ values. Ok (opening slots passes start kills values)
+
+-- the slots, the passes, the start and the kills, and then up to 8 guarded words
+abbrev pub opening_of : List (List ℕ) → Result Opening Why
+opening_of [] = Err MissingWord
+opening_of (slots ∷ []) = Err MissingWord
+opening_of (slots ∷ passes ∷ []) = Err MissingWord
+opening_of (slots ∷ passes ∷ start ∷ []) = Err MissingWord
+opening_of (slots ∷ passes ∷ start ∷ kills ∷ words) =
+    if nat_lt 8 (length words) then Err ExtraWord else (
+    number_in 1 64 slots >>= λ slots.
+    number_in 1 64 passes >>= λ passes.
+    start_of start >>= λ start.
+    number_in 0 1099511627776 kills >>= λ kills.
+    with_words slots passes start kills words
+    )
+
+-- the second line says `world SLOTS PASSES START KILLS [WORD ..]`
+abbrev pub world_of : List (List ℕ) → Result Opening Why
+world_of [] = Err NoWorld
+world_of (first ∷ words) = if bytes_eq first (codes "world") then opening_of words else Err NoWorld

@@ -1,0 +1,246 @@
+//! What a line of a schedule says that tells a step.
+ghost use Rattle.std.specs.Prelude.{◌≡◌};
+ghost use Rattle.std.specs.List.{list_all};
+ghost use Rattle.line_text.specs.Numbers.{is_digit};
+ghost use Rattle.gate_replay.specs.EventLine.{plain, pass_and, look_of, delta_in, exchange_of, take_of, give_of, get_of, sub_of, word_of, addition_of, pass_step_of, alone, store_of, join_of, control_step_of, event_of};
+
+use line_text::{
+    Why, Words, is_word, long_number, no_words, number, one_word, short_number, three_words,
+    two_words,
+};
+use percpu_core::{ControlEvent, Event, HELD_LIMIT, PassEvent};
+
+/// The greatest number that a line gives for what was seen in a slot, and less 0 the smallest.
+const MOST_SEEN: i128 = 4_294_967_295;
+
+fn is_all_digits(word: &[u8]) -> bool
+    ensures { result ≡ list_all is_digit word.now }
+{
+    word.iter().all(|byte| b'0' <= *byte && *byte <= b'9')
+}
+
+// A step of a pass that takes no number. The count of words is tested before the pass's number.
+fn plain(step: PassEvent, pass: &[u8], words: Words<'_>) -> Result<Event, Why>
+    ensures { result ≡ plain step pass.now words.entry }
+{
+    no_words(words)?;
+    let pass = short_number(pass, 0, u32::MAX)?;
+    Ok(Event::Pass(pass, step))
+}
+
+// The number of a pass, and the one number that is left, from 0 to `most`.
+fn pass_and(most: u32, pass: &[u8], words: Words<'_>) -> Result<(u32, u32), Why>
+    ensures { result ≡ pass_and most pass.now words.entry }
+{
+    let word = one_word(words)?;
+    let pass = short_number(pass, 0, u32::MAX)?;
+    let number = short_number(word, 0, most)?;
+    Ok((pass, number))
+}
+
+fn look(pass: &[u8], words: Words<'_>) -> Result<Event, Why>
+    ensures { result ≡ look_of pass.now words.entry }
+{
+    let (pass, slot) = pass_and(u32::MAX, pass, words)?;
+    Ok(Event::Pass(pass, PassEvent::Look(slot)))
+}
+
+/// An exchange of a slot's delta: the pass, the slot, what was seen in it, and an amount.
+struct SlotExchange {
+    pass: u32,
+    slot: u32,
+    seen: i64,
+    n: u32,
+}
+
+// What a slot is said to hold.
+fn delta(word: &[u8]) -> Result<i64, Why>
+    ensures { result ≡ delta_in word.now }
+{
+    let delta = number(word, -MOST_SEEN, MOST_SEEN, true)?;
+    Ok(delta as i64)
+}
+
+fn exchange(pass: &[u8], words: Words<'_>) -> Result<SlotExchange, Why>
+    ensures { result ≡ exchange_of pass.now words.entry }
+{
+    let (slot, seen, n) = three_words(words)?;
+    let pass = short_number(pass, 0, u32::MAX)?;
+    let slot = short_number(slot, 0, u32::MAX)?;
+    let seen = delta(seen)?;
+    let n = short_number(n, 0, HELD_LIMIT)?;
+    Ok(SlotExchange {
+        pass,
+        slot,
+        seen,
+        n,
+    })
+}
+
+fn take(pass: &[u8], words: Words<'_>) -> Result<Event, Why>
+    ensures { result ≡ take_of pass.now words.entry }
+{
+    let SlotExchange {
+        pass,
+        slot,
+        seen,
+        n,
+    } = exchange(pass, words)?;
+    Ok(Event::Pass(pass, PassEvent::Take { slot, seen, n }))
+}
+
+fn give(pass: &[u8], words: Words<'_>) -> Result<Event, Why>
+    ensures { result ≡ give_of pass.now words.entry }
+{
+    let SlotExchange {
+        pass,
+        slot,
+        seen,
+        n,
+    } = exchange(pass, words)?;
+    Ok(Event::Pass(pass, PassEvent::Give { slot, seen, n }))
+}
+
+fn get(pass: &[u8], words: Words<'_>) -> Result<Event, Why>
+    ensures { result ≡ get_of pass.now words.entry }
+{
+    let (pass, amount) = pass_and(HELD_LIMIT, pass, words)?;
+    Ok(Event::Pass(pass, PassEvent::AddGet(amount)))
+}
+
+fn sub(pass: &[u8], words: Words<'_>) -> Result<Event, Why>
+    ensures { result ≡ sub_of pass.now words.entry }
+{
+    let (pass, amount) = pass_and(HELD_LIMIT, pass, words)?;
+    Ok(Event::Pass(pass, PassEvent::Sub(amount)))
+}
+
+fn load_word(pass: &[u8], words: Words<'_>) -> Result<Event, Why>
+    ensures { result ≡ word_of pass.now words.entry }
+{
+    let (pass, k) = pass_and(u32::MAX, pass, words)?;
+    Ok(Event::Pass(pass, PassEvent::LoadWord(k)))
+}
+
+// What follows `add`.
+fn addition(pass: &[u8], mut words: Words<'_>) -> Result<Event, Why>
+    ensures { result ≡ addition_of pass.now words.entry }
+{
+    let name = words.next().ok_or(Why::MissingWord)?;
+    if is_word(name, "try") {
+        plain(PassEvent::AddTry, pass, words)
+    } else if is_word(name, "live") {
+        plain(PassEvent::AddLive, pass, words)
+    } else if is_word(name, "get") {
+        get(pass, words)
+    } else {
+        Err(Why::UnknownWord)
+    }
+}
+
+// What follows the number of a pass.
+fn pass_step(pass: &[u8], mut words: Words<'_>) -> Result<Event, Why>
+    ensures { result ≡ pass_step_of pass.now words.entry }
+{
+    let name = words.next().ok_or(Why::MissingWord)?;
+    if is_word(name, "add") {
+        addition(pass, words)
+    } else if is_word(name, "sub") {
+        sub(pass, words)
+    } else if is_word(name, "undo") {
+        plain(PassEvent::Undo, pass, words)
+    } else if is_word(name, "mark") {
+        plain(PassEvent::Mark, pass, words)
+    } else if is_word(name, "look") {
+        look(pass, words)
+    } else if is_word(name, "take") {
+        take(pass, words)
+    } else if is_word(name, "give") {
+        give(pass, words)
+    } else if is_word(name, "shared") {
+        plain(PassEvent::LookShared, pass, words)
+    } else if is_word(name, "front") {
+        plain(PassEvent::LoadFront, pass, words)
+    } else if is_word(name, "word") {
+        load_word(pass, words)
+    } else {
+        Err(Why::UnknownWord)
+    }
+}
+
+// A step of the control that takes no number.
+fn alone(step: ControlEvent, words: Words<'_>) -> Result<Event, Why>
+    ensures { result ≡ alone step words.entry }
+{
+    no_words(words)?;
+    Ok(Event::Control(step))
+}
+
+fn store(words: Words<'_>) -> Result<Event, Why>
+    ensures { result ≡ store_of words.entry }
+{
+    let (k, v) = two_words(words)?;
+    let k = short_number(k, 0, u32::MAX)?;
+    let v = long_number(v, 0, u64::MAX)?;
+    Ok(Event::Control(ControlEvent::StoreWord { k, v }))
+}
+
+fn join(words: Words<'_>) -> Result<Event, Why>
+    ensures { result ≡ join_of words.entry }
+{
+    let pass = short_number(one_word(words)?, 0, u32::MAX)?;
+    Ok(Event::Control(ControlEvent::Join(pass)))
+}
+
+// What follows the `c` of the control.
+fn control_step(mut words: Words<'_>) -> Result<Event, Why>
+    ensures { result ≡ control_step_of words.entry }
+{
+    let name = words.next().ok_or(Why::MissingWord)?;
+    if is_word(name, "dead") {
+        alone(ControlEvent::MarkDead, words)
+    } else if is_word(name, "close") {
+        alone(ControlEvent::Close, words)
+    } else if is_word(name, "collect") {
+        alone(ControlEvent::Collect, words)
+    } else if is_word(name, "confirm") {
+        alone(ControlEvent::Confirm, words)
+    } else if is_word(name, "base") {
+        alone(ControlEvent::DropBase, words)
+    } else if is_word(name, "mark") {
+        alone(ControlEvent::Mark, words)
+    } else if is_word(name, "take") {
+        alone(ControlEvent::TakeBase, words)
+    } else if is_word(name, "front") {
+        alone(ControlEvent::NextFront, words)
+    } else if is_word(name, "clear") {
+        alone(ControlEvent::ClearDead, words)
+    } else if is_word(name, "bias") {
+        alone(ControlEvent::AddBias, words)
+    } else if is_word(name, "open") {
+        alone(ControlEvent::OpenNext, words)
+    } else if is_word(name, "store") {
+        store(words)
+    } else if is_word(name, "join") {
+        join(words)
+    } else if is_word(name, "shared") {
+        alone(ControlEvent::LookShared, words)
+    } else {
+        Err(Why::UnknownWord)
+    }
+}
+
+/// The step that the words of a line tell. A first word of digits alone is the number of a pass, however
+/// long it is, and `c` is the control.
+pub(crate) fn event(mut words: Words<'_>) -> Result<Event, Why>
+    ensures { result ≡ event_of words.entry }
+{
+    let first = words.next().ok_or(Why::UnknownWord)?;
+    if is_all_digits(first) {
+        pass_step(first, words)
+    } else if is_word(first, "c") {
+        control_step(words)
+    } else {
+        Err(Why::UnknownWord)
+    }
+}

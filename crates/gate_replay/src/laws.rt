@@ -1,0 +1,11 @@
+//! What holds of replays, apart from the code.
+ghost use Rattle.gate_replay.specs.Laws.{StuckRunsAreShown, WholeRunsAreShown};
+
+/// What a replay shows is a run of the gate's machine: the replies to the steps that it takes, and then the
+/// state that all of them leave, or the first step that isn't enabled. The contract is the law; the function
+/// does nothing.
+#[tactic(auto, using(crate::proofs::ShownRuns::stuck_runs, crate::proofs::ShownRuns::whole_runs))]
+pub fn replays_are_runs()
+    ensures whole { WholeRunsAreShown }
+    ensures stuck { StuckRunsAreShown }
+{}

@@ -1,0 +1,75 @@
+//! From bytes to a schedule.
+ghost use Rattle.std.specs.Prelude.{◌≡◌, true, IfOk};
+ghost use Rattle.line_text.specs.Answers.{Answers, Says, Tells, at_line};
+ghost use Rattle.line_text.specs.Statements.{after_first};
+ghost use Rattle.percpu_core.specs.Starts.{IsWithinLimits};
+ghost use Rattle.gate_replay.specs.Schedules.{opened, opening_in, told_by, events_of, gate_in, world_in, schedule_of};
+
+use crate::schedule::{Events, Schedule};
+use crate::world_line::WorldLine;
+use crate::{event_line, world_line};
+use line_text::{ParseFault, ScriptFault, Statements, Why, Words, at_line};
+use percpu_core::Event;
+use std::alloc::Global;
+
+// Takes the line of the version.
+fn gate(text: &mut Statements<'_>) -> Result<(), ParseFault>
+    ensures said { Says (λ _. true) result (gate_in text.old) }
+    ensures rest { text.new ≡ after_first text.old }
+{
+    let (line, words) = text.next_or(Why::NoVersion)?;
+    at_line(line, world_line::gate(words))
+}
+
+// Takes the line of the world.
+fn world(alloc: Global, text: &mut Statements<'_>) -> Result<WorldLine, ScriptFault>
+    ensures said { Tells opened result (world_in text.old) }
+    ensures rest { text.new ≡ after_first text.old }
+    ensures within { IfOk result (λ world. IsWithinLimits (opened world)) }
+{
+    let (line, words) = text.next_or(Why::NoWorld)?;
+    world_line::world(alloc, line, words)
+}
+
+// The step that the words of a line tell, if it has any.
+fn event(line: u32, said: Result<Words<'_>, Why>) -> Result<Event, ParseFault>
+    ensures { result ≡ at_line line (told_by said.entry) }
+{
+    let words = at_line(line, said)?;
+    at_line(line, event_line::event(words))
+}
+
+// The steps of the lines that are left.
+fn events(alloc: Global, mut text: Statements<'_>) -> Result<Vec<(u32, Event)>, ScriptFault>
+    ensures { Tells (λ events. events.items) result (events_of text.entry.said) }
+{
+    let mut events = Vec::new(alloc);
+    while let Some((line, said)) = text.next() {
+        let event = event(line, said)?;
+        events.push((line, event))?;
+    }
+    Ok(events)
+}
+
+/// The schedule that a text means.
+///
+/// Refused with `Parse` exactly where the text means none: the fault is the first of the text, in the
+/// order that docs/FORMATS.md gives, with its line from 1. Refused with `Memory` only where a growth of
+/// memory was refused.
+pub fn parse_schedule(alloc: Global, bytes: &[u8]) -> Result<Schedule, ScriptFault>
+    ensures meant { Answers result (schedule_of bytes.now) }
+    ensures within { IfOk result (λ schedule. IsWithinLimits (opening_in schedule)) }
+{
+    let mut text = Statements::new(bytes)?;
+    gate(&mut text)?;
+    let world = world(alloc, &mut text)?;
+    let events = events(alloc, text)?;
+    Ok(Schedule {
+        slots: world.slots,
+        passes: world.passes,
+        start: world.start,
+        kills: world.kills,
+        words: world.words,
+        events: Events::new(events),
+    })
+}

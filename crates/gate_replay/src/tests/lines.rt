@@ -1,0 +1,72 @@
+//! What the format says of single lines, in the order of its tests.
+use super::tables::{GATES, STEPS, WORLDS};
+use crate::parse_schedule;
+use line_text::{ParseFault, ScriptFault, Why};
+use percpu_core::{ControlEvent, Event, PassEvent, Start};
+use std::alloc::Global;
+use std::process::Abort;
+use std::test::Fail;
+
+// Each line of the table, between these texts, is refused as the table says.
+fn check(
+    rt: &(impl Abort + AllocGlobal),
+    before: &str,
+    table: &[(&str, Option<Why>)],
+    after: &str,
+    line: u32,
+) -> Result<(), Fail> {
+    for (text, why) in table {
+        let schedule = format!(in rt.alloc(); "{before}{text}{after}")?;
+        let found = parse_schedule(rt.alloc(), schedule.as_bytes()).err();
+        let wanted = why.map(|why| ScriptFault::Parse(ParseFault { line, why }));
+        assert_eq!(rt; found, wanted, "{text}");
+    }
+    Ok(())
+}
+
+#[test]
+fn single_lines(rt: HostRuntime) -> Result<(), Fail> {
+    check(&rt, "# a gate\n", GATES, "\nworld 1 1 atomic 0\n", 2)?;
+    check(&rt, "gate 1\n", WORLDS, "\n", 2)?;
+    check(&rt, "gate 1\nworld 1 1 atomic 0\n", STEPS, "\n", 3)
+}
+
+// The fault of some bytes.
+fn fault(alloc: Global, bytes: &[u8]) -> Option<ScriptFault> {
+    parse_schedule(alloc, bytes).err()
+}
+
+#[test]
+fn faults_of_whole_texts(rt: HostRuntime) -> Result<(), Fail> {
+    let at = |line: u32, why: Why| Some(ScriptFault::Parse(ParseFault { line, why }));
+    let alloc = rt.alloc();
+    assert_eq!(rt; fault(alloc, b""), at(1, Why::NoVersion));
+    assert_eq!(rt; fault(alloc, b"\n\n"), at(3, Why::NoVersion));
+    assert_eq!(rt; fault(alloc, b"gate 1"), at(2, Why::NoWorld));
+    assert_eq!(rt; fault(alloc, b"gate 1\n# \xff\n"), at(2, Why::NotUtf8));
+    assert_eq!(rt;
+        fault(alloc, b"gate 1\nworld 1 1 atomic 0 \xff\n"),
+        at(2, Why::NotUtf8)
+    );
+    let longest = vec![in alloc; b'#'; 1_048_576]?;
+    assert_eq!(rt; fault(alloc, &longest), at(2, Why::NoVersion));
+    let longer = vec![in alloc; b'#'; 1_048_577]?;
+    assert_eq!(rt; fault(alloc, &longer), at(1, Why::TooLong));
+    Ok(())
+}
+
+#[test]
+fn a_schedule_tells_its_parts(rt: HostRuntime) -> Result<(), Fail> {
+    let text = b"gate 1\nworld 2 3 dead 4 5 6\n\n2 sub 9\nc store 1 8\n";
+    let schedule = parse_schedule(rt.alloc(), text)?;
+    assert_eq!(rt; (schedule.slots, schedule.passes), (2, 3));
+    assert_eq!(rt; schedule.start, Start::Dead);
+    assert_eq!(rt; schedule.kills, 4);
+    assert_eq!(rt; schedule.words.as_slice(), [5, 6].as_slice());
+    let events = [
+        (4, Event::Pass(2, PassEvent::Sub(9))),
+        (5, Event::Control(ControlEvent::StoreWord { k: 1, v: 8 })),
+    ];
+    assert_eq!(rt; schedule.events.as_slice(), events.as_slice());
+    Ok(())
+}

@@ -1,0 +1,133 @@
+//! What the first two lines of a schedule say: its version, and the world.
+ghost use Rattle.std.specs.Prelude.{◌≡◌, ◌∷◌, ◌≤◌, true, length, Err, IfOk, OnOk, MatchResult};
+ghost use Rattle.line_text.specs.Answers.{Says};
+ghost use Rattle.line_text.specs.Answers.{Tells, at_line};
+ghost use Rattle.percpu_core.specs.Starts.{IsWithinLimits};
+ghost use Rattle.gate_replay.specs.Schedules.{opened};
+ghost use Rattle.gate_replay.specs.WorldLine.{gate_of, start_of, values_of, with_words, opening_of, world_of};
+
+use crate::schedule::GuardedWords;
+use line_text::{ScriptFault, Why, Words, at_line, is_word, long_number, short_number};
+use percpu_core::{KILL_LIMIT, PASS_LIMIT, SLOT_LIMIT, Start, WORD_LIMIT};
+use std::alloc::Global;
+
+/// The world that a line tells.
+#[derive(Debug, Drop)]
+pub(crate) struct WorldLine {
+    pub(crate) slots: u32,
+    pub(crate) passes: u32,
+    pub(crate) start: Start,
+    pub(crate) kills: u64,
+    pub(crate) words: GuardedWords,
+}
+
+/// Whether the line is that of the version.
+pub(crate) fn gate(mut words: Words<'_>) -> Result<(), Why>
+    ensures { Says (λ _. true) result (gate_of words.entry) }
+{
+    let name = words.next().ok_or(Why::NoVersion)?;
+    let number = words.next().ok_or(Why::NoVersion)?;
+    if is_word(name, "gate") && is_word(number, "1") && words.next().is_none() {
+        Ok(())
+    } else {
+        Err(Why::NoVersion)
+    }
+}
+
+// How the world starts.
+fn start_said(word: &[u8]) -> Result<Start, Why>
+    ensures { result ≡ start_of word.now }
+{
+    if is_word(word, "slots") {
+        Ok(Start::Slots)
+    } else if is_word(word, "atomic") {
+        Ok(Start::Atomic)
+    } else if is_word(word, "dead") {
+        Ok(Start::Dead)
+    } else {
+        Err(Why::UnknownWord)
+    }
+}
+
+type FourWords<'a> = (&'a [u8], &'a [u8], &'a [u8], &'a [u8]);
+
+// The words before the guarded ones.
+fn four_words<'a>(words: &mut Words<'a>) -> Result<FourWords<'a>, Why>
+    ensures { MatchResult result
+        (λ four. words.old ≡ four.0.now ∷ four.1.now ∷ four.2.now ∷ four.3.now ∷ words.new)
+        (λ why. opening_of words.old ≡ Err why) }
+{
+    let slots = words.next().ok_or(Why::MissingWord)?;
+    let passes = words.next().ok_or(Why::MissingWord)?;
+    let start = words.next().ok_or(Why::MissingWord)?;
+    let kills = words.next().ok_or(Why::MissingWord)?;
+    Ok((slots, passes, start, kills))
+}
+
+// The slots, the passes, the start and the kills. The guarded words are left, few enough of them.
+fn sizes(words: &mut Words<'_>) -> Result<(u32, u32, Start, u64), Why>
+    ensures rest { MatchResult result
+        (λ said. opening_of words.old ≡ with_words said.0 said.1 said.2 said.3 words.new)
+        (λ why. opening_of words.old ≡ Err why) }
+    ensures slots { IfOk result (λ said. (1 ≤ said.0) × (said.0 ≤ SLOT_LIMIT)) }
+    ensures passes { IfOk result (λ said. (1 ≤ said.1) × (said.1 ≤ PASS_LIMIT)) }
+    ensures kills { IfOk result (λ said. said.3 ≤ KILL_LIMIT) }
+    ensures words { OnOk result (length words.new ≤ WORD_LIMIT) }
+{
+    let (slots, passes, start, kills) = four_words(words)?;
+    if words.count_left() > WORD_LIMIT {
+        return Err(Why::ExtraWord);
+    }
+    let slots = short_number(slots, 1, SLOT_LIMIT)?;
+    let passes = short_number(passes, 1, PASS_LIMIT)?;
+    let start = start_said(start)?;
+    let kills = long_number(kills, 0, KILL_LIMIT)?;
+    Ok((slots, passes, start, kills))
+}
+
+// Takes the word `world`.
+fn named(words: &mut Words<'_>) -> Result<(), Why>
+    ensures { MatchResult result
+        (λ _. world_of words.old ≡ opening_of words.new)
+        (λ why. world_of words.old ≡ Err why) }
+{
+    let first = words.next().ok_or(Why::NoWorld)?;
+    if is_word(first, "world") {
+        Ok(())
+    } else {
+        Err(Why::NoWorld)
+    }
+}
+
+// The guarded words.
+fn values(alloc: Global, line: u32, mut words: Words<'_>) -> Result<Vec<u64>, ScriptFault>
+    ensures said { Tells (λ values. values.items) result (at_line line (values_of words.entry)) }
+    ensures count { IfOk result (λ values. length values.items ≡ length words.entry) }
+{
+    let mut values = Vec::new(alloc);
+    while let Some(word) = words.next() {
+        values.push(at_line(line, long_number(word, 0, u64::MAX))?)?;
+    }
+    Ok(values)
+}
+
+/// The world that the words of a line tell.
+pub(crate) fn world(
+    alloc: Global,
+    line: u32,
+    mut words: Words<'_>,
+) -> Result<WorldLine, ScriptFault>
+    ensures said { Tells opened result (at_line line (world_of words.entry)) }
+    ensures within { IfOk result (λ world. IsWithinLimits (opened world)) }
+{
+    at_line(line, named(&mut words))?;
+    let (slots, passes, start, kills) = at_line(line, sizes(&mut words))?;
+    let words = GuardedWords::new(values(alloc, line, words)?);
+    Ok(WorldLine {
+        slots,
+        passes,
+        start,
+        kills,
+        words,
+    })
+}

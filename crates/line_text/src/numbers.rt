@@ -1,0 +1,87 @@
+//! Numbers as a word spells them.
+ghost use Rattle.std.specs.Prelude.{◌≡◌, ◌≤◌, ◌<◌, ◌^◌, ◌≤ℤ◌, length, if◌then◌else◌, Some, None, IfOk, IfSome};
+ghost use Rattle.std.specs.List.{list_all};
+ghost use Rattle.line_text.specs.Integers.{is_negative, digits_of, integer_of, integer_in};
+ghost use Rattle.line_text.specs.Numbers.{is_digit, decimal_value, is_number, number_in};
+
+use crate::fault::Why;
+
+// The number that up to 20 digits spell: any such number fits.
+fn digits(word: &[u8]) -> Option<u128>
+    requires { length word.now ≤ 20 }
+    ensures value { result ≡ (if list_all is_digit word.now then Some (decimal_value word.now) else None) }
+    ensures small { IfSome result (λ number. number < 10 ^ 20) }
+{
+    let mut number = 0;
+    for digit in word {
+        if *digit < b'0' || *digit > b'9' {
+            return None;
+        }
+        number = 10 * number + u128::from(*digit - b'0');
+    }
+    Some(number)
+}
+
+// The number that 1 to 20 decimal digits spell.
+fn unsigned(word: &[u8]) -> Result<u128, Why>
+    ensures value { result ≡ (if is_number word.now then Ok (decimal_value word.now) else Err Why.BadNumber) }
+    ensures small { IfOk result (λ number. number < 10 ^ 20) }
+{
+    if word.is_empty() || word.len() > 20 {
+        return Err(Why::BadNumber);
+    }
+    let Some(number) = digits(word) else {
+        return Err(Why::BadNumber);
+    };
+    Ok(number)
+}
+
+/// The number from `low` to `high` that a word spells by 1 to 20 decimal digits, zeros in front allowed.
+///
+/// Refused with `BadNumber` where the word spells no number, and else with `OutOfRange` where that number
+/// isn't from `low` to `high`. No memory is taken.
+pub fn long_number(word: &[u8], low: u64, high: u64) -> Result<u64, Why>
+    ensures value { result ≡ number_in low high word.now }
+    ensures range { IfOk result (λ number. (low ≤ number) × (number ≤ high)) }
+{
+    let number = unsigned(word)?;
+    if number < u128::from(low) || number > u128::from(high) {
+        return Err(Why::OutOfRange);
+    }
+    Ok(number as u64)
+}
+
+/// The same of a range of numbers of 32 bits.
+pub fn short_number(word: &[u8], low: u32, high: u32) -> Result<u32, Why>
+    ensures value { result ≡ number_in low high word.now }
+    ensures range { IfOk result (λ number. (low ≤ number) × (number ≤ high)) }
+{
+    let number = long_number(word, u64::from(low), u64::from(high))?;
+    Ok(number as u32)
+}
+
+// The integer that 1 to 20 decimal digits spell; where it is signed, one `-` may stand before them.
+fn integer(word: &[u8], signed: bool) -> Result<i128, Why>
+    ensures { result ≡ integer_of signed word.now }
+{
+    match word {
+        [b'-', digits @ ..] if signed => Ok(-(unsigned(digits)? as i128)),
+        _ => Ok(unsigned(word)? as i128),
+    }
+}
+
+/// The number from `low` to `high` that a word spells by 1 to 20 decimal digits, zeros in front allowed.
+/// Where it is `signed`, one `-` may stand before them.
+///
+/// Refused with `BadNumber` where the word spells no number, and else with `OutOfRange` where that number
+/// isn't from `low` to `high`. No memory is taken.
+pub fn number(word: &[u8], low: i128, high: i128, signed: bool) -> Result<i128, Why>
+    ensures value { result ≡ integer_in low high signed word.now }
+    ensures range { IfOk result (λ number. (low ≤ℤ number) × (number ≤ℤ high)) }
+{
+    let number = integer(word, signed)?;
+    if number < low || number > high {
+        return Err(Why::OutOfRange);
+    }
+    Ok(number)
+}

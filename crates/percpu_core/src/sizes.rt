@@ -1,0 +1,8 @@
+//! The sizes of a gate.
+
+/// How many slots and guarded words a gate has.
+#[derive(Clone, Copy, Debug, PartialEq, Eq)]
+pub struct Sizes {
+    pub slots: usize,
+    pub words: usize,
+}

@@ -1,0 +1,52 @@
+//! The word of a slot: closed, or open with a delta.
+ghost use Rattle.std.specs.Prelude.{◌≡◌, ◌↔◌, ℤ, Some, true};
+ghost use Rattle.percpu_words.specs.SlotWord.{closed_mark, IsDelta, delta_spelling, Spells};
+ghost use Rattle.percpu_words.specs.SlotWords.{SpellingIsTheSum, SpelledApart};
+
+/// The word of a closed slot.
+pub const CLOSED: u64 = 1 << 63;
+
+/// A delta is at most this, and at least as much below 0.
+pub const DELTA_MAX: i64 = 1 << 20;
+
+/// The word of the delta 0.
+const MIDDLE: i64 = 1 << 32;
+
+/// The words of the least delta and of the greatest.
+const LEAST: u64 = (MIDDLE - DELTA_MAX) as u64;
+
+const GREATEST: u64 = (MIDDLE + DELTA_MAX) as u64;
+
+/// Whether the slot is closed.
+#[inline]
+pub fn is_closed(word: u64) -> bool
+    ensures { (result ≡ true) ↔ (word ≡ closed_mark) }
+{
+    word == CLOSED
+}
+
+/// The word of an open slot with this delta, which the caller sees to be within its limit.
+#[inline]
+pub fn slot_word(delta: i64) -> u64
+    requires { IsDelta delta }
+    ensures { result ≡ delta_spelling delta }
+{
+    (MIDDLE + delta) as u64
+}
+
+/// The delta that the word spells; `None` for a closed slot, and for every other word that spells none.
+#[inline]
+pub fn slot_delta(word: u64) -> Option<i64>
+    ensures { (d : ℤ) → (result ≡ Some d) ↔ Spells word d }
+{
+    if word < LEAST || word > GREATEST {
+        return None;
+    }
+    Some(word as i64 - MIDDLE)
+}
+
+/// Each delta within the limit has one spelling, which no other delta has, nor a closed slot.
+pub fn each_delta_has_its_word()
+    ensures sum { SpellingIsTheSum }
+    ensures apart { SpelledApart }
+{}

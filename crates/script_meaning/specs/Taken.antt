@@ -1,0 +1,77 @@
+-- What each line of a script comes to, and the queue after it: the table of docs/FORMATS.md. It asks nothing of the disk's bytes.
+use Rattle.std.specs.Prelude.{ℕ, ◌+◌, ◌-◌, ◌≤◌, ◌==◌, Bool, true, false, nat_lt, if◌then◌else◌, Option, Some, None}
+use Rattle.queue_limits.specs.Bounds.{Bounds}
+use Rattle.script_meaning.specs.Queue.{Queue}
+use Rattle.script_meaning.specs.declared.line.What.{What}
+use Rattle.script_meaning.specs.declared.line.What.TheVariants.{Read, Write, Freeze, Thaw, SetMax, SetChunk, SetMode, Stat as Tell, Remove}
+use Rattle.script_meaning.specs.declared.outcome.Outcome.{Outcome}
+use Rattle.script_meaning.specs.declared.outcome.Outcome.TheVariants.{Accepted, Drained, Replied}
+use Rattle.script_meaning.specs.declared.reply.Stat.{Stat as Counts}
+use Rattle.script_meaning.specs.declared.reply.Reply.TheVariants.{Done, Depth, NotFrozen, DepthFull, Again, PastEnd, Invalid, Stat as Told, Removed, Gone}
+use Rattle.script_meaning.specs.declared.request.Request.{Request}
+
+-- a request: a freeze refuses it, and so does the disk's end; else it is accepted
+abbrev pub request_taken : Queue → Request → Outcome × Queue
+request_taken q request =
+    if nat_lt 0 q.depth then (Replied Again, record q { again = q.again + 1 })
+    else if nat_lt q.sectors (request.start + request.count) then (Replied PastEnd, record q { eio = q.eio + 1 })
+    else (Accepted request, if request.writes then record q { writes = q.writes + 1 } else record q { reads = q.reads + 1 })
+
+-- limits that are taken: the queue drains where it isn't frozen, since else nothing is under way
+abbrev pub limits_taken : Queue → Bounds → Outcome × Queue
+limits_taken q limits = (if q.depth == 0 then Drained Done else Replied Done, record q { limits = limits })
+
+-- what the queue tells of itself
+abbrev pub counts_of : Queue → Counts
+counts_of q = record { reads = q.reads; writes = q.writes; again = q.again; eio = q.eio; depth = q.depth; max = q.limits.max; chunk = q.limits.chunk; mode = q.mode }
+
+-- a line of a queue that isn't removed
+abbrev pub taken_there : Queue → What → Outcome × Queue
+taken_there q (Read start count) = request_taken q (record { start = start; count = count; writes = false })
+taken_there q (Write start count pattern) = request_taken q (record { start = start; count = count; writes = true })
+taken_there q Freeze =
+    if q.depth == 1000 then (Replied DepthFull, q)
+    else (Drained (Depth (q.depth + 1)), record q { depth = q.depth + 1 })
+taken_there q Thaw =
+    if q.depth == 0 then (Replied NotFrozen, q)
+    else (Replied (Depth (q.depth - 1)), record q { depth = q.depth - 1 })
+taken_there q (SetMax value) =
+    if nat_lt q.limits.hardware value then (Replied Invalid, q)
+    else limits_taken q (let limits = q.limits in record limits { max = if value == 0 then q.limits.hardware else value })
+taken_there q (SetChunk value) =
+    if nat_lt 65535 value then (Replied Invalid, q)
+    else limits_taken q (let limits = q.limits in record limits { chunk = value })
+taken_there q (SetMode mode) = (Replied Done, record q { mode = mode })
+taken_there q Tell = (Drained (Told (counts_of q)), q)
+taken_there q Remove = (Drained Removed, record q { removed = true })
+
+-- a line: a removed queue replies the same to every line
+abbrev pub taken : Queue → What → Outcome × Queue
+taken q what = if q.removed then (Replied Gone, q) else taken_there q what
+
+abbrev pub outcome : Queue → What → Outcome
+outcome q what = (taken q what).0
+
+abbrev pub queue_after : Queue → What → Queue
+queue_after q what = (taken q what).1
+
+-- the request that the queue accepts, if it does
+abbrev pub accepted_in : Outcome → Option Request
+accepted_in (Accepted request) = Some request
+accepted_in outcome = None
+
+abbrev pub accepted : Queue → What → Option Request
+accepted q what = accepted_in (outcome q what)
+
+-- an accepted request is within a disk of so many sectors
+abbrev pub IsWithin : ℕ → Outcome → Type 0
+IsWithin sectors (Accepted request) = request.start + request.count ≤ sectors
+IsWithin sectors outcome = Unit {0}
+
+-- whether the queue drains
+abbrev pub drains_in : Outcome → Bool
+drains_in (Drained reply) = true
+drains_in outcome = false
+
+abbrev pub drains : Queue → What → Bool
+drains q what = drains_in (outcome q what)

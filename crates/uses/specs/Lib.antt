@@ -1,0 +1,3 @@
+-- The definitions that the contracts of `uses` cite.
+pub mod Commands
+pub mod Removal

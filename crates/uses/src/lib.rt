@@ -1,0 +1,17 @@
+//! How a driver uses these crates: short functions, each proved from the public contracts of what it calls.
+//! Copy the one that is closest to yours.
+//!
+//! [`commands`] cuts a request into the commands that a device takes. [`serve`] runs a request on a device that
+//! may be removed at any moment, [`remove`] removes it, and [`race`] has the two race, on two threads.
+#![tactic(auto)]
+
+mod cutting;
+mod racing;
+mod removal;
+
+pub use cutting::{Command, commands};
+pub use racing::{Raced, race};
+pub use removal::{Served, remove, serve};
+
+#[cfg(test)]
+mod tests;

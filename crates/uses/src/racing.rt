@@ -1,0 +1,78 @@
+//! A request that races with the removal of its device.
+ghost use Rattle.std.specs.Prelude.{◌≡◌, ◌+◌, ◌<◌, None};
+ghost use Rattle.percpu_core.specs.declared.phase.Phase.TheVariants.{Dead};
+ghost use Rattle.percpu_gate.specs.Calls.{holding, released};
+ghost use Rattle.percpu_gate.specs.ControlCalls.{kill_refusal};
+ghost use Rattle.uses.specs.Removal.{told};
+
+use crate::removal::{Served, remove, serve};
+use percpu_gate::{Control, Gate, Pass, Put};
+use std::thread;
+use std::thread::Threads;
+
+/// What a request and the removal of its device were told, and how many releases the gate told at its end.
+#[derive(Clone, Copy, Debug, PartialEq, Eq)]
+pub struct Raced {
+    pub served: Served,
+    pub removed: Put,
+    pub releases: u64,
+}
+
+fn served_by(gate: &Gate<1>, mut pass: Pass<1>) -> (Pass<1>, Served)
+    requires own { pass.gate ≡ gate.now }
+    requires slots { 0 < gate.now.slots }
+    requires idle { pass.view.standing ≡ holding 0 }
+    ensures own { result.0.gate ≡ gate.now }
+    ensures idle { result.0.view.standing ≡ holding 0 }
+    ensures told { result.0.view.releases ≡ pass.view.releases + told result.1 }
+{
+    let served = serve(gate, &mut pass, 0);
+    (pass, served)
+}
+
+fn removed_by(gate: &Gate<1>, mut control: Control<1>) -> (Control<1>, Put)
+    requires own { control.gate ≡ gate.now }
+    requires live { kill_refusal control.view.standing.phase control.view.standing.kills ≡ None }
+    ensures own { result.0.gate ≡ gate.now }
+    ensures passes { result.0.view.passes ≡ control.view.passes }
+    ensures dead { result.0.view.standing.phase ≡ Dead }
+    ensures told { result.0.view.releases ≡ control.view.releases + released result.1 }
+{
+    match remove(gate, &mut control) {
+        Ok(put) => (control, put),
+        Err(_) => unreachable!(),
+    }
+}
+
+/// One thread runs a request while another removes its device; then the gate ends. The releases that it tells are
+/// those that the two were told: in whatever order their steps come, none is lost and none is made up.
+pub fn race<R: Threads>(rt: &R, gate: Gate<1>, pass: Pass<1>, control: Control<1>) -> Raced
+    requires own { (pass.gate ≡ gate) × (control.gate ≡ gate) }
+    requires slots { 0 < gate.slots }
+    requires idle { (pass.view.standing ≡ holding 0) × (pass.view.releases ≡ 0) }
+    requires live { kill_refusal control.view.standing.phase control.view.standing.kills ≡ None }
+    requires new { (control.view.passes ≡ 1) × (control.view.releases ≡ 0) }
+    ensures { result.releases ≡ told result.served + released result.removed }
+{
+    let shared = &gate;
+    let ((pass, served), (mut control, removed)) = thread::join(
+        rt,
+        move || -> (Pass<1>, Served)
+            requires { (pass.gate ≡ shared.now) × (0 < shared.now.slots) × (pass.view.standing ≡ holding 0) × (pass.view.releases ≡ 0) }
+            ensures { (result.0.gate ≡ shared.entry.now) × (result.0.view.standing ≡ holding 0) × (result.0.view.releases ≡ told result.1) }
+        { served_by(shared, pass) },
+        move || -> (Control<1>, Put)
+            requires { (control.gate ≡ shared.now) × (kill_refusal control.view.standing.phase control.view.standing.kills ≡ None) × (control.view.passes ≡ 1) × (control.view.releases ≡ 0) }
+            ensures { (result.0.gate ≡ shared.entry.now) × (result.0.view.passes ≡ 1) × (result.0.view.standing.phase ≡ Dead) × (result.0.view.releases ≡ released result.1) }
+        { removed_by(shared, control) },
+    );
+    control.retire(&gate, pass);
+    match gate.exit(control) {
+        Ok(ended) => Raced {
+            served,
+            removed,
+            releases: ended.releases,
+        },
+        Err(_) => unreachable!(),
+    }
+}

@@ -1,0 +1,51 @@
+//! A device that may be removed while requests run on it.
+ghost use Rattle.std.specs.Prelude.{◌≡◌, ◌+◌, ◌<◌, IfOk};
+ghost use Rattle.percpu_core.specs.declared.phase.Phase.TheVariants.{Dead};
+ghost use Rattle.percpu_gate.specs.Calls.{holding, released};
+ghost use Rattle.percpu_gate.specs.ControlCalls.{fault_of, kill_refusal};
+ghost use Rattle.uses.specs.Removal.{told};
+
+use percpu_gate::{Control, ControlFault, Gate, Pass, Put, Tried};
+
+/// What became of a request. Whoever is told `Put::Last` frees what the device has: nobody is at it any more.
+#[derive(Clone, Copy, Debug, PartialEq, Eq)]
+pub enum Served {
+    Done(Put),
+    /// The device is being removed, so the request wasn't run. It had counted itself in, and may be the last too.
+    Gone(Put),
+}
+
+/// Runs a request on a device, unless it is being removed. The device's setting is the guarded word 0. Linux:
+/// `blk_try_enter_queue` and `blk_queue_exit` round a driver's work (block/blk.h, block/blk-core.c).
+pub fn serve(gate: &Gate<1>, pass: &mut Pass<1>, slot: u32) -> Served
+    requires own { pass.old.gate ≡ gate.now }
+    requires slot { slot < gate.now.slots }
+    requires idle { pass.old.view.standing ≡ holding 0 }
+    ensures own { pass.new.gate ≡ gate.now }
+    ensures idle { pass.new.view.standing ≡ holding 0 }
+    ensures told { pass.new.view.releases ≡ pass.old.view.releases + told result }
+{
+    match pass.try_get_live(gate, slot) {
+        Tried::Refused(put) => Served::Gone(put),
+        Tried::Given => {
+            let setting = pass.word(gate, 0);
+            // Here the request works on the device, while others may remove it.
+            let still = pass.word(gate, 0);
+            prove!(still == setting);
+            Served::Done(pass.put(gate, slot, 1))
+        }
+    }
+}
+
+/// Removes the device: requests that come from now on aren't run. `Put::Last` says that none is under way.
+/// Linux: `blk_queue_start_drain` (block/blk-core.c).
+pub fn remove(gate: &Gate<1>, control: &mut Control<1>) -> Result<Put, ControlFault>
+    requires own { control.old.gate ≡ gate.now }
+    ensures own { control.new.gate ≡ gate.now }
+    ensures passes { control.new.view.passes ≡ control.old.view.passes }
+    ensures refused { fault_of result ≡ kill_refusal control.old.view.standing.phase control.old.view.standing.kills }
+    ensures dead { IfOk result (λ put. control.new.view.standing.phase ≡ Dead) }
+    ensures told { IfOk result (λ put. control.new.view.releases ≡ control.old.view.releases + released put) }
+{
+    control.kill(gate)
+}
