@@ -1,6 +1,7 @@
 -- Limits as the two words that a gate guards.
 use Rattle.std.specs.Prelude.{ℕ, ◌==◌, ◌||◌, nat_lt, if◌then◌else◌, List, [], ◌∷◌, slice_index}
 use Rattle.queue_limits.specs.Bounds.{Bounds}
+use Rattle.queue_limits.specs.declared.limits.TheConstants.{CHUNK_LIMIT}
 
 abbrev pub to_words : Bounds → List ℕ
 to_words limits = limits.max ∷ limits.chunk ∷ []
@@ -13,5 +14,5 @@ from_words hardware words =
     record {
       hardware = hardware;
       max = (if max == 0 || nat_lt hardware max then hardware else max);
-      chunk = (if nat_lt 65535 chunk then 0 else chunk);
+      chunk = (if nat_lt CHUNK_LIMIT chunk then 0 else chunk);
     }

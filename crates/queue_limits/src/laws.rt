@@ -4,6 +4,14 @@ ghost use Rattle.queue_limits.specs.Bounds.{Bounds, AreAllowed};
 ghost use Rattle.queue_limits.specs.Greedy.{longest_pieces};
 ghost use Rattle.queue_limits.specs.Pieces.{IsSplit};
 
+use crate::limits::{CHUNK_LIMIT, HARDWARE_LIMIT};
+
+/// The greatest limits, as numbers: the other clauses name them. The function does nothing; its contract is the law.
+pub fn limits_in_numbers()
+    ensures hardware { HARDWARE_LIMIT ≡ 65535 }
+    ensures chunk { CHUNK_LIMIT ≡ 65535 }
+{}
+
 /// Each range has one list of pieces under allowed limits: the list in which each piece, from the first
 /// on, is as long as its place allows. The function does nothing; its contract is the law.
 pub fn one_split()

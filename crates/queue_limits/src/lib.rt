@@ -16,7 +16,7 @@ mod limits;
 mod pieces;
 
 pub use fault::LimitFault;
-pub use laws::one_split;
+pub use laws::{limits_in_numbers, one_split};
 pub use limits::{CHUNK_LIMIT, HARDWARE_LIMIT, Limits};
 pub use pieces::Pieces;
 

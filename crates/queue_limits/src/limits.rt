@@ -47,9 +47,9 @@ impl Limits {
     pub fn new(hw: u32, max: u32, chunk: u32) -> Result<Self, LimitFault>
         ensures made { IfOk result (λ l. l ≡ record { hardware = hw; max = (if max == 0 then hw else max); chunk = chunk }) }
         ensures allowed { IfOk result AreAllowed }
-        ensures hardware_range { IsErrOf result LimitFault.HardwareRange ↔ ((hw < 1) ⊎ (65535 < hw)) }
-        ensures above_hardware { IsErrOf result LimitFault.AboveHardware ↔ ((1 ≤ hw) × (hw ≤ 65535) × (hw < max)) }
-        ensures chunk_too_large { IsErrOf result LimitFault.ChunkTooLarge ↔ ((1 ≤ hw) × (hw ≤ 65535) × (max ≤ hw) × (65535 < chunk)) }
+        ensures hardware_range { IsErrOf result LimitFault.HardwareRange ↔ ((hw < 1) ⊎ (HARDWARE_LIMIT < hw)) }
+        ensures above_hardware { IsErrOf result LimitFault.AboveHardware ↔ ((1 ≤ hw) × (hw ≤ HARDWARE_LIMIT) × (hw < max)) }
+        ensures chunk_too_large { IsErrOf result LimitFault.ChunkTooLarge ↔ ((1 ≤ hw) × (hw ≤ HARDWARE_LIMIT) × (max ≤ hw) × (CHUNK_LIMIT < chunk)) }
     {
         if hw < 1 || hw > HARDWARE_LIMIT {
             Err(LimitFault::HardwareRange)
@@ -72,7 +72,7 @@ impl Limits {
     pub fn start(hw: u32) -> Result<Self, LimitFault>
         ensures made { IfOk result (λ l. l ≡ record { hardware = hw; max = hw; chunk = 0 }) }
         ensures allowed { IfOk result AreAllowed }
-        ensures hardware_range { IsErrOf result LimitFault.HardwareRange ↔ ((hw < 1) ⊎ (65535 < hw)) }
+        ensures hardware_range { IsErrOf result LimitFault.HardwareRange ↔ ((hw < 1) ⊎ (HARDWARE_LIMIT < hw)) }
         ensures only_fault { IfErr result (λ fault. fault ≡ LimitFault.HardwareRange) }
     {
         Limits::new(hw, 0, 0)
@@ -124,7 +124,7 @@ impl Limits {
     /// the old limits stay.
     pub fn set_chunk(&mut self, chunk: u32) -> Result<(), LimitFault>
         ensures set { OnOk result (self.new ≡ record self.old { chunk = chunk }) }
-        ensures chunk_too_large { IsErrOf result LimitFault.ChunkTooLarge ↔ (65535 < chunk) }
+        ensures chunk_too_large { IsErrOf result LimitFault.ChunkTooLarge ↔ (CHUNK_LIMIT < chunk) }
         ensures only_fault { IfErr result (λ fault. fault ≡ LimitFault.ChunkTooLarge) }
         ensures same { OnErr result (self.new ≡ self.old) }
         ensures allowed { OnOk result (AreAllowed self.new) }

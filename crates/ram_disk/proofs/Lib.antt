@@ -1,4 +1,7 @@
-pub mod SectorBytes
-pub mod RunLists
+-- SectorBytes: sectors as their bytes, and the slices and replacements of a list of them. PatternSectors: the sectors of a repeated pattern.
+-- RunLists: maximal runs, one run or one byte further, and that there is one list of them. SectorWrites: a write, sector by sector, and two of
+-- them in either order.
 pub mod PatternSectors
+pub mod RunLists
+pub mod SectorBytes
 pub mod SectorWrites

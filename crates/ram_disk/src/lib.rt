@@ -34,7 +34,9 @@ mod sector;
 
 pub use disk::{Disk, MAX_SECTORS, read_by_bytes, write_by_bytes};
 pub use fault::DiskFault;
-pub use laws::{disjoint_writes_commute, reads_beside_writes_stay, sectors_after_a_write};
+pub use laws::{
+    disjoint_writes_commute, reads_beside_writes_stay, sectors_after_a_write, sizes_in_numbers,
+};
 pub use pattern::{MAX_PATTERN, patterned};
 pub use run::{one_list_of_runs, runs};
 pub use sector::{SECTOR_BYTES, Sector};

@@ -2,12 +2,14 @@
 use Rattle.std.proofs.Common.{◌≡◌, refl, ℕ, ◌+◌, ◌-◌, ◌≤◌, arith, Bool, true, false, cond, eqb, nat_lt}
 use Rattle.std.proofs.lemmas.Bool.Decides.{nat_tests}
 use Rattle.queue_limits.specs.Bounds.{Bounds}
+use Rattle.queue_limits.specs.declared.limits.TheConstants.{CHUNK_LIMIT}
 use Rattle.script_meaning.specs.Queue.{Queue, counted}
 use Rattle.script_meaning.specs.Replies.{is_ok_of_request}
 use Rattle.script_meaning.specs.Taken.{counts_of, request_taken, limits_taken, taken_there, taken}
 use Rattle.script_meaning.specs.declared.line.What.{What}
 use Rattle.script_meaning.specs.declared.line.What.TheVariants.{Read, Write, Freeze, Thaw, SetMax, SetChunk, SetMode, Stat, Remove}
 use Rattle.script_meaning.specs.declared.outcome.Outcome.{Outcome}
+use Rattle.script_meaning.specs.declared.queue_state.TheConstants.{DEPTH_LIMIT}
 use Rattle.script_meaning.specs.declared.outcome.Outcome.TheVariants.{Accepted, Drained, Replied}
 use Rattle.script_meaning.specs.declared.reply.Reply.TheVariants.{Done, Depth, NotFrozen, DepthFull, Again, PastEnd, Invalid, Stat as Told, Removed, Gone}
 use Rattle.script_meaning.specs.declared.request.Request.{Request}
@@ -71,7 +73,7 @@ by_there P q (Read start count) own request = request (record { start = start; c
 by_there P q (Write start count pattern) own request = request (record { start = start; count = count; writes = true }) refl
 by_there P q Freeze own request =
     let next : Queue = record q { depth = q.depth + 1 } in
-    either P (eqb q.depth 1000) (Replied DepthFull, q) (Drained (Depth (q.depth + 1)), next) (own (Replied DepthFull) q refl (same q))
+    either P (eqb q.depth DEPTH_LIMIT) (Replied DepthFull, q) (Drained (Depth (q.depth + 1)), next) (own (Replied DepthFull) q refl (same q))
     (λ _. own (Drained (Depth (q.depth + 1))) next refl (record { sectors = refl; counts = omega arith }))
 by_there P q Thaw own request =
     let next : Queue = record q { depth = q.depth - 1 } in
@@ -82,7 +84,7 @@ by_there P q (SetMax value) own request =
     either P (nat_lt q.limits.hardware value) (Replied Invalid, q) (limits_taken q limits) (own (Replied Invalid) q refl (same q)) (λ _. by_limits P q limits own)
 by_there P q (SetChunk value) own request =
     let limits : Bounds = let old : Bounds = q.limits in record old { chunk = value } in
-    either P (nat_lt 65535 value) (Replied Invalid, q) (limits_taken q limits) (own (Replied Invalid) q refl (same q)) (λ _. by_limits P q limits own)
+    either P (nat_lt CHUNK_LIMIT value) (Replied Invalid, q) (limits_taken q limits) (own (Replied Invalid) q refl (same q)) (λ _. by_limits P q limits own)
 by_there P q (SetMode mode) own request = own (Replied Done) (record q { mode = mode }) refl (record { sectors = refl; counts = omega arith })
 by_there P q Stat own request = own (Drained (Told (counts_of q))) q refl (same q)
 by_there P q Remove own request = own (Drained Removed) (record q { removed = true }) refl (record { sectors = refl; counts = omega arith })

@@ -1,10 +1,12 @@
 -- What each line of a script comes to, and the queue after it: the table of docs/FORMATS.md. It asks nothing of the disk's bytes.
 use Rattle.std.specs.Prelude.{ℕ, ◌+◌, ◌-◌, ◌≤◌, ◌==◌, Bool, true, false, nat_lt, if◌then◌else◌, Option, Some, None}
 use Rattle.queue_limits.specs.Bounds.{Bounds}
+use Rattle.queue_limits.specs.declared.limits.TheConstants.{CHUNK_LIMIT}
 use Rattle.script_meaning.specs.Queue.{Queue}
 use Rattle.script_meaning.specs.declared.line.What.{What}
 use Rattle.script_meaning.specs.declared.line.What.TheVariants.{Read, Write, Freeze, Thaw, SetMax, SetChunk, SetMode, Stat as Tell, Remove}
 use Rattle.script_meaning.specs.declared.outcome.Outcome.{Outcome}
+use Rattle.script_meaning.specs.declared.queue_state.TheConstants.{DEPTH_LIMIT}
 use Rattle.script_meaning.specs.declared.outcome.Outcome.TheVariants.{Accepted, Drained, Replied}
 use Rattle.script_meaning.specs.declared.reply.Stat.{Stat as Counts}
 use Rattle.script_meaning.specs.declared.reply.Reply.TheVariants.{Done, Depth, NotFrozen, DepthFull, Again, PastEnd, Invalid, Stat as Told, Removed, Gone}
@@ -30,7 +32,7 @@ abbrev pub taken_there : Queue → What → Outcome × Queue
 taken_there q (Read start count) = request_taken q (record { start = start; count = count; writes = false })
 taken_there q (Write start count pattern) = request_taken q (record { start = start; count = count; writes = true })
 taken_there q Freeze =
-    if q.depth == 1000 then (Replied DepthFull, q)
+    if q.depth == DEPTH_LIMIT then (Replied DepthFull, q)
     else (Drained (Depth (q.depth + 1)), record q { depth = q.depth + 1 })
 taken_there q Thaw =
     if q.depth == 0 then (Replied NotFrozen, q)
@@ -39,7 +41,7 @@ taken_there q (SetMax value) =
     if nat_lt q.limits.hardware value then (Replied Invalid, q)
     else limits_taken q (let limits = q.limits in record limits { max = if value == 0 then q.limits.hardware else value })
 taken_there q (SetChunk value) =
-    if nat_lt 65535 value then (Replied Invalid, q)
+    if nat_lt CHUNK_LIMIT value then (Replied Invalid, q)
     else limits_taken q (let limits = q.limits in record limits { chunk = value })
 taken_there q (SetMode mode) = (Replied Done, record q { mode = mode })
 taken_there q Tell = (Drained (Told (counts_of q)), q)

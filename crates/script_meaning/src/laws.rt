@@ -8,6 +8,13 @@ ghost use Rattle.script_meaning.specs.Taken.{accepted};
 ghost use Rattle.script_meaning.specs.declared.line.What.{What};
 ghost use Rattle.script_meaning.specs.declared.reply.Reply.{Reply};
 
+use crate::queue_state::DEPTH_LIMIT;
+
+/// The greatest depth, as a number: the other clauses name it.
+pub fn depth_in_numbers()
+    ensures { DEPTH_LIMIT ≡ 1000 }
+{}
+
 /// A request is accepted exactly where its reply has pieces: `Data` or `Written`.
 pub fn accepted_replies()
     ensures { (s : State) (what : What) (reply : Reply) → IsReply s what reply → is_some (accepted s.queue what) ≡ is_ok_of_request reply }

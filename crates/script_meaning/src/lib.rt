@@ -17,7 +17,7 @@ mod reply;
 mod request;
 mod script;
 
-pub use laws::{accepted_replies, numbers_of_requests, states_of_queues};
+pub use laws::{accepted_replies, depth_in_numbers, numbers_of_requests, states_of_queues};
 pub use line::{Line, What};
 pub use mode::Mode;
 pub use outcome::Outcome;

@@ -34,12 +34,13 @@ pub struct QueueState {
 impl Model for QueueState {
     ghost use Rattle.std.specs.Prelude.{◌≤◌};
     ghost use Rattle.script_meaning.specs.Queue.{Queue};
+    ghost use Rattle.script_meaning.specs.declared.queue_state.TheConstants.{DEPTH_LIMIT};
 
     ghost Value = { Queue };
 
     ghost view = { λ q. record { sectors = q.sectors; limits = q.limits; depth = q.depth; removed = q.removed; mode = q.mode; reads = q.reads; writes = q.writes; again = q.again; eio = q.eio } };
 
-    ghost invariant = { λ q. q.depth ≤ 1000 };
+    ghost invariant = { λ q. q.depth ≤ DEPTH_LIMIT };
 
     ghost inverse = { λ q. record { sectors = q.sectors; limits = q.limits; depth = q.depth; removed = q.removed; mode = q.mode; reads = q.reads; writes = q.writes; again = q.again; eio = q.eio } };
 }
