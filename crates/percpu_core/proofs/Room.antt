@@ -30,7 +30,7 @@ use Rattle.percpu_core.specs.declared.limits.TheConstants.{HELD_LIMIT}
 use Rattle.percpu_core.specs.PassSteps.{hinders_pass, added, taken_off, given, dropped, pass_reply, names_no_word, names_no_slot, has_bad_amount}
 use Rattle.percpu_core.specs.ControlSteps as controls
 use Rattle.percpu_core.specs.ControlSteps.{hinders_control}
-use Rattle.percpu_core.specs.Machine.{State, IsEnabled, pass_at, pass_refusal, refusal}
+use Rattle.percpu_core.specs.Machine.{State, IsEnabled, pass_at, joining, pass_refusal, refusal}
 use Rattle.percpu_core.specs.Snapshots.{Snapshot, standing_of, kept, IsLawful}
 use Rattle.percpu_core.proofs.Passes.{EachPass-at}
 use Rattle.percpu_core.proofs.Counting.{value-most, count-most}
@@ -155,10 +155,6 @@ module _ (o : Origin) (m : Snapshot) (l : Holds o m) where
       same : (q r : PassStanding) → Some q ≡ Some r → q ≡ r
       same q r e = cc
 
-  -- what the control needs
-  abbrev Unhindered : ControlEvent → Type 0
-  Unhindered e = (why : NotEnabled) → hinders_control (sizes_of m.cells) m.cells.shared.zero None m.control.standing e why ≡ false
-
   few_slots : length m.cells.slots ≤ 64
   few_slots = l.limit.slots
 
@@ -225,25 +221,29 @@ module _ (o : Origin) (m : Snapshot) (l : Holds o m) where
   no_delta : unsigned_abs (pos 0) ≤ 2 ^ 32
   no_delta = few_delta (pos 0) refl
 
-  unhindered : (e : ControlEvent) → IsEnabled (hinders_control (sizes_of m.cells) m.cells.shared.zero None m.control.standing e) → Unhindered e
-  unhindered e h = no_reason (hinders_control (sizes_of m.cells) m.cells.shared.zero None m.control.standing e) h
+  -- the step belongs to its phase
+  abbrev IsInTurn : ControlEvent → Type 0
+  IsInTurn e = not (controls.is_in_turn (length m.cells.slots) m.cells.shared.zero m.control.standing e) ≡ false
+
+  pub in_turn_needs : (e : ControlEvent) → IsInTurn e → ControlNeeds e
+  in_turn_needs control.MarkDead h = record { value = tt; next = tt; delta = no_delta }
+  in_turn_needs control.Close h = let there = close_there m.control.standing.phase h in
+      record { value = tt; next = there; delta = some_delta (delta (slot_at m.cells.slots (next_slot m.control.standing.phase))) (small-at m.cells.slots (next_slot m.control.standing.phase) l.limit.deltas there) }
+  in_turn_needs control.Collect h = record { value = collects m.control.standing.phase refl h; next = tt; delta = no_delta }
+  in_turn_needs control.Confirm h = record { value = tt; next = tt; delta = no_delta }
+  in_turn_needs control.DropBase h = record { value = some_value o m.cells m.control m.others l Confirmed (only Confirmed m.control.standing.phase h) refl; next = tt; delta = few_delta _ (left_no_delta _ ToMark NotLast refl refl) }
+  in_turn_needs control.Mark h = record { value = tt; next = tt; delta = few_delta _ (left_no_delta _ Last Lost refl refl) }
+  in_turn_needs control.TakeBase h = let small = value-most o m.cells m.control m.others l in record { value = omega arith; next = tt; delta = no_delta }
+  in_turn_needs control.NextFront h = record { value = tt; next = tt; delta = no_delta }
+  in_turn_needs control.ClearDead h = record { value = tt; next = tt; delta = no_delta }
+  in_turn_needs control.AddBias h = let small = value-most o m.cells m.control m.others l in record { value = omega arith; next = tt; delta = no_delta }
+  in_turn_needs control.OpenNext h = record { value = tt; next = open_there m.control.standing.phase refl h; delta = no_delta }
+  in_turn_needs (control.StoreWord k v) h = record { value = tt; next = tt; delta = no_delta }
+  in_turn_needs (control.Join k) h = record { value = tt; next = tt; delta = no_delta }
+  in_turn_needs control.LookShared h = record { value = tt; next = tt; delta = no_delta }
 
   pub control_needs : (e : ControlEvent) → refusal (kept m) (Control e) ≡ None → ControlNeeds e
-  control_needs control.MarkDead h = record { value = tt; next = tt; delta = no_delta }
-  control_needs control.Close h = let there = close_there m.control.standing.phase (unhindered control.Close h WrongPhase) in
-      record { value = tt; next = there; delta = some_delta (delta (slot_at m.cells.slots (next_slot m.control.standing.phase))) (small-at m.cells.slots (next_slot m.control.standing.phase) l.limit.deltas there) }
-  control_needs control.Collect h = record { value = collects m.control.standing.phase refl (unhindered control.Collect h WrongPhase); next = tt; delta = no_delta }
-  control_needs control.Confirm h = record { value = tt; next = tt; delta = no_delta }
-  control_needs control.DropBase h = record { value = some_value o m.cells m.control m.others l Confirmed (only Confirmed m.control.standing.phase (unhindered control.DropBase h WrongPhase)) refl; next = tt; delta = few_delta _ (left_no_delta _ ToMark NotLast refl refl) }
-  control_needs control.Mark h = record { value = tt; next = tt; delta = few_delta _ (left_no_delta _ Last Lost refl refl) }
-  control_needs control.TakeBase h = let small = value-most o m.cells m.control m.others l in record { value = omega arith; next = tt; delta = no_delta }
-  control_needs control.NextFront h = record { value = tt; next = tt; delta = no_delta }
-  control_needs control.ClearDead h = record { value = tt; next = tt; delta = no_delta }
-  control_needs control.AddBias h = let small = value-most o m.cells m.control m.others l in record { value = omega arith; next = tt; delta = no_delta }
-  control_needs control.OpenNext h = record { value = tt; next = open_there m.control.standing.phase refl (unhindered control.OpenNext h WrongPhase); delta = no_delta }
-  control_needs (control.StoreWord k v) h = record { value = tt; next = tt; delta = no_delta }
-  control_needs (control.Join k) h = record { value = tt; next = tt; delta = no_delta }
-  control_needs control.LookShared h = record { value = tt; next = tt; delta = no_delta }
+  control_needs e h = in_turn_needs e (no_reason (hinders_control (sizes_of m.cells) m.cells.shared.zero (joining (kept m) e) m.control.standing e) h WrongPhase)
 
 -- what an enabled step of a pass finds
 pub record PassRoom (s : State) (k : ℕ) (e : PassEvent) : Type 0 where

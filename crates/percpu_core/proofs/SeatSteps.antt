@@ -20,7 +20,7 @@ use Rattle.percpu_core.proofs.Flags.{never}
 use Rattle.percpu_core.proofs.Joining.{join}
 use Rattle.percpu_core.proofs.Enabled.{pass_keeps_laws, control_keeps_laws}
 
-not_control : {A : Type 0} (c : ControlView) (p : PassView) → some (OfControl c) ≡ some (OfPass p) → A
+pub not_control : {A : Type 0} (c : ControlView) (p : PassView) → some (OfControl c) ≡ some (OfPass p) → A
 not_control c p e = cc
 
 pub pass_steps_keep_laws : PassStepsKeepLaws
@@ -34,7 +34,7 @@ pass_steps_keep_laws o cells (OfControl c ∷ vs) (suc i) p e l at free = pass_k
 pub same_control : (c d : ControlView) → some (OfControl c) ≡ some (OfControl d) → c ≡ d
 same_control c d e = cc
 
-no_other : {A : Type 0} (o : Origin) (cells : Cells) (c d : ControlView) (vs : List View) (i : ℕ) → Laws o cells c vs → get_elem? vs i ≡ some (OfControl d) → A
+pub no_other : {A : Type 0} (o : Origin) (cells : Cells) (c d : ControlView) (vs : List View) (i : ℕ) → Laws o cells c vs → get_elem? vs i ≡ some (OfControl d) → A
 no_other o cells c d vs i l at = absurd (EachPass-at _ vs i (OfControl d) l.limit.held at)
 
 pub control_steps_keep_laws : ControlStepsKeepLaws

@@ -6,7 +6,6 @@ use Rattle.std.proofs.lemmas.Int.{ints}
 use Rattle.std.proofs.lemmas.Bool.Decides.{nat_tests}
 use Rattle.percpu_words.specs.SharedWord.{bias}
 use Rattle.percpu_words.specs.SlotWord.{most_delta, IsDelta}
-use Rattle.percpu_core.specs.declared.slot.Slot.{Slot}
 use Rattle.percpu_core.specs.declared.slot.Slot.TheVariants.{Closed, Open}
 use Rattle.percpu_core.specs.declared.control_event.ControlEvent.TheVariants.{Close, Collect, AddBias, OpenNext}
 use Rattle.percpu_core.specs.declared.phase.Phase.{Phase}
@@ -14,38 +13,16 @@ use Rattle.percpu_core.specs.declared.phase.Phase.TheVariants.{LiveSlots, LiveAt
 use Rattle.percpu_core.specs.declared.view.ControlView.{ControlView}
 use Rattle.percpu_core.specs.declared.view.View.{View}
 use Rattle.percpu_core.specs.Cells.{Cells, delta, open_deltas, slot_at}
-use Rattle.percpu_core.specs.Phases.{holds_base, has_bias, is_dead_in, is_killing_in, is_open_in, may_be_zero, is_coming_back, has_odd_front, next_slot, closed_so_far}
+use Rattle.percpu_core.specs.Phases.{holds_base, has_bias, is_dead_in, is_killing_in, is_open_in, may_be_zero, has_odd_front, next_slot, closed_so_far}
 use Rattle.percpu_core.specs.Views.{count, held_by_all, additions_to_undo}
 use Rattle.percpu_core.specs.ReleaseLaw.{Origin}
-use Rattle.percpu_core.specs.LimitLaw.{AreSmall, fronts_due}
+use Rattle.percpu_core.specs.LimitLaw.{fronts_due}
 use Rattle.percpu_core.specs.Laws.{Laws}
 use Rattle.percpu_core.specs.ControlSteps.{has_slot_to_close, has_closed_all, is_opening, moved_by}
 use Rattle.percpu_core.proofs.Counting.{value-least, closed_delta, open_deltas-closed}
-use Rattle.percpu_core.proofs.PassKeeps.{alone}
 use Rattle.percpu_core.proofs.SlotLists.{OpenAs, slot_there, open_deltas-set, small-set, small-at, open-set, open-below}
 use Rattle.percpu_core.proofs.ControlSetting.{After}
-use Rattle.percpu_core.proofs.Flags.{true_not_false}
-
--- what a step of the control on the slots may do: it finds the phase x, and leaves this value, these slots, this phase and this sum
-pub record SlotsChange (cells : Cells) (c : ControlView) (x : Phase) (value : ℕ) (ss : List Slot) (y : Phase) (sum : ℤ) : Type 0 where
-  pub found : c.standing.phase ≡ x
-  pub idle : c.standing.to_mark ≡ false
-  pub sums : pos value +ℤ open_deltas ss +ℤ sum -ℤ pos (bias * count (has_bias y))
-      ≡ pos cells.shared.value +ℤ open_deltas cells.slots +ℤ c.standing.uncollected -ℤ pos (bias * count (has_bias x))
-  pub some_left : 1 ≤ value
-  pub slots : OpenAs (is_open_in y) ss
-  pub size : length ss ≡ length cells.slots
-  pub small : AreSmall ss
-  pub closed : closed_so_far y ≤ length cells.slots
-  pub opening : (k : ℕ) → y ≡ Opening k → k < length cells.slots
-  pub most : sum ≤ℤ pos (most_delta * closed_so_far y)
-  pub least : neg_ℤ (pos (most_delta * closed_so_far y)) ≤ℤ sum
-  pub base : (holds_base x ≡ true) × (holds_base y ≡ true)
-  pub never_zero : (may_be_zero x ≡ false) × (is_coming_back y ≡ false)
-  pub dead : is_dead_in x c.killing ≡ is_dead_in y c.killing
-  pub killing : is_killing_in x c.killing ≡ is_killing_in y c.killing
-  pub even : has_odd_front x ≡ has_odd_front y
-  pub due : fronts_due x c.killing ≡ fronts_due y c.killing
+use Rattle.percpu_core.proofs.SlotsKeep.{changed, standing_at, slots_keep}
 
 -- what the collecting leaves, where the sum law holds before
 moved_is : (u : ℤ) (v n : ℕ) (a : ℤ) → pos v +ℤ a +ℤ u -ℤ pos (bias * 1) ≡ pos n → a ≡ pos 0 → (pos (moved_by u v - bias) +ℤ a +ℤ pos 0 -ℤ pos (bias * 0) ≡ pos v +ℤ a +ℤ u -ℤ pos (bias * 1)) × (moved_by u v - bias ≡ n)
@@ -65,62 +42,6 @@ place : (i k : ℕ) → Opening i ≡ Opening k → i ≡ k
 place i k e = cc
 
 module _ (o : Origin) (cells : Cells) (c : ControlView) (vs : List View) (l : Laws o cells c vs) where
-  -- what the memory and the control's view are after such a step
-  abbrev changed : ℕ → List Slot → Cells
-  changed value ss = record cells { shared = record cells.shared { value = value }; slots = ss }
-
-  abbrev standing_at : Phase → ℤ → ControlView
-  standing_at y sum = record c { standing = record { phase = y; kills = c.standing.kills; to_mark = false; uncollected = sum }; releases = c.releases + 0 }
-
-  module _ (x : Phase) (value : ℕ) (ss : List Slot) (y : Phase) (sum : ℤ) (g : SlotsChange cells c x value ss y sum) where
-    zero_clear : cells.shared.zero ≡ true → {A : Type 0} → A
-    zero_clear z = true_not_false (sym (l.zero.after_drop z) ∙ ap may_be_zero g.found ∙ g.never_zero.0)
-
-    slots_keep : Laws o (changed value ss) (standing_at y sum) vs
-    slots_keep = record {
-      sum = g.sums
-          ∙ ap (λ (z : Phase). pos cells.shared.value +ℤ open_deltas cells.slots +ℤ c.standing.uncollected -ℤ pos (bias * count (has_bias z))) (sym g.found)
-          ∙ l.sum
-          ∙ ap (λ (b : Bool). pos (count b + held_by_all vs + additions_to_undo vs)) (ap holds_base g.found ∙ g.base.0 ∙ sym g.base.1);
-      phase = record {
-        slots = g.slots;
-        closed = subst (λ (n : ℕ). closed_so_far y ≤ n) (sym g.size) g.closed;
-        opening = λ k is. subst (λ (n : ℕ). k < n) (sym g.size) (g.opening k is);
-        dead = l.phase.dead ∙ ap (λ (z : Phase). is_dead_in z c.killing) g.found ∙ g.dead;
-        killing = l.phase.killing ∙ ap (λ (z : Phase). is_killing_in z c.killing) g.found ∙ g.killing;
-      };
-      zero = record {
-        after_drop = λ z. zero_clear z;
-        nothing_held = l.zero.nothing_held;
-        known = l.zero.known;
-        settled = λ h. true_not_false (sym h ∙ g.never_zero.1);
-      };
-      mark = λ h. let nothing = (alone (record cells.shared { value = value }) h).2 in let some = g.some_left in absurd (omega arith);
-      guard = record { passes = l.guard.passes; known = l.guard.known };
-      front = record { parity = l.front.parity ∙ ap (λ (z : Phase). count (has_odd_front z)) g.found ∙ ap count g.even; known = l.front.known; floors = l.front.floors };
-      release = record {
-        releases = let e = l.release.releases in omega arith;
-        zeros = l.release.zeros;
-        kills = l.release.kills;
-        passes = l.release.passes;
-        found_dead = l.release.found_dead;
-        found_zero = l.release.found_zero;
-        control_found_dead = l.release.control_found_dead;
-        control_found_zero = l.release.control_found_zero;
-      };
-      limit = record {
-        passes = l.limit.passes;
-        held = l.limit.held;
-        some_slot = subst (λ (n : ℕ). 1 ≤ n) (sym g.size) l.limit.some_slot;
-        slots = subst (λ (n : ℕ). n ≤ 64) (sym g.size) l.limit.slots;
-        deltas = g.small;
-        uncollected_most = g.most;
-        uncollected_least = g.least;
-        kills = l.limit.kills;
-        front = ap (λ (n : ℕ). c.front + n) (sym (ap (λ (z : Phase). fronts_due z c.killing) g.found ∙ g.due)) ∙ l.limit.front;
-      };
-    }
-
   -- the value has the initial reference in these phases
   some_value : (x : Phase) → c.standing.phase ≡ x → holds_base x ≡ true → 1 ≤ cells.shared.value
   some_value x is base = let in_it : count (holds_base c.standing.phase) ≡ 1 = ap (λ (z : Phase). count (holds_base z)) is ∙ ap count base in let least = value-least o cells c vs l in omega arith
@@ -185,8 +106,8 @@ module _ (o : Origin) (cells : Cells) (c : ControlView) (vs : List View) (l : La
   closes : (x : Phase) (i : ℕ) → c.standing.phase ≡ x → next_slot x ≡ i → i < length cells.slots → closed_so_far x ≡ i → has_bias x ≡ true → holds_base x ≡ true → may_be_zero x ≡ false
       → is_dead_in x c.killing ≡ c.killing → is_killing_in x c.killing ≡ c.killing → has_odd_front x ≡ false → fronts_due x c.killing ≡ 2 * count c.killing
       → ((k : ℕ) → is_open_in x k ≡ nat_le i k) → c.standing.to_mark ≡ false
-      → Laws o (changed cells.shared.value (set cells.slots i Closed)) (standing_at (Closing (i + 1)) (c.standing.uncollected +ℤ delta (slot_at cells.slots i))) vs
-  closes x i is next there so_far biased base never dead killing even due open_from idle = slots_keep x cells.shared.value (set cells.slots i Closed) (Closing (i + 1)) (c.standing.uncollected +ℤ delta (slot_at cells.slots i)) record {
+      → Laws o (changed cells cells.shared.value (set cells.slots i Closed)) (standing_at c (Closing (i + 1)) (c.standing.uncollected +ℤ delta (slot_at cells.slots i))) vs
+  closes x i is next there so_far biased base never dead killing even due open_from idle = slots_keep o cells c vs l x cells.shared.value (set cells.slots i Closed) (Closing (i + 1)) (c.standing.uncollected +ℤ delta (slot_at cells.slots i)) record {
     found = is;
     idle = idle;
     sums = let moved = open_deltas-set cells.slots i Closed there in let b : count (has_bias x) ≡ 1 = ap count biased in closed_sum cells.shared.value (bias * 1) (bias * count (has_bias x)) (open_deltas cells.slots) (open_deltas (set cells.slots i Closed)) (delta (slot_at cells.slots i)) moved (omega arith);
@@ -222,7 +143,7 @@ module _ (o : Origin) (cells : Cells) (c : ControlView) (vs : List View) (l : La
       more_least u d i h e = omega (arith, ints)
 
   abbrev Closes : Phase → Type 0
-  Closes x = Laws o (changed cells.shared.value (set cells.slots (next_slot x) Closed)) (standing_at (Closing (next_slot x + 1)) (c.standing.uncollected +ℤ delta (slot_at cells.slots (next_slot x)))) vs
+  Closes x = Laws o (changed cells cells.shared.value (set cells.slots (next_slot x) Closed)) (standing_at c (Closing (next_slot x + 1)) (c.standing.uncollected +ℤ delta (slot_at cells.slots (next_slot x)))) vs
 
   close_from : (x : Phase) → c.standing.phase ≡ x → not (has_slot_to_close (length cells.slots) x) ≡ false → c.standing.to_mark ≡ false → Closes x
   close_from LiveSlots is h idle = let some = l.limit.some_slot in
@@ -250,9 +171,9 @@ module _ (o : Origin) (cells : Cells) (c : ControlView) (vs : List View) (l : La
 
   -- the sum of what was closed is collected
   collect_by : (i : ℕ) → c.standing.phase ≡ Closing i → i ≡ length cells.slots → c.standing.to_mark ≡ false → (b : Bool) → cells.shared.dead ≡ b
-      → Laws o (changed (moved_by c.standing.uncollected cells.shared.value - bias) cells.slots) (standing_at (if b then Collected else LiveAtomic) (pos 0)) vs
+      → Laws o (changed cells (moved_by c.standing.uncollected cells.shared.value - bias) cells.slots) (standing_at c (if b then Collected else LiveAtomic) (pos 0)) vs
   collect_by i is all idle true dead = let n = collected_is i is all in let killed : c.killing ≡ true = sym (l.phase.dead ∙ ap (λ (z : Phase). is_dead_in z c.killing) is) ∙ dead in
-      let due : count c.killing ≡ 1 = ap count killed in slots_keep (Closing i) _ cells.slots Collected (pos 0) record {
+      let due : count c.killing ≡ 1 = ap count killed in slots_keep o cells c vs l (Closing i) _ cells.slots Collected (pos 0) record {
         found = is;
         idle = idle;
         sums = n.0;
@@ -272,7 +193,7 @@ module _ (o : Origin) (cells : Cells) (c : ControlView) (vs : List View) (l : La
         due = omega arith;
       }
   collect_by i is all idle false dead = let n = collected_is i is all in let killed : c.killing ≡ false = sym (l.phase.dead ∙ ap (λ (z : Phase). is_dead_in z c.killing) is) ∙ dead in
-      let due : count c.killing ≡ 0 = ap count killed in slots_keep (Closing i) _ cells.slots LiveAtomic (pos 0) record {
+      let due : count c.killing ≡ 0 = ap count killed in slots_keep o cells c vs l (Closing i) _ cells.slots LiveAtomic (pos 0) record {
         found = is;
         idle = idle;
         sums = n.0;
@@ -293,7 +214,7 @@ module _ (o : Origin) (cells : Cells) (c : ControlView) (vs : List View) (l : La
       }
 
   abbrev Collects : Phase → Type 0
-  Collects x = Laws o (changed (moved_by c.standing.uncollected cells.shared.value - bias) cells.slots) (standing_at (if cells.shared.dead then Collected else LiveAtomic) (pos 0)) vs
+  Collects x = Laws o (changed cells (moved_by c.standing.uncollected cells.shared.value - bias) cells.slots) (standing_at c (if cells.shared.dead then Collected else LiveAtomic) (pos 0)) vs
 
   collect_from : (x : Phase) → c.standing.phase ≡ x → not (has_closed_all (length cells.slots) x) ≡ false → c.standing.to_mark ≡ false → Collects x
   collect_from (Closing i) is h idle = collect_by i is (all i h) idle cells.shared.dead refl
@@ -314,7 +235,7 @@ module _ (o : Origin) (cells : Cells) (c : ControlView) (vs : List View) (l : La
 
   -- the bias is added while every slot is closed
   pub add_bias : c.standing.phase ≡ LiveAtomic → c.standing.to_mark ≡ false → After o cells c vs l AddBias
-  add_bias is idle = let some = some_value LiveAtomic is refl in let slot = l.limit.some_slot in slots_keep LiveAtomic (cells.shared.value + bias) cells.slots (Opening 0) c.standing.uncollected record {
+  add_bias is idle = let some = some_value LiveAtomic is refl in let slot = l.limit.some_slot in slots_keep o cells c vs l LiveAtomic (cells.shared.value + bias) cells.slots (Opening 0) c.standing.uncollected record {
     found = is;
     idle = idle;
     sums = biased cells.shared.value (open_deltas cells.slots) c.standing.uncollected;
@@ -342,13 +263,13 @@ module _ (o : Origin) (cells : Cells) (c : ControlView) (vs : List View) (l : La
 
   -- one slot is opened; with the last one the gate lives on its slots
   abbrev Opens : Phase → Type 0
-  Opens x = Laws o (changed cells.shared.value (set cells.slots (next_slot x) (Open (pos 0))))
-      (standing_at (if next_slot x + 1 == length cells.slots then LiveSlots else Opening (next_slot x + 1)) c.standing.uncollected) vs
+  Opens x = Laws o (changed cells cells.shared.value (set cells.slots (next_slot x) (Open (pos 0))))
+      (standing_at c (if next_slot x + 1 == length cells.slots then LiveSlots else Opening (next_slot x + 1)) c.standing.uncollected) vs
 
   opens_by : (i : ℕ) → c.standing.phase ≡ Opening i → c.standing.to_mark ≡ false → (b : Bool) → (i + 1 == length cells.slots) ≡ b
-      → Laws o (changed cells.shared.value (set cells.slots i (Open (pos 0)))) (standing_at (if b then LiveSlots else Opening (i + 1)) c.standing.uncollected) vs
+      → Laws o (changed cells cells.shared.value (set cells.slots i (Open (pos 0)))) (standing_at c (if b then LiveSlots else Opening (i + 1)) c.standing.uncollected) vs
   opens_by i is idle true last = let there = l.phase.opening i is in let n = is_last i (length cells.slots) last in
-      slots_keep (Opening i) cells.shared.value (set cells.slots i (Open (pos 0))) LiveSlots c.standing.uncollected record {
+      slots_keep o cells c vs l (Opening i) cells.shared.value (set cells.slots i (Open (pos 0))) LiveSlots c.standing.uncollected record {
         found = is;
         idle = idle;
         sums = opened_sum i is there;
@@ -368,7 +289,7 @@ module _ (o : Origin) (cells : Cells) (c : ControlView) (vs : List View) (l : La
         due = refl;
       }
   opens_by i is idle false more = let there = l.phase.opening i is in let n : i + 1 ≡ length cells.slots → ⊥ = not_last i (length cells.slots) more in
-      slots_keep (Opening i) cells.shared.value (set cells.slots i (Open (pos 0))) (Opening (i + 1)) c.standing.uncollected record {
+      slots_keep o cells c vs l (Opening i) cells.shared.value (set cells.slots i (Open (pos 0))) (Opening (i + 1)) c.standing.uncollected record {
         found = is;
         idle = idle;
         sums = opened_sum i is there;

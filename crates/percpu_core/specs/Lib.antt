@@ -23,3 +23,4 @@ pub mod Replays
 pub mod CounterMoves
 pub mod Interleavings
 pub mod SeatLaws
+pub mod StepsFit

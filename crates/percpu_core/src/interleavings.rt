@@ -1,6 +1,7 @@
 //! What holds whichever steps the seats take, and in whatever order. The functions do nothing: each
 //! stands for the law in its contract.
 ghost use Rattle.percpu_core.specs.SeatLaws.{PassStepsKeepLaws, ControlStepsKeepLaws, KnownZeroIsSet, JoiningKeepsLaws, SplittingKeepsLaws, OpeningIsLawful};
+ghost use Rattle.percpu_core.specs.StepsFit.{PassStepsFit, ControlStepsFit};
 ghost use Rattle.percpu_core.specs.Interleavings.{LawsAlways, ReleasedAtZero, ReleasedOncePerKill, ReleasedOnceInALife, MovesOfTheCounter, NumbersStaySmall};
 
 /// Each step of a seat, enabled by the view of that seat alone, keeps the laws of all memory and all
@@ -12,6 +13,13 @@ pub fn each_step_keeps_the_laws()
     ensures control { ControlStepsKeepLaws }
     ensures known_zero { KnownZeroIsSet }
     ensures joining { JoiningKeepsLaws }
+{}
+
+/// Each step of a seat, enabled by the view of that seat alone, fits the words: what it takes off the shared value is
+/// there, what it adds has room, and the slot that it closes or opens is there.
+pub fn each_step_fits()
+    ensures passes { PassStepsFit }
+    ensures control { ControlStepsFit }
 {}
 
 /// Every interleaving: after every run from every start the laws hold of the memory and of what the

@@ -50,10 +50,12 @@ pub use control_event::ControlEvent;
 pub use control_standing::ControlStanding;
 pub use event::Event;
 pub use interleavings::{
-    a_release_is_the_last, each_step_keeps_the_laws, events_are_moves, every_interleaving,
-    numbers_stay_small,
+    a_release_is_the_last, each_step_fits, each_step_keeps_the_laws, events_are_moves,
+    every_interleaving, numbers_stay_small,
 };
-pub use limits::{HELD_LIMIT, KILL_LIMIT, PASS_LIMIT, SLOT_LIMIT, WORD_LIMIT};
+pub use limits::{
+    HELD_LIMIT, KILL_LIMIT, PASS_LIMIT, SLOT_LIMIT, WORD_LIMIT, limits_are_these_numbers,
+};
 pub use memory::Memory;
 pub use not_enabled::NotEnabled;
 pub use pass_event::PassEvent;

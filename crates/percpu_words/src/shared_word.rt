@@ -1,6 +1,6 @@
 //! The shared word of a gate: the marks `ZERO` and `DEAD`, and the value.
 ghost use Rattle.std.specs.Prelude.{◌≡◌};
-ghost use Rattle.percpu_words.specs.SharedWord.{parts};
+ghost use Rattle.percpu_words.specs.SharedWord.{parts, zero_mark, dead_mark, bias};
 ghost use Rattle.percpu_words.specs.Words.{PartsOfSpelling, SpellingOfParts, AddingKeepsMarks, SubtractingKeepsMarks, SettingDead, ClearingMarks};
 
 /// The mark of a gate whose count has reached zero.
@@ -37,8 +37,12 @@ pub fn value(word: u64) -> u64
     word & (DEAD - 1)
 }
 
-/// The marks and the value determine the word, and the word them.
+/// The marks and the value determine the word, and the word them; and the constants are the numbers of the marks and of
+/// the bias.
 pub fn shared_word_is_its_parts()
+    ensures zero { ZERO ≡ zero_mark }
+    ensures dead { DEAD ≡ dead_mark }
+    ensures bias { BIAS ≡ bias }
     ensures parts_of_spelling { PartsOfSpelling }
     ensures spelling_of_parts { SpellingOfParts }
 {}

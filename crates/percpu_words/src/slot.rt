@@ -1,6 +1,6 @@
 //! The word of a slot: closed, or open with a delta.
-ghost use Rattle.std.specs.Prelude.{◌≡◌, ◌↔◌, ℤ, Some, true};
-ghost use Rattle.percpu_words.specs.SlotWord.{closed_mark, IsDelta, delta_spelling, Spells};
+ghost use Rattle.std.specs.Prelude.{◌≡◌, ◌↔◌, ℤ, pos, Some, true};
+ghost use Rattle.percpu_words.specs.SlotWord.{closed_mark, most_delta, IsDelta, delta_spelling, Spells};
 ghost use Rattle.percpu_words.specs.SlotWords.{SpellingIsTheSum, SpelledApart};
 
 /// The word of a closed slot.
@@ -45,8 +45,11 @@ pub fn slot_delta(word: u64) -> Option<i64>
     Some(word as i64 - MIDDLE)
 }
 
-/// Each delta within the limit has one spelling, which no other delta has, nor a closed slot.
+/// Each delta within the limit has one spelling, which no other delta has, nor a closed slot; and the constants are the
+/// number of a closed slot and the limit.
 pub fn each_delta_has_its_word()
+    ensures closed { CLOSED ≡ closed_mark }
+    ensures limit { DELTA_MAX ≡ pos most_delta }
     ensures sum { SpellingIsTheSum }
     ensures apart { SpelledApart }
 {}
