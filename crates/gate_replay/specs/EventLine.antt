@@ -7,6 +7,7 @@ use Rattle.line_text.specs.Words.{no_words, one_word, two_words, three_words}
 use Rattle.line_text.specs.Numbers.{◌>>=◌, is_digit, number_in}
 use Rattle.line_text.specs.declared.fault.Why.{Why}
 use Rattle.line_text.specs.declared.fault.Why.TheVariants.{UnknownWord, MissingWord}
+use Rattle.gate_replay.specs.declared.event_line.OneNumber.{OneNumber}
 use Rattle.gate_replay.specs.declared.event_line.SlotExchange.{SlotExchange}
 use Rattle.percpu_core.specs.declared.event.Event.{Event}
 use Rattle.percpu_core.specs.declared.event.Event.TheVariants.{Pass, Control}
@@ -27,15 +28,15 @@ plain step pass words =
     Ok (Pass pass step)
 
 -- this pass, and the one number that is left, from 0 to `most`
-abbrev pub pass_and : ℕ → List ℕ → List (List ℕ) → Result (ℕ × ℕ) Why
-pass_and most pass words =
+abbrev pub one_number_of : ℕ → List ℕ → List (List ℕ) → Result OneNumber Why
+one_number_of most pass words =
     one_word words >>= λ word.
     number_32 pass >>= λ pass.
     number_in 0 most word >>= λ n.
-    Ok (pass, n)
+    Ok (record { pass = pass; number = n })
 
 abbrev pub look_of : List ℕ → List (List ℕ) → Result Event Why
-look_of pass words = pass_and 4294967295 pass words >>= λ said. Ok (Pass said.0 (of_pass.Look said.1))
+look_of pass words = one_number_of 4294967295 pass words >>= λ said. Ok (Pass said.pass (of_pass.Look said.number))
 
 -- what a slot is said to hold
 abbrev pub delta_in : List ℕ → Result ℤ Why
@@ -58,13 +59,13 @@ abbrev pub give_of : List ℕ → List (List ℕ) → Result Event Why
 give_of pass words = exchange_of pass words >>= λ said. Ok (Pass said.pass (of_pass.Give said.slot said.seen said.n))
 
 abbrev pub get_of : List ℕ → List (List ℕ) → Result Event Why
-get_of pass words = pass_and 65535 pass words >>= λ said. Ok (Pass said.0 (of_pass.AddGet said.1))
+get_of pass words = one_number_of 65535 pass words >>= λ said. Ok (Pass said.pass (of_pass.AddGet said.number))
 
 abbrev pub sub_of : List ℕ → List (List ℕ) → Result Event Why
-sub_of pass words = pass_and 65535 pass words >>= λ said. Ok (Pass said.0 (of_pass.Sub said.1))
+sub_of pass words = one_number_of 65535 pass words >>= λ said. Ok (Pass said.pass (of_pass.Sub said.number))
 
 abbrev pub word_of : List ℕ → List (List ℕ) → Result Event Why
-word_of pass words = pass_and 4294967295 pass words >>= λ said. Ok (Pass said.0 (of_pass.LoadWord said.1))
+word_of pass words = one_number_of 4294967295 pass words >>= λ said. Ok (Pass said.pass (of_pass.LoadWord said.number))
 
 -- after `add`
 abbrev pub addition_of : List ℕ → List (List ℕ) → Result Event Why

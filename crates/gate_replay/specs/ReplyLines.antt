@@ -1,5 +1,6 @@
 -- The lines that a replay writes.
-use Rattle.std.specs.Prelude.{ℕ, ◌+◌, ℤ, pos, negsuc, if◌then◌else◌, List, ◌++◌, codes, decimal}
+use Rattle.std.specs.Prelude.{ℕ, if◌then◌else◌, List, ◌++◌, codes, decimal}
+use Rattle.std.specs.Fmt.{signed_decimal}
 use Rattle.line_text.specs.Named.{named}
 use Rattle.percpu_core.specs.declared.not_enabled.NotEnabled.{NotEnabled}
 use Rattle.percpu_core.specs.declared.not_enabled.NotEnabled.TheVariants.{NoSuchActor, NoSuchSlot, WrongPhase, NothingHeld, MidCall, HeldFull, WornOut, NoSuchWord, BadAmount, StillHeld}
@@ -16,11 +17,6 @@ marks_text shared = if shared.zero then codes "zero " else if shared.dead then c
 unfoldable pub shared_text : ℕ → List ℕ
 shared_text word = marks_text (parts word) ++ decimal (parts word).value
 
--- a delta, with a minus in front where it is below 0
-abbrev pub signed_text : ℤ → List ℕ
-signed_text (pos n) = decimal n
-signed_text (negsuc n) = codes "-" ++ decimal (n + 1)
-
 abbrev pub reply_text : Reply → List ℕ
 reply_text Given = codes "given"
 reply_text Refused = codes "refused"
@@ -29,9 +25,9 @@ reply_text ToMark = codes "to mark"
 reply_text Last = codes "last"
 reply_text Lost = codes "lost"
 reply_text Won = codes "won"
-reply_text (Opened d) = codes "open " ++ signed_text d
+reply_text (Opened d) = codes "open " ++ signed_decimal d
 reply_text Closed = codes "closed"
-reply_text (Collected d) = codes "closed " ++ signed_text d
+reply_text (Collected d) = codes "closed " ++ signed_decimal d
 reply_text (Shared word) = shared_text word
 reply_text (Number n) = decimal n
 reply_text Done = codes "ok"

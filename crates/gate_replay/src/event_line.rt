@@ -2,7 +2,7 @@
 ghost use Rattle.std.specs.Prelude.{◌≡◌};
 ghost use Rattle.std.specs.List.{list_all};
 ghost use Rattle.line_text.specs.Numbers.{is_digit};
-ghost use Rattle.gate_replay.specs.EventLine.{plain, pass_and, look_of, delta_in, exchange_of, take_of, give_of, get_of, sub_of, word_of, addition_of, pass_step_of, alone, store_of, join_of, control_step_of, event_of};
+ghost use Rattle.gate_replay.specs.EventLine.{plain, one_number_of, look_of, delta_in, exchange_of, take_of, give_of, get_of, sub_of, word_of, addition_of, pass_step_of, alone, store_of, join_of, control_step_of, event_of};
 
 use line_text::{
     Why, Words, is_word, long_number, no_words, number, one_word, short_number, three_words,
@@ -28,21 +28,27 @@ fn plain(step: PassEvent, pass: &[u8], words: Words<'_>) -> Result<Event, Why>
     Ok(Event::Pass(pass, step))
 }
 
-// The number of a pass, and the one number that is left, from 0 to `most`.
-fn pass_and(most: u32, pass: &[u8], words: Words<'_>) -> Result<(u32, u32), Why>
-    ensures { result ≡ pass_and most pass.now words.entry }
+/// A step with one number: the pass, and that number.
+struct OneNumber {
+    pass: u32,
+    number: u32,
+}
+
+// The pass, and the one number that is left, from 0 to `most`.
+fn one_number(most: u32, pass: &[u8], words: Words<'_>) -> Result<OneNumber, Why>
+    ensures { result ≡ one_number_of most pass.now words.entry }
 {
     let word = one_word(words)?;
     let pass = short_number(pass, 0, u32::MAX)?;
     let number = short_number(word, 0, most)?;
-    Ok((pass, number))
+    Ok(OneNumber { pass, number })
 }
 
 fn look(pass: &[u8], words: Words<'_>) -> Result<Event, Why>
     ensures { result ≡ look_of pass.now words.entry }
 {
-    let (pass, slot) = pass_and(u32::MAX, pass, words)?;
-    Ok(Event::Pass(pass, PassEvent::Look(slot)))
+    let OneNumber { pass, number } = one_number(u32::MAX, pass, words)?;
+    Ok(Event::Pass(pass, PassEvent::Look(number)))
 }
 
 /// An exchange of a slot's delta: the pass, the slot, what was seen in it, and an amount.
@@ -104,22 +110,22 @@ fn give(pass: &[u8], words: Words<'_>) -> Result<Event, Why>
 fn get(pass: &[u8], words: Words<'_>) -> Result<Event, Why>
     ensures { result ≡ get_of pass.now words.entry }
 {
-    let (pass, amount) = pass_and(HELD_LIMIT, pass, words)?;
-    Ok(Event::Pass(pass, PassEvent::AddGet(amount)))
+    let OneNumber { pass, number } = one_number(HELD_LIMIT, pass, words)?;
+    Ok(Event::Pass(pass, PassEvent::AddGet(number)))
 }
 
 fn sub(pass: &[u8], words: Words<'_>) -> Result<Event, Why>
     ensures { result ≡ sub_of pass.now words.entry }
 {
-    let (pass, amount) = pass_and(HELD_LIMIT, pass, words)?;
-    Ok(Event::Pass(pass, PassEvent::Sub(amount)))
+    let OneNumber { pass, number } = one_number(HELD_LIMIT, pass, words)?;
+    Ok(Event::Pass(pass, PassEvent::Sub(number)))
 }
 
 fn load_word(pass: &[u8], words: Words<'_>) -> Result<Event, Why>
     ensures { result ≡ word_of pass.now words.entry }
 {
-    let (pass, k) = pass_and(u32::MAX, pass, words)?;
-    Ok(Event::Pass(pass, PassEvent::LoadWord(k)))
+    let OneNumber { pass, number } = one_number(u32::MAX, pass, words)?;
+    Ok(Event::Pass(pass, PassEvent::LoadWord(number)))
 }
 
 // What follows `add`.

@@ -1,7 +1,8 @@
 //! The lines that a replay writes.
 ghost use Rattle.std.specs.Prelude.{◌≡◌, ◌++◌, OnOk, codes, decimal};
+ghost use Rattle.std.specs.Fmt.{signed_decimal};
 ghost use Rattle.percpu_words.specs.SharedWord.{parts};
-ghost use Rattle.gate_replay.specs.ReplyLines.{marks_text, shared_text, signed_text, reply_text, reply_line, why_text, stuck_line, end_line};
+ghost use Rattle.gate_replay.specs.ReplyLines.{marks_text, shared_text, reply_text, reply_line, why_text, stuck_line, end_line};
 
 use line_text::{push_named, push_number, push_text};
 use percpu_core::{NotEnabled, Reply, World};
@@ -29,7 +30,7 @@ fn push_shared(out: &mut Vec<u8>, word: u64) -> Result<(), AllocError>
 }
 
 fn push_signed(out: &mut Vec<u8>, number: i64) -> Result<(), AllocError>
-    ensures { OnOk result (out.new.items ≡ out.old.items ++ signed_text number) }
+    ensures { OnOk result (out.new.items ≡ out.old.items ++ signed_decimal number) }
 {
     if number < 0 {
         push_text(out, "-")?;
@@ -39,7 +40,7 @@ fn push_signed(out: &mut Vec<u8>, number: i64) -> Result<(), AllocError>
 
 /// Appends a delta behind this text.
 fn push_delta(out: &mut Vec<u8>, text: &str, delta: i64) -> Result<(), AllocError>
-    ensures { OnOk result (out.new.items ≡ out.old.items ++ text.now ++ signed_text delta) }
+    ensures { OnOk result (out.new.items ≡ out.old.items ++ text.now ++ signed_decimal delta) }
 {
     push_text(out, text)?;
     push_signed(out, delta)

@@ -32,6 +32,13 @@ impl GuardedWords {
     {
         self.words.as_slice()
     }
+
+    /// The words, given back; no memory is taken.
+    pub fn into_vec(self) -> Vec<u64>
+        ensures { result.items ≡ self }
+    {
+        self.words
+    }
 }
 
 /// The steps of a schedule, in order, each with the number of its line. Contracts see the list of them.
@@ -62,6 +69,13 @@ impl Events {
         ensures { result.now ≡ self.now }
     {
         self.events.as_slice()
+    }
+
+    /// The steps, given back; no memory is taken.
+    pub fn into_vec(self) -> Vec<(u32, Event)>
+        ensures { result.items ≡ self }
+    {
+        self.events
     }
 }
 

@@ -1,7 +1,6 @@
 //! What the first two lines of a schedule say: its version, and the world.
 ghost use Rattle.std.specs.Prelude.{◌≡◌, ◌∷◌, ◌≤◌, true, length, Err, IfOk, OnOk, MatchResult};
-ghost use Rattle.line_text.specs.Answers.{Says};
-ghost use Rattle.line_text.specs.Answers.{Tells, at_line};
+ghost use Rattle.line_text.specs.Answers.{Says, Tells, at_line};
 ghost use Rattle.percpu_core.specs.Starts.{IsWithinLimits};
 ghost use Rattle.gate_replay.specs.Schedules.{opened};
 ghost use Rattle.gate_replay.specs.WorldLine.{gate_of, start_of, values_of, with_words, opening_of, world_of};
@@ -49,40 +48,66 @@ fn start_said(word: &[u8]) -> Result<Start, Why>
     }
 }
 
-type FourWords<'a> = (&'a [u8], &'a [u8], &'a [u8], &'a [u8]);
+/// The words before the guarded ones.
+#[derive(Clone, Copy)]
+struct SizeWords<'a> {
+    slots: &'a [u8],
+    passes: &'a [u8],
+    start: &'a [u8],
+    kills: &'a [u8],
+}
 
-// The words before the guarded ones.
-fn four_words<'a>(words: &mut Words<'a>) -> Result<FourWords<'a>, Why>
+// Takes the words before the guarded ones.
+fn size_words<'a>(words: &mut Words<'a>) -> Result<SizeWords<'a>, Why>
     ensures { MatchResult result
-        (λ four. words.old ≡ four.0.now ∷ four.1.now ∷ four.2.now ∷ four.3.now ∷ words.new)
+        (λ said. words.old ≡ said.slots.now ∷ said.passes.now ∷ said.start.now ∷ said.kills.now ∷ words.new)
         (λ why. opening_of words.old ≡ Err why) }
 {
     let slots = words.next().ok_or(Why::MissingWord)?;
     let passes = words.next().ok_or(Why::MissingWord)?;
     let start = words.next().ok_or(Why::MissingWord)?;
     let kills = words.next().ok_or(Why::MissingWord)?;
-    Ok((slots, passes, start, kills))
+    Ok(SizeWords {
+        slots,
+        passes,
+        start,
+        kills,
+    })
+}
+
+/// What is said before the guarded words.
+#[derive(Clone, Copy)]
+struct WorldSizes {
+    slots: u32,
+    passes: u32,
+    start: Start,
+    kills: u64,
 }
 
 // The slots, the passes, the start and the kills. The guarded words are left, few enough of them.
-fn sizes(words: &mut Words<'_>) -> Result<(u32, u32, Start, u64), Why>
+fn sizes(words: &mut Words<'_>) -> Result<WorldSizes, Why>
     ensures rest { MatchResult result
-        (λ said. opening_of words.old ≡ with_words said.0 said.1 said.2 said.3 words.new)
+        (λ said. opening_of words.old ≡ with_words said.slots said.passes said.start said.kills words.new)
         (λ why. opening_of words.old ≡ Err why) }
-    ensures slots { IfOk result (λ said. (1 ≤ said.0) × (said.0 ≤ SLOT_LIMIT)) }
-    ensures passes { IfOk result (λ said. (1 ≤ said.1) × (said.1 ≤ PASS_LIMIT)) }
-    ensures kills { IfOk result (λ said. said.3 ≤ KILL_LIMIT) }
+    ensures slots { IfOk result (λ said. (1 ≤ said.slots) × (said.slots ≤ SLOT_LIMIT)) }
+    ensures passes { IfOk result (λ said. (1 ≤ said.passes) × (said.passes ≤ PASS_LIMIT)) }
+    ensures kills { IfOk result (λ said. said.kills ≤ KILL_LIMIT) }
     ensures words { OnOk result (length words.new ≤ WORD_LIMIT) }
 {
-    let (slots, passes, start, kills) = four_words(words)?;
+    let said = size_words(words)?;
     if words.count_left() > WORD_LIMIT {
         return Err(Why::ExtraWord);
     }
-    let slots = short_number(slots, 1, SLOT_LIMIT)?;
-    let passes = short_number(passes, 1, PASS_LIMIT)?;
-    let start = start_said(start)?;
-    let kills = long_number(kills, 0, KILL_LIMIT)?;
-    Ok((slots, passes, start, kills))
+    let slots = short_number(said.slots, 1, SLOT_LIMIT)?;
+    let passes = short_number(said.passes, 1, PASS_LIMIT)?;
+    let start = start_said(said.start)?;
+    let kills = long_number(said.kills, 0, KILL_LIMIT)?;
+    Ok(WorldSizes {
+        slots,
+        passes,
+        start,
+        kills,
+    })
 }
 
 // Takes the word `world`.
@@ -121,13 +146,13 @@ pub(crate) fn world(
     ensures within { IfOk result (λ world. IsWithinLimits (opened world)) }
 {
     at_line(line, named(&mut words))?;
-    let (slots, passes, start, kills) = at_line(line, sizes(&mut words))?;
+    let sizes = at_line(line, sizes(&mut words))?;
     let words = GuardedWords::new(values(alloc, line, words)?);
     Ok(WorldLine {
-        slots,
-        passes,
-        start,
-        kills,
+        slots: sizes.slots,
+        passes: sizes.passes,
+        start: sizes.start,
+        kills: sizes.kills,
         words,
     })
 }

@@ -63,10 +63,12 @@ fn a_schedule_tells_its_parts(rt: HostRuntime) -> Result<(), Fail> {
     assert_eq!(rt; schedule.start, Start::Dead);
     assert_eq!(rt; schedule.kills, 4);
     assert_eq!(rt; schedule.words.as_slice(), [5, 6].as_slice());
+    assert_eq!(rt; schedule.words.into_vec().as_slice(), [5, 6].as_slice());
     let events = [
         (4, Event::Pass(2, PassEvent::Sub(9))),
         (5, Event::Control(ControlEvent::StoreWord { k: 1, v: 8 })),
     ];
     assert_eq!(rt; schedule.events.as_slice(), events.as_slice());
+    assert_eq!(rt; schedule.events.into_vec().as_slice(), events.as_slice());
     Ok(())
 }
