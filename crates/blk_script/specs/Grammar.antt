@@ -4,6 +4,7 @@ use Rattle.std.specs.Str.{bytes_eq}
 use Rattle.line_text.specs.Hex.{hex_bytes}
 use Rattle.line_text.specs.Numbers.{◌>>=◌, number_in}
 use Rattle.line_text.specs.Words.{no_words, one_word, two_words, three_words}
+use Rattle.blk_script.specs.declared.grammar.DiskLine.{DiskLine}
 use Rattle.script_meaning.specs.declared.mode.Mode.TheVariants.{Atomic, Slots}
 use Rattle.line_text.specs.declared.fault.Why.{Why}
 use Rattle.line_text.specs.declared.fault.Why.TheVariants.{NoVersion, NoDisk, UnknownWord}
@@ -20,14 +21,14 @@ version_of (name ∷ number ∷ []) = if bytes_eq name (codes "blkq") && bytes_e
 version_of words = Err NoVersion
 
 -- the sectors of the disk, and those that the hardware takes in one request
-abbrev pub sizes_of : List (List ℕ) → Result (ℕ × ℕ) Why
+abbrev pub sizes_of : List (List ℕ) → Result DiskLine Why
 sizes_of words =
     three_words words >>= λ word.
     number_in 1 4096 word.0 >>= λ sectors.
-    if bytes_eq word.1 (codes "hw") then (number_in 1 65535 word.2 >>= λ hardware. Ok (sectors, hardware)) else Err UnknownWord
+    if bytes_eq word.1 (codes "hw") then (number_in 1 65535 word.2 >>= λ hardware. Ok (record { sectors = sectors; hardware = hardware })) else Err UnknownWord
 
 -- the second line says `disk N hw H`
-abbrev pub disk_of : List (List ℕ) → Result (ℕ × ℕ) Why
+abbrev pub disk_of : List (List ℕ) → Result DiskLine Why
 disk_of [] = Err NoDisk
 disk_of (first ∷ words) = if bytes_eq first (codes "disk") then sizes_of words else Err NoDisk
 

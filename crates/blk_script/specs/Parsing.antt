@@ -1,6 +1,7 @@
 -- Which script a text means, or which fault it has.
 use Rattle.std.specs.Prelude.{ℕ, Bool, List, [], ◌∷◌, Result, Ok}
 use Rattle.blk_script.specs.Grammar.{version_of, disk_of, what_of}
+use Rattle.blk_script.specs.declared.grammar.DiskLine.{DiskLine}
 use Rattle.line_text.specs.Answers.{at_line}
 use Rattle.line_text.specs.Numbers.{◌>>=◌}
 use Rattle.line_text.specs.Statements.{Unread, unread, first_or, after_first}
@@ -28,16 +29,16 @@ abbrev pub version_in : Unread → Result Bool ParseFault
 version_in text = first_or NoVersion text >>= λ said. at_line said.0 (version_of said.1)
 
 -- and the next one that of the disk
-abbrev pub disk_in : Unread → Result (ℕ × ℕ) ParseFault
+abbrev pub disk_in : Unread → Result DiskLine ParseFault
 disk_in text = first_or NoDisk text >>= λ said. at_line said.0 (disk_of said.1)
 
 -- the version, then the disk, then the further lines
 abbrev pub script_in : Unread → Result Meant ParseFault
 script_in text =
     version_in text >>= λ first.
-    disk_in (after_first text) >>= λ sizes.
+    disk_in (after_first text) >>= λ disk.
     further_lines (after_first (after_first text)).said >>= λ lines.
-    Ok (record { sectors = sizes.0; hardware = sizes.1; lines = lines })
+    Ok (record { sectors = disk.sectors; hardware = disk.hardware; lines = lines })
 
 -- the script that a text means, or its first fault
 abbrev pub meaning_of : List ℕ → Result Meant ParseFault

@@ -7,9 +7,22 @@ use line_text::{
     LineFault, Why, Words, hex_bytes, is_word, no_words, one_word, short_number, three_words,
     two_words,
 };
-use ram_disk::MAX_PATTERN;
+use queue_limits::HARDWARE_LIMIT;
+use ram_disk::{MAX_PATTERN, MAX_SECTORS};
 use script_meaning::{Mode, Pattern, What};
 use std::alloc::Global;
+
+/// The most sectors that a line asks for in one request.
+const COUNT_LIMIT: u32 = 65_535;
+
+/// What the second line says.
+#[derive(Clone, Copy, Debug)]
+pub(crate) struct DiskLine {
+    /// The disk's sectors.
+    pub(crate) sectors: u32,
+    /// The sectors that the hardware takes in one request.
+    pub(crate) hardware: u32,
+}
 
 // The bytes that a write repeats.
 fn pattern(alloc: Global, word: &[u8]) -> Result<Pattern, LineFault>
@@ -31,25 +44,25 @@ pub(crate) fn version(mut words: Words<'_>) -> Result<(), Why>
     }
 }
 
-fn sizes(words: Words<'_>) -> Result<(u32, u32), Why>
+fn sizes(words: Words<'_>) -> Result<DiskLine, Why>
     ensures said { result ≡ sizes_of words.entry }
-    ensures sectors { IfOk result (λ sizes. (1 ≤ sizes.0) × (sizes.0 ≤ 4096)) }
-    ensures hardware { IfOk result (λ sizes. (1 ≤ sizes.1) × (sizes.1 ≤ 65535)) }
+    ensures sectors { IfOk result (λ disk. (1 ≤ disk.sectors) × (disk.sectors ≤ MAX_SECTORS)) }
+    ensures hardware { IfOk result (λ disk. (1 ≤ disk.hardware) × (disk.hardware ≤ HARDWARE_LIMIT)) }
 {
     let (sectors, name, hardware) = three_words(words)?;
-    let sectors = short_number(sectors, 1, 4_096)?;
+    let sectors = short_number(sectors, 1, MAX_SECTORS)?;
     if !is_word(name, "hw") {
         return Err(Why::UnknownWord);
     }
-    let hardware = short_number(hardware, 1, 65_535)?;
-    Ok((sectors, hardware))
+    let hardware = short_number(hardware, 1, HARDWARE_LIMIT)?;
+    Ok(DiskLine { sectors, hardware })
 }
 
 /// The disk's sectors, and those that the hardware takes in one request.
-pub(crate) fn disk(mut words: Words<'_>) -> Result<(u32, u32), Why>
+pub(crate) fn disk(mut words: Words<'_>) -> Result<DiskLine, Why>
     ensures said { result ≡ disk_of words.entry }
-    ensures sectors { IfOk result (λ sizes. (1 ≤ sizes.0) × (sizes.0 ≤ 4096)) }
-    ensures hardware { IfOk result (λ sizes. (1 ≤ sizes.1) × (sizes.1 ≤ 65535)) }
+    ensures sectors { IfOk result (λ disk. (1 ≤ disk.sectors) × (disk.sectors ≤ MAX_SECTORS)) }
+    ensures hardware { IfOk result (λ disk. (1 ≤ disk.hardware) × (disk.hardware ≤ HARDWARE_LIMIT)) }
 {
     let first = words.next().ok_or(Why::NoDisk)?;
     if !is_word(first, "disk") {
@@ -63,7 +76,7 @@ fn read(words: Words<'_>) -> Result<What, Why>
 {
     let (start, count) = two_words(words)?;
     let start = short_number(start, 0, u32::MAX)?;
-    let count = short_number(count, 1, 65_535)?;
+    let count = short_number(count, 1, COUNT_LIMIT)?;
     Ok(What::Read { start, count })
 }
 
@@ -72,7 +85,7 @@ fn write(alloc: Global, words: Words<'_>) -> Result<What, LineFault>
 {
     let (start, count, digits) = three_words(words)?;
     let start = short_number(start, 0, u32::MAX)?;
-    let count = short_number(count, 1, 65_535)?;
+    let count = short_number(count, 1, COUNT_LIMIT)?;
     let pattern = pattern(alloc, digits)?;
     Ok(What::Write {
         start,

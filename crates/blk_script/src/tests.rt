@@ -1,4 +1,5 @@
-//! Worked scripts, what the format says of odd input, and the texts of replies.
+//! A script with lines of every kind, what the format says of odd input, and the texts of replies. The worked
+//! scripts are played by the program: crates/blkq/src/tests/scripts.rt.
 use crate::{
     ByteRuns, Mode, ParseFault, PieceLengths, Reply, ScriptFault, Stat, What, Why, check, parse,
     render, render_disk, run_alone,
@@ -9,31 +10,36 @@ use std::alloc::Global;
 use std::process::Abort;
 use std::test::Fail;
 
-mod rows;
+// Lines of every kind, and what a run on one thread writes of them.
+const EVERY_KIND: &[u8] =
+    b"blkq 1\ndisk 4 hw 2\nwrite 0 3 61\nread 3 1\nfreeze\nread 0 1\nthaw\nset max_sectors 1\nset chunk_sectors 65536\nwrite 2 2 00\nmode atomic\nread 4 1\nstat\nremove\nthaw\n";
 
-#[test]
-fn worked_scripts(rt: HostRuntime) -> Result<(), Fail> {
-    for row in rows::ROWS {
-        let script = parse(rt.alloc(), row.script)?;
-        check(rt.alloc(), &script)?;
-        let found = run_alone(rt.alloc(), &script)?;
-        assert!(rt; found.as_slice() == row.answer, "{}", row.name);
+const ITS_ANSWER: &[u8] =
+    b"3 ok 2+1\n4 ok 1 00*512\n5 depth 1\n6 EAGAIN\n7 depth 0\n8 ok\n9 EINVAL\n10 ok 1+1\n11 ok\n12 EIO\n13 stat reads 1 writes 2 again 1 eio 1 depth 0 max 1 chunk 0 mode atomic\n14 removed\n15 ENODEV\ndisk 61*1024,00*1024\n";
+
+// Four lines that come again and again, and what each is answered, by the number of its line.
+fn line_and_reply(number: u32) -> (&'static str, &'static str) {
+    match number % 4 {
+        3 => ("write 0 1 61\n", "ok 1"),
+        0 => ("freeze\n", "depth 1"),
+        1 => ("thaw\n", "depth 0"),
+        _ => ("read 1 1\n", "ok 1 00*512"),
     }
-    Ok(())
 }
 
-// The 100,000 lines `thaw` of a script, each with its reply.
+// A script of 100,000 lines, half of them requests.
 #[test]
 fn many_lines(rt: HostRuntime) -> Result<(), Fail> {
     let alloc = rt.alloc();
-    let mut text = Vec::from_slice(alloc, b"blkq 1\ndisk 1 hw 1\n")?;
+    let mut text = Vec::from_slice(alloc, b"blkq 1\ndisk 2 hw 1\n")?;
     let mut wanted = Vec::new(alloc);
     for number in 3_u32..100_003 {
-        text.extend_from_slice(b"thaw\n")?;
-        let reply = format!(in alloc; "{number} not frozen\n")?;
-        wanted.extend_from_slice(reply.as_bytes())?;
+        let (line, reply) = line_and_reply(number);
+        text.extend_from_slice(line.as_bytes())?;
+        let told = format!(in alloc; "{number} {reply}\n")?;
+        wanted.extend_from_slice(told.as_bytes())?;
     }
-    wanted.extend_from_slice(b"disk 00*512\n")?;
+    wanted.extend_from_slice(b"disk 61*512,00*512\n")?;
     let script = parse(alloc, &text)?;
     check(alloc, &script)?;
     assert!(rt; run_alone(alloc, &script)?.as_slice() == wanted.as_slice());
@@ -196,19 +202,24 @@ fn texts_of_replies(rt: HostRuntime) -> Result<(), Fail> {
     Ok(())
 }
 
-// The answer of a script, or Memory.
-fn answer_or_memory(alloc: Global, text: &[u8]) -> Result<Vec<u8>, ScriptFault> {
+// The answer of a script, or its fault.
+fn answer(alloc: Global, text: &[u8]) -> Result<Vec<u8>, ScriptFault> {
     let script = parse(alloc, text)?;
+    check(alloc, &script)?;
     run_alone(alloc, &script)
+}
+
+#[test]
+fn every_kind_of_line(rt: HostRuntime) -> Result<(), Fail> {
+    assert!(rt; answer(rt.alloc(), EVERY_KIND)?.as_slice() == ITS_ANSWER);
+    Ok(())
 }
 
 // Under `rt try --test --fail-alloc N` the N-th allocation is refused: then the answer is Memory or the text.
 #[test]
 fn want_of_memory(rt: HostRuntime) {
-    for row in rows::ROWS {
-        match answer_or_memory(rt.alloc(), row.script) {
-            Ok(text) => assert!(rt; text.as_slice() == row.answer, "{}", row.name),
-            Err(fault) => assert_eq!(rt; fault, ScriptFault::Memory, "{}", row.name),
-        }
+    match answer(rt.alloc(), EVERY_KIND) {
+        Ok(text) => assert!(rt; text.as_slice() == ITS_ANSWER),
+        Err(fault) => assert_eq!(rt; fault, ScriptFault::Memory),
     }
 }

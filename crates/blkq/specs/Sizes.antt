@@ -1,16 +1,17 @@
 -- How many workers, slots and tags a run has.
 use Rattle.std.specs.Prelude.{ℕ, ◌≤◌}
+use Rattle.blkq.specs.declared.config.TheConstants.{MOST_SLOTS, MOST_TAGS, MOST_WORKERS}
 
 pub record Sizes : Type 0 where
   pub workers : ℕ
   pub slots : ℕ
   pub tags : ℕ
 
--- 1 to 32 workers, 1 to 64 slots and 1 to 63 tags
+-- at least one of each, and at most so many
 pub record AreWithin (sizes : Sizes) : Type 0 where
   pub a_worker : 1 ≤ sizes.workers
-  pub workers : sizes.workers ≤ 32
+  pub workers : sizes.workers ≤ MOST_WORKERS
   pub a_slot : 1 ≤ sizes.slots
-  pub slots : sizes.slots ≤ 64
+  pub slots : sizes.slots ≤ MOST_SLOTS
   pub a_tag : 1 ≤ sizes.tags
-  pub tags : sizes.tags ≤ 63
+  pub tags : sizes.tags ≤ MOST_TAGS

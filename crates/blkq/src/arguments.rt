@@ -9,7 +9,7 @@ use line_text::{Why, short_number};
 
 /// What the program is asked to do.
 #[derive(Clone, Copy, Debug, PartialEq, Eq)]
-pub(crate) enum Request {
+pub(crate) enum Task {
     /// Run the script that comes in.
     Run(Config),
     /// Replay the schedule that comes in.
@@ -39,19 +39,19 @@ fn run_of(workers: &str, slots: &str, tags: &str) -> Option<Config>
 /// What `words`, those after the program's name, ask for: `run`, alone or with three numbers, or `replay`
 /// alone. Anything else asks how the program is called: other words, other counts of them, a word that is no
 /// number in 1 to 20 digits, a number outside the limits.
-pub(crate) fn requested(words: &[String]) -> Request
-    ensures run { (sizes : Sizes) → (result ≡ Request.Run sizes) ↔ AsksRun (map string_bytes words.now) sizes }
-    ensures replay { (result ≡ Request.Replay) ↔ AsksReplay (map string_bytes words.now) }
+pub(crate) fn requested(words: &[String]) -> Task
+    ensures run { (sizes : Sizes) → (result ≡ Task.Run sizes) ↔ AsksRun (map string_bytes words.now) sizes }
+    ensures replay { (result ≡ Task.Replay) ↔ AsksReplay (map string_bytes words.now) }
 {
     match words {
-        [word] if word.as_str() == "run" => Request::Run(Config::default()),
-        [word] if word.as_str() == "replay" => Request::Replay,
+        [word] if word.as_str() == "run" => Task::Run(Config::default()),
+        [word] if word.as_str() == "replay" => Task::Replay,
         [word, workers, slots, tags] if word.as_str() == "run" => {
             match run_of(workers.as_str(), slots.as_str(), tags.as_str()) {
-                Some(config) => Request::Run(config),
-                None => Request::Usage,
+                Some(config) => Task::Run(config),
+                None => Task::Usage,
             }
         }
-        _ => Request::Usage,
+        _ => Task::Usage,
     }
 }

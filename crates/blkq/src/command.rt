@@ -7,11 +7,11 @@ ghost use Rattle.blkq.specs.Faults.{status_of};
 ghost use Rattle.blkq.specs.Requests.{AsksReplay, AsksSomeRun, AsksSomething};
 ghost use Rattle.gate_replay.specs.Shown.{EndsSo, shown_by};
 
-use crate::arguments::{Request, requested};
+use crate::arguments::{Task, requested};
 use crate::config::Config;
 use crate::fault::Fault;
 use crate::replay_report::replay_reported;
-use crate::run::run_bytes;
+use crate::run::{MOST_READ, run_bytes};
 use crate::stall::NoStall;
 use counted_io::Counted;
 use gate_replay::Replayed;
@@ -43,7 +43,7 @@ fn run_reported<R: Read, W: Write, E: Write>(
     ensures untouched { (result ≡ 2) ⊎ (result ≡ 3) → TakesNothing W.contents writer.old writer.new }
     ensures partly { result ≡ 4 → TakesNothing W.contents writer.old writer.new
         ⊎ IfKnown R.remaining reader.old (λ input. IsAnsweredBy input (TakesPart W.contents writer.old writer.new)) }
-    ensures taken { TakesUpTo R.remaining reader.old reader.new 1048577 }
+    ensures taken { TakesUpTo R.remaining reader.old reader.new MOST_READ }
 {
     match run_bytes(rt, alloc, reader, writer, config, &NoStall) {
         Ok(()) => 0,
@@ -104,12 +104,12 @@ pub fn command<R: Read, W: Write, E: Write>(
     ensures unread { ¬ (AsksSomething (map string_bytes args.now)) → reader.new ≡ reader.old }
     ensures unwritten { ¬ (AsksSomething (map string_bytes args.now)) → writer.new ≡ writer.old }
 
-    ensures taken { TakesUpTo R.remaining reader.old reader.new 1048577 }
+    ensures taken { TakesUpTo R.remaining reader.old reader.new MOST_READ }
 {
     match requested(args) {
-        Request::Run(config) => run_reported(rt, alloc, config, reader, writer, errors),
-        Request::Replay => replay_reported(alloc, reader, writer, errors),
-        Request::Usage => {
+        Task::Run(config) => run_reported(rt, alloc, config, reader, writer, errors),
+        Task::Replay => replay_reported(alloc, reader, writer, errors),
+        Task::Usage => {
             let _ = errors.writeln(USAGE);
             NOT_RUN
         }

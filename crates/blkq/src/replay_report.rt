@@ -5,6 +5,7 @@ ghost use Rattle.counted_io.specs.Writing.{Takes, TakesNothing, TakesPart};
 ghost use Rattle.gate_replay.specs.Shown.{EndsSo, shown_by};
 
 use crate::replay_run::replay_bytes;
+use crate::run::MOST_READ;
 use counted_io::Counted;
 use gate_replay::Replayed;
 use std::alloc::Global;
@@ -30,7 +31,7 @@ pub(crate) fn replay_reported<R: Read, W: Write, E: Write>(
     ensures untouched { result ≡ 2 → TakesNothing W.contents writer.old writer.new }
     ensures partly { result ≡ 4 → TakesNothing W.contents writer.old writer.new
         ⊎ IfKnown R.remaining reader.old (λ input. IsOkAnd (shown_by input) (λ shown. TakesPart W.contents writer.old writer.new shown.text)) }
-    ensures taken { TakesUpTo R.remaining reader.old reader.new 1048577 }
+    ensures taken { TakesUpTo R.remaining reader.old reader.new MOST_READ }
 {
     match replay_bytes(alloc, reader, writer) {
         Ok(Replayed::Whole) => 0,

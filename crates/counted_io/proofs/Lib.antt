@@ -1,3 +1,3 @@
--- Lemmas on what was taken from a reader, and what went out to a writer, over plain lists.
+-- Taking: what was taken from a reader, one piece further. Sending: what went out to a writer, one piece further.
 pub mod Sending
 pub mod Taking

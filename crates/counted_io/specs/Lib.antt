@@ -1,4 +1,5 @@
--- The definitions that the contracts of `counted_io` cite.
+-- Tally: what contracts see of a `Counted`. Failures: how it counts. Reading, Writing: what is taken from a reader, and goes out to a writer.
+-- InputFault: the numbers of the faults of reading.
 pub mod Failures
 pub mod InputFault
 pub mod Reading

@@ -1,6 +1,6 @@
 //! The words that the program takes, and those that it doesn't.
 use super::driver::words;
-use crate::arguments::{Request, requested};
+use crate::arguments::{Task, requested};
 use crate::config::Config;
 use std::test::Fail;
 
@@ -16,7 +16,7 @@ fn runs(rt: HostRuntime) -> Result<(), Fail> {
     for (line, (workers, slots, tags)) in rows {
         let request = requested(&words(rt.alloc(), line)?);
         let config = Config::new(workers, slots, tags).ok_or("within the limits")?;
-        assert_eq!(rt; request, Request::Run(config), "{line}");
+        assert_eq!(rt; request, Task::Run(config), "{line}");
         assert_eq!(rt;
             (config.workers(), config.slots(), config.tags()),
             (workers, slots, tags)
@@ -27,7 +27,7 @@ fn runs(rt: HostRuntime) -> Result<(), Fail> {
 
 #[test]
 fn replays(rt: HostRuntime) -> Result<(), Fail> {
-    assert_eq!(rt; requested(&words(rt.alloc(), "replay")?), Request::Replay);
+    assert_eq!(rt; requested(&words(rt.alloc(), "replay")?), Task::Replay);
     Ok(())
 }
 
@@ -56,11 +56,7 @@ fn other_words(rt: HostRuntime) -> Result<(), Fail> {
         "replay 1 1 1",
     ];
     for line in lines {
-        assert_eq!(rt;
-            requested(&words(rt.alloc(), line)?),
-            Request::Usage,
-            "{line}"
-        );
+        assert_eq!(rt; requested(&words(rt.alloc(), line)?), Task::Usage, "{line}");
     }
     Ok(())
 }

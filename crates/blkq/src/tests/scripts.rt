@@ -1,4 +1,5 @@
-//! Worked scripts, each with what the program writes.
+//! Worked scripts, each with what the program writes. Three more stand in examples/, with their answers: first,
+//! chunks and nested_freeze.
 use super::driver::{Row, WHOLE};
 
 pub(super) const ROWS: &[Row] = &[
@@ -21,12 +22,6 @@ pub(super) const ROWS: &[Row] = &[
         ..WHOLE
     },
     Row {
-        name: "one_write_one_read",
-        input: b"blkq 1\ndisk 4 hw 2\nwrite 0 3 61\nread 3 1\n",
-        out: b"3 ok 2+1\n4 ok 1 00*512\ndisk 61*1536,00*512\n",
-        ..WHOLE
-    },
-    Row {
         name: "past_the_end",
         input: b"blkq 1\ndisk 4096 hw 65535\nread 0 4097\nread 4095 1\nread 4096 1\nwrite 4294967295 65535 00\n",
         out: b"3 EIO\n4 ok 1 00*512\n5 EIO\n6 EIO\ndisk 00*2097152\n",
@@ -42,18 +37,6 @@ pub(super) const ROWS: &[Row] = &[
         name: "freeze_between",
         input: b"blkq 1\ndisk 4 hw 4\nwrite 0 1 01\nwrite 1 1 02\nfreeze\nthaw\nread 0 2\n",
         out: b"3 ok 1\n4 ok 1\n5 depth 1\n6 depth 0\n7 ok 2 01*512,02*512\ndisk 01*512,02*512,00*1024\n",
-        ..WHOLE
-    },
-    Row {
-        name: "limits_at_their_place",
-        input: b"blkq 1\ndisk 16 hw 8\nwrite 6 6 61\nset max_sectors 4\nset chunk_sectors 8\nread 6 6\n",
-        out: b"3 ok 6\n4 ok\n5 ok\n6 ok 2+4 61*3072\ndisk 00*3072,61*3072,00*2048\n",
-        ..WHOLE
-    },
-    Row {
-        name: "nested_freeze",
-        input: b"blkq 1\ndisk 1 hw 1\nfreeze\nfreeze\nread 0 1\nthaw\nread 0 1\nthaw\nread 0 1\nstat\n",
-        out: b"3 depth 1\n4 depth 2\n5 EAGAIN\n6 depth 1\n7 EAGAIN\n8 depth 0\n9 ok 1 00*512\n10 stat reads 1 writes 0 again 2 eio 0 depth 0 max 1 chunk 0 mode slots\ndisk 00*512\n",
         ..WHOLE
     },
     Row {

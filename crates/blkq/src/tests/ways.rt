@@ -23,6 +23,18 @@ const REPLAY: Row = Row {
     ..WHOLE
 };
 
+/// The reader fails behind its input.
+const READER_FAILS: Row = Row {
+    sides: Sides {
+        fails: true,
+        ..WILLING
+    },
+    status: 4,
+    out: b"",
+    errors: b"read\n",
+    ..RUN
+};
+
 /// The words ask for nothing: nothing is read, and nothing is written but how the program is called.
 const ASKED: Row = Row {
     input: SCRIPT,
@@ -64,25 +76,11 @@ pub(super) const ROWS: &[Row] = &[
     Row {
         name: "the reader fails at once",
         input: b"",
-        sides: Sides {
-            fails: true,
-            ..WILLING
-        },
-        status: 4,
-        out: b"",
-        errors: b"read\n",
-        ..RUN
+        ..READER_FAILS
     },
     Row {
         name: "the reader fails behind the script",
-        sides: Sides {
-            fails: true,
-            ..WILLING
-        },
-        status: 4,
-        out: b"",
-        errors: b"read\n",
-        ..RUN
+        ..READER_FAILS
     },
     Row {
         name: "the writer takes five bytes",
@@ -141,14 +139,9 @@ pub(super) const ROWS: &[Row] = &[
     },
     Row {
         name: "the reader fails behind the schedule",
-        sides: Sides {
-            fails: true,
-            ..WILLING
-        },
-        status: 4,
-        out: b"",
-        errors: b"read\n",
-        ..REPLAY
+        words: "replay",
+        input: SCHEDULE,
+        ..READER_FAILS
     },
     Row {
         name: "the writer takes four bytes of a replay",
