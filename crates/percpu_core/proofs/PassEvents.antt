@@ -25,7 +25,7 @@ use Rattle.percpu_core.specs.ReleaseLaw.{Origin}
 use Rattle.percpu_core.specs.declared.limits.TheConstants.{HELD_LIMIT}
 use Rattle.percpu_core.specs.Laws.{Laws}
 use Rattle.percpu_core.specs.PassSteps.{plus, minus, shared_after_pass, slots_after_pass, cells_after_pass, standing_after, pending_after, given, dropped}
-use Rattle.percpu_core.specs.PassLearns.{next_even, begun, pass_view_after}
+use Rattle.percpu_core.specs.PassLearns.{next_even, begun, live_given_after, pass_view_after}
 use Rattle.percpu_core.specs.Machine.{won}
 use Rattle.percpu_core.proofs.Passes.{over_passes-at, EachPass-at}
 use Rattle.percpu_core.proofs.Counting.{value-least}
@@ -149,6 +149,7 @@ module _ (o : Origin) (cells : Cells) (c : ControlView) (vs : List View) (l : La
     read = begun p;
     seen_front = p.seen_front;
     floor = floor;
+    live_given = live_given_after e cells p;
     releases = p.releases + won r;
     found_dead = p.found_dead || cells.shared.dead;
     found_zero = p.found_zero || cells.shared.zero;

@@ -41,12 +41,19 @@ floor_after AddLive cells p = if cells.shared.dead then p.floor else next_even p
 floor_after (Take s d n) cells p = if is_open_with d (slot_at cells.slots s) then next_even p.floor else p.floor
 floor_after _ cells p = p.floor
 
+-- a step that took references as a live gate gives them: an addition that found DEAD clear, or an exchange of a slot that was won
+abbrev pub live_given_after : PassEvent → Cells → PassView → ℕ
+live_given_after AddLive cells p = if cells.shared.dead then p.live_given else p.live_given + 1
+live_given_after (Take s d n) cells p = if is_open_with d (slot_at cells.slots s) then p.live_given + 1 else p.live_given
+live_given_after _ cells p = p.live_given
+
 abbrev pub pass_view_after : PassEvent → Cells → PassView → PassView
 pass_view_after e cells p = record {
   standing = standing_after e (pass_reply e cells) p.standing;
   read = read_after e cells p;
   seen_front = seen_front_after e cells p;
   floor = floor_after e cells p;
+  live_given = live_given_after e cells p;
   releases = p.releases + won (pass_reply e cells);
   found_dead = p.found_dead || (looks_for_marks e && cells.shared.dead);
   found_zero = p.found_zero || (looks_for_marks e && cells.shared.zero);

@@ -18,6 +18,9 @@ pub struct PassView {
     pub seen_front: u64,
     /// The front is at least this.
     pub floor: u64,
+    /// Its steps that took references as a live gate gives them: additions that found DEAD clear, and exchanges of
+    /// a slot that were won.
+    pub live_given: u64,
     /// The releases that it has won.
     pub releases: u64,
     /// Whether it has found DEAD set, and whether ZERO.

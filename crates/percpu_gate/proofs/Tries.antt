@@ -12,7 +12,7 @@ use Rattle.percpu_core.specs.PassSteps.{standing_after}
 use Rattle.percpu_core.specs.PassLearns.{next_even}
 use Rattle.percpu_core.specs.Views.{count}
 use Rattle.percpu_gate.specs.declared.tried.Tried.{Tried}
-use Rattle.percpu_gate.specs.Calls.{released, is_refused, to_take_back, after_try, StaysFound, TryLeaves, TryFinds, LiveTryFinds}
+use Rattle.percpu_gate.specs.Calls.{released, is_refused, taken, to_take_back, after_try, StaysFound, TryLeaves, TryFinds, LiveTryFinds}
 use Rattle.percpu_gate.specs.Seats.{GateFacts, PassStep, tried, slot_open_at}
 use Rattle.percpu_gate.proofs.Known.{moment_knows}
 
@@ -81,6 +81,7 @@ record Adds (old new : PassView) (b : Bool) : Type 0 where
   pub seen_front : new.seen_front ≡ old.seen_front
   pub floor : old.floor ≤ new.floor
   pub same_floor : b ≡ false → new.floor ≡ old.floor
+  pub live_given : old.live_given ≤ new.live_given
   pub read : 0 < old.standing.held → new.read ≡ old.read
   pub anew : old.standing.held ≡ 0 → new.read ≡ []
   pub found : StaysFound old new
@@ -110,6 +111,7 @@ adds_try old new b s = record {
   seen_front = ap (λ (v : PassView). v.seen_front) s.learned;
   floor = let same : new.floor ≡ old.floor = ap (λ (v : PassView). v.floor) s.learned in omega arith;
   same_floor = λ refused. ap (λ (v : PassView). v.floor) s.learned;
+  live_given = let same : new.live_given ≡ old.live_given = ap (λ (v : PassView). v.live_given) s.learned in omega arith;
   read = λ some. ap (λ (v : PassView). v.read) s.learned ∙ reads_on old.standing.held old.read some;
   anew = λ none. ap (λ (v : PassView). v.read) s.learned ∙ ap (λ (held : ℕ). if held == 0 then [] else old.read) none;
   found = (
@@ -129,12 +131,17 @@ rises : (b : Bool) (old new : ℕ) → new ≡ (if not b then old else next_even
 rises true old new is = omega arith
 rises false old new is = omega arith
 
+live_rises : (dead : Bool) (old new : ℕ) → new ≡ (if dead then old else old + 1) → old ≤ new
+live_rises true old new is = omega arith
+live_rises false old new is = omega arith
+
 adds_live : {g : GateFacts} (old new : PassView) (b : Bool) → PassStep g events.AddLive old new (tried b) → Adds old new b
 adds_live old new b s = record {
   standing = ap (λ (v : PassView). v.standing) s.learned ∙ ap (λ (r : Reply). standing_after events.AddLive r old.standing) (sym s.answered) ∙ stands_after_live b old.standing;
   releases = ap (λ (v : PassView). v.releases) s.learned ∙ ap (λ (r : Reply). old.releases + won r) (sym s.answered) ∙ wins_none b old.releases;
   seen_front = ap (λ (v : PassView). v.seen_front) s.learned;
   floor = rises b old.floor new.floor (live_floor old new b s);
+  live_given = live_rises s.moment.cells.shared.dead old.live_given new.live_given (ap (λ (v : PassView). v.live_given) s.learned);
   same_floor = λ refused. live_floor old new b s ∙ ap (λ (x : Bool). if not x then old.floor else next_even old.floor) refused;
   read = λ some. ap (λ (v : PassView). v.read) s.learned ∙ reads_on old.standing.held old.read some;
   anew = λ none. ap (λ (v : PassView). v.read) s.learned ∙ ap (λ (held : ℕ). if held == 0 then [] else old.read) none;
@@ -152,6 +159,7 @@ leaves old mid new true Tried.Given a is same = record {
   seen_front = ap (λ (v : PassView). v.seen_front) is ∙ a.seen_front;
   floor = let same_as : new.floor ≡ mid.floor = ap (λ (v : PassView). v.floor) is in let most = a.floor in omega arith;
   same_floor = λ refused. cc;
+  live_given = let same_as : new.live_given ≡ mid.live_given = ap (λ (v : PassView). v.live_given) is in let most = a.live_given in omega arith;
   read = λ some. ap (λ (v : PassView). v.read) is ∙ a.read some;
   anew = λ none. ap (λ (v : PassView). v.read) is ∙ a.anew none;
   found = (λ found. ap (λ (v : PassView). v.found_dead) is ∙ a.found.0 found, λ found. ap (λ (v : PassView). v.found_zero) is ∙ a.found.1 found);
@@ -167,6 +175,7 @@ leaves old mid new false (Tried.Refused r) a is same = record {
   seen_front = ap (λ (v : PassView). v.seen_front) is ∙ a.seen_front;
   floor = let same_as : new.floor ≡ mid.floor = ap (λ (v : PassView). v.floor) is in let most = a.floor in omega arith;
   same_floor = λ refused. ap (λ (v : PassView). v.floor) is ∙ a.same_floor refl;
+  live_given = let same_as : new.live_given ≡ mid.live_given = ap (λ (v : PassView). v.live_given) is in let most = a.live_given in omega arith;
   read = λ some. ap (λ (v : PassView). v.read) is ∙ a.read some;
   anew = λ none. ap (λ (v : PassView). v.read) is ∙ a.anew none;
   found = (λ found. ap (λ (v : PassView). v.found_dead) is ∙ a.found.0 found, λ found. ap (λ (v : PassView). v.found_zero) is ∙ a.found.1 found);
@@ -182,6 +191,22 @@ live_try_leaves old mid new b r s is same = leaves old mid new b r (adds_live ol
 pub floor_after_try : {g : GateFacts} (old mid new : PassView) (b : Bool) (r : Tried) → PassStep g events.AddLive old mid (tried b) → new ≡ after_try r mid → is_refused r ≡ not b
     → new.floor ≡ (if is_refused r then old.floor else next_even old.floor)
 floor_after_try old mid new b r s is same = end_leaves_floor mid new r is ∙ live_floor old mid b s ∙ ap (λ (x : Bool). if x then old.floor else next_even old.floor) (sym same)
+
+-- what a live gate gave: 1 more where the try is given
+end_leaves_live : (mid new : PassView) (r : Tried) → new ≡ after_try r mid → new.live_given ≡ mid.live_given
+end_leaves_live mid new Tried.Given is = ap (λ (v : PassView). v.live_given) is
+end_leaves_live mid new (Tried.Refused r) is = ap (λ (v : PassView). v.live_given) is
+
+live_by : (b : Bool) (r : Tried) (dead : Bool) (n : ℕ) → dead ≡ not b → is_refused r ≡ not b → (if dead then n else n + 1) ≡ n + taken r
+live_by b Tried.Given true n found same = cc
+live_by b Tried.Given false n found same = refl
+live_by b (Tried.Refused r) true n found same = omega arith
+live_by b (Tried.Refused r) false n found same = cc
+
+pub given_live : {g : GateFacts} (old mid new : PassView) (b : Bool) (r : Tried) → PassStep g events.AddLive old mid (tried b) → new ≡ after_try r mid → is_refused r ≡ not b
+    → new.live_given ≡ old.live_given + taken r
+given_live old mid new b r s is same = end_leaves_live mid new r is ∙ ap (λ (v : PassView). v.live_given) s.learned
+    ∙ live_by b r s.moment.cells.shared.dead old.live_given (tried_is b s.moment.cells.shared.dead s.answered) same
 
 -- where an odd front was seen, one that is given has a greater floor
 pub given_later : (seen floor new : ℕ) (refused : Bool) → seen ≤ floor → new ≡ (if refused then floor else next_even floor) → refused ≡ false → seen % 2 ≡ 1 → seen + 1 ≤ new

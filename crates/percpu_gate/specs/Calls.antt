@@ -65,6 +65,8 @@ pub record TryLeaves (old new : PassView) (r : Tried) : Type 0 where
   -- a floor only rises, and where the try is refused it stays
   pub floor : old.floor ≤ new.floor
   pub same_floor : is_refused r ≡ true → new.floor ≡ old.floor
+  -- so does the count of what a live gate gave
+  pub live_given : old.live_given ≤ new.live_given
   -- the guarded words that were read stay known while a reference is held, and reading begins anew where none was
   pub read : 0 < old.standing.held → new.read ≡ old.read
   pub anew : old.standing.held ≡ 0 → new.read ≡ []
@@ -83,10 +85,11 @@ pub record LiveTryFinds (g : GateFacts) (slot : ℕ) (old : PassView) (r : Tried
   pub given : is_refused r ≡ false → (not (dead_at moment) || slot_open_at slot moment) ≡ true
   pub even : is_refused r ≡ false → front_at moment % 2 ≡ 0
 
--- what a pass holds after `get`. A floor only rises
+-- what a pass holds after `get`. A floor only rises, as does the count of what a live gate gave
 pub record GetLeaves (old new : PassView) (n : ℕ) : Type 0 where
-  pub view : new ≡ record old { standing = holding (old.standing.held + n); floor = new.floor }
+  pub view : new ≡ record old { standing = holding (old.standing.held + n); floor = new.floor; live_given = new.live_given }
   pub floor : old.floor ≤ new.floor
+  pub live_given : old.live_given ≤ new.live_given
 
 -- what a look at the marks of a gate leaves: all but what it found, which stays found
 abbrev pub after_look : Bool → Bool → PassView → PassView
@@ -103,6 +106,7 @@ pub record LookLeaves (old new : PassView) : Type 0 where
   pub releases : new.releases ≡ old.releases
   pub seen_front : new.seen_front ≡ old.seen_front
   pub floor : new.floor ≡ old.floor
+  pub live_given : new.live_given ≡ old.live_given
   pub read : new.read ≡ old.read
   pub found : StaysFound old new
 

@@ -6,7 +6,7 @@ ghost use Rattle.percpu_core.specs.PassLearns.{next_even};
 ghost use Rattle.percpu_core.specs.Snapshots.{first_pass};
 ghost use Rattle.percpu_gate.specs.declared.tried.Tried.TheVariants.{Given};
 ghost use Rattle.percpu_gate.specs.Seats.{PassStep, dead_at, zero_at};
-ghost use Rattle.percpu_gate.specs.Calls.{holding, is_refused, after_put, TryLeaves, TryFinds, LiveTryFinds, GetLeaves, PassLook, LookLeaves, HasRead};
+ghost use Rattle.percpu_gate.specs.Calls.{holding, is_refused, taken, after_put, TryLeaves, TryFinds, LiveTryFinds, GetLeaves, PassLook, LookLeaves, HasRead};
 
 use crate::gate::Gate;
 use crate::pass_seat::PassSeat;
@@ -104,6 +104,7 @@ impl<const W: usize> Pass<W> {
         ensures leaves { TryLeaves self.old.view self.new.view result }
         ensures finds { LiveTryFinds gate.now _slot self.old.view result }
         ensures floor { self.new.view.floor ≡ (if is_refused result then self.old.view.floor else next_even self.old.view.floor) }
+        ensures live { self.new.view.live_given ≡ self.old.view.live_given + taken result }
         ensures later { is_refused result ≡ false → self.old.view.seen_front % 2 ≡ 1 → self.old.view.seen_front + 1 ≤ self.new.view.floor }
         ensures ground { is_refused result ≡ true → self.new.view.found_dead ≡ true }
     {

@@ -1,5 +1,5 @@
 use Rattle.std.proofs.Common.{ap, arith}
-use Rattle.percpu_gate.proofs.Tries.{live_try_finds, live_try_leaves, live_refused_found, floor_after_try, given_later}
+use Rattle.percpu_gate.proofs.Tries.{live_try_finds, live_try_leaves, live_refused_found, floor_after_try, given_live, given_later}
 use Rattle.percpu_gate.proofs.pass.Pass.try_get_live.Goals as goal
 
 pub returns-clause-leaves : goal.returns-clause-leaves
@@ -10,6 +10,9 @@ returns-clause-finds g c = rw (← c.gate.view_is, ← c.self.view_is) (live_try
 
 pub returns-clause-floor : goal.returns-clause-floor
 returns-clause-floor g c = rw (← c.self.view_is) (floor_after_try _ _ _ _ _ c.add_live-is_given.ensures.step (ap (λ s. s.view) c.end_try-answer.ensures.view) c.end_try-answer.ensures.answer)
+
+pub returns-clause-live : goal.returns-clause-live
+returns-clause-live g c = rw (← c.self.view_is) (given_live _ _ _ _ _ c.add_live-is_given.ensures.step (ap (λ s. s.view) c.end_try-answer.ensures.view) c.end_try-answer.ensures.answer)
 
 pub returns-clause-later : goal.returns-clause-later
 returns-clause-later g c = rw (← c.self.view_is) (given_later _ _ _ _ (omega (arith, c.self.invariant.2, c.self.invariant.3))
