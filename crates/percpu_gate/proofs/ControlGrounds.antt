@@ -1,8 +1,9 @@
 -- What an answer of the control's step shows.
-use Rattle.std.proofs.Common.{◌≡◌, ℕ, ◌+◌, ◌%◌, ◌^◌, ◌≤◌, Bool, true, false, ◌||◌, refl, ap, sym, ◌∙◌, arith}
+use Rattle.std.proofs.Common.{◌≡◌, ℕ, ◌+◌, ◌*◌, ◌%◌, ◌≤◌, Bool, true, false, ◌||◌, refl, ap, sym, ◌∙◌, arith}
 use Rattle.std.specs.Prelude.{pos}
 use Rattle.percpu_words.specs.SharedWord.{SharedWord, spelling, parts}
 use Rattle.percpu_words.proofs.SharedWordSteps.{parts_of_spelling}
+use Rattle.percpu_core.specs.declared.limits.TheConstants.{KILL_LIMIT}
 use Rattle.percpu_core.specs.declared.control_event.ControlEvent.TheVariants as events
 use Rattle.percpu_core.specs.declared.phase.Phase.{Phase}
 use Rattle.percpu_core.specs.declared.phase.Phase.TheVariants.{LiveSlots, LiveAtomic, Closing, Collected, Confirmed, Dead, Reviving, Fronted, Opening}
@@ -18,13 +19,11 @@ use Rattle.percpu_core.specs.Machine.{won}
 use Rattle.percpu_gate.specs.Seats.{GateFacts, ControlStep, ControlFinds, FindsZero}
 use Rattle.percpu_gate.specs.ControlCalls.{after_revival, IsBetweenCalls, IsInAtomicMode}
 use Rattle.percpu_gate.proofs.Known.{moment_known}
+use Rattle.percpu_gate.proofs.SharedWords.{shared_is}
 
 -- the front before a confirmation is even
 pub odd_next : {g : GateFacts} (old new : ControlView) (r : Reply) → old.standing.phase ≡ Collected → ControlStep g events.Confirm old new r → (old.front + 1) % 2 ≡ 1
 odd_next old new r is s = let even : count (has_odd_front old.standing.phase) ≡ 0 = ap (λ (x : Phase). count (has_odd_front x)) is in let parity = (moment_known old s.moment).parity in omega arith
-
-shared_is : (a b : ℕ) → Shared a ≡ Shared b → a ≡ b
-shared_is a b e = cc
 
 exact : {g : GateFacts} (old new : ControlView) (w : ℕ) (s : ControlStep g events.LookShared old new (Shared w)) → parts w ≡ s.moment.cells.shared
 exact old new w s = let small = (moment_known old s.moment).small in ap parts (shared_is w (spelling s.moment.cells.shared) s.answered) ∙ parts_of_spelling s.moment.cells.shared (omega arith)
@@ -65,11 +64,11 @@ won-most (Number n) = omega arith
 won-most Done = omega arith
 
 -- the releases stay few
-pub few_after_drop : {g : GateFacts} (old new : ControlView) (r : Reply) → ControlStep g events.DropBase old new r → new.releases ≤ 2 ^ 41
+pub few_after_drop : {g : GateFacts} (old new : ControlView) (r : Reply) → ControlStep g events.DropBase old new r → new.releases ≤ 2 * KILL_LIMIT
 few_after_drop old new r s = let few = (moment_known old s.moment).releases in let is : new.releases ≡ old.releases + won (control_reply events.DropBase old.standing s.moment.cells) = ap (λ (c : ControlView). c.releases) s.learned in
     let one = won-most (control_reply events.DropBase old.standing s.moment.cells) in omega arith
 
-pub few_after_mark : {g : GateFacts} (old new : ControlView) (r : Reply) → ControlStep g events.Mark old new r → new.releases ≤ 2 ^ 41
+pub few_after_mark : {g : GateFacts} (old new : ControlView) (r : Reply) → ControlStep g events.Mark old new r → new.releases ≤ 2 * KILL_LIMIT
 few_after_mark old new r s = let few = (moment_known old s.moment).releases in let is : new.releases ≡ old.releases + won (control_reply events.Mark old.standing s.moment.cells) = ap (λ (c : ControlView). c.releases) s.learned in
     let one = won-most (control_reply events.Mark old.standing s.moment.cells) in omega arith
 

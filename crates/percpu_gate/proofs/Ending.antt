@@ -16,6 +16,7 @@ use Rattle.percpu_core.specs.Views.{count, to_undo, to_mark, over_passes, passes
 use Rattle.percpu_core.specs.Laws.{Laws, Lawful}
 use Rattle.percpu_core.specs.SeatLaws.{Sees}
 use Rattle.percpu_core.specs.ReleaseLaw.{Origin}
+use Rattle.percpu_core.proofs.SeatSteps.{same_control}
 use Rattle.percpu_core.proofs.Counting.{value-unbiased}
 use Rattle.percpu_core.proofs.Passes.{EachPass-at}
 use Rattle.percpu_gate.specs.declared.rule.GateKey.{GateKey}
@@ -99,9 +100,6 @@ ends o cells c vs l fresh marked between refusal none =
       found_dead = λ found. let some = l.release.control_found_dead found in omega arith;
       found_zero = λ found. let some = l.release.control_found_zero found in omega arith;
     }
-
-same_control : (c d : ControlView) → some (OfControl c) ≡ some (OfControl d) → c ≡ d
-same_control c d e = cc
 
 of_moment : (o : Origin) (cells : Cells) (views : List View) (id : ℕ) (c : ControlView) → Lawful o cells views → Sees views id (OfControl c) → o.kills ≡ 0 → c.standing.to_mark ≡ false
     → IsBetweenCalls c.standing.phase → exit_refusal c.standing.phase c.passes ≡ None → c.passes ≡ 0 → Knows o.dead cells c

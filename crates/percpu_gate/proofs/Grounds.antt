@@ -13,6 +13,7 @@ use Rattle.percpu_core.specs.GuardLaw.{AreNow}
 use Rattle.percpu_gate.specs.Calls.{PassLook, HasRead}
 use Rattle.percpu_gate.specs.Seats.{GateFacts, PassStep, dead_at, zero_at}
 use Rattle.percpu_gate.proofs.Known.{moment_knows}
+use Rattle.percpu_gate.proofs.SharedWords.{shared_is}
 
 or_true : (a b : Bool) → b ≡ true → (a || b) ≡ true
 or_true true b is = refl
@@ -24,9 +25,6 @@ number a b e = cc
 -- a front that is loaded is no less than the pass's floor, nor than what it has seen
 pub front_grows : {g : GateFacts} (old new : PassView) (n : ℕ) → PassStep g events.LoadFront old new (Number n) → (old.floor ≤ n) × (old.seen_front ≤ n)
 front_grows old new n s = let q = moment_knows old s.moment in let is : n ≡ s.moment.cells.front = number n s.moment.cells.front s.answered in let floor = q.floor in let seen = q.seen_front in (omega arith, omega arith)
-
-shared_is : (a b : ℕ) → Shared a ≡ Shared b → a ≡ b
-shared_is a b e = cc
 
 exact : {g : GateFacts} (old new : PassView) (w : ℕ) (s : PassStep g events.LookShared old new (Shared w)) → parts w ≡ s.moment.cells.shared
 exact old new w s = let small = (moment_knows old s.moment).small in ap parts (shared_is w (spelling s.moment.cells.shared) s.answered) ∙ parts_of_spelling s.moment.cells.shared (omega arith)

@@ -16,6 +16,7 @@ use Rattle.percpu_core.specs.ReleaseLaw.{Origin}
 use Rattle.percpu_core.specs.Laws.{Laws, Lawful}
 use Rattle.percpu_core.specs.SeatLaws.{Sees}
 use Rattle.percpu_core.proofs.Passes.{over_passes-at, EachPass-at}
+use Rattle.percpu_core.proofs.SeatSteps.{same_control}
 use Rattle.percpu_core.proofs.Counting.{count-most, value-least, value-most}
 use Rattle.percpu_gate.specs.Rule.{MomentOf}
 use Rattle.percpu_core.proofs.PassEvents.{even_front, zero_is_dead, held_in_value, undo_in_value}
@@ -89,9 +90,6 @@ control_known o cells c vs l = let least = value-least o cells c vs l in let due
   parity = ap (λ (n : ℕ). n % 2) l.front.known ∙ l.front.parity;
   releases = let most = releases_most o cells c vs l in omega arith;
 }
-
-same_control : (c d : ControlView) → some (OfControl c) ≡ some (OfControl d) → c ≡ d
-same_control c d e = cc
 
 pub control_knows : (o : Origin) (cells : Cells) (views : List View) (id : ℕ) (c : ControlView) → Lawful o cells views → Sees views id (OfControl c) → ControlKnows cells c
 control_knows o cells [] id c l sees = absurd l

@@ -7,6 +7,7 @@ use lib.ListN.{get_elem?}
 use Rattle.atomic_table.specs.Table.{Me, Splits, Joins}
 use Rattle.atomic_table.specs.Table.{opening as opening_table}
 use Rattle.atomic_table.proofs.Lists.{set_else}
+use Rattle.percpu_core.specs.declared.limits.TheConstants.{PASS_LIMIT, SLOT_LIMIT, WORD_LIMIT}
 use Rattle.percpu_core.specs.declared.pass_standing.PassStanding.{PassStanding}
 use Rattle.percpu_core.specs.declared.view.PassView.{PassView}
 use Rattle.percpu_core.specs.declared.view.ControlView.{ControlView}
@@ -31,7 +32,7 @@ use Rattle.percpu_gate.proofs.Known.{pass_is_out}
 lt-true : (a b : ℕ) → a < b → nat_lt a b ≡ true
 lt-true a b h = grind arith
 
-module _ (k : GateKey) (counted : length (take k.count k.words) ≡ k.count) (few : k.count ≤ 8) (some_slot : 1 ≤ k.slots) (few_slots : k.slots ≤ 64) where
+module _ (k : GateKey) (counted : length (take k.count k.words) ≡ k.count) (few : k.count ≤ WORD_LIMIT) (some_slot : 1 ≤ k.slots) (few_slots : k.slots ≤ SLOT_LIMIT) where
   within : IsWithinLimits (opening_of k)
   within = record { some_slot = some_slot; slots = few_slots; some_pass = omega arith; passes = omega arith; kills = omega arith; words = omega arith }
 
@@ -49,7 +50,7 @@ module _ (k : GateKey) (id : ℕ) where
   abbrev Fresh : SeatView
   Fresh = seated k (OfPass first_pass)
 
-  splits_control : (c : ControlView) → c.passes + 1 ≤ 64 → Splits {S = Unit {0}} (Ruled k) id (seated k (OfControl c)) (seated k (OfControl (with_one_more c))) Fresh
+  splits_control : (c : ControlView) → c.passes + 1 ≤ PASS_LIMIT → Splits {S = Unit {0}} (Ruled k) id (seated k (OfControl c)) (seated k (OfControl (with_one_more c))) Fresh
   splits_control c few s r at_seat = let sees = at_map view_of s.views id (seated k (OfControl c)) at_seat in record {
     cells = r.cells;
     rest = r.rest;
@@ -64,7 +65,7 @@ module _ (k : GateKey) (id : ℕ) where
       of_views views c = map-append view_of (set views id (seated k (OfControl (with_one_more c)))) (Fresh ∷ [])
           ∙ ap (λ (vs : List View). vs ++ OfPass first_pass ∷ []) (map-set view_of views id (seated k (OfControl (with_one_more c))))
 
-  pub splits : (me : Me (Unit {0}) SeatView) → ControlAt k me → (control_of me.0.view).passes + 1 ≤ 64 → Splits {S = Unit {0}} (Ruled k) id me.0 (with_a_pass me.0) (fresh_seat me.0)
+  pub splits : (me : Me (Unit {0}) SeatView) → ControlAt k me → (control_of me.0.view).passes + 1 ≤ PASS_LIMIT → Splits {S = Unit {0}} (Ruled k) id me.0 (with_a_pass me.0) (fresh_seat me.0)
   splits me sits few = subst (λ (m : Me (Unit {0}) SeatView). Splits {S = Unit {0}} (Ruled k) id m.0 (with_a_pass m.0) (fresh_seat m.0)) (sym sits) (splits_control (control_of me.0.view) few)
 
   joins_pass : (other : ℕ) (c : ControlView) (w : SeatView) (p : PassView) → w.view ≡ OfPass p → p.standing ≡ holding 0

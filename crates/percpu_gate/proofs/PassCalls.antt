@@ -1,5 +1,6 @@
 -- What the steps of a call leave together.
-use Rattle.std.proofs.Common.{◌≡◌, ℕ, ◌+◌, ◌-◌, ◌^◌, ◌≤◌, Bool, true, false, ◌||◌, refl, ap, sym, ◌∙◌, arith}
+use Rattle.std.proofs.Common.{◌≡◌, ℕ, ◌+◌, ◌*◌, ◌-◌, ◌≤◌, Bool, true, false, ◌||◌, refl, ap, sym, ◌∙◌, arith}
+use Rattle.percpu_core.specs.declared.limits.TheConstants.{KILL_LIMIT}
 use Rattle.percpu_core.specs.declared.pass_event.PassEvent.TheVariants as events
 use Rattle.percpu_core.specs.declared.pass_standing.Pending.{Pending}
 use Rattle.percpu_core.specs.declared.pass_standing.Pending.TheVariants.{Nothing}
@@ -7,6 +8,7 @@ use Rattle.percpu_core.specs.declared.start.Start.{Start}
 use Rattle.percpu_core.specs.declared.view.PassView.{PassView}
 use Rattle.percpu_core.specs.PassSteps.{pending_after}
 use Rattle.percpu_core.specs.Machine.{won}
+use Rattle.percpu_core.proofs.Flags.{or_false}
 use Rattle.percpu_gate.specs.declared.tried.Put.{Put}
 use Rattle.percpu_gate.specs.declared.tried.Put.TheVariants.{Last, NotLast}
 use Rattle.percpu_core.specs.declared.view.View.TheVariants.{OfPass}
@@ -14,10 +16,6 @@ use Rattle.percpu_gate.specs.Rule.{MomentOf}
 use Rattle.percpu_gate.specs.Seats.{GateFacts, PassStep, left, marked}
 use Rattle.percpu_gate.proofs.Known.{moment_knows}
 use Rattle.percpu_gate.specs.Calls.{released, after_put, owed}
-
-or_false : (b : Bool) → (b || false) ≡ b
-or_false true = refl
-or_false false = refl
 
 -- a step that looks for no mark and reads nothing leaves what is held and owed, and counts releases
 abbrev pub counts : (p : PassView) (held more : ℕ) (owes : Pending) → PassView
@@ -63,12 +61,12 @@ released-most : (r : Put) → released r ≤ 1
 released-most Last = omega arith
 released-most NotLast = omega arith
 
-few : {slots words : ℕ} {start : Start} (old mid : PassView) (m : MomentOf slots start words (OfPass old)) → mid.releases ≡ old.releases + 0 → (r : Put) → mid.releases + released r ≤ 2 ^ 41
+few : {slots words : ℕ} {start : Start} (old mid : PassView) (m : MomentOf slots start words (OfPass old)) → mid.releases ≡ old.releases + 0 → (r : Put) → mid.releases + released r ≤ 2 * KILL_LIMIT
 few old mid m same r = let most = (moment_knows old m).releases in let one = released-most r in omega arith
 
 -- the releases stay few
-pub few_undone : {g : GateFacts} (old mid : PassView) (b : Bool) (r : Put) → PassStep g events.Undo old mid (left b) → mid.releases + released r ≤ 2 ^ 41
+pub few_undone : {g : GateFacts} (old mid : PassView) (b : Bool) (r : Put) → PassStep g events.Undo old mid (left b) → mid.releases + released r ≤ 2 * KILL_LIMIT
 few_undone old mid b r s = few old mid s.moment (ap (λ (p : PassView). p.releases) (undone old mid b s)) r
 
-pub few_subtracted : {g : GateFacts} (n : ℕ) (old mid : PassView) (b : Bool) (r : Put) → PassStep g (events.Sub n) old mid (left b) → mid.releases + released r ≤ 2 ^ 41
+pub few_subtracted : {g : GateFacts} (n : ℕ) (old mid : PassView) (b : Bool) (r : Put) → PassStep g (events.Sub n) old mid (left b) → mid.releases + released r ≤ 2 * KILL_LIMIT
 few_subtracted n old mid b r s = few old mid s.moment (ap (λ (p : PassView). p.releases) (subtracted n old mid b s)) r

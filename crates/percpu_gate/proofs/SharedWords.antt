@@ -3,15 +3,12 @@ use Rattle.std.proofs.Common.{◌≡◌, ℕ, ◌+◌, ◌<◌, Bool, true, fals
 use mathlib.Core.Bool.{not}
 use prog.Atomic.{either}
 use Rattle.percpu_words.specs.SharedWord.{SharedWord, spelling, dead_mark, zero_mark}
-use Rattle.percpu_core.specs.declared.reply.Reply.TheVariants.{Given, Refused, NotLast, ToMark, Last, Lost}
+use Rattle.percpu_core.specs.declared.reply.Reply.TheVariants.{Given, Refused, NotLast, ToMark, Last, Lost, Shared}
 use Rattle.percpu_core.specs.Cells.{is_dead_alone}
+use Rattle.percpu_core.proofs.Flags.{or_false}
 use Rattle.percpu_core.proofs.PassKeeps.{alone}
 use Rattle.percpu_core.specs.PassSteps.{marked as marked_word}
 use Rattle.percpu_gate.specs.Seats.{tried, left, marked, put_of}
-
-or_false : (b : Bool) → (b || false) ≡ b
-or_false true = refl
-or_false false = refl
 
 spelled_alone : (zero dead : Bool) (v : ℕ) → v < dead_mark → nat_eq (spelling record { zero = zero; dead = dead; value = v }) dead_mark ≡ is_dead_alone record { zero = zero; dead = dead; value = v }
 spelled_alone true true v small = grind arith
@@ -30,6 +27,10 @@ marking_by s small false is = ap (λ (z : Bool). spelling record s { zero = z })
 -- the exchange of DEAD alone writes the marked word
 pub marking : (s : SharedWord) → s.value < dead_mark → either (nat_eq (spelling s) dead_mark) (dead_mark + zero_mark) (spelling s) ≡ spelling (marked_word s)
 marking s small = ap (λ (b : Bool). either b (dead_mark + zero_mark) (spelling s)) (alone_is s small) ∙ marking_by s small (is_dead_alone s) refl
+
+-- one answer tells one number
+pub shared_is : (a b : ℕ) → Shared a ≡ Shared b → a ≡ b
+shared_is a b e = cc
 
 pub try_answer : (b : Bool) → tried (not b) ≡ (if b then Refused else Given)
 try_answer true = refl

@@ -1,6 +1,7 @@
 //! The control of a gate: what it is and tells, and its end. It kills the gate (`kill`), stores guarded words
 //! once nothing is held (`words`), and brings it back (`revival`).
 ghost use Rattle.std.specs.Prelude.{◌≡◌, ℕ, ◌≤◌, false};
+ghost use Rattle.percpu_core.specs.declared.limits.TheConstants.{PASS_LIMIT};
 ghost use Rattle.percpu_core.specs.Starts.{opening, first_slot};
 ghost use Rattle.percpu_core.specs.Snapshots.{first_control};
 ghost use Rattle.percpu_gate.specs.Rule.{after_retire};
@@ -32,7 +33,8 @@ pub struct Control<const W: usize> {
 }
 
 impl<const W: usize> Model for Control<W> {
-    ghost use Rattle.std.specs.Prelude.{◌≡◌, ◌+◌, ◌*◌, ◌^◌, ◌≤◌};
+    ghost use Rattle.std.specs.Prelude.{◌≡◌, ◌+◌, ◌*◌, ◌≤◌};
+    ghost use Rattle.percpu_core.specs.declared.limits.TheConstants.{KILL_LIMIT, PASS_LIMIT};
     ghost use Rattle.percpu_gate.specs.Seats.{ControlFacts};
     ghost use Rattle.percpu_gate.specs.ControlCalls.{standing, IsInAtomicMode, HasRoom};
 
@@ -42,13 +44,13 @@ impl<const W: usize> Model for Control<W> {
 
     ghost invariant = { λ c. (c.seat.view.standing ≡ standing c.phase c.kills) × IsInAtomicMode c.phase × HasRoom c.phase c.kills c.front
         × (c.seat.view.front ≡ c.front) × (c.seat.view.releases ≡ c.releases) × (c.seat.view.words ≡ c.words) × (c.seat.view.passes ≡ c.passes)
-        × (c.passes ≤ 64) × (c.releases + 2 ^ 41 * c.passes ≤ 2 ^ 41 * 65) };
+        × (c.passes ≤ PASS_LIMIT) × (c.releases + 2 * KILL_LIMIT * c.passes ≤ 2 * KILL_LIMIT * (PASS_LIMIT + 1)) };
 }
 
 impl<const W: usize> Control<W> {
     /// The control of a new gate that has made so many passes.
     pub(crate) fn new(seat: ControlSeat, start: Start, words: [u64; W], passes: u32) -> Control<W>
-        requires passes { passes ≤ 64 }
+        requires passes { passes ≤ PASS_LIMIT }
         requires start { first_slot start ≡ Slot.Closed }
         requires view { (slots : ℕ) × (seat.view ≡ first_control (opening slots passes start 0 words)) }
         ensures { result ≡ seat }

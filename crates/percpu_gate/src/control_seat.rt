@@ -1,9 +1,10 @@
 //! The atomic steps of the control, each one event of the core's machine.
-ghost use Rattle.std.specs.Prelude.{◌≡◌, ◌+◌, ◌^◌, ◌<◌, ◌≤◌, [], None, true};
+ghost use Rattle.std.specs.Prelude.{◌≡◌, ◌*◌, ◌+◌, ◌<◌, ◌≤◌, [], None, true};
 ghost use Rattle.percpu_core.specs.declared.control_event.ControlEvent.TheVariants as events;
 ghost use Rattle.percpu_core.specs.declared.phase.Phase.TheVariants.{LiveAtomic, Confirmed, Dead};
 ghost use Rattle.percpu_core.specs.declared.reply.Reply.TheVariants.{Done, Shared};
 ghost use Rattle.percpu_core.specs.declared.view.View.TheVariants.{OfControl};
+ghost use Rattle.percpu_core.specs.declared.limits.TheConstants.{KILL_LIMIT, PASS_LIMIT};
 ghost use Rattle.percpu_core.specs.Machine.{IsEnabled};
 ghost use Rattle.percpu_core.specs.ControlSteps.{hinders_control};
 ghost use Rattle.percpu_gate.specs.Seats.{FindsZero, SitsAsControl, facts_of, gate_of, control_of, ControlFinds, ControlStep, left, marked};
@@ -61,7 +62,7 @@ impl ControlSeat {
     /// A seat of a new pass. A control has at most 64.
     pub(crate) fn make_pass(&mut self, gate: &GateTable) -> PassSeat
         requires own { self.old.gate ≡ facts_of gate.now }
-        requires few { self.old.view.passes < 64 }
+        requires few { self.old.view.passes < PASS_LIMIT }
         ensures view { self.new ≡ record self.old { view = with_one_more self.old.view } }
         ensures pass { result ≡ record { gate = self.old.gate; view = first_pass } }
     {
@@ -201,7 +202,7 @@ impl ControlSeat {
         requires own { self.old.gate ≡ facts_of gate.now }
         requires confirmed { self.old.view.standing ≡ standing Confirmed self.old.view.standing.kills }
         ensures view { self.new ≡ record self.old { view = after_drop_base result self.old.view } }
-        ensures few { self.new.view.releases ≤ 2 ^ 41 }
+        ensures few { self.new.view.releases ≤ 2 * KILL_LIMIT }
     {
         if self.drop_base(gate) {
             self.mark(gate)

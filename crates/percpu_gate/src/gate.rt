@@ -59,7 +59,8 @@ fn make_passes<const W: usize>(
 
 impl<const W: usize> Gate<W> {
     /// A gate with so many slots (1 to 64) and guarded words (up to 8), its control, and so many passes (1 to
-    /// 64) that hold nothing. Its slots are closed at the start. Memory where a growth was refused. Linux: `percpu_ref_init`
+    /// 64) that hold nothing. It starts as `Start::Atomic` or `Start::Dead` does, with its slots closed; to start
+    /// with `Start::Slots` isn't offered yet. Memory where a growth was refused. Linux: `percpu_ref_init`
     /// (lib/percpu-refcount.c).
     pub fn new(
         alloc: Global,

@@ -1,5 +1,6 @@
 //! A pass: what a thread counts with.
-ghost use Rattle.std.specs.Prelude.{◌≡◌, ℕ, ◌∷◌, ◌+◌, ◌-◌, ◌%◌, ◌^◌, ◌<◌, ◌≤◌, true, false, if◌then◌else◌};
+ghost use Rattle.std.specs.Prelude.{◌≡◌, ◌*◌, ℕ, ◌∷◌, ◌+◌, ◌-◌, ◌%◌, ◌<◌, ◌≤◌, true, false, if◌then◌else◌};
+ghost use Rattle.percpu_core.specs.declared.limits.TheConstants.{KILL_LIMIT};
 ghost use Rattle.percpu_core.specs.declared.pass_event.PassEvent.TheVariants as events;
 ghost use Rattle.percpu_core.specs.declared.reply.Reply.TheVariants.{Number};
 ghost use Rattle.percpu_core.specs.PassLearns.{next_even};
@@ -27,8 +28,8 @@ pub struct Pass<const W: usize> {
 }
 
 impl<const W: usize> Model for Pass<W> {
-    ghost use Rattle.std.specs.Prelude.{◌≡◌, ◌^◌, ◌≤◌};
-    ghost use Rattle.percpu_core.specs.declared.limits.TheConstants.{HELD_LIMIT};
+    ghost use Rattle.std.specs.Prelude.{◌≡◌, ◌*◌, ◌≤◌};
+    ghost use Rattle.percpu_core.specs.declared.limits.TheConstants.{HELD_LIMIT, KILL_LIMIT};
     ghost use Rattle.percpu_gate.specs.Seats.{PassFacts};
     ghost use Rattle.percpu_gate.specs.Calls.{holding};
 
@@ -37,7 +38,7 @@ impl<const W: usize> Model for Pass<W> {
     ghost view = { λ p. p.seat };
 
     ghost invariant = { λ p. (p.seat.view.standing ≡ holding p.held) × (p.held ≤ HELD_LIMIT)
-        × (p.seat.view.seen_front ≡ p.seen_front) × (p.seen_front ≤ p.seat.view.floor) × (p.seat.view.releases ≡ p.releases) × (p.releases ≤ 2 ^ 41) };
+        × (p.seat.view.seen_front ≡ p.seen_front) × (p.seen_front ≤ p.seat.view.floor) × (p.seat.view.releases ≡ p.releases) × (p.releases ≤ 2 * KILL_LIMIT) };
 }
 
 impl<const W: usize> Pass<W> {
@@ -206,7 +207,7 @@ impl<const W: usize> Pass<W> {
     /// The seat, of a pass that ends, and the releases that it won.
     pub(crate) fn into_parts(self) -> (PassSeat, u64)
         ensures seat { (result.0 ≡ self.entry) × (self.entry.view.standing.held ≡ 0 → result.0.view.standing ≡ holding 0) }
-        ensures releases { (result.1 ≡ self.entry.view.releases) × (result.1 ≤ 2 ^ 41) }
+        ensures releases { (result.1 ≡ self.entry.view.releases) × (result.1 ≤ 2 * KILL_LIMIT) }
     {
         let Self {
             seat,

@@ -1,5 +1,6 @@
 //! The atomic steps of a pass, each one event of the core's machine.
-ghost use Rattle.std.specs.Prelude.{◌≡◌, ◌-◌, ◌^◌, ◌≤◌, [], not};
+ghost use Rattle.std.specs.Prelude.{◌≡◌, ◌*◌, ◌-◌, ◌≤◌, [], not};
+ghost use Rattle.percpu_core.specs.declared.limits.TheConstants.{KILL_LIMIT};
 ghost use Rattle.percpu_core.specs.declared.pass_event.PassEvent.TheVariants as events;
 ghost use Rattle.percpu_core.specs.declared.pass_standing.Pending.TheVariants.{Nothing, OneToUndo};
 ghost use Rattle.percpu_core.specs.declared.reply.Reply.TheVariants.{Given, Shared, Number};
@@ -187,7 +188,7 @@ impl PassSeat {
         requires own { self.old.gate ≡ facts_of gate.now }
         requires owed { self.old.view.standing.pending ≡ OneToUndo }
         ensures view { self.new ≡ record self.old { view = after_put result self.old.view.standing.held self.old.view } }
-        ensures few { self.new.view.releases ≤ 2 ^ 41 }
+        ensures few { self.new.view.releases ≤ 2 * KILL_LIMIT }
     {
         let to_mark = self.undo(gate);
         self.settle(gate, to_mark)
@@ -198,10 +199,10 @@ impl PassSeat {
     pub(crate) fn end_try(&mut self, gate: &GateTable, is_given: bool) -> Tried
         requires own { self.old.gate ≡ facts_of gate.now }
         requires owed { self.old.view.standing.pending ≡ to_take_back is_given }
-        requires few { self.old.view.releases ≤ 2 ^ 41 }
+        requires few { self.old.view.releases ≤ 2 * KILL_LIMIT }
         ensures answer { is_refused result ≡ not is_given }
         ensures view { self.new ≡ record self.old { view = after_try result self.old.view } }
-        ensures few { self.new.view.releases ≤ 2 ^ 41 }
+        ensures few { self.new.view.releases ≤ 2 * KILL_LIMIT }
     {
         if is_given {
             Tried::Given
@@ -217,7 +218,7 @@ impl PassSeat {
         requires owed { self.old.view.standing.pending ≡ Nothing }
         requires held { (1 ≤ n) × (n ≤ self.old.view.standing.held) }
         ensures view { self.new ≡ record self.old { view = after_put result (self.old.view.standing.held - n) self.old.view } }
-        ensures few { self.new.view.releases ≤ 2 ^ 41 }
+        ensures few { self.new.view.releases ≤ 2 * KILL_LIMIT }
     {
         let to_mark = self.subtract(gate, n);
         self.settle(gate, to_mark)

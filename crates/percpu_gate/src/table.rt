@@ -1,5 +1,6 @@
 //! The words of a gate, which its seats step on.
 ghost use Rattle.std.specs.Prelude.{◌≡◌, ◌≤◌, ℕ, List, length, take, IfOk};
+ghost use Rattle.percpu_core.specs.declared.limits.TheConstants.{SLOT_LIMIT, WORD_LIMIT};
 ghost use Rattle.percpu_core.specs.Starts.{first_cells};
 ghost use Rattle.percpu_core.specs.Snapshots.{first_control};
 ghost use Rattle.percpu_gate.specs.Layout.{layout, words_in_all};
@@ -37,6 +38,7 @@ pub(crate) struct GateTable {
 
 impl Model for GateTable {
     ghost use Rattle.std.specs.Prelude.{◌≡◌, ◌≤◌};
+    ghost use Rattle.percpu_core.specs.declared.limits.TheConstants.{WORD_LIMIT};
     ghost use Rattle.percpu_gate.specs.Layout.{words_in_all};
     ghost use Rattle.percpu_gate.specs.Seats.{TableFacts};
 
@@ -44,15 +46,15 @@ impl Model for GateTable {
 
     ghost view = { λ t. record { id = t.table.shared.table_id; key = t.table.shared.key } };
 
-    ghost invariant = { λ t. (t.slots ≡ t.table.shared.key.slots) × (t.table.shared.key.count ≤ 8)
+    ghost invariant = { λ t. (t.slots ≡ t.table.shared.key.slots) × (t.table.shared.key.count ≤ WORD_LIMIT)
         × (t.table.shared.table_id.words ≡ words_in_all t.slots) × (t.table.shared.table_id.slots ≡ 0) };
 }
 
 /// The words of a gate that isn't shared yet: the shared word, the front and the guarded words, and room for
 /// the slots.
 fn first_words(alloc: Global, key: &GateKey) -> Result<Vec<u64>, AllocError>
-    requires count { key.now.count ≤ 8 }
-    requires slots { key.now.slots ≤ 64 }
+    requires count { key.now.count ≤ WORD_LIMIT }
+    requires slots { key.now.slots ≤ SLOT_LIMIT }
     ensures words { IfOk result (λ ws. (rest : List ℕ) × (ws.items ≡ layout (first_cells (opening_of key.now)) rest)) }
     ensures size { IfOk result (λ ws. length ws.items ≡ words_in_all key.now.slots) }
     ensures count { IfOk result (λ ws. length (take key.now.count key.now.words) ≡ key.now.count) }
@@ -69,8 +71,8 @@ fn first_words(alloc: Global, key: &GateKey) -> Result<Vec<u64>, AllocError>
 impl GateTable {
     /// The words of a new gate, and the seat of its control, which has made no pass yet.
     pub(crate) fn new(alloc: Global, key: &GateKey) -> Result<(GateTable, ControlSeat), AllocError>
-        requires count { key.now.count ≤ 8 }
-        requires slots { (1 ≤ key.now.slots) × (key.now.slots ≤ 64) }
+        requires count { key.now.count ≤ WORD_LIMIT }
+        requires slots { (1 ≤ key.now.slots) × (key.now.slots ≤ SLOT_LIMIT) }
         ensures table { IfOk result (λ r. (r.0.key ≡ key.now) × (r.1.gate ≡ facts_of r.0)) }
         ensures control { IfOk result (λ r. r.1.view ≡ record (first_control (opening_of key.now)) { passes = 0 }) }
     {

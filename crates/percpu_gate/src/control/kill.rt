@@ -1,5 +1,5 @@
 //! Killing a gate.
-ghost use Rattle.std.specs.Prelude.{◌≡◌, ◌+◌, ◌%◌, ◌^◌, ◌<◌, IfOk, IfErr};
+ghost use Rattle.std.specs.Prelude.{◌≡◌, ◌+◌, ◌%◌, ◌<◌, IfOk, IfErr};
 ghost use Rattle.percpu_core.specs.declared.phase.Phase.TheVariants as phases;
 ghost use Rattle.percpu_gate.specs.ControlCalls.{fault_of, to_close, kill_refusal, after_mark_dead, after_confirm, after_drop_base, after_kill};
 
@@ -13,7 +13,7 @@ impl<const W: usize> Control<W> {
     /// Why a kill is refused now.
     fn refuse_unless_live(&self) -> Result<(), ControlFault>
         ensures refused { fault_of result ≡ kill_refusal self.now.view.standing.phase self.now.view.standing.kills }
-        ensures live { IfOk result (λ _. (self.now.view.standing.phase ≡ phases.LiveAtomic) × (self.now.view.standing.kills < 2 ^ 40)) }
+        ensures live { IfOk result (λ _. (self.now.view.standing.phase ≡ phases.LiveAtomic) × (self.now.view.standing.kills < KILL_LIMIT)) }
     {
         if self.phase.is_mid_switch() {
             Err(ControlFault::MidSwitch)
