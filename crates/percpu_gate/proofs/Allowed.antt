@@ -1,5 +1,6 @@
 -- A step of a seat is allowed by the rule of its table where it is an enabled event of the machine, and writes the word that the event changes.
 use Rattle.std.proofs.Common.{◌≡◌, ℕ, List, [], map, set, get_or, length, None, find, refl, ap, sym, ◌∙◌, subst}
+use Rattle.std.proofs.Math.ListN.{length-set}
 use Rattle.std.proofs.lemmas.List.{map-set}
 use Rattle.atomic_table.proofs.Lists.{at_map}
 use Rattle.atomic_table.specs.Table.{Me, keeps, Allows}
@@ -23,9 +24,9 @@ use Rattle.percpu_core.specs.SeatLaws.{Sees}
 use Rattle.percpu_core.proofs.SlotLists.{slots_after_pass-length, slots_after_control-length}
 use Rattle.percpu_core.proofs.SeatSteps.{pass_steps_keep_laws, control_steps_keep_laws}
 use Rattle.percpu_gate.specs.declared.rule.GateKey.{GateKey}
-use Rattle.percpu_gate.specs.Layout.{layout}
+use Rattle.percpu_gate.specs.Layout.{Spell}
 use Rattle.percpu_gate.specs.declared.rule.SeatView.{SeatView}
-use Rattle.percpu_gate.specs.Rule.{Ruled, sizes_at, origin, seated, view_of, Took, control_after}
+use Rattle.percpu_gate.specs.Rule.{Spelled, Ruled, sizes_at, origin, seated, view_of, Took, control_after}
 use Rattle.percpu_gate.specs.Seats.{pass_of, control_of}
 use Rattle.percpu_gate.proofs.Known.{ControlKnows, control_knows}
 
@@ -46,36 +47,39 @@ pub lawful_seats : (k : GateKey) (cells : Cells) (views : List SeatView) (id : �
 lawful_seats k cells views id w l = subst (λ (vs : List View). Lawful (origin k.start) cells vs) (sym (map-set view_of views id w)) l
 
 -- the word at this place is that of the cells, and where it becomes f of itself the cells become these
-pub record Writes (at : ℕ) (f : ℕ → ℕ) (word : Cells → ℕ) (cells after : Cells) (rest : List ℕ) : Type 0 where
-  pub found : get_or (layout cells rest) at 0 ≡ word cells
-  pub written : set (layout cells rest) at (f (word cells)) ≡ layout after rest
+pub record Writes (at : ℕ) (f : ℕ → ℕ) (word : Cells → ℕ) (cells after : Cells) (ws : List ℕ) : Type 0 where
+  pub found : get_or ws at 0 ≡ word cells
+  pub written : Spell (set ws at (f (get_or ws at 0))) after
 
 abbrev pub PassWrites : GateKey → ℕ → ℕ → PassEvent → (ℕ → ℕ) → (Cells → ℕ) → PassView → Type 0
-PassWrites k id at e f word p = (cells : Cells) (rest : List ℕ) (views : List View) → Lawful (origin k.start) cells views → Sees views id (OfPass p) → length cells.words ≡ k.count
-    → Writes at f word cells (cells_after_pass e cells) rest
+PassWrites k id at e f word p = (cells : Cells) (ws : List ℕ) (views : List View) → Lawful (origin k.start) cells views → Sees views id (OfPass p) → Spelled k ws cells
+    → Writes at f word cells (cells_after_pass e cells) ws
 
 module _ (k : GateKey) (slots id at : ℕ) (e : PassEvent) (f : ℕ → ℕ) (word : Cells → ℕ) where
   allowed : (p : PassView) → IsEnabled (hinders_pass (sizes_at k) p.standing e) → PassWrites k id at e f word p
       → Allows (Ruled k) slots id (seated k (OfPass p), []) at f (Took (view_after e) word (seated k (OfPass p), []))
   allowed p free writes s r _ at_seat _ =
       let sees = at_map view_of s.views id (seated k (OfPass p)) at_seat in
-      let w = writes r.cells r.rest (map view_of s.views) r.lawful sees r.guarded in
-      let found : get_or s.words at 0 ≡ word r.cells = ap (λ (ws : List ℕ). get_or ws at 0) r.words ∙ w.found in (
+      let z = r.spelled in
+      let w = writes r.cells s.words (map view_of s.views) r.lawful sees z in (
         seated k (OfPass (pass_view_after e r.cells p)),
         keeps,
         tt,
         record {
           cells = cells_after_pass e r.cells;
-          rest = r.rest;
-          words = (λ j. set (r.words j) at (f (found j))) ∙ w.written;
-          guarded = r.guarded;
-          slots = slots_after_pass-length e r.cells.slots ∙ r.slots;
+          spelled = record {
+            size = length-set s.words at (f (get_or s.words at 0)) ∙ z.size;
+            few = z.few;
+            slots = slots_after_pass-length e r.cells.slots ∙ z.slots;
+            guarded = z.guarded;
+            words = w.written;
+          };
           lawful = lawful_seats k (cells_after_pass e r.cells) s.views id (seated k (OfPass (pass_view_after e r.cells p)))
-              (pass_steps_keep_laws (origin k.start) r.cells (map view_of s.views) id p e r.lawful sees (ap (λ (n : Sizes). find (hinders_pass n p.standing e) order) (sizes_are k r.cells r.slots r.guarded) ∙ free));
+              (pass_steps_keep_laws (origin k.start) r.cells (map view_of s.views) id p e r.lawful sees (ap (λ (n : Sizes). find (hinders_pass n p.standing e) order) (sizes_are k r.cells z.slots z.guarded) ∙ free));
         },
         record {
-          moment = record { cells = r.cells; slots = r.slots; guarded = r.guarded; views = map view_of s.views; seat = id; lawful = r.lawful; sees = sees };
-          word_found = found;
+          moment = record { cells = r.cells; slots = z.slots; guarded = z.guarded; views = map view_of s.views; seat = id; lawful = r.lawful; sees = sees };
+          word_found = w.found;
           learned = refl;
         },
       )
@@ -85,41 +89,44 @@ module _ (k : GateKey) (slots id at : ℕ) (e : PassEvent) (f : ℕ → ℕ) (wo
   pass_allowed me sits free writes = subst (λ (m : Me (Unit {0}) SeatView). Allows (Ruled k) slots id m at f (Took (view_after e) word m)) (sym sits) (allowed (pass_of me.0.view) free writes)
 
 -- the same for the control, where `told` is the number that the step tells: the one found, or at a store the one stored
-pub record Stores (at : ℕ) (f told : ℕ → ℕ) (word : Cells → ℕ) (cells after : Cells) (rest : List ℕ) : Type 0 where
-  pub found : told (get_or (layout cells rest) at 0) ≡ word cells
-  pub written : set (layout cells rest) at (f (get_or (layout cells rest) at 0)) ≡ layout after rest
+pub record Stores (at : ℕ) (f told : ℕ → ℕ) (word : Cells → ℕ) (cells after : Cells) (ws : List ℕ) : Type 0 where
+  pub found : told (get_or ws at 0) ≡ word cells
+  pub written : Spell (set ws at (f (get_or ws at 0))) after
   pub same_size : length after.words ≡ length cells.words
 
 abbrev pub Enabled : GateKey → ControlEvent → ControlView → Cells → Type 0
 Enabled k e c cells = IsEnabled (hinders_control (sizes_at k) cells.shared.zero None c.standing e)
 
 abbrev pub ControlWrites : GateKey → ℕ → ControlEvent → (ℕ → ℕ) → (ℕ → ℕ) → (Cells → ℕ) → ControlView → Type 0
-ControlWrites k at e f told word c = (cells : Cells) (rest : List ℕ) → ControlKnows cells c → length cells.words ≡ k.count
-    → Enabled k e c cells × Stores at f told word cells (cells_after_control e c.standing cells) rest
+ControlWrites k at e f told word c = (cells : Cells) (ws : List ℕ) → ControlKnows cells c → Spelled k ws cells
+    → Enabled k e c cells × Stores at f told word cells (cells_after_control e c.standing cells) ws
 
 module _ (k : GateKey) (slots id at : ℕ) (e : ControlEvent) (no_join : (j : ℕ) → e ≡ Join j → ⊥) (f told : ℕ → ℕ) (word : Cells → ℕ) where
   allowed_to_control : (c : ControlView) → ControlWrites k at e f told word c
       → Allows (Ruled k) slots id (seated k (OfControl c), []) at f (λ n. Took (control_after e) word (seated k (OfControl c), []) (told n))
   allowed_to_control c writes s r _ at_seat _ =
       let sees = at_map view_of s.views id (seated k (OfControl c)) at_seat in
-      let both = writes r.cells r.rest (control_knows (origin k.start) r.cells (map view_of s.views) id c r.lawful sees) r.guarded in let w = both.1 in
-      let found : told (get_or s.words at 0) ≡ word r.cells = ap (λ (ws : List ℕ). told (get_or ws at 0)) r.words ∙ w.found in (
+      let z = r.spelled in
+      let both = writes r.cells s.words (control_knows (origin k.start) r.cells (map view_of s.views) id c r.lawful sees) z in let w = both.1 in (
         seated k (OfControl (control_view_after e r.cells c)),
         keeps,
         tt,
         record {
           cells = cells_after_control e c.standing r.cells;
-          rest = r.rest;
-          words = (λ j. set (r.words j) at (f (get_or (r.words j) at 0))) ∙ w.written;
-          guarded = w.same_size ∙ r.guarded;
-          slots = slots_after_control-length e c.standing.phase r.cells.slots ∙ r.slots;
+          spelled = record {
+            size = length-set s.words at (f (get_or s.words at 0)) ∙ z.size;
+            few = z.few;
+            slots = slots_after_control-length e c.standing.phase r.cells.slots ∙ z.slots;
+            guarded = w.same_size ∙ z.guarded;
+            words = w.written;
+          };
           lawful = lawful_seats k (cells_after_control e c.standing r.cells) s.views id (seated k (OfControl (control_view_after e r.cells c)))
               (control_steps_keep_laws (origin k.start) r.cells (map view_of s.views) id c e r.lawful sees no_join
-              (ap (λ (n : Sizes). find (hinders_control n r.cells.shared.zero None c.standing e) order) (sizes_are k r.cells r.slots r.guarded) ∙ both.0));
+              (ap (λ (n : Sizes). find (hinders_control n r.cells.shared.zero None c.standing e) order) (sizes_are k r.cells z.slots z.guarded) ∙ both.0));
         },
         record {
-          moment = record { cells = r.cells; slots = r.slots; guarded = r.guarded; views = map view_of s.views; seat = id; lawful = r.lawful; sees = sees };
-          word_found = found;
+          moment = record { cells = r.cells; slots = z.slots; guarded = z.guarded; views = map view_of s.views; seat = id; lawful = r.lawful; sees = sees };
+          word_found = w.found;
           learned = refl;
         },
       )

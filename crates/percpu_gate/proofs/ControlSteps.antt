@@ -1,5 +1,5 @@
 -- What the control's steps share: where each is allowed, what it tells, and who takes it.
-use Rattle.std.proofs.Common.{◌≡◌, ℕ, ◌+◌, true, List, [], ◌∷◌, ◌++◌, length, None, refl, ap, sym, ◌∙◌, subst}
+use Rattle.std.proofs.Common.{◌≡◌, ℕ, ◌+◌, true, [], get_or, set, length, None, ap, sym, ◌∙◌, subst}
 use Rattle.atomic_table.specs.Seated.{TableId}
 use Rattle.atomic_table.specs.Table.{Me, Allows}
 use Rattle.percpu_words.specs.SharedWord.{spelling}
@@ -15,10 +15,11 @@ use Rattle.percpu_core.specs.ControlSteps.{hinders_control, shared_after_control
 use Rattle.percpu_core.specs.Machine.{IsEnabled}
 use Rattle.percpu_gate.specs.declared.rule.GateKey.{GateKey}
 use Rattle.percpu_gate.specs.declared.rule.SeatView.{SeatView}
-use Rattle.percpu_gate.specs.Layout.{layout}
+use Rattle.percpu_gate.specs.Layout.{shared_place, front_place, Spell}
 use Rattle.percpu_gate.specs.Rule.{Ruled, sizes_at, seated, Took, control_after, shared_number, next_front_number}
 use Rattle.percpu_gate.specs.Seats.{GateFacts, gate_of, facts_of, control_of, SitsAsControl, ControlStep}
 use Rattle.percpu_gate.proofs.Allowed.{ControlAt, Enabled, control_allowed}
+use Rattle.percpu_gate.proofs.Places.{shared_written, front_written}
 use Rattle.percpu_gate.proofs.Known.{ControlKnows, moment_known}
 
 -- the control of the gate of this key sits at it
@@ -39,28 +40,29 @@ module _ (k : GateKey) (slots id : ℕ) (me : Me (Unit {0}) SeatView) (sits : Co
 
   pub on_shared : (e : ControlEvent) → ((j : ℕ) → e ≡ events.Join j → ⊥) → (f : ℕ → ℕ)
       → ((cells : Cells) → ControlKnows cells c → Enabled k e c cells × (f (spelling cells.shared) ≡ spelling (shared_after_control e c.standing.uncollected cells.shared))
-      × ((rest : List ℕ) → layout (cells_after_control e c.standing cells) rest ≡ spelling (shared_after_control e c.standing.uncollected cells.shared) ∷ cells.front ∷ cells.words ++ rest)
+      × (cells_after_control e c.standing cells ≡ record cells { shared = shared_after_control e c.standing.uncollected cells.shared })
       × (length (cells_after_control e c.standing cells).words ≡ length cells.words))
-      → Allows (Ruled k) slots id me 0 f (Took (control_after e) shared_number me)
-  on_shared e no_join f same = control_allowed k slots id 0 e no_join f (λ n. n) shared_number me sits (λ cells rest q sizes. let s = same cells q in (
+      → Allows (Ruled k) slots id me shared_place f (Took (control_after e) shared_number me)
+  on_shared e no_join f same = control_allowed k slots id shared_place e no_join f (λ n. n) shared_number me sits (λ cells ws q z. let s = same cells q in (
     s.0,
     record {
-      found = refl;
-      written = ap (λ (n : ℕ). n ∷ cells.front ∷ cells.words ++ rest) s.1 ∙ sym (s.2 rest);
+      found = z.words.shared;
+      written = subst (λ (x : Cells). Spell (set ws shared_place (f (get_or ws shared_place 0))) x) (sym s.2)
+          (shared_written k ws cells z (shared_after_control e c.standing.uncollected cells.shared) (f (get_or ws shared_place 0)) (ap f z.words.shared ∙ s.1));
       same_size = s.3;
     },
   ))
 
   pub stores_front : (e : ControlEvent) → ((j : ℕ) → e ≡ events.Join j → ⊥) → (n : ℕ) → n ≡ c.front + 1
-      → ((cells : Cells) → Enabled k e c cells × ((rest : List ℕ) → layout (cells_after_control e c.standing cells) rest ≡ spelling cells.shared ∷ (cells.front + 1) ∷ cells.words ++ rest)
+      → ((cells : Cells) → Enabled k e c cells × (cells_after_control e c.standing cells ≡ record cells { front = cells.front + 1 })
       × (length (cells_after_control e c.standing cells).words ≡ length cells.words))
-      → Allows (Ruled k) slots id me 1 (λ _. n) (λ _. Took (control_after e) next_front_number me n)
-  stores_front e no_join n next same = control_allowed k slots id 1 e no_join (λ _. n) (λ _. n) next_front_number me sits (λ cells rest q sizes.
+      → Allows (Ruled k) slots id me front_place (λ _. n) (λ _. Took (control_after e) next_front_number me n)
+  stores_front e no_join n next same = control_allowed k slots id front_place e no_join (λ _. n) (λ _. n) next_front_number me sits (λ cells ws q z.
       let s = same cells in let is : n ≡ cells.front + 1 = next ∙ ap (λ (x : ℕ). x + 1) q.front in (
         s.0,
         record {
           found = is;
-          written = ap (λ (x : ℕ). spelling cells.shared ∷ x ∷ cells.words ++ rest) is ∙ sym (s.1 rest);
+          written = subst (λ (x : Cells). Spell (set ws front_place n) x) (ap (λ (m : ℕ). record cells { front = m }) is ∙ sym s.1) (front_written k ws cells z n);
           same_size = s.2;
         },
       ))

@@ -132,8 +132,8 @@ pub last_moment : (k : GateKey) (id : ℕ) (me : Me (Unit {0}) SeatView) (c : Co
     → Seen (Ruled k) id me.0 s → MomentOf k.slots k.start k.count (OfControl c)
 last_moment k id me c is s seen = let r = seen.0 in record {
   cells = r.cells;
-  slots = r.slots;
-  guarded = r.guarded;
+  slots = r.spelled.slots;
+  guarded = r.spelled.guarded;
   views = map view_of s.views;
   seat = id;
   lawful = r.lawful;

@@ -18,6 +18,7 @@ use Rattle.percpu_core.specs.ControlSteps.{hinders_control}
 use Rattle.percpu_core.proofs.Enabled.{no_reason, only}
 use Rattle.percpu_gate.specs.declared.rule.GateKey.{GateKey}
 use Rattle.percpu_gate.specs.declared.rule.SeatView.{SeatView}
+use Rattle.percpu_gate.specs.Layout.{shared_place, front_place}
 use Rattle.percpu_gate.specs.Rule.{Ruled, sizes_at, Took, control_after, shared_number, next_front_number}
 use Rattle.percpu_gate.specs.Seats.{control_of, ControlStep, left, marked, put_of}
 use Rattle.percpu_gate.proofs.Allowed.{ControlAt}
@@ -29,23 +30,23 @@ module _ (k : GateKey) (slots id : ℕ) (me : Me (Unit {0}) SeatView) (sits : Co
   abbrev c : ControlView
   c = control_of me.0.view
 
-  pub sets_dead : Free k events.MarkDead me → Allows (Ruled k) slots id me 0 (λ n. bit_or n dead_mark) (Took (control_after events.MarkDead) shared_number me)
-  sets_dead free = on_shared k slots id me sits events.MarkDead (λ j e. cc) (λ n. bit_or n dead_mark) (λ cells q. let small = q.small in (free, setting_dead cells.shared (omega arith), λ rest. refl, refl))
+  pub sets_dead : Free k events.MarkDead me → Allows (Ruled k) slots id me shared_place (λ n. bit_or n dead_mark) (Took (control_after events.MarkDead) shared_number me)
+  sets_dead free = on_shared k slots id me sits events.MarkDead (λ j e. cc) (λ n. bit_or n dead_mark) (λ cells q. let small = q.small in (free, setting_dead cells.shared (omega arith), refl, refl))
 
   base_in : Free k events.DropBase me → (cells : Cells) → ControlKnows cells c → 1 ≤ cells.shared.value
   base_in free cells q = let no = no_reason (hinders_control (sizes_at k) true None c.standing events.DropBase) free in
       let base = q.base in let one : count (holds_base c.standing.phase) ≡ 1 = ap (λ (x : Phase). count (holds_base x)) (only Confirmed c.standing.phase (no WrongPhase)) in omega arith
 
-  pub drops_base : Free k events.DropBase me → Allows (Ruled k) slots id me 0 (λ n. (n + (2 ^ 64 - 1)) % 2 ^ 64) (Took (control_after events.DropBase) shared_number me)
+  pub drops_base : Free k events.DropBase me → Allows (Ruled k) slots id me shared_place (λ n. (n + (2 ^ 64 - 1)) % 2 ^ 64) (Took (control_after events.DropBase) shared_number me)
   drops_base free = on_shared k slots id me sits events.DropBase (λ j e. cc) (λ n. (n + (2 ^ 64 - 1)) % 2 ^ 64)
-      (λ cells q. let small = q.small in (free, subtracting cells.shared 1 (base_in free cells q) (omega arith), λ rest. refl, refl))
+      (λ cells q. let small = q.small in (free, subtracting cells.shared 1 (base_in free cells q) (omega arith), refl, refl))
 
-  pub marks_zero : Free k events.Mark me → Allows (Ruled k) slots id me 0 (λ n. either (nat_eq n dead_mark) (dead_mark + zero_mark) n) (Took (control_after events.Mark) shared_number me)
+  pub marks_zero : Free k events.Mark me → Allows (Ruled k) slots id me shared_place (λ n. either (nat_eq n dead_mark) (dead_mark + zero_mark) n) (Took (control_after events.Mark) shared_number me)
   marks_zero free = on_shared k slots id me sits events.Mark (λ j e. cc) (λ n. either (nat_eq n dead_mark) (dead_mark + zero_mark) n)
-      (λ cells q. let small = q.small in (free, shared.marking cells.shared (omega arith), λ rest. refl, refl))
+      (λ cells q. let small = q.small in (free, shared.marking cells.shared (omega arith), refl, refl))
 
-  pub confirms : (n : ℕ) → n ≡ c.front + 1 → Free k events.Confirm me → Allows (Ruled k) slots id me 1 (λ _. n) (λ _. Took (control_after events.Confirm) next_front_number me n)
-  confirms n next free = stores_front k slots id me sits events.Confirm (λ j e. cc) n next (λ cells. (free, λ rest. refl, refl))
+  pub confirms : (n : ℕ) → n ≡ c.front + 1 → Free k events.Confirm me → Allows (Ruled k) slots id me front_place (λ _. n) (λ _. Took (control_after events.Confirm) next_front_number me n)
+  confirms n next free = stores_front k slots id me sits events.Confirm (λ j e. cc) n next (λ cells. (free, refl, refl))
 
   module _ (table : TableId) (found : ℕ) (new : Me (Unit {0}) SeatView) where
     pub base_dropped_as : Free k events.DropBase me → Took (control_after events.DropBase) shared_number me found new

@@ -2,6 +2,8 @@
 pub mod Known
 -- the shared word's number, and its parts
 pub mod SharedWords
+-- one word is changed, and the others stay
+pub mod Places
 -- a step is allowed where it is an enabled event
 pub mod Allowed
 -- each step of a pass: what it writes, and what it is answered

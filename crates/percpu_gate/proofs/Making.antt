@@ -21,7 +21,7 @@ use Rattle.percpu_core.specs.ControlLearns.{joined}
 use Rattle.percpu_core.proofs.Opening.{alone_lawful}
 use Rattle.percpu_core.proofs.SeatSteps.{splitting_keeps_laws, joining_keeps_laws}
 use Rattle.percpu_gate.specs.declared.rule.GateKey.{GateKey}
-use Rattle.percpu_gate.specs.Layout.{layout}
+use Rattle.percpu_gate.specs.Layout.{words_in_all, Spell}
 use Rattle.percpu_gate.specs.declared.rule.SeatView.{SeatView}
 use Rattle.percpu_gate.specs.Rule.{Ruled, origin, opening_of, seated, view_of, first_view, with_a_pass, fresh_seat, with_taken_in, spent_seat, after_retire}
 use Rattle.percpu_gate.specs.Seats.{control_of}
@@ -36,13 +36,10 @@ module _ (k : GateKey) (counted : length (take k.count k.words) ≡ k.count) (fe
   within : IsWithinLimits (opening_of k)
   within = record { some_slot = some_slot; slots = few_slots; some_pass = omega arith; passes = omega arith; kills = omega arith; words = omega arith }
 
-  pub opens : (ws rest : List ℕ) → ws ≡ layout (first_cells (opening_of k)) rest → Ruled k (opening_table {S = Unit {0}} ws [] (first_view k))
-  opens ws rest is = record {
+  pub opens : (ws : List ℕ) → length ws ≡ words_in_all k.slots → Spell ws (first_cells (opening_of k)) → Ruled k (opening_table {S = Unit {0}} ws [] (first_view k))
+  opens ws size is = record {
     cells = first_cells (opening_of k);
-    rest = rest;
-    words = is;
-    guarded = counted;
-    slots = length-replicate k.slots (first_slot k.start);
+    spelled = record { size = size; few = few; slots = length-replicate k.slots (first_slot k.start); guarded = counted; words = is };
     lawful = alone_lawful (opening_of k) within;
   }
 
@@ -53,10 +50,7 @@ module _ (k : GateKey) (id : ℕ) where
   splits_control : (c : ControlView) → c.passes + 1 ≤ PASS_LIMIT → Splits {S = Unit {0}} (Ruled k) id (seated k (OfControl c)) (seated k (OfControl (with_one_more c))) Fresh
   splits_control c few s r at_seat = let sees = at_map view_of s.views id (seated k (OfControl c)) at_seat in record {
     cells = r.cells;
-    rest = r.rest;
-    words = r.words;
-    guarded = r.guarded;
-    slots = r.slots;
+    spelled = r.spelled;
     lawful = subst (λ (vs : List View). Lawful (origin k.start) r.cells vs) (sym (of_views s.views c)) (splitting_keeps_laws (origin k.start) r.cells (map view_of s.views) id c r.lawful sees few);
   }
     where
@@ -72,10 +66,7 @@ module _ (k : GateKey) (id : ℕ) where
       → Joins {S = Unit {0}} (Ruled k) id (seated k (OfControl c)) other w (seated k (OfControl (after_retire p c))) spent_seat
   joins_pass other c w p is idle s r at_seat apart there = let sees = at_map view_of s.views id (seated k (OfControl c)) at_seat in record {
     cells = r.cells;
-    rest = r.rest;
-    words = r.words;
-    guarded = r.guarded;
-    slots = r.slots;
+    spelled = r.spelled;
     lawful = let at = subst (λ (v : View). get_elem? (map view_of s.views) other ≡ some v) is (at_map view_of s.views other w (elsewhere s.views there)) in
         let out = pass_is_out (origin k.start) r.cells (map view_of s.views) id other c p r.lawful sees at in
         subst (λ (vs : List View). Lawful (origin k.start) r.cells vs) (sym (of_views s.views))

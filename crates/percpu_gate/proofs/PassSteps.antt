@@ -1,7 +1,5 @@
 -- Each step of a pass writes what its event changes, and is answered as the event is.
-use Rattle.std.proofs.Common.{◌≡◌, ℕ, ◌+◌, ◌-◌, ◌%◌, ◌^◌, ◌<◌, ◌≤◌, Bool, nat_eq, List, [], ◌∷◌, ◌++◌, get_or, set, length, refl, ap, ◌∙◌, subst, arith}
-use Rattle.std.proofs.Math.ListN.{get_or-append}
-use Rattle.std.proofs.lemmas.List.{get_or-append-add, set-get_or}
+use Rattle.std.proofs.Common.{◌≡◌, ℕ, ◌+◌, ◌-◌, ◌%◌, ◌^◌, ◌<◌, ◌≤◌, Bool, nat_eq, List, [], get_or, set, refl, ap, sym, ◌∙◌, subst, arith}
 use mathlib.Core.Bool.{not}
 use prog.Atomic.{either}
 use Rattle.atomic_table.specs.Seated.{TableId}
@@ -12,30 +10,29 @@ use Rattle.percpu_core.specs.declared.pass_event.PassEvent.{PassEvent}
 use Rattle.percpu_core.specs.declared.pass_event.PassEvent.TheVariants as events
 use Rattle.percpu_core.specs.declared.pass_standing.Pending.TheVariants.{OneToUndo}
 use Rattle.percpu_core.specs.declared.not_enabled.NotEnabled.TheVariants.{NoSuchWord, MidCall, WrongPhase, NothingHeld}
+use Rattle.percpu_core.specs.declared.slot.Slot.{Slot}
 use Rattle.percpu_core.specs.declared.reply.Reply.{Reply}
 use Rattle.percpu_core.specs.declared.reply.Reply.TheVariants.{Given, Shared, Number}
 use Rattle.percpu_core.specs.declared.view.PassView.{PassView}
 use Rattle.percpu_core.specs.declared.view.View.TheVariants.{OfPass}
 use Rattle.percpu_core.specs.Cells.{Cells, is_dead_alone}
 use Rattle.percpu_core.specs.Views.{to_undo}
-use Rattle.percpu_core.specs.PassSteps.{hinders_pass, shared_after_pass, pass_reply, minus, left_reply}
+use Rattle.percpu_core.specs.PassSteps.{hinders_pass, shared_after_pass, slots_after_pass, pass_reply, minus, left_reply}
 use Rattle.percpu_core.specs.Machine.{IsEnabled}
 use Rattle.percpu_core.specs.Snapshots.{view_after}
 use Rattle.percpu_core.proofs.Enabled.{no_reason, not_lt, not_le, owes_undo}
 use Rattle.percpu_gate.specs.declared.rule.GateKey.{GateKey}
 use Rattle.percpu_gate.specs.declared.rule.SeatView.{SeatView}
-use Rattle.percpu_gate.specs.Layout.{layout}
+use Rattle.percpu_gate.specs.Layout.{shared_place, front_place, word_place, Spell}
 use Rattle.percpu_gate.specs.Rule.{Ruled, sizes_at, seated, Took, origin, shared_number, front_number, guarded_number}
 use Rattle.percpu_gate.specs.Seats.{GateFacts, gate_of, facts_of, pass_of, SitsAsPass, PassStep, tried, left, marked, put_of}
 use Rattle.percpu_gate.proofs.Allowed.{PassAt, pass_allowed}
+use Rattle.percpu_gate.proofs.Places.{shared_written, nothing_written}
 use Rattle.percpu_gate.proofs.Known.{PassKnows, pass_knows, moment_knows}
 use Rattle.percpu_gate.proofs.SharedWords as shared
 
-word_found : (cells : Cells) (rest : List ℕ) (j : ℕ) → j < length cells.words → get_or (layout cells rest) (2 + j) 0 ≡ guarded_number j cells
-word_found cells rest j there = get_or-append-add (spelling cells.shared ∷ cells.front ∷ []) (cells.words ++ rest) j 0 ∙ get_or-append cells.words rest 0 j there
-
-pub minus_two : (j : ℕ) → 2 + j - 2 ≡ j
-minus_two j = omega arith
+pub minus_first : (j : ℕ) → 33 + j - 33 ≡ j
+minus_first j = omega arith
 
 -- a pass of the gate of this key sits at it
 pub pass_at : (k : GateKey) (table table' : TableId) (me : Me (Unit {0}) SeatView) → SitsAsPass me → gate_of table me.0 ≡ facts_of (record { id = table'; key = k }) → PassAt k me
@@ -51,19 +48,22 @@ module _ (k : GateKey) (slots id : ℕ) (me : Me (Unit {0}) SeatView) (sits : Pa
   abbrev at_gate : TableId → GateFacts
   at_gate table = facts_of record { id = table; key = k }
 
-  on_shared : (e : PassEvent) (f : ℕ → ℕ) → ((cells : Cells) → PassKnows cells p → f (spelling cells.shared) ≡ spelling (shared_after_pass e cells.shared)) → Free k e me
-      → Allows (Ruled k) slots id me 0 f (Took (view_after e) shared_number me)
-  on_shared e f same free = pass_allowed k slots id 0 e f shared_number me sits free (λ cells rest views l sees sizes.
-      let q = pass_knows (origin k.start) cells views id p l sees in record { found = refl; written = ap (λ (n : ℕ). n ∷ cells.front ∷ cells.words ++ rest) (same cells q) })
+  on_shared : (e : PassEvent) (f : ℕ → ℕ) → ((cells : Cells) → PassKnows cells p → f (spelling cells.shared) ≡ spelling (shared_after_pass e cells.shared)) → ((ss : List Slot) → slots_after_pass e ss ≡ ss) → Free k e me
+      → Allows (Ruled k) slots id me shared_place f (Took (view_after e) shared_number me)
+  on_shared e f same no_slot free = pass_allowed k slots id shared_place e f shared_number me sits free (λ cells ws views l sees z. let q = pass_knows (origin k.start) cells views id p l sees in record {
+    found = z.words.shared;
+    written = subst (λ (ss : List Slot). Spell (set ws shared_place (f (get_or ws shared_place 0))) (record cells { shared = shared_after_pass e cells.shared; slots = ss })) (sym (no_slot cells.slots))
+        (shared_written k ws cells z (shared_after_pass e cells.shared) (f (get_or ws shared_place 0)) (ap f z.words.shared ∙ same cells q));
+  })
 
-  pub adds_try : Free k events.AddTry me → Allows (Ruled k) slots id me 0 (λ n. (n + 1) % 2 ^ 64) (Took (view_after events.AddTry) shared_number me)
-  adds_try = on_shared events.AddTry (λ n. (n + 1) % 2 ^ 64) (λ cells q. let small = q.small in adding cells.shared 1 (omega arith))
+  pub adds_try : Free k events.AddTry me → Allows (Ruled k) slots id me shared_place (λ n. (n + 1) % 2 ^ 64) (Took (view_after events.AddTry) shared_number me)
+  adds_try = on_shared events.AddTry (λ n. (n + 1) % 2 ^ 64) (λ cells q. let small = q.small in adding cells.shared 1 (omega arith)) (λ ss. refl)
 
-  pub adds_live : Free k events.AddLive me → Allows (Ruled k) slots id me 0 (λ n. (n + 1) % 2 ^ 64) (Took (view_after events.AddLive) shared_number me)
-  adds_live = on_shared events.AddLive (λ n. (n + 1) % 2 ^ 64) (λ cells q. let small = q.small in adding cells.shared 1 (omega arith))
+  pub adds_live : Free k events.AddLive me → Allows (Ruled k) slots id me shared_place (λ n. (n + 1) % 2 ^ 64) (Took (view_after events.AddLive) shared_number me)
+  adds_live = on_shared events.AddLive (λ n. (n + 1) % 2 ^ 64) (λ cells q. let small = q.small in adding cells.shared 1 (omega arith)) (λ ss. refl)
 
-  pub adds_get : (n : ℕ) → n < 2 ^ 32 → Free k (events.AddGet n) me → Allows (Ruled k) slots id me 0 (λ w. (w + n) % 2 ^ 64) (Took (view_after (events.AddGet n)) shared_number me)
-  adds_get n fits = on_shared (events.AddGet n) (λ w. (w + n) % 2 ^ 64) (λ cells q. let small = q.small in adding cells.shared n (omega arith))
+  pub adds_get : (n : ℕ) → n < 2 ^ 32 → Free k (events.AddGet n) me → Allows (Ruled k) slots id me shared_place (λ w. (w + n) % 2 ^ 64) (Took (view_after (events.AddGet n)) shared_number me)
+  adds_get n fits = on_shared (events.AddGet n) (λ w. (w + n) % 2 ^ 64) (λ cells q. let small = q.small in adding cells.shared n (omega arith)) (λ ss. refl)
 
   pub has_it : (n : ℕ) → Free k (events.Sub n) me → n ≤ p.standing.held
   has_it n free = not_lt p.standing.held n (no_reason (hinders_pass (sizes_at k) p.standing (events.Sub n)) free NothingHeld)
@@ -71,27 +71,27 @@ module _ (k : GateKey) (slots id : ℕ) (me : Me (Unit {0}) SeatView) (sits : Pa
   pub owes_one : Free k events.Undo me → p.standing.pending ≡ OneToUndo
   owes_one free = let no = no_reason (hinders_pass (sizes_at k) p.standing events.Undo) free in owes_undo p.standing.pending (no MidCall) (no WrongPhase)
 
-  pub subtracts : (n : ℕ) → Free k (events.Sub n) me → Allows (Ruled k) slots id me 0 (λ w. (w + (2 ^ 64 - n)) % 2 ^ 64) (Took (view_after (events.Sub n)) shared_number me)
+  pub subtracts : (n : ℕ) → Free k (events.Sub n) me → Allows (Ruled k) slots id me shared_place (λ w. (w + (2 ^ 64 - n)) % 2 ^ 64) (Took (view_after (events.Sub n)) shared_number me)
   subtracts n free = on_shared (events.Sub n) (λ w. (w + (2 ^ 64 - n)) % 2 ^ 64) (λ cells q. let small = q.small in let holds = q.held in let has = has_it n free in
-      subtracting cells.shared n (omega arith) (omega arith)) free
+      subtracting cells.shared n (omega arith) (omega arith)) (λ ss. refl) free
 
-  pub undoes : Free k events.Undo me → Allows (Ruled k) slots id me 0 (λ w. (w + (2 ^ 64 - 1)) % 2 ^ 64) (Took (view_after events.Undo) shared_number me)
+  pub undoes : Free k events.Undo me → Allows (Ruled k) slots id me shared_place (λ w. (w + (2 ^ 64 - 1)) % 2 ^ 64) (Took (view_after events.Undo) shared_number me)
   undoes free = on_shared events.Undo (λ w. (w + (2 ^ 64 - 1)) % 2 ^ 64) (λ cells q. let small = q.small in let undo = q.undo in let one : to_undo p.standing.pending ≡ 1 = ap to_undo (owes_one free) in
-      subtracting cells.shared 1 (omega arith) (omega arith)) free
+      subtracting cells.shared 1 (omega arith) (omega arith)) (λ ss. refl) free
 
-  pub marks : Free k events.Mark me → Allows (Ruled k) slots id me 0 (λ n. either (nat_eq n dead_mark) (dead_mark + zero_mark) n) (Took (view_after events.Mark) shared_number me)
-  marks = on_shared events.Mark (λ n. either (nat_eq n dead_mark) (dead_mark + zero_mark) n) (λ cells q. let small = q.small in shared.marking cells.shared (omega arith))
+  pub marks : Free k events.Mark me → Allows (Ruled k) slots id me shared_place (λ n. either (nat_eq n dead_mark) (dead_mark + zero_mark) n) (Took (view_after events.Mark) shared_number me)
+  marks = on_shared events.Mark (λ n. either (nat_eq n dead_mark) (dead_mark + zero_mark) n) (λ cells q. let small = q.small in shared.marking cells.shared (omega arith)) (λ ss. refl)
 
-  pub looks : Free k events.LookShared me → Allows (Ruled k) slots id me 0 (λ n. n) (Took (view_after events.LookShared) shared_number me)
-  looks = on_shared events.LookShared (λ n. n) (λ cells q. refl)
+  pub looks : Free k events.LookShared me → Allows (Ruled k) slots id me shared_place (λ n. n) (Took (view_after events.LookShared) shared_number me)
+  looks = on_shared events.LookShared (λ n. n) (λ cells q. refl) (λ ss. refl)
 
-  pub loads_front : Free k events.LoadFront me → Allows (Ruled k) slots id me 1 (λ n. n) (Took (view_after events.LoadFront) front_number me)
-  loads_front free = pass_allowed k slots id 1 events.LoadFront (λ n. n) front_number me sits free (λ cells rest views l sees sizes. record { found = refl; written = refl })
+  pub loads_front : Free k events.LoadFront me → Allows (Ruled k) slots id me front_place (λ n. n) (Took (view_after events.LoadFront) front_number me)
+  loads_front free = pass_allowed k slots id front_place events.LoadFront (λ n. n) front_number me sits free (λ cells ws views l sees z. record { found = z.words.front; written = nothing_written k ws cells z front_place })
 
-  pub loads_word : (j : ℕ) → Free k (events.LoadWord j) me → Allows (Ruled k) slots id me (2 + j) (λ n. n) (Took (view_after (events.LoadWord j)) (guarded_number j) me)
-  loads_word j free = pass_allowed k slots id (2 + j) (events.LoadWord j) (λ n. n) (guarded_number j) me sits free (λ cells rest views l sees sizes.
-      let there = not_le k.count j (no_reason (hinders_pass (sizes_at k) p.standing (events.LoadWord j)) free NoSuchWord) in let found = word_found cells rest j (omega arith) in
-      record { found = found; written = subst (λ (n : ℕ). set (layout cells rest) (2 + j) n ≡ layout cells rest) found (set-get_or (layout cells rest) (2 + j) 0) })
+  pub loads_word : (j : ℕ) → Free k (events.LoadWord j) me → Allows (Ruled k) slots id me (word_place j) (λ n. n) (Took (view_after (events.LoadWord j)) (guarded_number j) me)
+  loads_word j free = pass_allowed k slots id (word_place j) (events.LoadWord j) (λ n. n) (guarded_number j) me sits free (λ cells ws views l sees z.
+      let there = not_le k.count j (no_reason (hinders_pass (sizes_at k) p.standing (events.LoadWord j)) free NoSuchWord) in let sizes = z.guarded in
+      record { found = z.words.words j (omega arith); written = nothing_written k ws cells z (word_place j) })
 
   abbrev Knows : Cells → Type 0
   Knows cells = PassKnows cells p

@@ -1,16 +1,30 @@
 -- Where the words of a gate lie in its table.
-use Rattle.std.specs.Prelude.{ℕ, ◌+◌, ◌*◌, List, ◌∷◌, ◌++◌}
+use Rattle.std.specs.Prelude.{◌≡◌, ℕ, ◌+◌, ◌*◌, ◌<◌, List, length, slice_index}
 use Rattle.percpu_words.specs.SharedWord.{spelling}
-use Rattle.percpu_core.specs.Cells.{Cells}
+use Rattle.percpu_core.specs.Cells.{Cells, slot_at, slot_spelling}
 
--- the shared word first, then the front, the guarded words, and the rest, which is kept for the slots
-abbrev pub layout : Cells → List ℕ → List ℕ
-layout c rest = spelling c.shared ∷ c.front ∷ c.words ++ rest
+-- 16 words are 128 bytes, on which nothing lies beside what is hot. The first 128 are kept free, since what the heap has before the block can share their line
+abbrev pub shared_place : ℕ
+shared_place = 16
 
--- A slot is hot in every thread, so it is alone on 128 bytes, which are 16 words, and apart from the first words
+-- the front and the guarded words, which passes read: two lines of their own, wherever the block begins
+abbrev pub front_place : ℕ
+front_place = 32
+
+abbrev pub word_place : ℕ → ℕ
+word_place k = 33 + k
+
+-- a slot is hot in every thread, so it is alone on 128 bytes
 abbrev pub slot_place : ℕ → ℕ
-slot_place i = 32 + 16 * i
+slot_place i = 64 + 16 * i
 
 -- the words of a gate with so many slots, up to the end of the last one's 128 bytes
 abbrev pub words_in_all : ℕ → ℕ
 words_in_all slots = slot_place slots
+
+-- the words spell this memory; those between are free
+pub record Spell (ws : List ℕ) (c : Cells) : Type 0 where
+  pub shared : slice_index ws shared_place ≡ spelling c.shared
+  pub front : slice_index ws front_place ≡ c.front
+  pub words : (k : ℕ) → k < length c.words → slice_index ws (word_place k) ≡ slice_index c.words k
+  pub slots : (i : ℕ) → i < length c.slots → slice_index ws (slot_place i) ≡ slot_spelling (slot_at c.slots i)

@@ -1,7 +1,8 @@
 -- The rule of a gate's table: its words spell some memory of which, with what the seats know, the laws hold.
-use Rattle.std.specs.Prelude.{◌≡◌, ℕ, ◌+◌, List, length, map, take, slice_index, nat_lt, if◌then◌else◌}
+use Rattle.std.specs.Prelude.{◌≡◌, ℕ, ◌+◌, ◌≤◌, List, length, map, take, slice_index, nat_lt, if◌then◌else◌}
 use Rattle.atomic_table.specs.Table.{State, Me}
 use Rattle.percpu_core.specs.declared.sizes.Sizes.{Sizes}
+use Rattle.percpu_core.specs.declared.limits.TheConstants.{WORD_LIMIT}
 use Rattle.percpu_core.specs.declared.start.Start.{Start}
 use Rattle.percpu_core.specs.declared.start.Start.TheVariants.{Atomic}
 use Rattle.percpu_core.specs.declared.control_event.ControlEvent.{ControlEvent}
@@ -19,7 +20,7 @@ use Rattle.percpu_core.specs.Snapshots.{first_control, first_pass}
 use Rattle.percpu_core.specs.SeatLaws.{Sees, with_one_more}
 use Rattle.percpu_gate.specs.declared.rule.GateKey.{GateKey}
 use Rattle.percpu_gate.specs.declared.rule.SeatView.{SeatView}
-use Rattle.percpu_gate.specs.Layout.{layout}
+use Rattle.percpu_gate.specs.Layout.{words_in_all, Spell}
 
 -- how the gate of this key opens; its passes come afterwards
 abbrev pub opening_of : GateKey → Opening
@@ -40,12 +41,17 @@ seated k v = record { slots = k.slots; start = k.start; words = k.count; view = 
 abbrev pub view_of : SeatView → View
 view_of w = w.view
 
+-- the words of the gate of this key spell this memory, which has as many slots and guarded words
+pub record Spelled (k : GateKey) (ws : List ℕ) (c : Cells) : Type 0 where
+  pub size : length ws ≡ words_in_all k.slots
+  pub few : k.count ≤ WORD_LIMIT
+  pub slots : length c.slots ≡ k.slots
+  pub guarded : length c.words ≡ k.count
+  pub words : Spell ws c
+
 pub record Ruled (k : GateKey) (s : State (Unit {0}) SeatView) : Type 0 where
   pub cells : Cells
-  pub rest : List ℕ
-  pub words : s.words ≡ layout cells rest
-  pub guarded : length cells.words ≡ k.count
-  pub slots : length cells.slots ≡ k.slots
+  pub spelled : Spelled k s.words cells
   pub lawful : Lawful (origin k.start) cells (map view_of s.views)
 
 -- a gate with so many slots and guarded words between two steps, seen by one seat: the memory and all views, of which the laws hold

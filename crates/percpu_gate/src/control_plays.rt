@@ -67,7 +67,7 @@ impl Play<(), SeatView> for ClearsDead {
 pub(crate) struct StoresWord;
 
 impl Play<(), SeatView> for StoresWord {
-    ghost then = { λ s. Took (control_after (events.StoreWord (s.word - 2) s.first)) (λ _. s.first) };
+    ghost then = { λ s. Took (control_after (events.StoreWord (s.word - 33) s.first)) (λ _. s.first) };
 }
 
 pub(crate) struct LooksAtMarks;

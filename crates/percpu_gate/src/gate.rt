@@ -21,9 +21,15 @@ use std::marker::Model;
 pub type NewGate<const W: usize> = (Gate<W>, Control<W>, Vec<Pass<W>>);
 
 /// A gate with `W` guarded words. Threads share it by reference, and count on it by their passes.
+///
+/// Every call reads where its words are. There are 128 unused bytes on each side of that, so that who writes
+/// beside a gate, as to another field of a struct that has one, slows no call.
 #[derive(Drop)]
+#[repr(C)]
 pub struct Gate<const W: usize> {
+    before: [u64; 16],
     pub(crate) table: GateTable,
+    after: [u64; 16],
 }
 
 impl<const W: usize> Model for Gate<W> {
@@ -80,7 +86,12 @@ impl<const W: usize> Gate<W> {
         let (table, mut seat) = GateTable::new(alloc, &GateKey::new(slots, start, &words))?;
         let made = make_passes(alloc, &mut seat, &table, passes)?;
         let control = Control::new(seat, start, words, passes);
-        Ok((Gate { table }, control, made))
+        let gate = Gate {
+            before: [0; 16],
+            table,
+            after: [0; 16],
+        };
+        Ok((gate, control, made))
     }
 
     /// The slots of the gate: 1 to 64.

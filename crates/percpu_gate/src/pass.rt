@@ -18,13 +18,17 @@ use std::marker::Model;
 
 /// What a thread counts with: a pass of one gate, which knows how many references it holds.
 ///
-/// A pass moves between threads by ownership. One that is dropped keeps what it held.
+/// A pass moves between threads by ownership. One that is dropped keeps what it held. There are 64 unused bytes on
+/// each side of it, so that passes which threads use in place, as those of a `Vec`, share no 128 bytes.
 #[derive(Drop)]
+#[repr(C)]
 pub struct Pass<const W: usize> {
+    before: [u64; 8],
     seat: PassSeat,
     held: u32,
     seen_front: u64,
     releases: u64,
+    after: [u64; 8],
 }
 
 impl<const W: usize> Model for Pass<W> {
@@ -48,10 +52,12 @@ impl<const W: usize> Pass<W> {
         ensures { result ≡ seat }
     {
         Pass {
+            before: [0; 8],
             seat,
             held: 0,
             seen_front: 0,
             releases: 0,
+            after: [0; 8],
         }
     }
 
@@ -210,10 +216,12 @@ impl<const W: usize> Pass<W> {
         ensures releases { (result.1 ≡ self.entry.view.releases) × (result.1 ≤ 2 * KILL_LIMIT) }
     {
         let Self {
+            before: _,
             seat,
             held: _,
             seen_front: _,
             releases,
+            after: _,
         } = self;
         (seat, releases)
     }

@@ -58,5 +58,5 @@ impl Play<(), SeatView> for LoadsFront {
 pub(crate) struct LoadsWord;
 
 impl Play<(), SeatView> for LoadsWord {
-    ghost then = { λ s. Took (view_after (events.LoadWord (s.word - 2))) (guarded_number (s.word - 2)) };
+    ghost then = { λ s. Took (view_after (events.LoadWord (s.word - 33))) (guarded_number (s.word - 33)) };
 }

@@ -1,9 +1,10 @@
 //! The words of a gate, which its seats step on.
-ghost use Rattle.std.specs.Prelude.{◌≡◌, ◌≤◌, ℕ, List, length, take, IfOk};
+ghost use Rattle.std.specs.Prelude.{◌≡◌, ◌≤◌, length, take, IfOk};
 ghost use Rattle.percpu_core.specs.declared.limits.TheConstants.{SLOT_LIMIT, WORD_LIMIT};
-ghost use Rattle.percpu_core.specs.Starts.{first_cells};
+ghost use Rattle.percpu_core.specs.Cells.{slot_spelling};
+ghost use Rattle.percpu_core.specs.Starts.{first_cells, first_slot};
 ghost use Rattle.percpu_core.specs.Snapshots.{first_control};
-ghost use Rattle.percpu_gate.specs.Layout.{layout, words_in_all};
+ghost use Rattle.percpu_gate.specs.Layout.{words_in_all, Spell};
 ghost use Rattle.percpu_gate.specs.Rule.{opening_of};
 ghost use Rattle.percpu_gate.specs.Seats.{facts_of, Moment};
 ghost use Rattle.percpu_core.specs.declared.view.View.TheVariants.{OfControl};
@@ -11,20 +12,22 @@ ghost use Rattle.percpu_core.specs.declared.view.View.TheVariants.{OfControl};
 use crate::control_seat::ControlSeat;
 use crate::rule::{GateKey, GateRule, SeatView};
 use atomic_table::Table;
+use percpu_core::Start;
+use percpu_words::{CLOSED, slot_word};
 use std::alloc::{AllocError, Global};
 use std::marker::Model;
 
-/// Where the shared word lies.
-pub(crate) const SHARED: usize = 0;
+/// Where the shared word lies: 128 bytes into the block, so that what the heap has before it is on another line.
+pub(crate) const SHARED: usize = 16;
 
 /// Where the front lies.
-pub(crate) const FRONT: usize = 1;
+pub(crate) const FRONT: usize = 32;
 
 /// Where the first guarded word lies.
-pub(crate) const FIRST_WORD: usize = 2;
+pub(crate) const FIRST_WORD: usize = 33;
 
 /// Where the first slot lies, apart from the words before it by more than 128 bytes.
-const FIRST_SLOT: usize = 32;
+const FIRST_SLOT: usize = 64;
 
 /// A slot is hot in every thread, so it is alone on 128 bytes.
 const WORDS_OF_A_SLOT: usize = 16;
@@ -50,21 +53,33 @@ impl Model for GateTable {
         × (t.table.shared.table_id.words ≡ words_in_all t.slots) × (t.table.shared.table_id.slots ≡ 0) };
 }
 
-/// The words of a gate that isn't shared yet: the shared word, the front and the guarded words, and room for
-/// the slots.
+/// The word of each slot at the start.
+fn first_slot_word(start: Start) -> u64
+    ensures { result ≡ slot_spelling (first_slot start) }
+{
+    match start {
+        Start::Slots => slot_word(0),
+        Start::Atomic | Start::Dead => CLOSED,
+    }
+}
+
+/// The words of a gate that isn't shared yet. Those that nothing steps on are as the slots are.
 fn first_words(alloc: Global, key: &GateKey) -> Result<Vec<u64>, AllocError>
     requires count { key.now.count ≤ WORD_LIMIT }
     requires slots { key.now.slots ≤ SLOT_LIMIT }
-    ensures words { IfOk result (λ ws. (rest : List ℕ) × (ws.items ≡ layout (first_cells (opening_of key.now)) rest)) }
+    ensures words { IfOk result (λ ws. Spell ws.items (first_cells (opening_of key.now))) }
     ensures size { IfOk result (λ ws. length ws.items ≡ words_in_all key.now.slots) }
     ensures count { IfOk result (λ ws. length (take key.now.count key.now.words) ≡ key.now.count) }
 {
+    let slot = first_slot_word(key.start);
     let size = FIRST_SLOT + WORDS_OF_A_SLOT * key.slots as usize;
     let mut words = Vec::with_capacity(alloc, size)?;
+    words.resize(SHARED, slot)?;
     words.push(key.start.shared())?;
+    words.resize(FRONT, slot)?;
     words.push(key.start.front(0))?;
     words.extend_from_slice(&key.words[..key.count])?;
-    words.resize(size, 0)?;
+    words.resize(size, slot)?;
     Ok(words)
 }
 
