@@ -13,11 +13,17 @@
 #![tactic(auto)]
 
 mod answer;
+mod config;
 mod desk;
+mod fault;
 mod laws;
 mod list;
 mod replies;
+mod stall;
 #[cfg(test)]
 mod tests;
 
+pub use config::{Config, MOST_SLOTS, MOST_TAGS, MOST_WORKERS};
+pub use fault::RunFault;
 pub use laws::{answers_come_in_any_order, reads_stand_in_a_span};
+pub use stall::{NoStall, Point, Stall};

@@ -3,4 +3,3 @@
 pub mod Answer
 pub mod Faults
 pub mod Requests
-pub mod Sizes

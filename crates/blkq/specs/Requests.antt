@@ -1,7 +1,7 @@
 -- What the words after the program's name ask for.
 use Rattle.std.specs.Prelude.{◌≡◌, ◌⊎◌, ℕ, List, [], ◌∷◌, codes, Ok}
 use Rattle.line_text.specs.Numbers.{number_in}
-use Rattle.blkq.specs.Sizes.{Sizes, AreWithin}
+use Rattle.blk_workers.specs.Sizes.{Sizes, AreWithin}
 
 -- a word spells a number of 32 bits as a script spells its numbers
 abbrev pub Spells : List ℕ → ℕ → Type 0

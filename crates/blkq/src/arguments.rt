@@ -2,9 +2,9 @@
 ghost use Rattle.std.specs.Prelude.{◌≡◌, ◌↔◌, ℕ, map, string_bytes, Some};
 ghost use Rattle.line_text.specs.Numbers.{number_in};
 ghost use Rattle.blkq.specs.Requests.{AsksReplay, AsksRun, Spells};
-ghost use Rattle.blkq.specs.Sizes.{Sizes, AreWithin};
+ghost use Rattle.blk_workers.specs.Sizes.{Sizes, AreWithin};
 
-use crate::config::Config;
+use blk_workers::Config;
 use line_text::{Why, short_number};
 
 /// What the program is asked to do.

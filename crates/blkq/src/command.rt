@@ -8,11 +8,10 @@ ghost use Rattle.blkq.specs.Requests.{AsksReplay, AsksSomeRun, AsksSomething};
 ghost use Rattle.gate_replay.specs.Shown.{EndsSo, shown_by};
 
 use crate::arguments::{Task, requested};
-use crate::config::Config;
 use crate::fault::Fault;
 use crate::replay_report::replay_reported;
 use crate::run::{MOST_READ, run_bytes};
-use crate::stall::NoStall;
+use blk_workers::{Config, NoStall};
 use counted_io::Counted;
 use gate_replay::Replayed;
 use std::alloc::Global;

@@ -3,9 +3,9 @@ ghost use Rattle.std.specs.Prelude.{◌≡◌, ℕ, List, Result};
 ghost use Rattle.blkq.specs.Answer.{IsAnswer};
 ghost use Rattle.blkq.specs.declared.fault.Fault.{Fault};
 
-use crate::config::{MOST_SLOTS, MOST_TAGS, MOST_WORKERS};
 use crate::run::MOST_READ;
 use blk_script::{one_first_overlap, one_text};
+use blk_workers::{MOST_SLOTS, MOST_TAGS, MOST_WORKERS};
 
 /// The greatest sizes of a run, and the most bytes that are read, as numbers: the other clauses name them. The
 /// contract is the law; the function does nothing.

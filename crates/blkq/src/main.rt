@@ -12,13 +12,11 @@
 mod answer;
 mod arguments;
 mod command;
-mod config;
 mod fault;
 mod laws;
 mod replay_report;
 mod replay_run;
 mod run;
-mod stall;
 #[cfg(test)]
 mod tests;
 

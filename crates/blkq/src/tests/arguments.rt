@@ -1,7 +1,7 @@
 //! The words that the program takes, and those that it doesn't.
 use super::driver::words;
 use crate::arguments::{Task, requested};
-use crate::config::Config;
+use blk_workers::Config;
 use std::test::Fail;
 
 #[test]

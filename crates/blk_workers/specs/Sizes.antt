@@ -1,6 +1,6 @@
 -- How many workers, slots and tags a run has.
 use Rattle.std.specs.Prelude.{ℕ, ◌≤◌}
-use Rattle.blkq.specs.declared.config.TheConstants.{MOST_SLOTS, MOST_TAGS, MOST_WORKERS}
+use Rattle.blk_workers.specs.declared.config.TheConstants.{MOST_SLOTS, MOST_TAGS, MOST_WORKERS}
 
 pub record Sizes : Type 0 where
   pub workers : ℕ

@@ -1,6 +1,6 @@
 //! How a run is shaped.
 ghost use Rattle.std.specs.Prelude.{◌≡◌, ◌↔◌, IfSome, IsSome};
-ghost use Rattle.blkq.specs.Sizes.{AreWithin};
+ghost use Rattle.blk_workers.specs.Sizes.{AreWithin};
 
 use std::marker::Model;
 
@@ -23,7 +23,7 @@ pub struct Config {
 }
 
 impl Model for Config {
-    ghost use Rattle.blkq.specs.Sizes.{Sizes, AreWithin};
+    ghost use Rattle.blk_workers.specs.Sizes.{Sizes, AreWithin};
 
     ghost Value = { Sizes };
 

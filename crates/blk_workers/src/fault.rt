@@ -1,0 +1,40 @@
+//! Why a run answers nothing.
+ghost use Rattle.std.specs.Prelude.{◌≡◌};
+ghost use Rattle.blk_workers.specs.Faults.{number_of};
+
+use std::alloc::AllocError;
+use thiserror::Error;
+
+/// Why a run answers nothing. The threads that it started have ended, and nothing else is handed out.
+#[derive(Clone, Copy, Debug, PartialEq, Eq, Error)]
+pub enum RunFault {
+    /// Memory was refused.
+    #[error("memory")]
+    Memory,
+    /// The start of a thread was refused.
+    #[error("thread")]
+    Thread,
+}
+
+impl RunFault {
+    /// The fault's number, from 1 in the order of declaration.
+    pub fn number(&self) -> u8
+        ensures { result ≡ number_of self.now }
+    {
+        match self {
+            RunFault::Memory => 1,
+            RunFault::Thread => 2,
+        }
+    }
+}
+
+impl From<AllocError> for RunFault {
+    ghost use Rattle.std.specs.Prelude.{◌≡◌};
+    ghost use Rattle.blk_workers.specs.declared.fault.RunFault.TheVariants.{Memory};
+
+    ghost from_gives = { λ e fault. fault ≡ Memory };
+
+    fn from(_e: AllocError) -> Self {
+        RunFault::Memory
+    }
+}
