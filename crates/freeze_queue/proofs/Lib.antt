@@ -1,2 +1,3 @@
+pub mod SetLimits
 pub mod ToldLimits
 pub mod Emptied

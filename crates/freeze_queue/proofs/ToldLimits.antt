@@ -88,12 +88,14 @@ number_same : (m n : ℕ) → Number m ≡ Number n → m ≡ n
 number_same m n e = cc
 
 -- words of which the second was loaded while the first was known stand there at one moment
-pub in_force : (gate : GateFacts) (hardware : ℕ) (old new : PassView) (reads : List WordRead) (max chunk : ℕ) → is_in old ≡ true → old.read ≡ record { word = 0; value = max } ∷ reads
-    → PassStep gate (events.LoadWord 1) old new (Number chunk) → AreInForce gate hardware (from_words hardware (max ∷ chunk ∷ []))
-in_force gate hardware old new reads max chunk entered read step =
+pub in_force : (gate : GateFacts) (hardware : ℕ) (before old new : PassView) (max chunk : ℕ) → is_in before ≡ true → old ≡ record before { read = record { word = 0; value = max } ∷ before.read }
+    → PassStep gate (events.LoadWord 1) old new (Number chunk) → AreInForce gate hardware before (from_words hardware (max ∷ chunk ∷ []))
+in_force gate hardware before old new max chunk is_inside after step =
+    let read : old.read ≡ record { word = 0; value = max } ∷ before.read = ap (λ (p : PassView). p.read) after in
+    let entered : is_in old ≡ true = ap is_in after ∙ is_inside in
     let one : old.standing.held ≡ 1 = eqb-true old.standing.held 1 entered in
     let some : 0 < old.standing.held = omega arith in
     let now = subst (AreNow step.moment.cells.words) read ((moment_knows old step.moment).read some) in
     let first : max ≡ slice_index step.moment.cells.words 0 = sym (get_or_from_slice_get step.moment.cells.words 0 max 0 now.0) in
     let second : chunk ≡ slice_index step.moment.cells.words 1 = number_same chunk (slice_index step.moment.cells.words 1) step.answered in
-    record { view = old; entered = entered; moment = step.moment; spelled = λ j. from_words hardware (first j ∷ second j ∷ []) }
+    record { seat = old; own = after ∙ ap (λ (reads : List WordRead). record before { read = reads }) (sym read); moment = step.moment; spelled = λ j. from_words hardware (first j ∷ second j ∷ []) }

@@ -1,29 +1,41 @@
 -- What it means at the gate of a queue that limits are in force, and that the queue is drained.
-use Rattle.std.specs.Prelude.{◌≡◌, ℕ, Bool, true, Some}
+use Rattle.std.specs.Prelude.{◌≡◌, ℕ, true, Some, List}
 use Rattle.percpu_core.specs.declared.view.PassView.{PassView}
 use Rattle.percpu_core.specs.declared.view.ControlView.{ControlView}
+use Rattle.percpu_core.specs.declared.view.View.{View}
 use Rattle.percpu_core.specs.declared.view.View.TheVariants.{OfControl, OfPass}
+use Rattle.percpu_core.specs.SeatLaws.{Sees}
 use Rattle.percpu_core.specs.Views.{held_by_all}
-use Rattle.percpu_gate.specs.Seats.{GateFacts, Moment, FindsZero}
+use Rattle.percpu_gate.specs.Seats.{GateFacts, Moment}
 use Rattle.queue_limits.specs.Bounds.{Bounds}
 use Rattle.queue_limits.specs.Words.{from_words}
-use Rattle.freeze_queue.specs.Readings.{is_in, limits_told}
+use Rattle.freeze_queue.specs.Queue.{TagFacts, FreezerFacts, IsFreezer}
+use Rattle.freeze_queue.specs.Readings.{IsTag, limits_told}
 
--- at a moment of this gate at which a seat held its reference, the guarded words spelled these limits
-pub record AreInForce (gate : GateFacts) (hardware : ℕ) (limits : Bounds) : Type 0 where
-  pub view : PassView
-  pub entered : is_in view ≡ true
-  pub moment : Moment gate (OfPass view)
+-- at a moment of a call of a tag, at which its seat knew what it did before but for the guarded words that it had read, the guarded words spelled these limits
+pub record AreInForce (gate : GateFacts) (hardware : ℕ) (before : PassView) (limits : Bounds) : Type 0 where
+  pub seat : PassView
+  pub own : seat ≡ record before { read = seat.read }
+  pub moment : Moment gate (OfPass seat)
   pub spelled : limits ≡ from_words hardware moment.cells.words
+
+-- a freezer stood so at a moment with these views: its seat knew then what it knows now
+abbrev pub Stood : FreezerFacts → List View → Type 0
+Stood f views = (place : ℕ) × Sees views place (OfControl f.seat)
+
+-- limits that are in force while a freezer stands so are the freezer's, which it was given or set last
+abbrev pub InForceAreSet : Type 0
+InForceAreSet = (f : FreezerFacts) (before : PassView) (limits : Bounds) → IsFreezer f → (found : AreInForce f.queue.gate f.queue.hardware before limits) → Stood f found.moment.views → limits ≡ f.limits
+
+-- at every moment of its gate that a tag sees and at which the freezer stands so, the limits that the tag was told are the freezer's
+abbrev pub TagsReadWhatIsSet : Type 0
+TagsReadWhatIsSet = (f : FreezerFacts) (t : TagFacts) (told : Bounds) → IsFreezer f → IsTag t → t.queue ≡ f.queue → t.limits ≡ Some told
+    → (m : Moment t.queue.gate (OfPass t.seat)) → Stood f m.views → told ≡ f.limits
 
 -- at every moment of a gate that a seat which was told these limits sees, the guarded words spell them
 abbrev pub LimitsHoldStill : Type 0
 LimitsHoldStill = (gate : GateFacts) (hardware : ℕ) (limits : Bounds) (p : PassView) → limits_told hardware p ≡ Some limits
     → (m : Moment gate (OfPass p)) → from_words hardware m.cells.words ≡ limits
-
--- at a moment of this gate its count had reached zero since the kill, or had not
-abbrev pub IsFound : GateFacts → Bool → Type 0
-IsFound gate drained = (c : ControlView) × FindsZero gate c drained
 
 -- at every moment of a gate that a control which knows zero sees, no seat holds a reference
 abbrev pub DrainedIsEmpty : Type 0

@@ -1,10 +1,19 @@
 -- A queue that can be frozen: what its parts know, and what each call leaves. Beside each thing stands what it is in
 -- Linux (block/blk-core.c, block/blk-mq.c, block/blk-settings.c).
 use Rattle.std.specs.Prelude.{◌≡◌, ℕ, ◌+◌, ◌-◌, ◌^◌, ◌<◌, ◌≤◌, ◌==◌, ◌&&◌, nat_le, nat_lt, Bool, true, false, if◌then◌else◌, Option, Some, None, Result, Ok, Err}
-use Rattle.queue_limits.specs.Bounds.{Bounds, AreAllowed}
+use Rattle.queue_limits.specs.Bounds.{Bounds, AreAllowed, IsHardwareLimit}
+use Rattle.queue_limits.specs.Words.{to_words}
+use Rattle.percpu_core.specs.declared.phase.Phase.TheVariants.{LiveAtomic}
+use Rattle.percpu_core.specs.declared.start.Start.TheVariants.{Atomic}
+use Rattle.percpu_core.specs.declared.view.PassView.{PassView}
+use Rattle.percpu_core.specs.declared.view.ControlView.{ControlView}
+use Rattle.percpu_core.specs.Snapshots.{first_pass}
+use Rattle.percpu_core.specs.ControlLearns.{joined}
 use Rattle.percpu_gate.specs.declared.tried.Put.{Put}
-use Rattle.percpu_gate.specs.Seats.{GateFacts}
-use Rattle.percpu_gate.specs.Calls.{released}
+use Rattle.percpu_gate.specs.Seats.{GateFacts, fresh_control}
+use Rattle.percpu_gate.specs.Calls.{released, after_put}
+use Rattle.percpu_gate.specs.ControlCalls.{after_kill, after_revival}
+use Rattle.freeze_queue.specs.declared.tag.TheConstants.{LIMIT_WORDS}
 use Rattle.freeze_queue.specs.declared.fault.FreezeFault.{FreezeFault}
 use Rattle.freeze_queue.specs.declared.fault.FreezeFault.TheVariants.{DepthFull, NotFrozen, NotDrained, TagsOut, WornOut}
 
@@ -23,6 +32,8 @@ pub record TagFacts : Type 0 where
   pub limits : Option Bounds
   -- how often its drop was the last. Linux: blk_queue_usage_counter_release
   pub releases : ℕ
+  -- what its seat at the gate knows, of which the rest is read off (Readings.antt)
+  pub seat : PassView
 
 -- what a freezer knows
 pub record FreezerFacts : Type 0 where
@@ -41,12 +52,22 @@ pub record FreezerFacts : Type 0 where
   pub releases : ℕ
   -- the tags that it hasn't taken back
   pub tags : ℕ
+  -- what its seat at the gate knows
+  pub seat : ControlView
 
 abbrev pub most_depth : ℕ
 most_depth = 1000
 
 abbrev pub most_kills : ℕ
 most_kills = 2 ^ 40
+
+-- what holds of every queue
+pub record IsQueue (q : QueueFacts) : Type 0 where
+  pub slots : (1 ≤ q.gate.slots) × (q.gate.slots ≤ 64)
+  pub hardware : IsHardwareLimit q.hardware
+  -- its gate started live, and has a guarded word for each word of the limits
+  pub start : q.gate.start ≡ Atomic
+  pub words : q.gate.words ≡ LIMIT_WORDS
 
 -- what holds of every freezer
 pub record IsFreezer (f : FreezerFacts) : Type 0 where
@@ -56,48 +77,55 @@ pub record IsFreezer (f : FreezerFacts) : Type 0 where
   pub drained : f.depth ≡ 0 → f.drained ≡ false
   pub depth : f.depth ≤ most_depth
   pub allowed : AreAllowed f.limits
+  -- the guarded words spell the limits, as far as its seat knows, and drained is what that knows of zero
+  pub words : f.seat.words ≡ to_words f.limits
+  pub known : f.drained ≡ f.seat.knows_zero
   pub hardware : f.limits.hardware ≡ f.queue.hardware
 
 -- a new tag, and a new freezer: the queue is live, and its limits are those that were handed in
 abbrev pub first_tag : QueueFacts → TagFacts
-first_tag queue = record { queue = queue; entered = false; limits = None; releases = 0 }
+first_tag queue = record { queue = queue; entered = false; limits = None; releases = 0; seat = first_pass }
 
 abbrev pub first_freezer : QueueFacts → Bounds → ℕ → FreezerFacts
-first_freezer queue limits tags = record { queue = queue; depth = 0; live = true; drained = false; limits = limits; kills = 0; releases = 0; tags = tags }
+first_freezer queue limits tags = record { queue = queue; depth = 0; live = true; drained = false; limits = limits; kills = 0; releases = 0; tags = tags; seat = (fresh_control queue.gate tags (to_words limits)).view }
 
--- Linux: blk_queue_enter where the queue is live
-abbrev pub after_entering : TagFacts → TagFacts
-after_entering t = record t { entered = true; limits = None }
+-- Linux: blk_queue_enter where the queue is live. `seat`: what the tag's seat knows then
+abbrev pub after_entering : PassView → TagFacts → TagFacts
+after_entering seat t = record t { entered = true; limits = None; seat = seat }
 
 -- where it isn't, nothing changes but that the drop of a refused try may have been the last
-abbrev pub after_refusal : Put → TagFacts → TagFacts
-after_refusal r t = record t { releases = t.releases + released r }
+abbrev pub after_refusal : Put → PassView → TagFacts → TagFacts
+after_refusal r seat t = record t { releases = t.releases + released r; seat = seat }
 
 -- Linux: blk_queue_exit
 abbrev pub after_leaving : Put → TagFacts → TagFacts
-after_leaving r t = record t { entered = false; limits = None; releases = t.releases + released r }
+after_leaving r t = record t { entered = false; limits = None; releases = t.releases + released r; seat = after_put r 0 t.seat }
 
 -- Linux: blk_freeze_queue_start, which kills the gate at the first freeze. `last`: nobody was in the queue then
 abbrev pub after_freeze : Put → FreezerFacts → FreezerFacts
 after_freeze last f =
     if f.depth == 0
-    then record f { depth = 1; live = false; drained = released last == 1; kills = f.kills + 1; releases = f.releases + released last }
+    then record f { depth = 1; live = false; drained = released last == 1; kills = f.kills + 1; releases = f.releases + released last; seat = after_kill last f.seat }
     else record f { depth = f.depth + 1 }
 
--- Linux: blk_mq_unfreeze_queue, which revives the gate at the last thaw, drained or not
-abbrev pub after_thaw : FreezerFacts → FreezerFacts
-after_thaw f =
+-- Linux: blk_mq_unfreeze_queue, which revives the gate at the last thaw, drained or not. `at_zero`: it was drained
+abbrev pub after_thaw : Bool → FreezerFacts → FreezerFacts
+after_thaw at_zero f =
     if f.depth == 1
-    then record f { depth = 0; live = true; drained = false }
+    then record f { depth = 0; live = true; drained = false; seat = after_revival LiveAtomic at_zero f.seat }
     else record f { depth = f.depth - 1 }
 
--- Linux: queue_limits_commit_update, under a freeze
+-- what a look for drained leaves. Linux: percpu_ref_is_zero in blk_mq_freeze_queue_wait
+abbrev pub after_look : Bool → FreezerFacts → FreezerFacts
+after_look drained f = record f { drained = drained; seat = record f.seat { knows_zero = drained } }
+
+-- Linux: queue_limits_commit_update, under a freeze. The guarded words are those of the new limits then
 abbrev pub after_set : Bounds → FreezerFacts → FreezerFacts
-after_set limits f = record f { limits = limits; drained = true }
+after_set limits f = record f { limits = limits; drained = true; seat = record f.seat { words = to_words limits; knows_zero = true } }
 
 -- what a freezer knows once it has taken a tag back: where it has no tag out there is none to take
 abbrev pub after_return : TagFacts → FreezerFacts → FreezerFacts
-after_return t f = if nat_lt 0 f.tags then record f { tags = f.tags - 1; releases = f.releases + t.releases } else f
+after_return t f = if nat_lt 0 f.tags then record f { tags = f.tags - 1; releases = f.releases + t.releases; seat = joined f.seat t.seat } else f
 
 -- why a freeze is refused
 abbrev pub freeze_refusal : FreezerFacts → Option FreezeFault

@@ -44,7 +44,12 @@ tag_facts pass hardware = record {
   entered = is_in pass.view;
   limits = limits_told hardware pass.view;
   releases = pass.view.releases;
+  seat = pass.view;
 }
+
+-- what holds of every tag: it is read off what its seat knows
+abbrev pub IsTag : TagFacts → Type 0
+IsTag t = t ≡ tag_facts (record { gate = t.queue.gate; view = t.seat }) t.queue.hardware
 
 abbrev pub is_live : Phase → Bool
 is_live LiveAtomic = true
@@ -60,6 +65,7 @@ freezer_facts control depth limits = record {
   kills = control.view.standing.kills;
   releases = control.view.releases;
   tags = control.view.passes;
+  seat = control.view;
 }
 
 -- what a freezer keeps true of what the control knows

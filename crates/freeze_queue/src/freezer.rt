@@ -1,13 +1,13 @@
 //! The freezer: it freezes a queue, sets its limits and thaws it.
-ghost use Rattle.std.specs.Prelude.{◌≡◌, ℕ, ◌+◌, ◌<◌, ◌≤◌, true, false, IfOk, OnOk, OnErr};
+ghost use Rattle.std.specs.Prelude.{◌≡◌, ℕ, ◌+◌, ◌<◌, ◌≤◌, Bool, true, false, IfOk, OnOk, OnErr};
 ghost use Rattle.percpu_gate.specs.Seats.{fresh_control};
 ghost use Rattle.percpu_core.specs.declared.phase.Phase.TheVariants as phases;
 ghost use Rattle.percpu_core.specs.declared.start.Start.TheVariants.{Atomic};
 ghost use Rattle.queue_limits.specs.Words.{to_words};
 ghost use Rattle.percpu_gate.specs.declared.tried.Put.{Put};
-ghost use Rattle.freeze_queue.specs.Queue.{IsFreezer, first_freezer, after_freeze, after_thaw, after_set, after_return, freeze_refusal, thaw_refusal, fault_of};
+ghost use Rattle.percpu_gate.specs.Seats.{FindsZero};
+ghost use Rattle.freeze_queue.specs.Queue.{IsFreezer, first_freezer, after_freeze, after_look, after_thaw, after_set, after_return, freeze_refusal, thaw_refusal, fault_of};
 ghost use Rattle.freeze_queue.specs.Sets.{LooksForDrained};
-ghost use Rattle.freeze_queue.specs.AtTheGate.{IsFound};
 
 use crate::fault::FreezeFault;
 use crate::queue::BlockQueue;
@@ -116,8 +116,8 @@ impl Freezer {
     /// last thaw. Linux: `percpu_ref_is_zero` in `blk_mq_freeze_queue_wait` (block/blk-mq.c).
     pub fn poll_drained(&mut self, queue: &BlockQueue) -> bool
         requires own { self.old.queue ≡ queue.now }
-        ensures look { self.new ≡ record self.old { drained = result } }
-        ensures found { IsFound queue.now.gate result }
+        ensures look { self.new ≡ after_look result self.old }
+        ensures found { FindsZero queue.now.gate self.old.seat result }
         ensures known { self.old.drained ≡ true → result ≡ true }
         ensures frozen { result ≡ true → 0 < self.old.depth }
     {
@@ -130,7 +130,7 @@ impl Freezer {
         requires own { self.old.queue ≡ queue.now }
         ensures refused { fault_of result ≡ freeze_refusal self.old }
         ensures unchanged { OnErr result (self.new ≡ self.old) }
-        ensures frozen { IfOk result (λ depth. (depth ≡ self.old.depth + 1) × (r : Put) × (self.new ≡ record (after_freeze r self.old) { drained = true })) }
+        ensures frozen { IfOk result (λ depth. (depth ≡ self.old.depth + 1) × (r : Put) × (self.new ≡ after_look true (after_freeze r self.old))) }
     {
         let depth = self.start_freeze(queue)?;
         self.wait_drained(rt, queue);
@@ -140,7 +140,7 @@ impl Freezer {
     /// Waits until the queue is drained.
     fn wait_drained<R: Wait>(&mut self, rt: &R, queue: &BlockQueue)
         requires own { self.old.queue ≡ queue.now }
-        ensures { self.new ≡ record self.old { drained = true } }
+        ensures { self.new ≡ after_look true self.old }
     {
         for _ in rt.forever() {
             if self.poll_drained(queue) {
@@ -189,7 +189,7 @@ impl Freezer {
         requires own { self.old.queue ≡ queue.now }
         ensures refused { fault_of result ≡ thaw_refusal self.old }
         ensures unchanged { OnErr result (self.new ≡ self.old) }
-        ensures thawed { IfOk result (λ depth. (depth + 1 ≡ self.old.depth) × (self.new ≡ after_thaw self.old)) }
+        ensures thawed { IfOk result (λ depth. (depth + 1 ≡ self.old.depth) × (at_zero : Bool) × (self.new ≡ after_thaw at_zero self.old) × (self.old.depth ≡ 1 → FindsZero queue.now.gate self.old.seat at_zero)) }
     {
         if self.depth == 0 {
             return Err(FreezeFault::NotFrozen);
@@ -206,7 +206,7 @@ impl Freezer {
     fn revive(&mut self, queue: &BlockQueue)
         requires own { self.old.queue ≡ queue.now }
         requires last { self.old.depth ≡ 1 }
-        ensures { self.new ≡ after_thaw self.old }
+        ensures { (at_zero : Bool) × (self.new ≡ after_thaw at_zero self.old) × FindsZero queue.now.gate self.old.seat at_zero }
     {
         let _revived = self.control.resurrect(&queue.gate);
         self.depth = 0;
@@ -226,6 +226,7 @@ impl Freezer {
     /// The control of a freezer that ends.
     pub(crate) fn into_control(self) -> Control<LIMIT_WORDS>
         ensures own { result.gate ≡ self.queue.gate }
+        ensures seat { result.view ≡ self.seat }
         ensures dead { self.live ≡ false → result.view.standing.phase ≡ phases.Dead }
         ensures counts { (result.view.standing.kills ≡ self.kills) × (result.view.releases ≡ self.releases) × (result.view.passes ≡ self.tags) }
         ensures words { result.view.words ≡ to_words self.limits }

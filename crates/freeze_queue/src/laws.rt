@@ -1,5 +1,17 @@
 //! What holds at the gate of a queue.
-ghost use Rattle.freeze_queue.specs.AtTheGate.{LimitsHoldStill, DrainedIsEmpty};
+ghost use Rattle.freeze_queue.specs.AtTheGate.{InForceAreSet, TagsReadWhatIsSet, LimitsHoldStill, DrainedIsEmpty};
+
+/// Limits that a tag reads at a moment at which the freezer stands as it does now are the freezer's. So after a
+/// freeze, a set and a thaw the next tag that reads is told the new limits, for as long as nobody freezes.
+pub fn in_force_are_set()
+    ensures { InForceAreSet }
+{}
+
+/// The limits that an entered tag was told are the freezer's, at every moment of its gate at which the freezer
+/// stands as it does now: none can be set while the tag is in.
+pub fn tags_read_what_is_set()
+    ensures { TagsReadWhatIsSet }
+{}
 
 /// The limits that a tag was told are those that the guarded words spell, at every moment of its gate until it
 /// leaves.

@@ -14,7 +14,9 @@
 //!
 //! `specs/Queue.antt` says in five minutes what a tag and a freezer know and what each call leaves. What it means
 //! at the gate that limits hold still and that a queue is drained is proved by [`limits_hold_still`] and
-//! [`drained_is_empty`]. `tests/caller.rt` shows how a caller reasons.
+//! [`drained_is_empty`]; that what tags read is what the freezer set, by [`in_force_are_set`] and
+//! [`tags_read_what_is_set`]. `tests/caller.rt` shows how a caller reasons. That a waiter wakes is promised nowhere:
+//! tests show it.
 #![tactic(auto)]
 
 mod fault;
@@ -29,7 +31,7 @@ mod tests;
 
 pub use fault::FreezeFault;
 pub use freezer::{Freezer, MOST_DEPTH};
-pub use laws::{drained_is_empty, limits_hold_still};
+pub use laws::{drained_is_empty, in_force_are_set, limits_hold_still, tags_read_what_is_set};
 pub use percpu_gate::{Final, Memory, Put};
 pub use queue::{BlockQueue, MOST_TAGS, NewQueue};
 pub use remove::RemoveFault;

@@ -1,10 +1,13 @@
 //! The queue: what tags enter and leave.
-ghost use Rattle.std.specs.Prelude.{◌≡◌, ℕ, ◌<◌, ◌≤◌, true, false, All, vec_len, replicate, Some, IfSome, IfOk};
+ghost use Rattle.std.specs.Prelude.{◌≡◌, ℕ, ◌+◌, ◌<◌, ◌≤◌, true, false, All, vec_len, replicate, Some, IfSome, IfOk};
 ghost use Rattle.percpu_gate.specs.Seats.{fresh_pass};
 ghost use Rattle.queue_limits.specs.Bounds.{Bounds};
 ghost use Rattle.freeze_queue.specs.declared.tag.Enter.TheVariants.{Entered, Again};
-ghost use Rattle.freeze_queue.specs.Queue.{first_tag, first_freezer, after_entering, after_refusal, after_leaving};
+ghost use Rattle.freeze_queue.specs.Queue.{IsQueue, first_tag, first_freezer, after_entering, after_refusal, after_leaving};
+ghost use Rattle.percpu_gate.specs.Calls.{taken, LiveTryFinds};
 ghost use Rattle.freeze_queue.specs.AtTheGate.{AreInForce};
+ghost use Rattle.freeze_queue.specs.Readings.{IsTag};
+ghost use Rattle.freeze_queue.specs.Entering.{answered};
 
 use crate::freezer::Freezer;
 use crate::tag::{Enter, LIMIT_WORDS, Tag};
@@ -35,14 +38,13 @@ pub struct BlockQueue {
 }
 
 impl Model for BlockQueue {
-    ghost use Rattle.queue_limits.specs.Bounds.{IsHardwareLimit};
-    ghost use Rattle.freeze_queue.specs.Queue.{QueueFacts};
+    ghost use Rattle.freeze_queue.specs.Queue.{QueueFacts, IsQueue};
 
     ghost Value = { QueueFacts };
 
     ghost view = { λ q. record { gate = q.gate; hardware = q.hardware } };
 
-    ghost invariant = { λ q. IsHardwareLimit q.hardware };
+    ghost invariant = { λ q. IsQueue (record { gate = q.gate; hardware = q.hardware }) };
 }
 
 /// A tag for each of the new passes of a gate.
@@ -67,7 +69,7 @@ impl BlockQueue {
     /// its freezer. Memory where a growth was refused. Linux: `blk_mq_alloc_queue` (block/blk-mq.c).
     pub fn new(alloc: Global, limits: Limits, slots: u32, tags: u32) -> Result<NewQueue, Memory>
         requires slots { (1 ≤ slots) × (slots ≤ 64) }
-        requires tags { (1 ≤ tags) × (tags ≤ 63) }
+        requires tags { (1 ≤ tags) × (tags ≤ MOST_TAGS) }
         ensures queue { IfOk result (λ q. (q.0.gate.slots ≡ slots) × (q.0.hardware ≡ limits.hardware)) }
         ensures freezer { IfOk result (λ q. q.1 ≡ first_freezer q.0 limits tags) }
         ensures tags { IfOk result (λ q. q.2.items ≡ replicate tags (first_tag q.0)) }
@@ -90,8 +92,10 @@ impl BlockQueue {
     /// The slots of the queue: 1 to 64.
     #[inline]
     pub fn slots(&self) -> u32
-        ensures { result ≡ self.now.gate.slots }
+        ensures value { result ≡ self.now.gate.slots }
+        ensures kept { IsQueue self.now }
     {
+        let _ = self.hardware;
         self.gate.slots()
     }
 
@@ -114,8 +118,11 @@ impl BlockQueue {
         requires own { tag.old.queue ≡ self.now }
         requires slot { slot < self.now.gate.slots }
         requires out { tag.old.entered ≡ false }
-        ensures entered { result ≡ Entered → tag.new ≡ after_entering tag.old }
-        ensures again { result ≡ Again → (r : Put) × (tag.new ≡ after_refusal r tag.old) }
+        ensures entered { result ≡ Entered → tag.new ≡ after_entering tag.new.seat tag.old }
+        ensures again { result ≡ Again → (r : Put) × (tag.new ≡ after_refusal r tag.new.seat tag.old) × (tag.new.seat.found_dead ≡ true) }
+        ensures finds { LiveTryFinds self.now.gate slot tag.old.seat (answered result) }
+        // What Entered found is of the very step that took the reference: the gate, while it was live, gave it.
+        ensures counted { tag.new.seat.live_given ≡ tag.old.seat.live_given + taken (answered result) }
     {
         match tag.take(&self.gate, slot) {
             Tried::Given => Enter::Entered,
@@ -132,8 +139,9 @@ impl BlockQueue {
         requires own { tag.old.queue ≡ self.now }
         requires slot { slot < self.now.gate.slots }
         requires out { tag.old.entered ≡ false }
-        ensures entered { tag.new ≡ record (after_entering tag.old) { releases = tag.new.releases } }
+        ensures entered { tag.new ≡ record (after_entering tag.new.seat tag.old) { releases = tag.new.releases } }
         ensures releases { tag.old.releases ≤ tag.new.releases }
+        ensures counted { tag.new.seat.live_given ≡ tag.old.seat.live_given + 1 }
     {
         let backoff = Backoff::new();
         for _ in rt.forever() {
@@ -175,8 +183,9 @@ impl BlockQueue {
     pub fn limits(&self, tag: &mut Tag) -> Limits
         requires own { tag.old.queue ≡ self.now }
         requires entered { tag.old.entered ≡ true }
-        ensures told { tag.new ≡ record tag.old { limits = Some result } }
-        ensures in_force { AreInForce self.now.gate self.now.hardware result }
+        ensures told { tag.new ≡ record tag.old { limits = Some result; seat = record tag.old.seat { read = tag.new.seat.read } } }
+        ensures kept { IsTag tag.new }
+        ensures in_force { AreInForce self.now.gate self.now.hardware tag.old.seat result }
         ensures same { IfSome tag.old.limits (λ l. result ≡ l) }
         ensures hardware { result.hardware ≡ self.now.hardware }
     {
@@ -185,7 +194,8 @@ impl BlockQueue {
 
     /// The gate of a queue that ends.
     pub(crate) fn into_gate(self) -> Gate<LIMIT_WORDS>
-        ensures { result ≡ self.gate }
+        ensures own { result ≡ self.gate }
+        ensures kept { IsQueue self }
     {
         let Self {
             gate,

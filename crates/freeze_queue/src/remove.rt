@@ -1,8 +1,8 @@
 //! The removal of a queue.
-ghost use Rattle.std.specs.Prelude.{◌≡◌, ◌≤◌, ◌+◌, ℕ, All, vec_len, length, sum_by, true, false, IfOk, IfErr};
+ghost use Rattle.std.specs.Prelude.{◌≡◌, ◌≤◌, ◌+◌, ℕ, All, vec_len, length, sum_by, true, false, IfOk, IfErr, OnOk, OnErr};
 ghost use Rattle.queue_limits.specs.Words.{to_words};
-ghost use Rattle.freeze_queue.specs.Queue.{remove_refusal};
-ghost use Rattle.freeze_queue.specs.Removal.{why_of, IsRemoved};
+ghost use Rattle.freeze_queue.specs.Queue.{fault_of, remove_refusal};
+ghost use Rattle.freeze_queue.specs.Removal.{why_of, AtTheEnd, IsFrozenToEnd, kills_after, ReleasesAdd};
 
 use crate::fault::FreezeFault;
 use crate::freezer::Freezer;
@@ -29,6 +29,8 @@ fn end(mut freezer: Freezer, queue: BlockQueue, tags: Vec<Tag>) -> Final<LIMIT_W
     ensures dead { result.dead ≡ true }
     ensures kills { result.kills ≡ freezer.kills }
     ensures words { result.words ≡ to_words freezer.limits }
+    ensures drained { AtTheEnd queue.gate result }
+    ensures drains { result.releases ≡ freezer.seat.zeros_cleared + 1 }
     ensures releases { length tags.items ≡ freezer.tags → result.releases ≡ freezer.releases + sum_by (λ t. t.releases) tags.items }
 {
     for tag in tags {
@@ -41,6 +43,20 @@ fn end(mut freezer: Freezer, queue: BlockQueue, tags: Vec<Tag>) -> Final<LIMIT_W
 }
 
 impl Freezer {
+    /// Freezes a queue that is to end, unless it is frozen already. Refuses WornOut.
+    fn freeze_to_end(&mut self, queue: &BlockQueue) -> Result<(), FreezeFault>
+        requires own { self.old.queue ≡ queue.now }
+        ensures refused { fault_of result ≡ remove_refusal self.old self.old.tags }
+        ensures unchanged { OnErr result (self.new ≡ self.old) }
+        ensures frozen { OnOk result (IsFrozenToEnd self.old self.new) }
+    {
+        if self.depth() > 0 {
+            return Ok(());
+        }
+        self.start_freeze(queue)?;
+        Ok(())
+    }
+
     /// Ends a queue that no tag has entered, with all its tags: kills a live gate, takes the tags back and ends
     /// the gate. Refuses TagsOut where tags are missing, WornOut. Linux: `blk_mq_destroy_queue`
     /// (block/blk-mq.c).
@@ -54,7 +70,13 @@ impl Freezer {
         requires out { All (λ t. t.entered ≡ false) tags.items }
         ensures refused { why_of result ≡ remove_refusal self (vec_len tags) }
         ensures unchanged { IfErr result (λ f. (f.freezer ≡ self) × (f.queue ≡ queue) × (f.tags ≡ tags)) }
-        ensures removed { IfOk result (λ left. IsRemoved self tags.items left) }
+        ensures dead { IfOk result (λ left. left.dead ≡ true) }
+        ensures drained { IfOk result (λ left. AtTheEnd queue.gate left) }
+        ensures kills { IfOk result (λ left. left.kills ≡ kills_after self) }
+        ensures words { IfOk result (λ left. left.words ≡ to_words self.limits) }
+        // No release was lost: each drain that a thaw ended had one, and so had the last.
+        ensures drains { IfOk result (λ left. left.releases ≡ self.seat.zeros_cleared + 1) }
+        ensures releases { IfOk result (λ left. ReleasesAdd self tags.items left.releases) }
     {
         let missing = (self.tags() as usize).saturating_sub(tags.len());
         if missing > 0 {
@@ -67,9 +89,7 @@ impl Freezer {
                 tags,
             });
         }
-        if self.depth() == 0
-            && let Err(why) = self.start_freeze(&queue)
-        {
+        if let Err(why) = self.freeze_to_end(&queue) {
             let freezer = self;
             return Err(RemoveFault {
                 why,

@@ -1,11 +1,13 @@
 //! A tag: the right to have one request under way.
-ghost use Rattle.std.specs.Prelude.{◌≡◌, ℕ, ◌<◌, ◌≤◌, true, false, Some, None, IfSome};
+ghost use Rattle.std.specs.Prelude.{◌≡◌, ℕ, ◌+◌, ◌<◌, ◌≤◌, true, false, Some, None, IfSome};
 ghost use Rattle.percpu_gate.specs.Seats.{fresh_pass};
 ghost use Rattle.queue_limits.specs.Bounds.{Bounds};
 ghost use Rattle.queue_limits.specs.Words.{from_words};
 ghost use Rattle.percpu_gate.specs.declared.tried.Tried.TheVariants.{Given, Refused};
 ghost use Rattle.freeze_queue.specs.Queue.{first_tag, after_entering, after_refusal, after_leaving};
+ghost use Rattle.percpu_gate.specs.Calls.{taken, LiveTryFinds};
 ghost use Rattle.freeze_queue.specs.AtTheGate.{AreInForce};
+ghost use Rattle.freeze_queue.specs.Readings.{IsTag};
 
 use percpu_gate::{Gate, Pass, Put, Tried};
 use std::marker::Model;
@@ -58,6 +60,7 @@ impl Tag {
     #[inline]
     pub fn entered(&self) -> bool
         ensures value { result ≡ self.now.entered }
+        ensures kept { IsTag self.now }
         ensures told { result ≡ false → self.now.limits ≡ None }
     {
         self.pass.held() == 1
@@ -69,8 +72,10 @@ impl Tag {
         requires own { self.old.queue.gate ≡ gate.now }
         requires slot { slot < gate.now.slots }
         requires out { self.old.entered ≡ false }
-        ensures given { result ≡ Given → self.new ≡ after_entering self.old }
-        ensures refused { (r : Put) → result ≡ Refused r → self.new ≡ after_refusal r self.old }
+        ensures given { result ≡ Given → self.new ≡ after_entering self.new.seat self.old }
+        ensures refused { (r : Put) → result ≡ Refused r → (self.new ≡ after_refusal r self.new.seat self.old) × (self.new.seat.found_dead ≡ true) }
+        ensures finds { LiveTryFinds gate.now slot self.old.seat result }
+        ensures counted { self.new.seat.live_given ≡ self.old.seat.live_given + taken result }
     {
         self.pass.try_get_live(gate, slot)
     }
@@ -91,8 +96,9 @@ impl Tag {
     pub(crate) fn words(&mut self, gate: &Gate<LIMIT_WORDS>) -> [u64; LIMIT_WORDS]
         requires own { self.old.queue.gate ≡ gate.now }
         requires entered { self.old.entered ≡ true }
-        ensures told { self.new ≡ record self.old { limits = Some (from_words self.old.queue.hardware result) } }
-        ensures in_force { AreInForce gate.now self.old.queue.hardware (from_words self.old.queue.hardware result) }
+        ensures told { self.new ≡ record self.old { limits = Some (from_words self.old.queue.hardware result); seat = record self.old.seat { read = self.new.seat.read } } }
+        ensures kept { IsTag self.new }
+        ensures in_force { AreInForce gate.now self.old.queue.hardware self.old.seat (from_words self.old.queue.hardware result) }
         ensures same { (l : Bounds) → self.old.limits ≡ Some l → from_words self.old.queue.hardware result ≡ l }
     {
         let max = self.pass.word(gate, 0);
@@ -103,6 +109,7 @@ impl Tag {
     /// The pass of a tag that ends.
     pub(crate) fn into_pass(self) -> Pass<LIMIT_WORDS>
         ensures own { result.gate ≡ self.queue.gate }
+        ensures seat { result.view ≡ self.seat }
         ensures releases { result.view.releases ≡ self.releases }
         ensures out { self.entered ≡ false → result.view.standing.held ≡ 0 }
     {

@@ -4,4 +4,5 @@ use Rattle.freeze_queue.proofs.queue.BlockQueue.enter.Given as goal
 abbrev pub invariant-loop : goal.invariant-loop
 invariant-loop g l =
     (goal.iterator-loop g).can_next l.iterator' × (goal.iterator-loop g).is_finite l.iterator'
-    × (l.tag ≡ record l.initial.tag { releases = l.tag.releases }) × (l.initial.tag.releases ≤ l.tag.releases)
+    × (l.tag ≡ record l.initial.tag { releases = l.tag.releases; seat = l.tag.seat }) × (l.initial.tag.releases ≤ l.tag.releases)
+    × (l.tag.seat.live_given ≡ l.initial.tag.seat.live_given)

@@ -1,0 +1,30 @@
+-- What a tag reads while the freezer stands as it does.
+use Rattle.std.proofs.Common.{◌≡◌, ℕ, ◌<◌, ◌≤◌, Bool, true, false, List, [], ◌∷◌, refl, sym, ap, ◌∙◌, arith}
+use Rattle.std.specs.Prelude.{◌==◌, ◌||◌, nat_lt, if◌then◌else◌}
+use Rattle.std.proofs.lemmas.Bool.{le-ltb, ne_eqb}
+use Rattle.percpu_core.specs.declared.view.ControlView.{ControlView}
+use Rattle.percpu_core.specs.declared.view.PassView.{PassView}
+use Rattle.percpu_core.specs.declared.view.View.TheVariants.{OfControl, OfPass}
+use Rattle.percpu_core.specs.SeatLaws.{Sees}
+use Rattle.percpu_gate.specs.Seats.{GateFacts, Moment}
+use Rattle.percpu_gate.proofs.Known.{control_knows}
+use Rattle.queue_limits.specs.Bounds.{Bounds, AreAllowed}
+use Rattle.queue_limits.specs.Words.{from_words, to_words}
+use Rattle.freeze_queue.specs.Queue.{FreezerFacts, IsFreezer}
+use Rattle.freeze_queue.specs.AtTheGate.{Stood}
+
+-- allowed limits are read from their words
+from_own_words : (l : Bounds) → AreAllowed l → from_words l.hardware (to_words l) ≡ l
+from_own_words l allowed =
+    let some : (l.max == 0) ≡ false = let least = allowed.some_sector in ne_eqb l.max 0 (λ e. omega arith) in
+    let within : nat_lt l.hardware l.max ≡ false = le-ltb l.hardware l.max allowed.within_hardware in
+    let chunk : nat_lt 65535 l.chunk ≡ false = le-ltb 65535 l.chunk allowed.chunk_range in
+    λ j. record { hardware = l.hardware; max = (if some j || within j then l.hardware else l.max); chunk = (if chunk j then 0 else l.chunk) }
+
+-- where the freezer stood so, the guarded words spelled its limits
+pub spelled_as_set : (gate : GateFacts) (p : PassView) (f : FreezerFacts) (m : Moment gate (OfPass p)) → IsFreezer f → Stood f m.views → from_words f.queue.hardware m.cells.words ≡ f.limits
+spelled_as_set gate p f m is stood =
+    let words = (control_knows _ m.cells m.views stood.0 f.seat m.lawful stood.1).words in
+    ap (λ (ws : List ℕ). from_words f.queue.hardware ws) (sym words ∙ is.words)
+    ∙ ap (λ (hardware : ℕ). from_words hardware (to_words f.limits)) (sym is.hardware)
+    ∙ from_own_words f.limits is.allowed
