@@ -21,6 +21,11 @@ pub closed_as_marked : (s : Slot) → IsDelta (delta s) → slot_spelling s ≡ 
 closed_as_marked Closed h w = refl
 closed_as_marked (Open e) h w = let below = (spelling_is_the_sum e h).1 in absurd (omega arith)
 
+-- a slot whose word spells no delta is closed
+pub closed_as_unspelled : (s : Slot) → IsDelta (delta s) → ((d : ℤ) → Spells (slot_spelling s) d → ⊥) → s ≡ Closed
+closed_as_unspelled Closed h none = refl
+closed_as_unspelled (Open e) h none = absurd (none e (h, refl))
+
 not_same : (m n : ℕ) → n < m → nat_eq m n ≡ false
 not_same m n h = grind (arith, nat_tests)
 
