@@ -1,4 +1,2 @@
--- Lemmas over plain lists and numbers.
-
--- commands in a row, and one more
+-- Rows: commands in a row, and one more.
 pub mod Rows

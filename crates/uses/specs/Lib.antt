@@ -1,3 +1,3 @@
--- The definitions that the contracts of `uses` cite.
+-- Commands: the commands of a request. Removal: what a request and a removal were told.
 pub mod Commands
 pub mod Removal

@@ -2,16 +2,19 @@
 //! Copy the one that is closest to yours.
 //!
 //! [`commands`] cuts a request into the commands that a device takes. [`serve`] runs a request on a device that
-//! may be removed at any moment, [`remove`] removes it, and [`race`] has the two race, on two threads.
+//! may be removed at any moment, [`remove`] removes it, and [`race`] has the two race, on two threads. [`submit`]
+//! runs a request in a queue whose limits another thread may change meanwhile, as [`change_limits`] does.
 #![tactic(auto)]
 
 mod cutting;
 mod racing;
 mod removal;
+mod settings;
 
 pub use cutting::{Command, commands};
 pub use racing::{Raced, race};
 pub use removal::{Served, remove, serve};
+pub use settings::{change_limits, submit};
 
 #[cfg(test)]
 mod tests;

@@ -1,6 +1,7 @@
 //! A request that races with the removal of its device.
-ghost use Rattle.std.specs.Prelude.{◌≡◌, ◌+◌, ◌<◌, None};
+ghost use Rattle.std.specs.Prelude.{◌≡◌, ◌+◌, ◌<◌, false, None};
 ghost use Rattle.percpu_core.specs.declared.phase.Phase.TheVariants.{Dead};
+ghost use Rattle.percpu_core.specs.Starts.{starts_dead};
 ghost use Rattle.percpu_gate.specs.Calls.{holding, released};
 ghost use Rattle.percpu_gate.specs.ControlCalls.{kill_refusal};
 ghost use Rattle.uses.specs.Removal.{told};
@@ -10,12 +11,11 @@ use percpu_gate::{Control, Gate, Pass, Put};
 use std::thread;
 use std::thread::Threads;
 
-/// What a request and the removal of its device were told, and how many releases the gate told at its end.
+/// What a request and the removal of its device were told.
 #[derive(Clone, Copy, Debug, PartialEq, Eq)]
 pub struct Raced {
     pub served: Served,
     pub removed: Put,
-    pub releases: u64,
 }
 
 fn served_by(gate: &Gate<1>, mut pass: Pass<1>) -> (Pass<1>, Served)
@@ -35,6 +35,7 @@ fn removed_by(gate: &Gate<1>, mut control: Control<1>) -> (Control<1>, Put)
     requires live { kill_refusal control.view.standing.phase control.view.standing.kills ≡ None }
     ensures own { result.0.gate ≡ gate.now }
     ensures passes { result.0.view.passes ≡ control.view.passes }
+    ensures zeros { result.0.view.zeros_cleared ≡ control.view.zeros_cleared }
     ensures dead { result.0.view.standing.phase ≡ Dead }
     ensures told { result.0.view.releases ≡ control.view.releases + released result.1 }
 {
@@ -44,15 +45,15 @@ fn removed_by(gate: &Gate<1>, mut control: Control<1>) -> (Control<1>, Put)
     }
 }
 
-/// One thread runs a request while another removes its device; then the gate ends. The releases that it tells are
-/// those that the two were told: in whatever order their steps come, none is lost and none is made up.
+/// One thread runs a request while another removes its device; then the gate ends. In whatever order their steps
+/// come, exactly one of the two is told that it was the last, and so the device is freed once.
 pub fn race<R: Threads>(rt: &R, gate: Gate<1>, pass: Pass<1>, control: Control<1>) -> Raced
     requires own { (pass.gate ≡ gate) × (control.gate ≡ gate) }
     requires slots { 0 < gate.slots }
     requires idle { (pass.view.standing ≡ holding 0) × (pass.view.releases ≡ 0) }
     requires live { kill_refusal control.view.standing.phase control.view.standing.kills ≡ None }
-    requires new { (control.view.passes ≡ 1) × (control.view.releases ≡ 0) }
-    ensures { result.releases ≡ told result.served + released result.removed }
+    requires new { (starts_dead gate.start ≡ false) × (control.view.passes ≡ 1) × (control.view.releases ≡ 0) × (control.view.zeros_cleared ≡ 0) }
+    ensures once { told result.served + released result.removed ≡ 1 }
 {
     let shared = &gate;
     let ((pass, served), (mut control, removed)) = thread::join(
@@ -62,17 +63,13 @@ pub fn race<R: Threads>(rt: &R, gate: Gate<1>, pass: Pass<1>, control: Control<1
             ensures { (result.0.gate ≡ shared.entry.now) × (result.0.view.standing ≡ holding 0) × (result.0.view.releases ≡ told result.1) }
         { served_by(shared, pass) },
         move || -> (Control<1>, Put)
-            requires { (control.gate ≡ shared.now) × (kill_refusal control.view.standing.phase control.view.standing.kills ≡ None) × (control.view.passes ≡ 1) × (control.view.releases ≡ 0) }
-            ensures { (result.0.gate ≡ shared.entry.now) × (result.0.view.passes ≡ 1) × (result.0.view.standing.phase ≡ Dead) × (result.0.view.releases ≡ released result.1) }
+            requires { (control.gate ≡ shared.now) × (kill_refusal control.view.standing.phase control.view.standing.kills ≡ None) × (control.view.passes ≡ 1) × (control.view.releases ≡ 0) × (control.view.zeros_cleared ≡ 0) }
+            ensures { (result.0.gate ≡ shared.entry.now) × (result.0.view.passes ≡ 1) × (result.0.view.standing.phase ≡ Dead) × (result.0.view.releases ≡ released result.1) × (result.0.view.zeros_cleared ≡ 0) }
         { removed_by(shared, control) },
     );
     control.retire(&gate, pass);
     match gate.exit(control) {
-        Ok(ended) => Raced {
-            served,
-            removed,
-            releases: ended.releases,
-        },
+        Ok(_) => Raced { served, removed },
         Err(_) => unreachable!(),
     }
 }

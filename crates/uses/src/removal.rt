@@ -43,6 +43,7 @@ pub fn remove(gate: &Gate<1>, control: &mut Control<1>) -> Result<Put, ControlFa
     requires own { control.old.gate ≡ gate.now }
     ensures own { control.new.gate ≡ gate.now }
     ensures passes { control.new.view.passes ≡ control.old.view.passes }
+    ensures zeros { control.new.view.zeros_cleared ≡ control.old.view.zeros_cleared }
     ensures refused { fault_of result ≡ kill_refusal control.old.view.standing.phase control.old.view.standing.kills }
     ensures dead { IfOk result (λ put. control.new.view.standing.phase ≡ Dead) }
     ensures told { IfOk result (λ put. control.new.view.releases ≡ control.old.view.releases + released put) }

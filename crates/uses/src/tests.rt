@@ -1,5 +1,6 @@
 //! Each function once on its happy path.
-use crate::{Command, Served, commands, race, remove, serve};
+use crate::{Command, Served, change_limits, commands, race, remove, serve, submit};
+use freeze_queue::BlockQueue;
 use percpu_gate::{Gate, Put, Start};
 use queue_limits::Limits;
 use std::process::Abort;
@@ -34,6 +35,26 @@ fn a_request_after_the_removal_is_refused(rt: HostRuntime) -> Result<(), Fail> {
 fn one_of_the_two_frees_the_device(rt: HostRuntime) -> Result<(), Fail> {
     let (gate, control, mut passes) = Gate::new(rt.alloc(), 1, 1, Start::Atomic, [7])?;
     let pass = passes.pop().ok_or("a pass")?;
-    assert_eq!(rt; race(&rt, gate, pass, control).releases, 1);
+    let raced = race(&rt, gate, pass, control);
+    let is_last = matches!(
+        raced.served,
+        Served::Done(Put::Last) | Served::Gone(Put::Last)
+    );
+    assert!(rt; is_last != (raced.removed == Put::Last));
+    Ok(())
+}
+
+#[test]
+fn a_request_is_cut_by_the_limits_in_force(rt: HostRuntime) -> Result<(), Fail> {
+    let (queue, mut freezer, mut tags) = BlockQueue::new(rt.alloc(), Limits::start(8)?, 1, 1)?;
+    let mut tag = tags.pop().ok_or("a tag")?;
+    let wide = submit(rt.alloc(), &queue, &mut tag, 0, 6, 6)?.ok_or("entered")?;
+    assert_eq!(rt; wide.len(), 1);
+    assert_eq!(rt;
+        change_limits(&rt, &queue, &mut freezer, Limits::new(8, 4, 8)?),
+        Ok(())
+    );
+    let narrow = submit(rt.alloc(), &queue, &mut tag, 0, 6, 6)?.ok_or("entered")?;
+    assert_eq!(rt; narrow.len(), 2);
     Ok(())
 }
