@@ -1,5 +1,6 @@
 -- What the laws tell a seat of a gate at a moment.
-use Rattle.std.proofs.Common.{◌≡◌, ℕ, zero, suc, ◌+◌, ◌*◌, ◌%◌, ◌^◌, ◌<◌, ◌≤◌, true, false, List, [], ◌∷◌, ap, sym, ◌∙◌, subst, arith}
+use Rattle.std.specs.Prelude.{ℤ, Option}
+use Rattle.std.proofs.Common.{length, ◌≡◌, ℕ, zero, suc, ◌+◌, ◌*◌, ◌%◌, ◌^◌, ◌<◌, ◌≤◌, true, false, List, [], ◌∷◌, refl, ap, sym, ◌∙◌, subst, arith}
 use mathlib.Core.Option.{some}
 use lib.ListN.{get_elem?}
 use Rattle.percpu_core.specs.declared.start.Start.{Start}
@@ -7,19 +8,42 @@ use Rattle.percpu_core.specs.declared.view.PassView.{PassView}
 use Rattle.percpu_core.specs.declared.view.ControlView.{ControlView}
 use Rattle.percpu_core.specs.declared.view.View.{View}
 use Rattle.percpu_core.specs.declared.view.View.TheVariants.{OfControl, OfPass, Spent}
-use Rattle.percpu_core.specs.Cells.{Cells}
+use Rattle.percpu_core.specs.declared.slot.Slot.TheVariants.{Open}
+use Rattle.percpu_core.specs.declared.phase.Phase.{Phase}
+use Rattle.percpu_core.specs.declared.phase.Phase.TheVariants.{LiveSlots, LiveAtomic, Closing, Collected, Confirmed, Dead, Reviving, Fronted, Opening}
+use Rattle.percpu_core.specs.Cells.{Cells, slot_at, is_open, sizes_of}
 use Rattle.percpu_core.specs.Views.{count, to_undo, releases_of_passes}
-use Rattle.percpu_core.specs.Phases.{has_odd_front, holds_base, is_coming_back, may_be_zero}
-use Rattle.percpu_core.specs.LimitLaw.{fronts_due}
+use Rattle.percpu_core.specs.Phases.{has_odd_front, is_open_in, holds_base, is_coming_back, may_be_zero}
+use Rattle.percpu_core.specs.LimitLaw.{fronts_due, AreSmall}
 use Rattle.percpu_core.specs.GuardLaw.{AreNow}
 use Rattle.percpu_core.specs.ReleaseLaw.{Origin}
 use Rattle.percpu_core.specs.Laws.{Laws, Lawful}
 use Rattle.percpu_core.specs.SeatLaws.{Sees}
 use Rattle.percpu_core.proofs.Passes.{over_passes-at, EachPass-at}
 use Rattle.percpu_core.proofs.SeatSteps.{same_control}
+use Rattle.percpu_core.specs.declared.control_event.ControlEvent.{ControlEvent}
+use Rattle.percpu_core.specs.declared.pass_standing.PassStanding.{PassStanding}
+use Rattle.percpu_core.specs.ControlSteps.{hinders_control}
+use Rattle.percpu_core.specs.Machine.{IsEnabled}
+use Rattle.percpu_core.specs.StepsFit.{ControlFits}
+use Rattle.percpu_core.proofs.Fitting.{control_fits}
+use Rattle.percpu_core.proofs.SlotEvents.{clear}
+use Rattle.percpu_core.proofs.SlotLists.{slot_there}
 use Rattle.percpu_core.proofs.Counting.{count-most, value-least, value-most}
 use Rattle.percpu_gate.specs.Rule.{MomentOf}
 use Rattle.percpu_core.proofs.PassEvents.{even_front, zero_is_dead, held_in_value, undo_in_value}
+
+-- in a phase in which a slot is open the front is even
+even_while_open : (x : Phase) (k : ℕ) → is_open_in x k ≡ true → has_odd_front x ≡ false
+even_while_open LiveSlots k h = refl
+even_while_open LiveAtomic k h = refl
+even_while_open (Closing i) k h = refl
+even_while_open Collected k h = refl
+even_while_open Confirmed k h = cc
+even_while_open Dead k h = cc
+even_while_open Reviving k h = cc
+even_while_open Fronted k h = refl
+even_while_open (Opening i) k h = refl
 
 -- what a pass knows of the memory
 pub record PassKnows (cells : Cells) (p : PassView) : Type 0 where
@@ -33,6 +57,9 @@ pub record PassKnows (cells : Cells) (p : PassView) : Type 0 where
   pub even : cells.shared.dead ≡ false → cells.front % 2 ≡ 0
   pub read : 0 < p.standing.held → AreNow cells.words p.read
   pub releases : p.releases ≤ 2 ^ 40 + 2
+  pub deltas : AreSmall cells.slots
+  -- while a slot is open ZERO is clear and the front is even
+  pub clear_while_open : (s : ℕ) (d : ℤ) → s < length cells.slots → slot_at cells.slots s ≡ Open d → (cells.shared.zero ≡ false) × (cells.front % 2 ≡ 0)
 
 releases_most : (o : Origin) (cells : Cells) (c : ControlView) (vs : List View) (l : Laws o cells c vs) → c.releases + releases_of_passes vs ≤ 2 ^ 40 + 2
 releases_most o cells c vs l = let won = l.release.releases in let zeros = l.release.zeros in let kills = l.release.kills in let few = l.limit.kills in
@@ -50,6 +77,11 @@ known o cells c vs l i p at = record {
   even = λ live. l.front.parity ∙ ap count (even_front c.standing.phase c.killing (sym l.phase.dead ∙ live));
   read = EachPass-at _ vs i (OfPass p) l.guard.passes at;
   releases = let most = releases_most o cells c vs l in let own = over_passes-at (λ q. q.releases) vs i (OfPass p) at in omega arith;
+  deltas = l.limit.deltas;
+  clear_while_open = λ s d there is. (
+    clear o cells c vs l s d there is,
+    l.front.parity ∙ ap count (even_while_open c.standing.phase s (sym (l.phase.slots s (slot_at cells.slots s) (slot_there cells.slots s there)) ∙ ap is_open is)),
+  );
 }
 
 pub pass_knows : (o : Origin) (cells : Cells) (views : List View) (id : ℕ) (p : PassView) → Lawful o cells views → Sees views id (OfPass p) → PassKnows cells p
@@ -75,6 +107,9 @@ pub record ControlKnows (cells : Cells) (c : ControlView) : Type 0 where
   pub few : c.standing.kills ≤ 2 ^ 40
   pub parity : c.front % 2 ≡ count (has_odd_front c.standing.phase)
   pub releases : c.releases ≤ 2 ^ 40 + 2
+  pub deltas : AreSmall cells.slots
+  -- what an enabled step finds
+  pub fits : (joining : Option PassStanding) (e : ControlEvent) → IsEnabled (hinders_control (sizes_of cells) cells.shared.zero joining c.standing e) → ControlFits cells c e
 
 control_known : (o : Origin) (cells : Cells) (c : ControlView) (vs : List View) (l : Laws o cells c vs) → ControlKnows cells c
 control_known o cells c vs l = let least = value-least o cells c vs l in let due = l.limit.front in let one = count-most o.dead in record {
@@ -89,6 +124,8 @@ control_known o cells c vs l = let least = value-least o cells c vs l in let due
   few = l.limit.kills;
   parity = ap (λ (n : ℕ). n % 2) l.front.known ∙ l.front.parity;
   releases = let most = releases_most o cells c vs l in omega arith;
+  deltas = l.limit.deltas;
+  fits = λ joining e free. control_fits o cells c vs l joining e free;
 }
 
 pub control_knows : (o : Origin) (cells : Cells) (views : List View) (id : ℕ) (c : ControlView) → Lawful o cells views → Sees views id (OfControl c) → ControlKnows cells c

@@ -8,6 +8,8 @@ pub mod Places
 pub mod Allowed
 -- each step of a pass: what it writes, and what it is answered
 pub mod PassSteps
+-- the steps of a pass on a slot
+pub mod SlotSteps
 -- the steps of a put, and of the end of a try, together
 pub mod PassCalls
 -- what a try found and leaves
@@ -19,6 +21,8 @@ pub mod ControlSteps
 pub mod KillSteps
 pub mod RevivalSteps
 pub mod WordSteps
+-- its steps of a switch
+pub mod SwitchSteps
 -- what the answers of the control's steps show
 pub mod ControlGrounds
 -- a new table, and the seats that are made and taken in

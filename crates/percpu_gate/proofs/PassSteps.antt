@@ -38,14 +38,14 @@ minus_first j = omega arith
 pub pass_at : (k : GateKey) (table table' : TableId) (me : Me (Unit {0}) SeatView) → SitsAsPass me → gate_of table me.0 ≡ facts_of (record { id = table'; key = k }) → PassAt k me
 pass_at k table table' me sits own = sits ∙ (λ j. (record { slots = (own j).slots; start = (own j).start; words = (own j).words; view = OfPass (pass_of me.0.view) }, []))
 
-abbrev Free : GateKey → PassEvent → Me (Unit {0}) SeatView → Type 0
+abbrev pub Free : GateKey → PassEvent → Me (Unit {0}) SeatView → Type 0
 Free k e me = IsEnabled (hinders_pass (sizes_at k) (pass_of me.0.view).standing e)
 
 module _ (k : GateKey) (slots id : ℕ) (me : Me (Unit {0}) SeatView) (sits : PassAt k me) where
   abbrev p : PassView
   p = pass_of me.0.view
 
-  abbrev at_gate : TableId → GateFacts
+  abbrev pub at_gate : TableId → GateFacts
   at_gate table = facts_of record { id = table; key = k }
 
   on_shared : (e : PassEvent) (f : ℕ → ℕ) → ((cells : Cells) → PassKnows cells p → f (spelling cells.shared) ≡ spelling (shared_after_pass e cells.shared)) → ((ss : List Slot) → slots_after_pass e ss ≡ ss) → Free k e me
@@ -96,7 +96,7 @@ module _ (k : GateKey) (slots id : ℕ) (me : Me (Unit {0}) SeatView) (sits : Pa
   abbrev Knows : Cells → Type 0
   Knows cells = PassKnows cells p
 
-  took : (table : TableId) (e : PassEvent) (word : Cells → ℕ) (found : ℕ) (new : Me (Unit {0}) SeatView) (reply : Reply) → Took (view_after e) word me found new
+  pub took : (table : TableId) (e : PassEvent) (word : Cells → ℕ) (found : ℕ) (new : Me (Unit {0}) SeatView) (reply : Reply) → Took (view_after e) word me found new
       → ((cells : Cells) → Knows cells → found ≡ word cells → reply ≡ pass_reply e cells) → PassStep (at_gate table) e p (pass_of new.0.view) reply
   took table e word found new reply t answer = let own : Took (view_after e) word (seated k (OfPass p), []) found new = subst (λ (m : Me (Unit {0}) SeatView). Took (view_after e) word m found new) sits t in record {
     moment = own.moment;

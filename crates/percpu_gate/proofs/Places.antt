@@ -4,7 +4,9 @@ use Rattle.std.proofs.Math.ListN.{length-set}
 use Rattle.std.proofs.lemmas.Bool.{cases_eq}
 use Rattle.std.proofs.lemmas.List.{get_or-set_same, get_or-set_other, set-get_or}
 use Rattle.percpu_words.specs.SharedWord.{SharedWord, spelling}
-use Rattle.percpu_core.specs.Cells.{Cells}
+use Rattle.percpu_core.specs.declared.slot.Slot.{Slot}
+use Rattle.percpu_core.specs.declared.slot.Slot.TheVariants.{Closed}
+use Rattle.percpu_core.specs.Cells.{Cells, slot_at, slot_spelling}
 use Rattle.percpu_gate.specs.declared.rule.GateKey.{GateKey}
 use Rattle.percpu_gate.specs.Layout.{shared_place, front_place, word_place, slot_place, Spell}
 use Rattle.percpu_gate.specs.Rule.{Spelled}
@@ -47,3 +49,18 @@ module _ (k : GateKey) (ws : List ℕ) (c : Cells) (z : Spelled k ws c) where
       at_word i h (inl e) = let size = z.size in let few = z.few in let guarded = z.guarded in ap (λ (x : ℕ). get_or (set ws (word_place j) v) (word_place x) 0) e ∙ get_or-set_same ws (word_place j) v 0 (omega arith)
           ∙ sym (get_or-set_same c.words j v 0 there) ∙ ap (λ (x : ℕ). get_or (set c.words j v) x 0) (sym e)
       at_word i h (inr n) = let long = length-set c.words j v in beside (word_place j) (word_place i) v (λ e. n (omega arith)) ∙ z.words.words i (omega arith) ∙ sym (get_or-set_other c.words j i v 0 n)
+
+  -- a slot, whose place no guarded word has
+  pub slot_written : (j : ℕ) (t : Slot) (n : ℕ) → j < length c.slots → n ≡ slot_spelling t → Spell (set ws (slot_place j) n) (record c { slots = set c.slots j t })
+  slot_written j t n there is = let size = z.size in let few = z.few in let guarded = z.guarded in let slots = z.slots in record {
+    shared = beside (slot_place j) shared_place n (λ e. omega arith) ∙ z.words.shared;
+    front = beside (slot_place j) front_place n (λ e. omega arith) ∙ z.words.front;
+    words = λ i h. beside (slot_place j) (word_place i) n (λ e. omega arith) ∙ z.words.words i h;
+    slots = λ i h. at_slot i h (cases_eq i j);
+  }
+    where
+      at_slot : (i : ℕ) → i < length (set c.slots j t) → (i ≡ j) ⊎ (i ≡ j → ⊥) → get_or (set ws (slot_place j) n) (slot_place i) 0 ≡ slot_spelling (slot_at (set c.slots j t) i)
+      at_slot i h (inl e) = let size = z.size in let slots = z.slots in ap (λ (x : ℕ). get_or (set ws (slot_place j) n) (slot_place x) 0) e ∙ get_or-set_same ws (slot_place j) n 0 (omega arith) ∙ is
+          ∙ ap slot_spelling (sym (get_or-set_same c.slots j t Closed there) ∙ ap (λ (x : ℕ). get_or (set c.slots j t) x Closed) (sym e))
+      at_slot i h (inr other) = let long = length-set c.slots j t in beside (slot_place j) (slot_place i) n (λ e. other (omega arith)) ∙ z.words.slots i (omega arith)
+          ∙ ap slot_spelling (sym (get_or-set_other c.slots j i t Closed other))

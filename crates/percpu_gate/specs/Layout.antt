@@ -1,5 +1,5 @@
 -- Where the words of a gate lie in its table.
-use Rattle.std.specs.Prelude.{◌≡◌, ℕ, ◌+◌, ◌*◌, ◌<◌, List, length, slice_index}
+use Rattle.std.specs.Prelude.{◌≡◌, ℕ, ◌+◌, ◌-◌, ◌*◌, ◌/◌, ◌<◌, List, length, slice_index}
 use Rattle.percpu_words.specs.SharedWord.{spelling}
 use Rattle.percpu_core.specs.Cells.{Cells, slot_at, slot_spelling}
 
@@ -17,6 +17,10 @@ word_place k = 33 + k
 -- a slot is hot in every thread, so it is alone on 128 bytes
 abbrev pub slot_place : ℕ → ℕ
 slot_place i = 64 + 16 * i
+
+-- which slot stands at a place
+abbrev pub slot_of : ℕ → ℕ
+slot_of place = (place - 64) / 16
 
 -- the words of a gate with so many slots, up to the end of the last one's 128 bytes
 abbrev pub words_in_all : ℕ → ℕ

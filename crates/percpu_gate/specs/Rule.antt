@@ -1,5 +1,5 @@
 -- The rule of a gate's table: its words spell some memory of which, with what the seats know, the laws hold.
-use Rattle.std.specs.Prelude.{◌≡◌, ℕ, ◌+◌, ◌≤◌, List, length, map, take, slice_index, nat_lt, if◌then◌else◌}
+use Rattle.std.specs.Prelude.{◌≡◌, ℕ, ◌+◌, ◌≤◌, ℤ, pos, ◌-ℤ◌, List, length, map, take, slice_index, nat_lt, if◌then◌else◌}
 use Rattle.atomic_table.specs.Table.{State, Me}
 use Rattle.percpu_core.specs.declared.sizes.Sizes.{Sizes}
 use Rattle.percpu_core.specs.declared.limits.TheConstants.{WORD_LIMIT}
@@ -11,7 +11,8 @@ use Rattle.percpu_core.specs.declared.view.ControlView.{ControlView}
 use Rattle.percpu_core.specs.declared.view.View.{View}
 use Rattle.percpu_core.specs.declared.view.View.TheVariants.{OfControl, OfPass, Spent}
 use Rattle.percpu_words.specs.SharedWord.{spelling}
-use Rattle.percpu_core.specs.Cells.{Cells}
+use Rattle.percpu_words.specs.SlotWord.{middle}
+use Rattle.percpu_core.specs.Cells.{Cells, slot_at, slot_spelling}
 use Rattle.percpu_core.specs.ReleaseLaw.{Origin}
 use Rattle.percpu_core.specs.Laws.{Lawful}
 use Rattle.percpu_core.specs.ControlLearns.{control_view_after, joined}
@@ -86,6 +87,13 @@ front_number cells = cells.front
 
 abbrev pub guarded_number : ℕ → Cells → ℕ
 guarded_number k cells = slice_index cells.words k
+
+-- the number of a slot, and the delta that a number spells
+abbrev pub slot_number : ℕ → Cells → ℕ
+slot_number i cells = slot_spelling (slot_at cells.slots i)
+
+abbrev pub delta_told : ℕ → ℤ
+delta_told w = pos w -ℤ pos middle
 
 -- the number of the front that comes next
 abbrev pub next_front_number : Cells → ℕ

@@ -1,5 +1,5 @@
 -- What the seats of a gate are to a caller.
-use Rattle.std.specs.Prelude.{◌≡◌, ℕ, Bool, true, false, List, []}
+use Rattle.std.specs.Prelude.{◌≡◌, ℕ, ℤ, Bool, true, false, Option, Some, None, List, []}
 use Rattle.atomic_table.specs.Seated.{TableId}
 use Rattle.atomic_table.specs.Table.{Me}
 use Rattle.percpu_core.specs.declared.pass_event.PassEvent.{PassEvent}
@@ -7,7 +7,7 @@ use Rattle.percpu_core.specs.declared.control_event.ControlEvent.{ControlEvent}
 use Rattle.percpu_core.specs.declared.start.Start.{Start}
 use Rattle.percpu_core.specs.declared.start.Start.TheVariants.{Atomic}
 use Rattle.percpu_core.specs.declared.reply.Reply.{Reply}
-use Rattle.percpu_core.specs.declared.reply.Reply.TheVariants.{Given, Refused, NotLast, ToMark, Last, Lost}
+use Rattle.percpu_core.specs.declared.reply.Reply.TheVariants.{Given, Refused, NotLast, ToMark, Last, Lost, Won, Opened, Closed}
 use Rattle.percpu_gate.specs.declared.tried.Put.TheVariants as Put
 use Rattle.percpu_gate.specs.declared.tried.Put.{Put as PutAnswer}
 use Rattle.percpu_core.specs.declared.view.PassView.{PassView}
@@ -123,6 +123,16 @@ pub record FindsZero (g : GateFacts) (old : ControlView) (zero : Bool) : Type 0 
 abbrev pub tried : Bool → Reply
 tried true = Given
 tried false = Refused
+
+-- what a look at a slot answers, by the delta that it tells
+abbrev pub looked : Option ℤ → Reply
+looked None = Closed
+looked (Some d) = Opened d
+
+-- what an exchange answers
+abbrev pub exchanged : Bool → Reply
+exchanged true = Won
+exchanged false = Lost
 
 -- what a subtraction answers, by whether it left a zero to mark
 abbrev pub left : Bool → Reply

@@ -1,7 +1,8 @@
 //! What each atomic step of the control tells it: which event of the core's machine it was.
 ghost use Rattle.std.specs.Prelude.{◌-◌};
 ghost use Rattle.percpu_core.specs.declared.control_event.ControlEvent.TheVariants as events;
-ghost use Rattle.percpu_gate.specs.Rule.{Took, control_after, with_a_pass, fresh_seat, with_taken_in, spent_seat, shared_number, next_front_number};
+ghost use Rattle.percpu_gate.specs.Layout.{slot_of};
+ghost use Rattle.percpu_gate.specs.Rule.{Took, slot_number, control_after, with_a_pass, fresh_seat, with_taken_in, spent_seat, shared_number, next_front_number};
 
 use crate::rule::SeatView;
 use atomic_table::{Join, Play, Split};
@@ -74,4 +75,28 @@ pub(crate) struct LooksAtMarks;
 
 impl Play<(), SeatView> for LooksAtMarks {
     ghost then = { λ s. Took (control_after events.LookShared) shared_number };
+}
+
+pub(crate) struct ClosesSlot;
+
+impl Play<(), SeatView> for ClosesSlot {
+    ghost then = { λ s. Took (control_after events.Close) (slot_number (slot_of s.word)) };
+}
+
+pub(crate) struct Collects;
+
+impl Play<(), SeatView> for Collects {
+    ghost then = { λ s. Took (control_after events.Collect) shared_number };
+}
+
+pub(crate) struct AddsBias;
+
+impl Play<(), SeatView> for AddsBias {
+    ghost then = { λ s. Took (control_after events.AddBias) shared_number };
+}
+
+pub(crate) struct OpensSlot;
+
+impl Play<(), SeatView> for OpensSlot {
+    ghost then = { λ s. Took (control_after events.OpenNext) (λ _. s.first) };
 }

@@ -14,6 +14,8 @@ ghost use Rattle.percpu_gate.specs.Rule.{sizes_at, after_retire};
 ghost use Rattle.percpu_gate.specs.Calls.{holding};
 ghost use Rattle.percpu_gate.specs.ControlCalls.{standing, after_drop_base, after_revival};
 
+mod switch;
+
 use crate::control_plays::{
     ClearsDead, Confirms, DropsBase, LooksAtMarks, MakesPass, MarksZero, SetsDead, StoresNextFront,
     StoresWord, TakesBase, TakesIn,

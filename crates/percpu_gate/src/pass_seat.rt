@@ -11,6 +11,8 @@ ghost use Rattle.percpu_gate.specs.Rule.{sizes_at};
 ghost use Rattle.percpu_gate.specs.Seats.{SitsAsPass, facts_of, gate_of, pass_of, PassStep, tried, left, marked};
 ghost use Rattle.percpu_gate.specs.Calls.{after_put, after_try, is_refused, owed, to_take_back};
 
+mod slots;
+
 use crate::plays::{
     AddsGet, AddsLive, AddsTry, LoadsFront, LoadsWord, Looks, Marks, Subtracts, Undoes,
 };

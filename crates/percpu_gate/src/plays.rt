@@ -2,7 +2,8 @@
 ghost use Rattle.std.specs.Prelude.{◌-◌};
 ghost use Rattle.percpu_core.specs.declared.pass_event.PassEvent.TheVariants as events;
 ghost use Rattle.percpu_core.specs.Snapshots.{view_after};
-ghost use Rattle.percpu_gate.specs.Rule.{Took, shared_number, front_number, guarded_number};
+ghost use Rattle.percpu_gate.specs.Layout.{slot_of};
+ghost use Rattle.percpu_gate.specs.Rule.{Took, shared_number, front_number, guarded_number, slot_number, delta_told};
 
 use crate::rule::SeatView;
 use atomic_table::Play;
@@ -59,4 +60,22 @@ pub(crate) struct LoadsWord;
 
 impl Play<(), SeatView> for LoadsWord {
     ghost then = { λ s. Took (view_after (events.LoadWord (s.word - 33))) (guarded_number (s.word - 33)) };
+}
+
+pub(crate) struct LooksAtSlot;
+
+impl Play<(), SeatView> for LooksAtSlot {
+    ghost then = { λ s. Took (view_after (events.Look (slot_of s.word))) (slot_number (slot_of s.word)) };
+}
+
+pub(crate) struct TakesOnSlot;
+
+impl Play<(), SeatView> for TakesOnSlot {
+    ghost then = { λ s. Took (view_after (events.Take (slot_of s.word) (delta_told s.first) (s.second - s.first))) (slot_number (slot_of s.word)) };
+}
+
+pub(crate) struct GivesOnSlot;
+
+impl Play<(), SeatView> for GivesOnSlot {
+    ghost then = { λ s. Took (view_after (events.Give (slot_of s.word) (delta_told s.first) (s.first - s.second))) (slot_number (slot_of s.word)) };
 }

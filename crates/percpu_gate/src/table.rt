@@ -27,10 +27,10 @@ pub(crate) const FRONT: usize = 32;
 pub(crate) const FIRST_WORD: usize = 33;
 
 /// Where the first slot lies, apart from the words before it by more than 128 bytes.
-const FIRST_SLOT: usize = 64;
+pub(crate) const FIRST_SLOT: usize = 64;
 
 /// A slot is hot in every thread, so it is alone on 128 bytes.
-const WORDS_OF_A_SLOT: usize = 16;
+pub(crate) const WORDS_OF_A_SLOT: usize = 16;
 
 /// The words of a gate.
 #[derive(Drop)]

@@ -1,0 +1,74 @@
+//! The control's steps of a switch: closing slots and collecting, and adding the bias and opening them.
+ghost use Rattle.std.specs.Prelude.{◌≡◌, ◌<◌, pos, ◌-ℤ◌, None, true, unwrap_or};
+ghost use Rattle.percpu_words.specs.SharedWord.{bias};
+ghost use Rattle.percpu_core.specs.declared.control_event.ControlEvent.TheVariants as events;
+ghost use Rattle.percpu_core.specs.declared.reply.Reply.TheVariants.{Collected, Done};
+ghost use Rattle.percpu_core.specs.Machine.{IsEnabled};
+ghost use Rattle.percpu_core.specs.Phases.{next_slot};
+ghost use Rattle.percpu_core.specs.ControlSteps.{hinders_control};
+ghost use Rattle.percpu_gate.specs.Seats.{ControlStep, facts_of};
+ghost use Rattle.percpu_gate.specs.Rule.{sizes_at};
+
+use super::ControlSeat;
+use crate::control_plays::{AddsBias, ClosesSlot, Collects, OpensSlot};
+use crate::table::{FIRST_SLOT, GateTable, SHARED, WORDS_OF_A_SLOT};
+use percpu_words::{BIAS, CLOSED, slot_delta, slot_word};
+
+impl ControlSeat {
+    /// Closes the next slot. Its delta.
+    pub(crate) fn close_slot(&mut self, gate: &GateTable, slot: u32) -> Option<i64>
+        requires own { self.old.gate ≡ facts_of gate.now }
+        requires next { slot ≡ next_slot self.old.view.standing.phase }
+        requires there { slot < gate.now.key.slots }
+        requires enabled { IsEnabled (hinders_control (sizes_at gate.now.key) true None self.old.view.standing events.Close) }
+        ensures own { self.new.gate ≡ self.old.gate }
+        ensures step { ControlStep (facts_of gate.now) events.Close self.old.view self.new.view (Collected (unwrap_or result (pos 0))) }
+    {
+        let place = FIRST_SLOT + WORDS_OF_A_SLOT * slot as usize;
+        let found = gate
+            .table
+            .shared
+            .swap::<ClosesSlot>(&mut self.seat, place, CLOSED);
+        slot_delta(found)
+    }
+
+    /// Adds the sum of the closed deltas to the shared word, and takes the bias off it, in one step: `less` is the
+    /// bias less the sum.
+    pub(crate) fn collect(&mut self, gate: &GateTable, less: u64)
+        requires own { self.old.gate ≡ facts_of gate.now }
+        requires less { pos less ≡ pos bias -ℤ self.old.view.standing.uncollected }
+        requires enabled { IsEnabled (hinders_control (sizes_at gate.now.key) true None self.old.view.standing events.Collect) }
+        ensures own { self.new.gate ≡ self.old.gate }
+        ensures step { ControlStep (facts_of gate.now) events.Collect self.old.view self.new.view Done }
+    {
+        let shared = &gate.table.shared;
+        shared.fetch_sub::<Collects>(&mut self.seat, SHARED, less);
+    }
+
+    /// Adds the bias to the shared word.
+    pub(crate) fn add_bias(&mut self, gate: &GateTable)
+        requires own { self.old.gate ≡ facts_of gate.now }
+        requires enabled { IsEnabled (hinders_control (sizes_at gate.now.key) true None self.old.view.standing events.AddBias) }
+        ensures own { self.new.gate ≡ self.old.gate }
+        ensures step { ControlStep (facts_of gate.now) events.AddBias self.old.view self.new.view Done }
+    {
+        let shared = &gate.table.shared;
+        shared.fetch_add::<AddsBias>(&mut self.seat, SHARED, BIAS);
+    }
+
+    /// Opens the next slot, at 0.
+    pub(crate) fn open_slot(&mut self, gate: &GateTable, slot: u32)
+        requires own { self.old.gate ≡ facts_of gate.now }
+        requires next { slot ≡ next_slot self.old.view.standing.phase }
+        requires there { slot < gate.now.key.slots }
+        requires enabled { IsEnabled (hinders_control (sizes_at gate.now.key) true None self.old.view.standing events.OpenNext) }
+        ensures own { self.new.gate ≡ self.old.gate }
+        ensures step { ControlStep (facts_of gate.now) events.OpenNext self.old.view self.new.view Done }
+    {
+        let place = FIRST_SLOT + WORDS_OF_A_SLOT * slot as usize;
+        let word = slot_word(0);
+        gate.table
+            .shared
+            .store::<OpensSlot>(&mut self.seat, place, word);
+    }
+}
