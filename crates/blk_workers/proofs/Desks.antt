@@ -262,7 +262,7 @@ stands_settled script replies disk text stands refused pass replied =
     }
 
 -- or it is a request, and owed
-request_line : (script : Meant) (p : ℕ) (request : Request) → accepted_at script p ≡ Some request → (line : Line) × (slice_get script.lines p ≡ Some line)
+pub request_line : (script : Meant) (p : ℕ) (request : Request) → accepted_at script p ≡ Some request → (line : Line) × (slice_get script.lines p ≡ Some line)
 request_line script p request accepted = at_place (λ (l : Line). accepted_in (outcome (queue_at script p) l.what)) (slice_get script.lines p) accepted
   where
     none_some : (request : Request) → None ≡ Some request → ⊥

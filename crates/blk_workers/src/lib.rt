@@ -1,29 +1,45 @@
-//! The ground on which several threads will do a script's requests and give one thread's answer.
+//! Several threads do a script's requests, and give one thread's answer.
 //!
-//! A request that the queue accepts is done by a worker: it is handed the limits in force at the request's line
-//! and the sectors that a read finds, and it makes an answer, the line of the reply and the sectors that a
-//! write leaves. Answers come back in any order. The one thread that submits and collects owns the disk and the
-//! replies: for each answer that is owed it installs the sectors and keeps the line. So while requests are under
-//! way the disk is behind the one that a single thread would have; but where no requests overlap, each reads
-//! what a single thread reads, whichever writes of its span were installed before ([`reads_stand_in_a_span`]),
-//! and once no answer is owed the disk is the single thread's.
+//! [`run`] starts workers and then submits: it takes the script's lines in order. For a request that the queue
+//! accepts, a tag enters the queue and is told the limits in force; the request goes to the workers with the tag,
+//! and with the sectors that a read finds. A worker reads the limits under the tag, cuts the pieces, makes the
+//! line of the reply and the sectors that a write leaves, queues both as the request's completion, leaves, and
+//! gives the tag back. Where a line drains, the queue is frozen until every tag has left, and all completions are
+//! collected; so it is at the end.
 //!
-//! The threads hand requests, answers and free tags to one another in lists of a fixed room. The threads
-//! themselves, and the run of a script by them, aren't here yet.
+//! Answers come back in any order. The one thread that submits and collects owns the disk and the replies: for
+//! each answer that is owed it installs the sectors and keeps the line. So while requests are under way the disk
+//! is behind the one that a single thread would have; but where no requests overlap, each reads what a single
+//! thread reads, whichever writes of its span were installed before ([`reads_stand_in_a_span`]), and once no
+//! answer is owed the disk is the single thread's.
+//!
+//! What threads hand to one another is known by its type alone, so the types of requests, completions and free
+//! tags keep what [`run`]'s contract rests on; `specs/Jobs.antt` says what a request's type keeps. Requests,
+//! completions and tags stand in lists of a fixed room, whose memory is taken before the first thread starts.
 #![tactic(auto)]
 
 mod answer;
+mod collecting;
 mod config;
 mod desk;
 mod fault;
+mod following;
+mod job;
 mod laws;
 mod list;
+mod naming;
+mod ran;
 mod replies;
+mod running;
 mod stall;
+mod submitter;
 #[cfg(test)]
 mod tests;
+mod worker;
 
 pub use config::{Config, MOST_SLOTS, MOST_TAGS, MOST_WORKERS};
 pub use fault::RunFault;
 pub use laws::{answers_come_in_any_order, reads_stand_in_a_span};
+pub use ran::Ran;
+pub use running::run;
 pub use stall::{NoStall, Point, Stall};

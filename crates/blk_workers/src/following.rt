@@ -1,0 +1,74 @@
+//! How the queue's freezer follows a script.
+ghost use Rattle.std.specs.Prelude.{◌≡◌, ℕ, ◌+◌, ◌<◌, ◌≤◌, ◌^◌, true};
+ghost use Rattle.blk_workers.specs.Progress.{IsFollowing};
+
+use freeze_queue::{BlockQueue, Freezer};
+use queue_limits::Limits;
+use script_meaning::QueueState;
+use std::sync::Wait;
+
+/// Freezes the queue and waits until it is drained, where it isn't frozen already. Whether it did.
+pub(crate) fn freeze<R: Wait>(
+    rt: &R,
+    freezer: &mut Freezer,
+    queue: &BlockQueue,
+    _kills: usize,
+) -> bool
+    requires follows { IsFollowing queue.now _kills freezer.old }
+    requires few { _kills < 2 ^ 40 }
+    ensures { IsFollowing queue.now (_kills + 1) freezer.new }
+{
+    if freezer.depth() > 0 {
+        return false;
+    }
+    let frozen = freezer.freeze(rt, queue);
+    prove!(frozen.is_ok());
+    true
+}
+
+// Sets the limits of a frozen queue.
+fn set_limits(freezer: &mut Freezer, queue: &BlockQueue, limits: Limits)
+    requires own { freezer.old.queue ≡ queue.now }
+    requires drained { freezer.old.drained ≡ true }
+    requires frozen { 0 < freezer.old.depth }
+    requires hardware { limits.hardware ≡ queue.now.hardware }
+    ensures follows { (kills : ℕ) → IsFollowing queue.now kills freezer.old → IsFollowing queue.now kills freezer.new }
+    ensures depth { freezer.new.depth ≡ freezer.old.depth }
+{
+    if freezer.limits() != limits {
+        let set = freezer.set(queue, limits);
+        prove!(set.is_ok());
+    }
+}
+
+// Brings the depth of a frozen queue one step nearer to this one.
+fn step_to(freezer: &mut Freezer, queue: &BlockQueue, depth: u32)
+    requires own { freezer.old.queue ≡ queue.now }
+    requires frozen { 0 < freezer.old.depth }
+    requires shallow { depth ≤ 1000 }
+    ensures { (kills : ℕ) → IsFollowing queue.now kills freezer.old → IsFollowing queue.now kills freezer.new }
+{
+    let now = freezer.depth();
+    if now < depth {
+        let frozen = freezer.start_freeze(queue);
+        prove!(frozen.is_ok());
+    } else if depth < now {
+        let thawed = freezer.thaw(queue);
+        prove!(thawed.is_ok());
+    }
+}
+
+/// Brings a frozen queue to the limits that the script's queue has, and nearer to its depth. A queue that the
+/// script removed stays frozen.
+pub(crate) fn follow(freezer: &mut Freezer, queue: &BlockQueue, state: &QueueState, _kills: usize)
+    requires follows { IsFollowing queue.now _kills freezer.old }
+    requires hardware { state.now.limits.hardware ≡ queue.now.hardware }
+    ensures { IsFollowing queue.now _kills freezer.new }
+{
+    if freezer.depth() == 0 {
+        return;
+    }
+    set_limits(freezer, queue, state.limits());
+    let least = if state.is_removed() { 1 } else { 0 };
+    step_to(freezer, queue, state.depth().max(least));
+}

@@ -1,0 +1,309 @@
+//! The thread that submits and collects.
+ghost use Rattle.std.specs.Prelude.{◌≡◌, ◌+◌, ◌<◌, ◌≤◌, ◌^◌, [], IfOk, OnOk, Some, None, length};
+ghost use Rattle.blk_script.specs.Texts.{reply_line};
+ghost use Rattle.freeze_queue.specs.Queue.{QueueFacts};
+ghost use Rattle.script_meaning.specs.Script.{Meant};
+ghost use Rattle.script_meaning.specs.Requests.{accepted_at, queue_at};
+ghost use Rattle.script_overlap.specs.Overlap.{HasNoOverlap};
+ghost use Rattle.blk_workers.specs.Desk.{MayPass, Stands, owed_count};
+ghost use Rattle.blk_workers.specs.Progress.{IsAt, IsEnd, IsFollowing, IsQueueAt, IsRun, found_at};
+ghost use Rattle.blk_workers.specs.Requests.{IsReplyLine};
+
+use crate::collecting::{collect_all, collect_some, entered};
+use crate::desk::Desk;
+use crate::fault::RunFault;
+use crate::following::{follow, freeze};
+use crate::job::Job;
+use crate::naming::Run;
+use crate::ran::Ran;
+use crate::replies::Replies;
+use crate::stall::{Point, Stall};
+use crate::worker::Hall;
+use blk_script::render;
+use freeze_queue::Freezer;
+use queue_limits::Limits;
+use ram_disk::{Disk, Sector};
+use script_meaning::{Outcome, QueueState, Reply, Request, Script};
+use std::alloc::Global;
+use std::sync::Wait;
+
+/// What the thread that submits and collects has, and no other: the disk and the replies, the script's queue
+/// without its disk, and the freezer of the queue that requests enter.
+#[derive(Drop)]
+pub(crate) struct Submitter {
+    pub(crate) desk: Desk,
+    pub(crate) state: QueueState,
+    pub(crate) freezer: Freezer,
+    /// The requests that were accepted so far.
+    pub(crate) accepted: u32,
+}
+
+// The sectors that a request finds: none where it writes.
+fn found(
+    alloc: Global,
+    script: &Script,
+    desk: &Desk,
+    request: Request,
+) -> Result<Vec<Sector>, RunFault>
+    requires no_overlap { HasNoOverlap script.now }
+    requires stands { Stands script.now desk.now.replies desk.now.disk }
+    requires accepted { accepted_at script.now (length desk.now.replies) ≡ Some request }
+    ensures { IfOk result (λ found. found.items ≡ found_at script.now (length desk.now.replies) request) }
+{
+    if request.writes {
+        return Ok(Vec::new(alloc));
+    }
+    match desk.find(alloc, script, request) {
+        Ok(found) => Ok(found),
+        Err(_) => Err(RunFault::Memory),
+    }
+}
+
+// Hands an accepted request to the workers: it enters the queue under the limits in force, and is owed.
+fn hand_over<J: Run, R: Wait, S: Stall>(
+    rt: &R,
+    alloc: Global,
+    hall: &Hall<J>,
+    script: &Script,
+    stall: &S,
+    desk: &mut Desk,
+    request: Request,
+    number: u32,
+    limits: Limits,
+) -> Result<(), RunFault>
+    requires script { script.now ≡ J.script }
+    requires no_overlap { HasNoOverlap script.now }
+    requires slot { 0 < J.queue.gate.slots }
+    requires stands { Stands script.now desk.old.replies desk.old.disk }
+    requires accepted { accepted_at script.now (length desk.old.replies) ≡ Some request }
+    requires limits { limits ≡ (queue_at script.now (length desk.old.replies)).limits }
+    ensures stands { OnOk result (Stands script.now desk.new.replies desk.new.disk) }
+    ensures lines { OnOk result (length desk.new.replies ≡ length desk.old.replies + 1) }
+{
+    let position = desk.replies.len();
+    let found = found(alloc, script, desk, request)?;
+    desk.submit(script, request)?;
+    let tag = entered(rt, hall, limits);
+    stall.at(number, Point::Entered);
+    hall.requests
+        .push(rt, Job::new(number, position, tag, found));
+    Ok(())
+}
+
+// Takes a line whose reply is there.
+fn settle(
+    alloc: Global,
+    script: &Script,
+    desk: &mut Desk,
+    number: u32,
+    reply: &Reply,
+) -> Result<(), RunFault>
+    requires stands { Stands script.now desk.old.replies desk.old.disk }
+    requires refused { accepted_at script.now (length desk.old.replies) ≡ None }
+    requires passes { MayPass script.now desk.old.replies }
+    requires reply { IsReplyLine script.now (length desk.old.replies) (reply_line (number, reply.now)) }
+    ensures stands { OnOk result (Stands script.now desk.new.replies desk.new.disk) }
+    ensures lines { OnOk result (length desk.new.replies ≡ length desk.old.replies + 1) }
+{
+    let Ok(text) = render(alloc, number, reply) else {
+        return Err(RunFault::Memory);
+    };
+    desk.settle(script, text)?;
+    Ok(())
+}
+
+impl Submitter {
+    /// A run's submitter, before the first line.
+    pub(crate) fn new(
+        alloc: Global,
+        script: &Script,
+        freezer: Freezer,
+    ) -> Result<Submitter, RunFault>
+        ensures { IfOk result (λ s. (queue : QueueFacts) → IsFollowing queue 0 freezer → IsAt script.now queue 0 s) }
+    {
+        let Ok(disk) = Disk::new(alloc, script.disk()) else {
+            return Err(RunFault::Memory);
+        };
+        let replies = Replies::new(alloc, script.lines().len())?;
+        Ok(Submitter {
+            desk: Desk { disk, replies },
+            state: QueueState::new(script),
+            freezer,
+            accepted: 0,
+        })
+    }
+
+    /// What the run answers, once every line is taken and nothing is owed.
+    pub(crate) fn answer(self, alloc: Global) -> Result<Ran, RunFault>
+        ensures { (script : Meant) → IsEnd script self → IfOk result (λ ran. IsRun script ran.replies.items ran.disk) }
+    {
+        let replies = self.desk.replies.joined(alloc)?;
+        let Submitter {
+            desk: Desk { disk, replies: _ },
+            state: _,
+            freezer: _,
+            accepted: _,
+        } = self;
+        Ok(Ran { replies, disk })
+    }
+
+    // Hands over the accepted request of the next line, after which the script's queue is `next`.
+    fn submit<J: Run, R: Wait, S: Stall>(
+        &mut self,
+        rt: &R,
+        alloc: Global,
+        hall: &Hall<J>,
+        script: &Script,
+        stall: &S,
+        next: QueueState,
+        request: Request,
+    ) -> Result<(), RunFault>
+        requires script { script.now ≡ J.script }
+        requires no_overlap { HasNoOverlap script.now }
+        requires slot { 0 < J.queue.gate.slots }
+        requires at { IsAt J.script J.queue (length self.old.desk.replies) self.old }
+        requires accepted { accepted_at script.now (length self.old.desk.replies) ≡ Some request }
+        requires next { IsQueueAt J.script (length self.old.desk.replies + 1) next }
+        ensures at { OnOk result (IsAt J.script J.queue (length self.old.desk.replies + 1) self.new) }
+        ensures own { self.new.freezer.queue ≡ J.queue }
+    {
+        let (number, limits) = (self.accepted, self.state.limits());
+        collect_some(rt, hall, script, &mut self.desk)?;
+        hand_over(
+            rt,
+            alloc,
+            hall,
+            script,
+            stall,
+            &mut self.desk,
+            request,
+            number,
+            limits,
+        )?;
+        self.accepted = self.accepted.saturating_add(1);
+        self.state = next;
+        Ok(())
+    }
+
+    // Drains the queue, which it freezes where it isn't frozen, and collects all completions.
+    fn drain<J: Run, R: Wait, S: Stall>(
+        &mut self,
+        rt: &R,
+        hall: &Hall<J>,
+        script: &Script,
+        stall: &S,
+    ) -> Result<(), RunFault>
+        requires script { script.now ≡ J.script }
+        requires no_overlap { HasNoOverlap script.now }
+        requires at { IsAt J.script J.queue (length self.old.desk.replies) self.old }
+        requires few { length self.old.desk.replies < 2 ^ 40 }
+        ensures stands { Stands script.now self.new.desk.replies self.new.desk.disk }
+        ensures lines { length self.new.desk.replies ≡ length self.old.desk.replies }
+        ensures state { self.new.state ≡ self.old.state }
+        ensures none_owed { OnOk result (owed_count self.new.desk.replies ≡ 0) }
+        ensures follows { IsFollowing J.queue (length self.old.desk.replies + 1) self.new.freezer }
+    {
+        let lines = self.desk.replies.len();
+        if freeze(rt, &mut self.freezer, &hall.queue, lines) {
+            stall.at(self.accepted, Point::Drained);
+        }
+        collect_all(rt, hall, script, &mut self.desk)
+    }
+
+    // Takes the next line, whose reply is there and after which the script's queue is `next`.
+    fn pass<J: Run>(
+        &mut self,
+        alloc: Global,
+        hall: &Hall<J>,
+        script: &Script,
+        next: QueueState,
+        number: u32,
+        reply: &Reply,
+    ) -> Result<(), RunFault>
+        requires script { script.now ≡ J.script }
+        requires hardware { J.queue.hardware ≡ J.script.hardware }
+        requires stands { Stands script.now self.old.desk.replies self.old.desk.disk }
+        requires follows { IsFollowing J.queue (length self.old.desk.replies + 1) self.old.freezer }
+        requires refused { accepted_at script.now (length self.old.desk.replies) ≡ None }
+        requires passes { MayPass script.now self.old.desk.replies }
+        requires reply { IsReplyLine script.now (length self.old.desk.replies) (reply_line (number, reply.now)) }
+        requires next { IsQueueAt J.script (length self.old.desk.replies + 1) next }
+        ensures at { OnOk result (IsAt J.script J.queue (length self.old.desk.replies + 1) self.new) }
+        ensures own { self.new.freezer.queue ≡ J.queue }
+    {
+        settle(alloc, script, &mut self.desk, number, reply)?;
+        let lines = self.desk.replies.len();
+        follow(&mut self.freezer, &hall.queue, &next, lines);
+        self.state = next;
+        Ok(())
+    }
+
+    // Takes the next line.
+    fn take_next<J: Run, R: Wait, S: Stall>(
+        &mut self,
+        rt: &R,
+        alloc: Global,
+        hall: &Hall<J>,
+        script: &Script,
+        stall: &S,
+    ) -> Result<(), RunFault>
+        requires script { script.now ≡ J.script }
+        requires no_overlap { HasNoOverlap script.now }
+        requires hardware { J.queue.hardware ≡ J.script.hardware }
+        requires slot { 0 < J.queue.gate.slots }
+        requires at { IsAt J.script J.queue (length self.old.desk.replies) self.old }
+        requires more { length self.old.desk.replies < length script.now.lines }
+        requires few { length self.old.desk.replies < 2 ^ 40 }
+        ensures at { OnOk result (IsAt J.script J.queue (length self.old.desk.replies + 1) self.new) }
+        ensures own { self.new.freezer.queue ≡ J.queue }
+    {
+        let line = &script.lines()[self.desk.replies.len()];
+        let mut next = self.state;
+        match next.take(&line.what) {
+            Outcome::Accepted(request) => {
+                self.submit(rt, alloc, hall, script, stall, next, request)
+            }
+            Outcome::Drained(reply) => {
+                self.drain(rt, hall, script, stall)?;
+                self.pass(alloc, hall, script, next, line.number, &reply)
+            }
+            Outcome::Replied(reply) => { self.pass(alloc, hall, script, next, line.number, &reply) }
+        }
+    }
+
+    /// Takes all lines, and drains the queue at the end.
+    pub(crate) fn submit_all<J: Run, R: Wait, S: Stall>(
+        &mut self,
+        rt: &R,
+        alloc: Global,
+        hall: &Hall<J>,
+        script: &Script,
+        stall: &S,
+    ) -> Result<(), RunFault>
+        requires script { script.now ≡ J.script }
+        requires no_overlap { HasNoOverlap script.now }
+        requires hardware { J.queue.hardware ≡ J.script.hardware }
+        requires slot { 0 < J.queue.gate.slots }
+        requires few { length script.now.lines < 2 ^ 40 }
+        requires start { IsAt J.script J.queue 0 self.old }
+        ensures stands { OnOk result (Stands J.script self.new.desk.replies self.new.desk.disk) }
+        ensures lines { OnOk result (length self.new.desk.replies ≡ length J.script.lines) }
+        ensures none_owed { OnOk result (owed_count self.new.desk.replies ≡ 0) }
+        ensures own { self.new.freezer.queue ≡ J.queue }
+    {
+        for position in 0..script.lines().len() {
+            let _ = position;
+            self.take_next(rt, alloc, hall, script, stall)?;
+        }
+        self.drain(rt, hall, script, stall)
+    }
+
+    /// Waits until no request is under way any more, whether or not its answer is collected.
+    pub(crate) fn give_up<R: Wait>(&mut self, rt: &R, queue: &freeze_queue::BlockQueue)
+        requires own { self.old.freezer.queue ≡ queue.now }
+    {
+        if self.freezer.depth() == 0 {
+            let _frozen = self.freezer.freeze(rt, queue);
+        }
+    }
+}
