@@ -1,5 +1,5 @@
 -- An input that is cut where it is known to be too long says as much as the whole one.
-use Rattle.std.proofs.Common.{◌≡◌, ℕ, ◌<◌, ◌≤◌, List, Option, None, Some, IfSome, length, take, ap, sym, ◌∙◌, inl, inr, subst, arith, length-take}
+use Rattle.std.proofs.Common.{◌≡◌, ℕ, ◌≤◌, List, Option, None, Some, IfSome, length, take, ap, sym, ◌∙◌, inl, inr, subst, arith, length-take}
 use Rattle.std.proofs.lemmas.Bool.{cases_lt}
 use Rattle.std.proofs.lemmas.List.{take_all}
 
