@@ -9,7 +9,7 @@ use Rattle.percpu_core.specs.Views.{held_by_all}
 use Rattle.percpu_gate.specs.Seats.{GateFacts, Moment}
 use Rattle.queue_limits.specs.Bounds.{Bounds}
 use Rattle.queue_limits.specs.Words.{from_words}
-use Rattle.freeze_queue.specs.Queue.{TagFacts, FreezerFacts, IsFreezer}
+use Rattle.freeze_queue.specs.Queue.{QueueFacts, TagFacts, FreezerFacts, IsFreezer}
 use Rattle.freeze_queue.specs.Readings.{IsTag, limits_told}
 
 -- at a moment of a call of a tag, at which its seat knew what it did before but for the guarded words that it had read, the guarded words spelled these limits
@@ -25,7 +25,8 @@ Stood f views = (place : ℕ) × Sees views place (OfControl f.seat)
 
 -- limits that are in force while a freezer stands so are the freezer's, which it was given or set last
 abbrev pub InForceAreSet : Type 0
-InForceAreSet = (f : FreezerFacts) (before : PassView) (limits : Bounds) → IsFreezer f → (found : AreInForce f.queue.gate f.queue.hardware before limits) → Stood f found.moment.views → limits ≡ f.limits
+InForceAreSet = (f : FreezerFacts) (q : QueueFacts) (before : PassView) (limits : Bounds) → IsFreezer f → f.queue ≡ q
+    → (found : AreInForce q.gate q.hardware before limits) → Stood f found.moment.views → limits ≡ f.limits
 
 -- at every moment of its gate that a tag sees and at which the freezer stands so, the limits that the tag was told are the freezer's
 abbrev pub TagsReadWhatIsSet : Type 0

@@ -73,6 +73,7 @@ impl Freezer {
         ensures value { result ≡ self.now.depth }
         ensures kept { IsFreezer self.now }
     {
+        // The type's facts speak of the control too, so the clause needs it read.
         let _ = &self.control;
         self.depth
     }

@@ -8,6 +8,8 @@ ghost use Rattle.percpu_gate.specs.Calls.{taken, LiveTryFinds};
 ghost use Rattle.freeze_queue.specs.AtTheGate.{AreInForce};
 ghost use Rattle.freeze_queue.specs.Readings.{IsTag};
 ghost use Rattle.freeze_queue.specs.Entering.{answered};
+ghost use Rattle.percpu_core.specs.declared.view.PassView.{PassView};
+ghost use Rattle.percpu_gate.specs.declared.tried.Tried.TheVariants.{Given};
 
 use crate::freezer::Freezer;
 use crate::tag::{Enter, LIMIT_WORDS, Tag};
@@ -95,6 +97,7 @@ impl BlockQueue {
         ensures value { result ≡ self.now.gate.slots }
         ensures kept { IsQueue self.now }
     {
+        // The type's facts speak of all fields, so the clause needs the whole queue read.
         let _ = self.hardware;
         self.gate.slots()
     }
@@ -142,6 +145,7 @@ impl BlockQueue {
         ensures entered { tag.new ≡ record (after_entering tag.new.seat tag.old) { releases = tag.new.releases } }
         ensures releases { tag.old.releases ≤ tag.new.releases }
         ensures counted { tag.new.seat.live_given ≡ tag.old.seat.live_given + 1 }
+        ensures finds { (before : PassView) × (before.live_given ≡ tag.old.seat.live_given) × LiveTryFinds self.now.gate slot before Given }
     {
         let backoff = Backoff::new();
         for _ in rt.forever() {

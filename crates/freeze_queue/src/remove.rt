@@ -31,6 +31,7 @@ fn end(mut freezer: Freezer, queue: BlockQueue, tags: Vec<Tag>) -> Final<LIMIT_W
     ensures words { result.words ≡ to_words freezer.limits }
     ensures drained { AtTheEnd queue.gate result }
     ensures drains { result.releases ≡ freezer.seat.zeros_cleared + 1 }
+    ensures at_most { result.releases ≤ result.kills }
     ensures releases { length tags.items ≡ freezer.tags → result.releases ≡ freezer.releases + sum_by (λ t. t.releases) tags.items }
 {
     for tag in tags {
@@ -76,6 +77,7 @@ impl Freezer {
         ensures words { IfOk result (λ left. left.words ≡ to_words self.limits) }
         // No release was lost: each drain that a thaw ended had one, and so had the last.
         ensures drains { IfOk result (λ left. left.releases ≡ self.seat.zeros_cleared + 1) }
+        ensures at_most { IfOk result (λ left. left.releases ≤ left.kills) }
         ensures releases { IfOk result (λ left. ReleasesAdd self tags.items left.releases) }
     {
         let missing = (self.tags() as usize).saturating_sub(tags.len());

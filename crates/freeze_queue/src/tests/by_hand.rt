@@ -1,7 +1,7 @@
 //! A queue driven by hand, on one thread.
 ghost use Rattle.std.specs.Prelude.{◌≡◌, ◌<◌, All, IfSome, true, false};
 
-use crate::{BlockQueue, Enter, Final, FreezeFault, Freezer, Put, RemoveFault, Tag};
+use crate::{BlockQueue, Enter, Final, FreezeFault, Freezer, Memory, Put, RemoveFault, Tag};
 use queue_limits::Limits;
 use std::process::Abort;
 use std::test::Fail;
@@ -121,6 +121,20 @@ fn drive_by_hand<R: Abort>(
     freeze_by_hand(rt, queue, freezer, first, second, narrow);
     thaw_by_hand(rt, queue, freezer, second, narrow);
     assert_eq!(rt; queue.leave(second, 0), Put::NotLast);
+}
+
+/// A queue, or Memory where an allocation is refused: to be run with each allocation failing in turn.
+#[test]
+fn memory(rt: HostRuntime) -> Result<(), Fail> {
+    match BlockQueue::new(rt.alloc(), Limits::start(8)?, 2, 2) {
+        Ok((queue, freezer, tags)) => {
+            assert_eq!(rt; queue.slots(), 2);
+            assert_eq!(rt; freezer.depth(), 0);
+            assert_eq!(rt; tags.len(), 2);
+        }
+        Err(refused) => assert_eq!(rt; refused, Memory),
+    }
+    Ok(())
 }
 
 #[test]
