@@ -18,6 +18,7 @@ use std::alloc::Global;
 use std::io;
 use std::io::{ErrorKind, Read, Write};
 use std::sync::Wait;
+use std::thread::Threads;
 
 /// How the program is called.
 const USAGE: &str = "usage: blkq run [WORKERS SLOTS TAGS] or blkq replay";
@@ -27,7 +28,7 @@ const NOT_RUN: u8 = 4;
 
 /// Runs the script that `reader` has, and tells the program's status, with a line to `errors` where it isn't 0.
 fn run_reported<R: Read, W: Write, E: Write>(
-    rt: &impl Wait,
+    rt: &(impl Threads + Wait + Sync),
     alloc: Global,
     config: Config,
     reader: &mut Counted<R>,
@@ -60,7 +61,7 @@ fn run_reported<R: Read, W: Write, E: Write>(
 /// ends at a step that isn't enabled has status 3 without such a line: its answer went out, and says so. The
 /// words are looked at before anything is read. Where `errors` fails, the line is lost and the status stays.
 pub fn command<R: Read, W: Write, E: Write>(
-    rt: &impl Wait,
+    rt: &(impl Threads + Wait + Sync),
     alloc: Global,
     args: &[String],
     reader: &mut Counted<R>,

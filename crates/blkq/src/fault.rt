@@ -2,6 +2,7 @@
 ghost use Rattle.std.specs.Prelude.{◌≡◌};
 ghost use Rattle.blkq.specs.Faults.{number_of, status_of};
 
+use blk_workers::RunFault;
 use counted_io::{InputFault, WriteFault};
 use line_text::{Overlap, ParseFault, ScriptFault};
 use thiserror::Error;
@@ -93,6 +94,19 @@ impl From<ScriptFault> for Fault {
             ScriptFault::Memory => Fault::Memory,
             ScriptFault::Parse(fault) => Fault::Parse(fault),
             ScriptFault::Overlap(pair) => Fault::Overlap(pair),
+        }
+    }
+}
+
+impl From<RunFault> for Fault {
+    ghost use Rattle.blkq.specs.Faults.{fault_of_run};
+
+    ghost from_gives = { λ e fault. fault ≡ fault_of_run e };
+
+    fn from(e: RunFault) -> Self {
+        match e {
+            RunFault::Memory => Fault::Memory,
+            RunFault::Thread => Fault::Thread,
         }
     }
 }

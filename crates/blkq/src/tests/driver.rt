@@ -7,6 +7,7 @@ use std::io::{Error, ErrorKind, Read, Write};
 use std::process::Abort;
 use std::sync::Wait;
 use std::test::Fail;
+use std::thread::Threads;
 
 /// The words after the program's name, what comes in, how much the writers take, and what comes of it.
 pub(super) struct Row {
@@ -118,7 +119,7 @@ pub(super) struct Answer {
 
 /// Calls the program.
 pub(super) fn call(
-    rt: &(impl Wait + AllocGlobal),
+    rt: &(impl Threads + Wait + AllocGlobal + Sync),
     line: &str,
     input: &[u8],
     sides: Sides,
@@ -147,7 +148,10 @@ pub(super) fn call(
 pub(super) const USAGE: &[u8] = b"usage: blkq run [WORKERS SLOTS TAGS] or blkq replay\n";
 
 /// Plays each row. Where the words ask for nothing, nothing is read.
-pub(super) fn play_all(rt: &(impl Abort + Wait + AllocGlobal), rows: &[Row]) -> Result<(), Fail> {
+pub(super) fn play_all(
+    rt: &(impl Abort + Threads + Wait + AllocGlobal + Sync),
+    rows: &[Row],
+) -> Result<(), Fail> {
     for row in rows {
         let answer = call(rt, row.words, row.input, row.sides)?;
         assert!(rt; answer.status == row.status, "{}", row.name);
