@@ -1,8 +1,10 @@
 //! How a caller reasons: from the contracts of the public calls alone.
-ghost use Rattle.std.specs.Prelude.{◌≡◌, ◌<◌, ◌+◌, true, OnOk, IfOk, Some};
+ghost use Rattle.std.specs.Prelude.{◌≡◌, ◌<◌, ◌+◌, true, false, OnOk, IfOk, Some};
 ghost use Rattle.std.specs.Thread.{IsSync};
+ghost use Rattle.percpu_core.specs.declared.view.PassView.{PassView};
+ghost use Rattle.freeze_queue.specs.AtTheGate.{AreInForce, Stood};
 
-use crate::{BlockQueue, Enter, FreezeFault, Freezer, Tag};
+use crate::{BlockQueue, FreezeFault, Freezer, Tag, in_force_are_set};
 use queue_limits::Limits;
 use std::process::Abort;
 use std::sync::Wait;
@@ -56,14 +58,40 @@ pub(super) fn change_limits<R: Wait>(
     freezer.thaw(queue)
 }
 
+/// After a freeze, a set and a thaw, a tag enters and asks for the limits. At the moment at which it reads them
+/// they are the new ones, unless the freezer has gone on by then.
+fn reads_what_was_set<R: Wait>(
+    rt: &R,
+    queue: &BlockQueue,
+    freezer: &mut Freezer,
+    tag: &mut Tag,
+    limits: Limits,
+) -> Result<Limits, FreezeFault>
+    requires own { (freezer.old.queue ≡ queue.now) × (tag.old.queue ≡ queue.now) }
+    requires slot { 0 < queue.now.gate.slots }
+    requires hardware { limits.hardware ≡ freezer.old.queue.hardware }
+    requires out { tag.old.entered ≡ false }
+    ensures own { (freezer.new.queue ≡ queue.now) × (tag.new.queue ≡ queue.now) }
+    ensures entered { OnOk result (tag.new.entered ≡ true) }
+    ensures told { IfOk result (λ told. tag.new.limits ≡ Some told) }
+    ensures new { IfOk result (λ told. (seat : PassView) × (found : AreInForce queue.now.gate queue.now.hardware seat told) × (Stood freezer.new found.moment.views → told ≡ limits)) }
+{
+    change_limits(rt, queue, freezer, limits)?;
+    queue.enter(rt, tag, 0);
+    in_force_are_set();
+    freezer.depth();
+    Ok(queue.limits(tag))
+}
+
 #[test]
 fn callers_by_hand(rt: HostRuntime) -> Result<(), Fail> {
     let (queue, mut freezer, mut tags) = BlockQueue::new(rt.alloc(), Limits::start(8)?, 1, 1)?;
     let mut tag = tags.pop().ok_or("a tag")?;
     let narrow = Limits::new(8, 3, 2)?;
-    assert_eq!(rt; change_limits(&rt, &queue, &mut freezer, narrow), Ok(0));
-    assert_eq!(rt; queue.try_enter(&mut tag, 0), Enter::Entered);
-    assert_eq!(rt; queue.limits(&mut tag), narrow);
+    assert_eq!(rt;
+        reads_what_was_set(&rt, &queue, &mut freezer, &mut tag, narrow),
+        Ok(narrow)
+    );
     let (_tag, agree) = two_reads_agree(&rt, &queue, tag);
     assert!(rt; agree);
     Ok(())
