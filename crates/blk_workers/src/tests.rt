@@ -1,4 +1,6 @@
 //! What no clause says of the lists: that what is pushed is popped, once and in order, and that those who wait wake.
+mod runs;
+
 use crate::list::List;
 use std::sync::Wait;
 use std::test::Fail;

@@ -1,0 +1,146 @@
+//! What no clause says of a run: that its threads work at the same time, and that it drains through the queue.
+use crate::{Config, NoStall, Point, Ran, Stall, run};
+use blk_script::{check, parse, render_disk, run_alone};
+use std::process::Abort;
+use std::sync::atomic::{AtomicBool, AtomicU32, Ordering};
+use std::sync::{Barrier, Wait};
+use std::test::Fail;
+use std::thread;
+use std::thread::Threads;
+
+/// A script with a line of each kind.
+const MIXED: &[u8] =
+    b"blkq 1\ndisk 16 hw 8\nwrite 0 4 01\nread 8 4\nset max_sectors 3\nread 0 4\nfreeze\nfreeze\nread 0 1\nset chunk_sectors 2\nthaw\nthaw\nthaw\nwrite 4 9 0203\nread 0 2\nstat\nread 3 12\nwrite 15 2 ff\nmode atomic\nremove\nread 0 1\n";
+
+/// Two requests that overlap in nothing, and a drain.
+const TWO: &[u8] = b"blkq 1\ndisk 8 hw 8\nwrite 0 2 01\nwrite 4 2 02\nstat\nread 0 8\n";
+
+// Runs a script, and tells whether its text is the one of a single thread.
+fn agrees<R: Threads + Wait + AllocGlobal + Sync, S: Stall>(
+    rt: &R,
+    text: &[u8],
+    workers: u32,
+    tags: u32,
+    stall: &S,
+) -> Result<bool, Fail> {
+    let alloc = rt.alloc();
+    let script = parse(alloc, text)?;
+    check(alloc, &script)?;
+    let config = Config::new(workers, 3, tags).ok_or("within the limits")?;
+    let Ran { mut replies, disk } = run(rt, alloc, &script, config, stall)?;
+    let line = render_disk(alloc, &disk)?;
+    replies.extend_from_slice(&line)?;
+    Ok(replies == run_alone(alloc, &script)?)
+}
+
+#[test]
+fn mixed_lines(rt: HostRuntime) -> Result<(), Fail> {
+    for (workers, tags) in [(1, 1), (2, 1), (4, 16), (32, 63)] {
+        assert!(rt;
+            agrees(&rt, MIXED, workers, tags, &NoStall)?,
+            "{workers} {tags}"
+        );
+    }
+    Ok(())
+}
+
+/// Holds each of the first two requests, once drawn, until both are.
+#[derive(Drop)]
+struct Meets<'a, R: Wait> {
+    rt: &'a R,
+    both: Barrier,
+}
+
+impl<R: Wait + Sync> Stall for Meets<'_, R> {
+    fn at(&self, number: u32, point: Point) {
+        if point == Point::Drawn && number < 2 {
+            self.both.wait(self.rt);
+        }
+    }
+}
+
+// It never ends where one worker alone draws.
+#[test]
+fn two_at_once(rt: HostRuntime) -> Result<(), Fail> {
+    let meets = Meets {
+        rt: &rt,
+        both: Barrier::new(2),
+    };
+    assert!(rt; agrees(&rt, TWO, 2, 2, &meets)?);
+    Ok(())
+}
+
+/// Holds the first request at a point for 10,000 turns, and notes a drain that comes before.
+#[derive(Drop)]
+struct Holds {
+    point: Point,
+    passed: AtomicBool,
+    early: AtomicBool,
+}
+
+impl Stall for Holds {
+    fn at(&self, number: u32, point: Point) {
+        if point == self.point && number == 0 {
+            for _ in 0..10_000 {
+                thread::yield_now();
+            }
+            self.passed.store(true, Ordering::SeqCst);
+        }
+        if point == Point::Drained && !self.passed.load(Ordering::SeqCst) {
+            self.early.store(true, Ordering::SeqCst);
+        }
+    }
+}
+
+// Whether a run drains only once its first request has passed this point.
+fn drains_after(
+    rt: &(impl Threads + Wait + AllocGlobal + Sync),
+    point: Point,
+) -> Result<bool, Fail> {
+    let holds = Holds {
+        point,
+        passed: AtomicBool::new(false),
+        early: AtomicBool::new(false),
+    };
+    let agrees = agrees(rt, TWO, 2, 2, &holds)?;
+    Ok(agrees && !holds.early.load(Ordering::SeqCst))
+}
+
+#[test]
+fn freeze_waits(rt: HostRuntime) -> Result<(), Fail> {
+    assert!(rt; drains_after(&rt, Point::Drawn)?);
+    Ok(())
+}
+
+// A worker that has queued its completion still holds its tag.
+#[test]
+fn drains_before_answered(rt: HostRuntime) -> Result<(), Fail> {
+    assert!(rt; drains_after(&rt, Point::Answered)?);
+    Ok(())
+}
+
+/// Yields at points that look random.
+#[derive(Drop)]
+struct Yields {
+    seed: AtomicU32,
+}
+
+impl Stall for Yields {
+    fn at(&self, _number: u32, _point: Point) {
+        let seed = self.seed.fetch_add(2_654_435_769, Ordering::SeqCst);
+        for _ in 0..seed >> 28 {
+            thread::yield_now();
+        }
+    }
+}
+
+#[test]
+fn whatever_the_schedule(rt: HostRuntime) -> Result<(), Fail> {
+    let yields = Yields {
+        seed: AtomicU32::new(1),
+    };
+    for _ in 0..40 {
+        assert!(rt; agrees(&rt, MIXED, 4, 3, &yields)?);
+    }
+    Ok(())
+}
