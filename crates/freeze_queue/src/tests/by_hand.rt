@@ -1,7 +1,9 @@
 //! A queue driven by hand, on one thread.
 ghost use Rattle.std.specs.Prelude.{◌≡◌, ◌<◌, All, IfSome, true, false};
 
-use crate::{BlockQueue, Enter, Final, FreezeFault, Freezer, Memory, Put, RemoveFault, Tag};
+use crate::{
+    BlockQueue, Enter, Final, FreezeFault, Freezer, MOST_TAGS, Memory, Put, RemoveFault, Tag,
+};
 use queue_limits::Limits;
 use std::process::Abort;
 use std::test::Fail;
@@ -123,16 +125,31 @@ fn drive_by_hand<R: Abort>(
     assert_eq!(rt; queue.leave(second, 0), Put::NotLast);
 }
 
-/// A queue, or Memory where an allocation is refused: to be run with each allocation failing in turn.
+/// The largest queue, or Memory where an allocation is refused: to be run with each allocation failing in turn.
 #[test]
 fn memory(rt: HostRuntime) -> Result<(), Fail> {
-    match BlockQueue::new(rt.alloc(), Limits::start(8)?, 2, 2) {
+    match BlockQueue::new(rt.alloc(), Limits::start(8)?, 64, MOST_TAGS) {
         Ok((queue, freezer, tags)) => {
-            assert_eq!(rt; queue.slots(), 2);
+            assert_eq!(rt; queue.slots(), 64);
             assert_eq!(rt; freezer.depth(), 0);
-            assert_eq!(rt; tags.len(), 2);
+            assert_eq!(rt; tags.len(), 63);
         }
         Err(refused) => assert_eq!(rt; refused, Memory),
+    }
+    Ok(())
+}
+
+#[test]
+fn faults_have_texts(rt: HostRuntime) -> Result<(), Fail> {
+    let texts = [
+        (FreezeFault::DepthFull, "depth full"),
+        (FreezeFault::NotFrozen, "not frozen"),
+        (FreezeFault::NotDrained, "not drained"),
+        (FreezeFault::TagsOut(2), "2 tags out"),
+        (FreezeFault::WornOut, "worn out"),
+    ];
+    for (fault, text) in texts {
+        assert_eq!(rt; fault.to_string(rt.alloc())?.as_str(), text);
     }
     Ok(())
 }
