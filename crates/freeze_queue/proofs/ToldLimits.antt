@@ -98,4 +98,4 @@ in_force gate hardware before old new max chunk is_inside after step =
     let now = subst (AreNow step.moment.cells.words) read ((moment_knows old step.moment).read some) in
     let first : max ≡ slice_index step.moment.cells.words 0 = sym (get_or_from_slice_get step.moment.cells.words 0 max 0 now.0) in
     let second : chunk ≡ slice_index step.moment.cells.words 1 = number_same chunk (slice_index step.moment.cells.words 1) step.answered in
-    record { seat = old; own = after ∙ ap (λ (reads : List WordRead). record before { read = reads }) (sym read); moment = step.moment; spelled = λ j. from_words hardware (first j ∷ second j ∷ []) }
+    record { seat = old; max = max; own = after; moment = step.moment; spelled = λ j. from_words hardware (first j ∷ second j ∷ []) }

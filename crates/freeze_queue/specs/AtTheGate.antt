@@ -1,5 +1,5 @@
 -- What it means at the gate of a queue that limits are in force, and that the queue is drained.
-use Rattle.std.specs.Prelude.{◌≡◌, ℕ, true, Some, List}
+use Rattle.std.specs.Prelude.{◌≡◌, ℕ, true, Some, List, ◌∷◌}
 use Rattle.percpu_core.specs.declared.view.PassView.{PassView}
 use Rattle.percpu_core.specs.declared.view.ControlView.{ControlView}
 use Rattle.percpu_core.specs.declared.view.View.{View}
@@ -12,10 +12,11 @@ use Rattle.queue_limits.specs.Words.{from_words}
 use Rattle.freeze_queue.specs.Queue.{QueueFacts, TagFacts, FreezerFacts, IsFreezer}
 use Rattle.freeze_queue.specs.Readings.{IsTag, limits_told}
 
--- at a moment of a call of a tag, at which its seat knew what it did before but for the guarded words that it had read, the guarded words spelled these limits
+-- at a moment of a call of a tag, at which its seat knew what it did before and had read the first guarded word once more, the guarded words spelled these limits
 pub record AreInForce (gate : GateFacts) (hardware : ℕ) (before : PassView) (limits : Bounds) : Type 0 where
   pub seat : PassView
-  pub own : seat ≡ record before { read = seat.read }
+  pub max : ℕ
+  pub own : seat ≡ record before { read = record { word = 0; value = max } ∷ before.read }
   pub moment : Moment gate (OfPass seat)
   pub spelled : limits ≡ from_words hardware moment.cells.words
 
