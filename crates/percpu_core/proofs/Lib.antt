@@ -33,3 +33,5 @@ pub mod Moves
 pub mod SeatSteps
 pub mod Fitting
 pub mod SlotNumbers
+-- what a pass that holds nothing may have read, and that a step which nothing hinders is enabled
+pub mod Readings
