@@ -1,10 +1,13 @@
 -- What a replay shows is a run of the gate's machine, by induction on its steps.
-use Rattle.std.proofs.Common.{◌≡◌, ◌∙◌, ap, sym, ℕ, None, Option, List, [], ◌∷◌, ◌++◌, append_assoc}
+use Rattle.std.proofs.Common.{◌≡◌, ◌∙◌, ap, sym, ℕ, None, Option, List, [], ◌∷◌, ◌++◌, map, append_assoc}
 use Rattle.std.specs.List.{flat_map}
 use Rattle.percpu_core.specs.declared.not_enabled.NotEnabled.{NotEnabled}
 use Rattle.percpu_core.specs.declared.reply.Reply.{Reply}
 use Rattle.percpu_core.specs.Machine.{State, refusal, reply, after}
-use Rattle.gate_replay.specs.Laws.{WholeRunsAreShown, StuckRunsAreShown}
+use Rattle.percpu_core.specs.Starts.{first_state}
+use Rattle.percpu_core.proofs.Endings.{runs_lose_nothing}
+use Rattle.gate_replay.specs.Schedules.{opening_in}
+use Rattle.gate_replay.specs.Laws.{step_of, WholeRunsAreShown, StuckRunsAreShown, EndedReplaysLoseNothing}
 use Rattle.gate_replay.specs.ReplyLines.{reply_line, stuck_line, end_line}
 use Rattle.gate_replay.specs.Shown.{Shown, then_shown, step_shown, shown_from}
 use Rattle.gate_replay.specs.declared.replay.Replayed.{Replayed}
@@ -37,3 +40,9 @@ stuck_runs first (e ∷ before) [] here line event why later run refused = absur
 stuck_runs first (e ∷ before) (r ∷ replies) here line event why later run refused =
     step_first e.0 (refusal first e.1) (reply first e.1) r (shown_from (after first e.1) (before ++ (line, event) ∷ later)) replies (stuck_line line why) Stuck
     run.0 run.1 (stuck_runs (after first e.1) before replies here line event why later run.2 refused)
+
+pub ended_replays : EndedReplaysLoseNothing
+ended_replays schedule replies last within run over = (
+  whole_runs (first_state (opening_in schedule)) schedule.events replies last run,
+  runs_lose_nothing (opening_in schedule) (map step_of schedule.events) replies last (record { within = within; run = run }) over,
+)

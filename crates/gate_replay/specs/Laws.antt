@@ -4,10 +4,14 @@ use Rattle.std.specs.List.{flat_map}
 use Rattle.percpu_core.specs.declared.event.Event.{Event}
 use Rattle.percpu_core.specs.declared.not_enabled.NotEnabled.{NotEnabled}
 use Rattle.percpu_core.specs.declared.reply.Reply.{Reply}
+use Rattle.percpu_core.specs.Endings.{IsOver, NothingIsLost}
 use Rattle.percpu_core.specs.Machine.{State, Run, refusal}
+use Rattle.percpu_core.specs.Starts.{IsWithinLimits, first_state}
 use Rattle.gate_replay.specs.ReplyLines.{reply_line, stuck_line, end_line}
-use Rattle.gate_replay.specs.Shown.{shown_from}
+use Rattle.gate_replay.specs.Schedules.{opening_in}
+use Rattle.gate_replay.specs.Shown.{shown_from, shown_of}
 use Rattle.gate_replay.specs.declared.replay.Replayed.TheVariants.{Whole, Stuck}
+use Rattle.gate_replay.specs.declared.schedule.Schedule.{Schedule}
 
 abbrev pub step_of : ℕ × Event → Event
 step_of e = e.1
@@ -22,3 +26,9 @@ abbrev pub StuckRunsAreShown : Type 0
 StuckRunsAreShown = (first : State) (before : List (ℕ × Event)) (replies : List Reply) (here : State) (line : ℕ) (event : Event) (why : NotEnabled) (later : List (ℕ × Event))
     → Run first (map step_of before) replies here → refusal here event ≡ Some why
     → shown_from first (before ++ (line, event) ∷ later) ≡ record { text = flat_map reply_line replies ++ stuck_line line why; ended = Stuck }
+
+-- a schedule whose steps are all taken, and that leaves every pass joined and the control at rest, shows its replies and the state that they leave, and nothing is lost in it
+abbrev pub EndedReplaysLoseNothing : Type 0
+EndedReplaysLoseNothing = (schedule : Schedule) (replies : List Reply) (last : State) → IsWithinLimits (opening_in schedule)
+    → Run (first_state (opening_in schedule)) (map step_of schedule.events) replies last → IsOver last
+    → (shown_of schedule ≡ record { text = flat_map reply_line replies ++ end_line last; ended = Whole }) × NothingIsLost (opening_in schedule) (map step_of schedule.events) replies last

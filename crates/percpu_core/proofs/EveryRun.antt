@@ -38,7 +38,7 @@ pub laws_always : LawsAlways
 laws_always o events replies last reach = along (origin_of o) (first_snapshot o) (first_lawful o reach.within) events replies last
     (subst (λ (s : State). Run s events replies last) (sym (first_kept o)) reach.run)
 
-won_along : (s : State) (events : List Event) (replies : List Reply) (last : State) → Run s events replies last → last.releases ≡ s.releases + sum_by won replies
+pub won_along : (s : State) (events : List Event) (replies : List Reply) (last : State) → Run s events replies last → last.releases ≡ s.releases + sum_by won replies
 won_along s [] [] last run = let same = ap (λ (s : State). s.releases) run in omega arith
 won_along s [] (r ∷ rs) last run = absurd run
 won_along s (e ∷ es) [] last run = absurd run
@@ -53,10 +53,10 @@ zero_counts : (zero dead : Bool) → (zero ≡ true → dead ≡ true) → count
 zero_counts false dead h = omega arith
 zero_counts true dead h = let e = ap count (h refl) in omega arith
 
-zero_if_dead : (o : Origin) (m : Snapshot) → Holds o m → count m.cells.shared.zero ≤ count m.cells.shared.dead
+pub zero_if_dead : (o : Origin) (m : Snapshot) → Holds o m → count m.cells.shared.zero ≤ count m.cells.shared.dead
 zero_if_dead o m l = zero_counts m.cells.shared.zero m.cells.shared.dead (λ h. l.phase.dead ∙ zero_dead m.control.standing.phase m.control.killing (l.zero.after_drop h))
 
-few : (o : Origin) (m : Snapshot) → Holds o m → m.control.releases + releases_of_passes m.others + o.kills ≤ m.control.standing.kills
+pub few : (o : Origin) (m : Snapshot) → Holds o m → m.control.releases + releases_of_passes m.others + o.kills ≤ m.control.standing.kills
 few o m l = let r = l.release.releases in let z = l.release.zeros in let k = l.release.kills in
     let d = zero_if_dead o m l in omega arith
 
@@ -83,14 +83,14 @@ kill_counts s (Control control.OpenNext) = omega arith
 kill_counts s (Control (control.StoreWord k v)) = omega arith
 kill_counts s (Control control.LookShared) = omega arith
 
-kills_along : (s : State) (events : List Event) (replies : List Reply) (last : State) → Run s events replies last → last.control.kills ≡ s.control.kills + sum_by kill events
+pub kills_along : (s : State) (events : List Event) (replies : List Reply) (last : State) → Run s events replies last → last.control.kills ≡ s.control.kills + sum_by kill events
 kills_along s [] [] last run = let same = ap (λ (s : State). s.control.kills) run in omega arith
 kills_along s [] (r ∷ rs) last run = absurd run
 kills_along s (e ∷ es) [] last run = absurd run
 kills_along s (e ∷ es) (r ∷ rs) last run = let more = kills_along (after s e) es rs last run.2 in let one = kill_counts s e in let sum = sum_by-cons kill e es in omega arith
 
 -- a gate is brought back at least as often as from zero
-taken_zeros : (v : View) (c : ControlView) → ((control_taking v c).zeros_cleared ≡ c.zeros_cleared) × ((control_taking v c).revivals ≡ c.revivals)
+pub taken_zeros : (v : View) (c : ControlView) → ((control_taking v c).zeros_cleared ≡ c.zeros_cleared) × ((control_taking v c).revivals ≡ c.revivals)
 taken_zeros (OfPass p) c = (refl, refl)
 taken_zeros (OfControl d) c = (refl, refl)
 taken_zeros Spent c = (refl, refl)

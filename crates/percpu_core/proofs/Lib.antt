@@ -29,6 +29,7 @@ pub mod HeldByAll
 pub mod Runs
 pub mod EveryRun
 pub mod Moves
+pub mod Endings
 -- the same over all views in one list, as a running gate asks it: that each step keeps the laws, that it fits, and what the words of slots tell
 pub mod SeatSteps
 pub mod Fitting

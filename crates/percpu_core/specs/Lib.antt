@@ -22,5 +22,6 @@ pub mod Snapshots
 pub mod Replays
 pub mod CounterMoves
 pub mod Interleavings
+pub mod Endings
 pub mod SeatLaws
 pub mod StepsFit

@@ -2,6 +2,7 @@
 //! stands for the law in its contract.
 ghost use Rattle.percpu_core.specs.SeatLaws.{PassStepsKeepLaws, ControlStepsKeepLaws, KnownZeroIsSet, JoiningKeepsLaws, SplittingKeepsLaws, OpeningIsLawful};
 ghost use Rattle.percpu_core.specs.StepsFit.{PassStepsFit, ControlStepsFit};
+ghost use Rattle.percpu_core.specs.Endings.{RunsLoseNothing};
 ghost use Rattle.percpu_core.specs.Interleavings.{LawsAlways, ReleasedAtZero, ReleasedOncePerKill, ReleasedOnceInALife, MovesOfTheCounter, NumbersStaySmall};
 
 /// Each step of a seat, enabled by the view of that seat alone, keeps the laws of all memory and all
@@ -48,4 +49,12 @@ pub fn events_are_moves()
 #[tactic(auto, using(crate::proofs::EveryRun::numbers_stay_small))]
 pub fn numbers_stay_small()
     ensures { NumbersStaySmall }
+{}
+
+/// Nothing is lost at the end: once every pass has joined and the control is at rest, a dead gate has ZERO set, the
+/// releases are the zeros cleared and the one that stands, each kill has one at most, and a gate that started live
+/// refused nobody without a kill.
+#[tactic(auto, using(crate::proofs::Endings::runs_lose_nothing))]
+pub fn nothing_is_lost()
+    ensures { RunsLoseNothing }
 {}

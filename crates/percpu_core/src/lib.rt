@@ -51,7 +51,7 @@ pub use control_standing::ControlStanding;
 pub use event::Event;
 pub use interleavings::{
     a_release_is_the_last, each_step_fits, each_step_keeps_the_laws, events_are_moves,
-    every_interleaving, numbers_stay_small,
+    every_interleaving, nothing_is_lost, numbers_stay_small,
 };
 pub use limits::{
     HELD_LIMIT, KILL_LIMIT, PASS_LIMIT, SLOT_LIMIT, WORD_LIMIT, limits_are_these_numbers,

@@ -1,5 +1,5 @@
 //! Worked schedules, each with what its replay shows and how it ends. Where it is refused, the text is that of
-//! the fault.
+//! the fault. Longer ones stand in examples/, each with its answer.
 use crate::Replayed;
 
 pub(super) struct Row {
@@ -39,18 +39,6 @@ pub(super) const ROWS: &[Row] = &[
         schedule: b"gate 1\n",
         text: b"line 2: no world",
         ended: None,
-    },
-    Row {
-        name: "replay_two_kills",
-        schedule: b"gate 1\nworld 1 2 atomic 0\n0 add try\n1 add try\nc dead\nc confirm\nc base\n1 sub 1\n0 sub 1\nc take\nc front\nc clear\n1 add try\nc dead\nc confirm\nc base\n1 sub 1\n0 mark\n1 mark\n",
-        text: b"given\ngiven\nok\nok\nnot last\nnot last\nto mark\nok\nok\nok\ngiven\nok\nok\nnot last\nto mark\nlast\nlost\nend zero 0 front 3 kills 2 releases 1 held 0\n",
-        ended: Some(Replayed::Whole),
-    },
-    Row {
-        name: "replay_slots",
-        schedule: b"gate 1\nworld 2 1 slots 0\n0 look 0\n0 take 0 0 1\nc dead\nc close\n0 look 1\n0 give 1 0 1\nc shared\nc close\nc collect\nc shared\nc confirm\nc base\nc mark\n",
-        text: b"open 0\nwon\nok\nclosed 1\nopen 0\nwon\ndead 281474976710657\nclosed -1\nok\ndead 1\nok\nto mark\nlast\nend zero 0 front 1 kills 1 releases 1 held 0\n",
-        ended: Some(Replayed::Whole),
     },
     Row {
         name: "opens_and_closes",
