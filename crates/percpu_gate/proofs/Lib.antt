@@ -12,6 +12,8 @@ pub mod PassSteps
 pub mod SlotSteps
 -- the steps of a put, and of the end of a try, together
 pub mod PassCalls
+-- what a look at a slot and an exchange leave
+pub mod SlotCounts
 -- what a try found and leaves
 pub mod Tries
 -- what a look, a front and a word show

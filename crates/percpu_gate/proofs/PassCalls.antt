@@ -38,7 +38,7 @@ mark_wins Last = refl
 mark_wins NotLast = refl
 
 -- what a step leaves that counts alone, once its answer is known
-counted : (p : PassView) (held held' won won' : ℕ) (owes owes' : Pending) → held ≡ held' → won ≡ won' → owes ≡ owes'
+pub counted : (p : PassView) (held held' won won' : ℕ) (owes owes' : Pending) → held ≡ held' → won ≡ won' → owes ≡ owes'
     → record p { standing = record { held = held; pending = owes }; releases = p.releases + won; found_dead = p.found_dead || false; found_zero = p.found_zero || false }
     ≡ counts p held' won' owes'
 counted p held held' won won' owes owes' h w o = λ j. record p {

@@ -2,5 +2,6 @@ pub mod Layout
 pub mod Rule
 pub mod Seats
 pub mod Calls
+pub mod Counts
 pub mod ControlCalls
 pub mod Exits

@@ -82,9 +82,9 @@ impl<const W: usize> Pass<W> {
     /// Takes a reference unless the gate has reached zero. A pass that holds one already always gets it.
     /// Linux: `percpu_ref_tryget` (include/linux/percpu-refcount.h).
     #[inline]
-    pub fn try_get(&mut self, gate: &Gate<W>, _slot: u32) -> Tried
+    pub fn try_get(&mut self, gate: &Gate<W>, slot: u32) -> Tried
         requires own { self.old.gate ≡ gate.now }
-        requires slot { _slot < gate.now.slots }
+        requires slot { slot < gate.now.slots }
         requires room { self.old.view.standing.held < HELD_LIMIT }
         ensures own { self.new.gate ≡ self.old.gate }
         ensures leaves { TryLeaves self.old.view self.new.view result }
@@ -92,7 +92,7 @@ impl<const W: usize> Pass<W> {
         ensures again { 0 < self.old.view.standing.held → result ≡ Given }
         ensures ground { is_refused result ≡ true → (self.new.view.found_dead ≡ true) × (self.new.view.found_zero ≡ true) }
     {
-        let is_given = self.seat.add_try(&gate.table);
+        let is_given = self.seat.count_try(&gate.table, slot);
         let answer = self.seat.end_try(&gate.table, is_given);
         self.held += answer.taken();
         self.releases += answer.released();
@@ -103,19 +103,19 @@ impl<const W: usize> Pass<W> {
     /// reference that it is given belongs to a later life: its floor is `f + 1` or more. Linux:
     /// `percpu_ref_tryget_live` (include/linux/percpu-refcount.h).
     #[inline]
-    pub fn try_get_live(&mut self, gate: &Gate<W>, _slot: u32) -> Tried
+    pub fn try_get_live(&mut self, gate: &Gate<W>, slot: u32) -> Tried
         requires own { self.old.gate ≡ gate.now }
-        requires slot { _slot < gate.now.slots }
+        requires slot { slot < gate.now.slots }
         requires room { self.old.view.standing.held < HELD_LIMIT }
         ensures own { self.new.gate ≡ self.old.gate }
         ensures leaves { TryLeaves self.old.view self.new.view result }
-        ensures finds { LiveTryFinds gate.now _slot self.old.view result }
+        ensures finds { LiveTryFinds gate.now slot self.old.view result }
         ensures floor { self.new.view.floor ≡ (if is_refused result then self.old.view.floor else next_even self.old.view.floor) }
         ensures live { self.new.view.live_given ≡ self.old.view.live_given + taken result }
         ensures later { is_refused result ≡ false → self.old.view.seen_front % 2 ≡ 1 → self.old.view.seen_front + 1 ≤ self.new.view.floor }
         ensures ground { is_refused result ≡ true → self.new.view.found_dead ≡ true }
     {
-        let is_given = self.seat.add_live(&gate.table);
+        let is_given = self.seat.count_live(&gate.table, slot);
         let answer = self.seat.end_try(&gate.table, is_given);
         self.held += answer.taken();
         self.releases += answer.released();
@@ -125,31 +125,31 @@ impl<const W: usize> Pass<W> {
     /// Takes `n` references more, for a pass that holds one. Linux: `percpu_ref_get_many`
     /// (include/linux/percpu-refcount.h).
     #[inline]
-    pub fn get(&mut self, gate: &Gate<W>, _slot: u32, n: u32)
+    pub fn get(&mut self, gate: &Gate<W>, slot: u32, n: u32)
         requires own { self.old.gate ≡ gate.now }
-        requires slot { _slot < gate.now.slots }
+        requires slot { slot < gate.now.slots }
         requires held { 1 ≤ self.old.view.standing.held }
         requires amount { 1 ≤ n }
         requires room { self.old.view.standing.held + n ≤ HELD_LIMIT }
         ensures own { self.new.gate ≡ self.old.gate }
         ensures leaves { GetLeaves self.old.view self.new.view n }
     {
-        self.seat.add_get(&gate.table, n);
+        self.seat.count_get(&gate.table, slot, n);
         self.held += n;
     }
 
     /// Drops `n` references that the pass holds. `Last` is the release. Linux: `percpu_ref_put_many`
     /// (include/linux/percpu-refcount.h).
     #[inline]
-    pub fn put(&mut self, gate: &Gate<W>, _slot: u32, n: u32) -> Put
+    pub fn put(&mut self, gate: &Gate<W>, slot: u32, n: u32) -> Put
         requires own { self.old.gate ≡ gate.now }
-        requires slot { _slot < gate.now.slots }
+        requires slot { slot < gate.now.slots }
         requires amount { 1 ≤ n }
         requires held { n ≤ self.old.view.standing.held }
         ensures own { self.new.gate ≡ self.old.gate }
         ensures view { self.new.view ≡ after_put result (self.old.view.standing.held - n) self.old.view }
     {
-        let answer = self.seat.drop_held(&gate.table, n);
+        let answer = self.seat.count_put(&gate.table, slot, n);
         self.held -= n;
         self.releases += answer.released();
         answer

@@ -1,16 +1,21 @@
-//! A pass's steps on a slot: a look at it, and the exchanges that count on it.
-ghost use Rattle.std.specs.Prelude.{◌≡◌, pos, ◌+ℤ◌, ◌-ℤ◌};
+//! A pass's counts on a slot: a look at it, and the exchange where it is open and has room.
+ghost use Rattle.std.specs.Prelude.{◌≡◌, ◌*◌, ◌+◌, ◌-◌, ◌<◌, ◌≤◌, pos, ◌+ℤ◌, ◌-ℤ◌, IfSome, if◌then◌else◌};
 ghost use Rattle.percpu_words.specs.SlotWord.{IsDelta, delta_spelling};
+ghost use Rattle.percpu_core.specs.declared.limits.TheConstants.{HELD_LIMIT, KILL_LIMIT};
 ghost use Rattle.percpu_core.specs.declared.pass_event.PassEvent.TheVariants as events;
+ghost use Rattle.percpu_core.specs.declared.pass_standing.Pending.TheVariants.{Nothing};
 ghost use Rattle.percpu_core.specs.Machine.{IsEnabled};
 ghost use Rattle.percpu_core.specs.PassSteps.{hinders_pass};
 ghost use Rattle.percpu_gate.specs.Rule.{sizes_at};
-ghost use Rattle.percpu_gate.specs.Seats.{facts_of, PassStep, looked, exchanged};
+ghost use Rattle.percpu_gate.specs.Seats.{facts_of, PassStep, looked, exchanged, tried};
+ghost use Rattle.percpu_gate.specs.Calls.{holding, after_put, GetLeaves};
+ghost use Rattle.percpu_gate.specs.Counts.{SlotTake, TryCounts, LiveCounts};
 
 use super::PassSeat;
 use crate::plays::{GivesOnSlot, LooksAtSlot, TakesOnSlot};
 use crate::table::{FIRST_SLOT, GateTable, WORDS_OF_A_SLOT};
-use percpu_words::{slot_delta, slot_word};
+use crate::tried::Put;
+use percpu_words::{DELTA_MAX, slot_delta, slot_word};
 
 /// The word of a slot that counts `n` more than `seen`.
 #[inline]
@@ -38,6 +43,7 @@ impl PassSeat {
         requires enabled { IsEnabled (hinders_pass (sizes_at gate.now.key) self.old.view.standing (events.Look slot)) }
         ensures own { self.new.gate ≡ self.old.gate }
         ensures step { PassStep (facts_of gate.now) (events.Look slot) self.old.view self.new.view (looked result) }
+        ensures small { IfSome result IsDelta }
     {
         let place = FIRST_SLOT + WORDS_OF_A_SLOT * slot as usize;
         slot_delta(gate.table.shared.load::<LooksAtSlot>(&mut self.seat, place))
@@ -73,5 +79,115 @@ impl PassSeat {
         let shared = &gate.table.shared;
         let found = shared.compare_exchange::<GivesOnSlot>(&mut self.seat, place, expected, wanted);
         found == expected
+    }
+
+    /// Takes `n` references on a slot: a look, and one exchange where the slot is open and the delta stays within its
+    /// limit. Whether that was won.
+    #[inline]
+    pub(crate) fn take_if_open(&mut self, gate: &GateTable, slot: u32, n: u32) -> bool
+        requires own { self.old.gate ≡ facts_of gate.now }
+        requires slot { slot < gate.now.key.slots }
+        requires idle { self.old.view.standing.pending ≡ Nothing }
+        requires amount { 1 ≤ n }
+        requires held { 2 ≤ n → 1 ≤ self.old.view.standing.held }
+        requires room { self.old.view.standing.held + n ≤ HELD_LIMIT }
+        ensures own { self.new.gate ≡ self.old.gate }
+        ensures takes { SlotTake (facts_of gate.now) slot n self.old.view self.new.view result }
+    {
+        let Some(seen) = self.look_at_slot(gate, slot) else {
+            return false;
+        };
+        if seen + i64::from(n) > DELTA_MAX {
+            return false;
+        }
+        self.take_on_slot(gate, slot, seen, n)
+    }
+
+    /// Drops `n` references on a slot: a look, and one exchange where the slot is open and the delta stays within its
+    /// limit. Whether that was won; else nothing is dropped.
+    #[inline]
+    pub(crate) fn give_if_open(&mut self, gate: &GateTable, slot: u32, n: u32) -> bool
+        requires own { self.old.gate ≡ facts_of gate.now }
+        requires slot { slot < gate.now.key.slots }
+        requires idle { self.old.view.standing.pending ≡ Nothing }
+        requires amount { 1 ≤ n }
+        requires held { n ≤ self.old.view.standing.held }
+        ensures own { self.new.gate ≡ self.old.gate }
+        ensures view { self.new.view ≡ (if result then record self.old.view { standing = holding (self.old.view.standing.held - n) } else self.old.view) }
+    {
+        let Some(seen) = self.look_at_slot(gate, slot) else {
+            return false;
+        };
+        if seen - i64::from(n) < -DELTA_MAX {
+            return false;
+        }
+        self.give_on_slot(gate, slot, seen, n)
+    }
+
+    /// Counts for `try_get`: on the slot, else on the shared word. Whether the reference is given.
+    #[inline]
+    pub(crate) fn count_try(&mut self, gate: &GateTable, slot: u32) -> bool
+        requires own { self.old.gate ≡ facts_of gate.now }
+        requires slot { slot < gate.now.key.slots }
+        requires idle { self.old.view.standing.pending ≡ Nothing }
+        requires room { self.old.view.standing.held < HELD_LIMIT }
+        ensures own { self.new.gate ≡ self.old.gate }
+        ensures counts { TryCounts (facts_of gate.now) self.old.view self.new.view result }
+    {
+        if self.take_if_open(gate, slot, 1) {
+            return true;
+        }
+        self.add_try(gate)
+    }
+
+    /// Counts for `try_get_live`: on the slot, else on the shared word. Whether the reference is given.
+    #[inline]
+    pub(crate) fn count_live(&mut self, gate: &GateTable, slot: u32) -> bool
+        requires own { self.old.gate ≡ facts_of gate.now }
+        requires slot { slot < gate.now.key.slots }
+        requires idle { self.old.view.standing.pending ≡ Nothing }
+        requires room { self.old.view.standing.held < HELD_LIMIT }
+        ensures own { self.new.gate ≡ self.old.gate }
+        ensures counts { LiveCounts (facts_of gate.now) slot self.old.view self.new.view result }
+    {
+        if self.take_if_open(gate, slot, 1) {
+            return true;
+        }
+        self.add_live(gate)
+    }
+
+    /// Takes `n` references more, of a pass that holds one: on the slot, else on the shared word.
+    #[inline]
+    pub(crate) fn count_get(&mut self, gate: &GateTable, slot: u32, n: u32)
+        requires own { self.old.gate ≡ facts_of gate.now }
+        requires slot { slot < gate.now.key.slots }
+        requires idle { self.old.view.standing.pending ≡ Nothing }
+        requires amount { 1 ≤ n }
+        requires held { 1 ≤ self.old.view.standing.held }
+        requires room { self.old.view.standing.held + n ≤ HELD_LIMIT }
+        ensures own { self.new.gate ≡ self.old.gate }
+        ensures leaves { GetLeaves self.old.view self.new.view n }
+    {
+        if !self.take_if_open(gate, slot, n) {
+            self.add_get(gate, n);
+        }
+    }
+
+    /// Drops `n` references that the pass holds: on the slot, else on the shared word.
+    #[inline]
+    pub(crate) fn count_put(&mut self, gate: &GateTable, slot: u32, n: u32) -> Put
+        requires own { self.old.gate ≡ facts_of gate.now }
+        requires slot { slot < gate.now.key.slots }
+        requires idle { self.old.view.standing.pending ≡ Nothing }
+        requires amount { 1 ≤ n }
+        requires held { n ≤ self.old.view.standing.held }
+        requires few { self.old.view.releases ≤ 2 * KILL_LIMIT }
+        ensures view { self.new ≡ record self.old { view = after_put result (self.old.view.standing.held - n) self.old.view } }
+        ensures few { self.new.view.releases ≤ 2 * KILL_LIMIT }
+    {
+        if self.give_if_open(gate, slot, n) {
+            return Put::NotLast;
+        }
+        self.drop_held(gate, n)
     }
 }
