@@ -1,5 +1,6 @@
 //! Overlaps by hand: the lines expected are those that the format names.
 use crate::{ScriptFault, check, parse};
+use script_overlap::ordered_requests;
 use std::alloc::Global;
 use std::test::Fail;
 
@@ -130,6 +131,39 @@ const ROWS: &[(&str, &str, Option<(u32, u32)>)] = &[
 fn pairs_that_overlap(rt: HostRuntime) -> Result<(), Fail> {
     for (disk, lines, pair) in ROWS {
         assert_eq!(rt; overlap_in(rt.alloc(), disk, lines)?, *pair, "{lines}");
+    }
+    Ok(())
+}
+
+// Lines, and those of the ordered requests.
+const ORDERED: &[(&str, &[u32])] = &[
+    ("read 0 4\nread 2 4\nwrite 6 1 ff\nread 6 2\n", &[6]),
+    (
+        "write 0 2 01\nwrite 1 2 02\nwrite 0 1 03\nread 1 1\n",
+        &[4, 6],
+    ),
+    // The drain before line 4 ends the span of line 3, and line 5 joins that of line 4.
+    ("write 0 1 01\nwrite 0 1 02\nread 1 1\nread 0 1\n", &[4, 6]),
+    // The stat drains, and the read past the end is no accepted request.
+    ("write 7 1 01\nread 7 2\nstat\nread 7 1\nread 7 1\n", &[]),
+    (
+        "read 0 8\nread 0 8\nwrite 7 1 ab\nread 0 7\nread 0 8\n",
+        &[5, 7],
+    ),
+    ("", &[]),
+];
+
+#[test]
+fn requests_that_are_ordered(rt: HostRuntime) -> Result<(), Fail> {
+    let alloc = rt.alloc();
+    for (lines, ordered) in ORDERED {
+        let mut text = String::new(alloc);
+        for part in ["blkq 1\ndisk 8 hw 8\n", lines] {
+            text.push_str(part)?;
+        }
+        let script = parse(alloc, text.as_bytes())?;
+        let told = ordered_requests(alloc, &script)?;
+        assert_eq!(rt; told.as_slice(), *ordered, "{lines}");
     }
     Ok(())
 }

@@ -1,6 +1,8 @@
 -- Bitmaps: touched sectors as bits. PartnerLemmas, SpanLemmas: clashing requests and touched sectors, one line further. Overlaps: the
--- first overlap of a script.
+-- first overlap of a script. OrderedLemmas, OrderedLines: its ordered requests.
 pub mod Bitmaps
+pub mod OrderedLemmas
+pub mod OrderedLines
 pub mod Overlaps
 pub mod PartnerLemmas
 pub mod SpanLemmas

@@ -1,5 +1,5 @@
 -- The first overlap of a script, and scripts without one.
-use Rattle.std.proofs.Common.{◌≡◌, ◌∙◌, refl, sym, ap, subst, ℕ, ◌+◌, ◌<◌, ◌≤◌, inl, inr, arith, Bool, true, false, List, length, Option, Some, None, IsSome}
+use Rattle.std.proofs.Common.{◌≡◌, ◌∙◌, refl, sym, ap, subst, ℕ, ◌+◌, ◌<◌, ◌≤◌, inl, inr, arith, [], length, Option, Some, None, IsSome, Contains}
 use Rattle.std.proofs.lemmas.Bool.{cases_lt}
 use Rattle.std.proofs.lemmas.Option.{slice_get_past}
 use Rattle.std.specs.Option.{option_and_then}
@@ -7,21 +7,25 @@ use Rattle.script_meaning.specs.Requests.{queue_at, accepted_at, number_at}
 use Rattle.script_meaning.specs.Taken.{accepted}
 use Rattle.script_overlap.specs.Overlap.{Clash, IsOverlap, HasNoOverlap, IsReported, IsFirstOverlap}
 use Rattle.script_meaning.specs.Script.{Meant}
+use Rattle.script_overlap.specs.Ordered.{MustWait}
 use Rattle.script_overlap.specs.Partners.{Finds, IsPartner, IsEarliest}
-use Rattle.script_overlap.specs.SpanOfRequests.{OfSectors, Takes, Conflicts, ConflictsNot, marks_of}
 use Rattle.line_text.specs.declared.fault.Overlap.{Overlap}
 use Rattle.script_meaning.specs.declared.line.Line.{Line}
 use Rattle.script_meaning.specs.declared.request.Request.{Request}
-use Rattle.script_overlap.specs.declared.span.Span.{Span}
 use Rattle.script_overlap.proofs.PartnerLemmas.{before_or_here, same_accepted, span_with, span_before}
-use Rattle.script_overlap.proofs.SpanLemmas.{Reaches, partner_met, partner_unmet, same_or_not}
 
--- where a request meets the span, an earlier line is found
-pub met_is_found : (script : Meant) (i : ℕ) (span : Span) (request : Request) (found : Option ℕ) → Reaches script i span → Conflicts span request → Finds script i request found → IsSome found
-met_is_found script i span request (Some number) reaches conflicts finds = refl
-met_is_found script i span request None reaches conflicts finds =
-    let partner = partner_met script i span request reaches conflicts in
-    absurd (finds partner.0 partner.1)
+-- where a request has to wait, an earlier line is found
+pub wait_is_found : (script : Meant) (i : ℕ) (request : Request) (found : Option ℕ) → accepted_at script i ≡ Some request → MustWait script [] i → Finds script i request found → IsSome found
+wait_is_found script i request (Some number) accepted waits finds = refl
+wait_is_found script i request None accepted waits finds =
+    let P : Request → Type 0 = λ r. Clash waits.first r in
+    absurd (finds waits.earlier (record {
+      other = waits.first;
+      other_accepted = waits.first_accepted;
+      in_order = waits.in_order;
+      one_span = λ between low high. (waits.joins between low high).0;
+      clash = subst P (same_accepted script i waits.second request waits.second_accepted accepted) waits.clash;
+    }))
 
 overlap_of_partner : (script : Meant) (i : ℕ) (request : Request) (e : ℕ) → accepted_at script i ≡ Some request → IsPartner script i request e → IsOverlap script e i
 overlap_of_partner script i request e accepted p = record {
@@ -68,12 +72,21 @@ apart_further script i before here e l lt o =
       | inr is ↦ let P : ℕ → Type 0 = λ n. IsOverlap script e n in here e (subst P is o)
     ]
 
--- none with an accepted request that meets no other, and none with a line that is no accepted request
-pub apart_accepted : (script : Meant) (i : ℕ) (span : Span) (request : Request) → Reaches script i span → accepted_at script i ≡ Some request → ConflictsNot span request → (e : ℕ) → IsOverlap script e i → ⊥
-apart_accepted script i span request reaches accepted unmet e o = partner_unmet script i span request reaches unmet e (partner_of_overlap script i request e accepted o)
+pub none_ordered : (p : ℕ) → Contains [] p → ⊥
+none_ordered p there = omega (arith, there.1)
 
-pub apart_other : (script : Meant) (i : ℕ) → accepted_at script i ≡ None → (e : ℕ) → IsOverlap script e i → ⊥
-apart_other script i rejected e o = let there : accepted_at script i ≡ Some o.second = o.second_accepted in cc
+-- none with a line that has to wait for none
+pub apart_here : (script : Meant) (i : ℕ) → (MustWait script [] i → ⊥) → (e : ℕ) → IsOverlap script e i → ⊥
+apart_here script i joins e o = joins (record {
+  earlier = e;
+  first = o.first;
+  second = o.second;
+  first_accepted = o.first_accepted;
+  second_accepted = o.second_accepted;
+  in_order = o.in_order;
+  joins = λ between low high. (o.one_span between low (omega arith), none_ordered between);
+  clash = o.clash;
+})
 
 -- past the last line there is nothing
 pub apart_at_end : (script : Meant) (i : ℕ) → length script.lines ≤ i → ((e l : ℕ) → l < i → IsOverlap script e l → ⊥) → HasNoOverlap script
@@ -82,23 +95,8 @@ apart_at_end script i last before e l o =
       | inl less ↦ before e l less o
       | inr more ↦
           let past : accepted_at script l ≡ None = ap (option_and_then (λ (line : Line). accepted (queue_at script l) line.what)) (slice_get_past script.lines l (omega arith)) in
-          apart_other script l past e o
+          (let there : accepted_at script l ≡ Some o.second = o.second_accepted in cc)
     ]
-
-length_of_marks : (old new : Span) (request : Request) (writes : Bool) → Takes old new request → length (marks_of new writes) ≡ length (marks_of old writes)
-length_of_marks old new request writes takes =
-    elim (same_or_not writes request.writes) [
-      | inl same ↦ ap (λ (w : Bool). length (marks_of new w)) same ∙ takes.adds.sectors ∙ ap (λ (w : Bool). length (marks_of old w)) (sym same)
-      | inr other ↦ ap (λ (marks : List Bool). length marks) (takes.keeps writes other)
-    ]
-
--- a span stays one of the same disk
-pub sectors_taken : (old new : Span) (request : Request) (before sectors : ℕ) → sectors ≡ before → OfSectors old before → Takes old new request → OfSectors new sectors
-sectors_taken old new request before sectors same of takes =
-    record { reads = length_of_marks old new request false takes ∙ of.reads ∙ sym same; writes = length_of_marks old new request true takes ∙ of.writes ∙ sym same }
-
-pub sectors_same : (span : Span) (before sectors : ℕ) → sectors ≡ before → OfSectors span before → OfSectors span sectors
-sectors_same span before sectors same of = record { reads = of.reads ∙ sym same; writes = of.writes ∙ sym same }
 
 -- ---- one first overlap
 

@@ -1,5 +1,6 @@
--- Overlap: what the contract of `check` cites. The others are of the code behind it: Partners of the search for the earlier line, Span and
--- SpanOfRequests of the sectors that a span touches.
+-- Overlap: what the contract of `check` cites. Ordered: which requests a drain has to stand before. SpanOfRequests and Span: the sectors that
+-- the requests of a span touch. Partners is of the search for the earlier line.
+pub mod Ordered
 pub mod Overlap
 pub mod Partners
 pub mod Span

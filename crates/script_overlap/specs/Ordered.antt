@@ -1,0 +1,51 @@
+-- Which requests of a script are ordered: one that clashes with a request of the span that it would join begins a new span, and a drain
+-- stands before it.
+use Rattle.std.specs.Prelude.{◌≡◌, ℕ, ◌<◌, false, List, Some, Contains, AllPairs, map}
+use Rattle.script_meaning.specs.Requests.{accepted_at, drains_at, number_at}
+use Rattle.script_meaning.specs.Script.{Meant}
+use Rattle.script_meaning.specs.declared.request.Request.{Request}
+use Rattle.script_overlap.specs.Overlap.{Clash}
+
+-- a position parts no span: its line doesn't drain, and its request isn't ordered
+abbrev pub PartsNothing : Meant → List ℕ → ℕ → Type 0
+PartsNothing script ordered position = (drains_at script position ≡ false) × (Contains ordered position → ⊥)
+
+-- a request at the later position would join the span of the earlier one
+abbrev pub WouldJoin : Meant → List ℕ → ℕ → ℕ → Type 0
+WouldJoin script ordered earlier later = (between : ℕ) → earlier < between → between < later → PartsNothing script ordered between
+
+-- the accepted request at a position clashes with one of the span that it would join
+pub record MustWait (script : Meant) (ordered : List ℕ) (later : ℕ) : Type 0 where
+  pub earlier : ℕ
+  pub first : Request
+  pub second : Request
+  pub first_accepted : accepted_at script earlier ≡ Some first
+  pub second_accepted : accepted_at script later ≡ Some second
+  pub in_order : earlier < later
+  pub joins : WouldJoin script ordered earlier later
+  pub clash : Clash first second
+
+-- these are the positions of the ordered requests, ascending
+pub record AreOrdered (script : Meant) (ordered : List ℕ) : Type 0 where
+  pub ascending : AllPairs (λ earlier later. earlier < later) ordered
+  pub wait : (position : ℕ) → Contains ordered position → MustWait script ordered position
+  pub all : (position : ℕ) → MustWait script ordered position → Contains ordered position
+
+-- these are the numbers of their lines
+pub record AreOrderedLines (script : Meant) (lines : List ℕ) : Type 0 where
+  pub positions : List ℕ
+  pub ordered : AreOrdered script positions
+  pub numbers : map (number_at script) positions ≡ map Some lines
+
+-- there is one list of them
+abbrev pub IsOneOrder : Type 0
+IsOneOrder = (script : Meant) (a b : List ℕ) → AreOrdered script a → AreOrdered script b → a ≡ b
+
+abbrev pub IsOneListOfLines : Type 0
+IsOneListOfLines = (script : Meant) (a b : List ℕ) → AreOrderedLines script a → AreOrderedLines script b → a ≡ b
+
+-- no two requests clash that no drain parts: neither a line that drains, nor the drain before an ordered request
+abbrev pub PartsAllClashes : Type 0
+PartsAllClashes = (script : Meant) (ordered : List ℕ) → AreOrdered script ordered
+    → (earlier later : ℕ) (first second : Request) → accepted_at script earlier ≡ Some first → accepted_at script later ≡ Some second → earlier < later
+    → WouldJoin script ordered earlier later → (Contains ordered later → ⊥) → Clash first second → ⊥
