@@ -12,6 +12,7 @@ ghost use Rattle.freeze_queue.specs.Sets.{LooksForDrained};
 use crate::fault::FreezeFault;
 use crate::queue::BlockQueue;
 use crate::tag::{LIMIT_WORDS, Tag};
+use crossbeam_utils::Backoff;
 use crossbeam_utils::sync::Parker;
 use percpu_gate::Control;
 use queue_limits::Limits;
@@ -138,16 +139,21 @@ impl Freezer {
         Ok(depth)
     }
 
-    /// Waits until the queue is drained.
+    /// Waits until the queue is drained. A drain is often short, so it looks some times before it sleeps.
     fn wait_drained<R: Wait>(&mut self, rt: &R, queue: &BlockQueue)
         requires own { self.old.queue ≡ queue.now }
         ensures { self.new ≡ after_look true self.old }
     {
+        let backoff = Backoff::new();
         for _ in rt.forever() {
             if self.poll_drained(queue) {
                 return;
             }
-            self.sleeper.park(rt);
+            if backoff.is_completed() {
+                self.sleeper.park(rt);
+            } else {
+                backoff.snooze();
+            }
         }
         unreachable!()
     }

@@ -1,4 +1,5 @@
 mod by_hand;
 mod caller;
+mod rising;
 mod rounds;
 mod threads;
