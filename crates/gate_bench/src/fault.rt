@@ -1,0 +1,36 @@
+//! Why there is no table.
+use percpu_core::Memory;
+use std::alloc::AllocError;
+use std::io;
+use thiserror::Error;
+
+/// Why the program ends without its table.
+#[derive(Debug, Drop, Error)]
+pub enum Fault {
+    #[error("usage: gate_bench [THREADS ROUNDS], up to 64 threads of 1,000,000,000 rounds each")]
+    Usage,
+    #[error("memory")]
+    Memory,
+    #[error("the clock doesn't tell")]
+    Clock,
+    #[error("write: {0}")]
+    Output(io::Error),
+}
+
+impl From<Memory> for Fault {
+    fn from(_refused: Memory) -> Fault {
+        Fault::Memory
+    }
+}
+
+impl From<AllocError> for Fault {
+    fn from(_refused: AllocError) -> Fault {
+        Fault::Memory
+    }
+}
+
+impl From<io::Error> for Fault {
+    fn from(why: io::Error) -> Fault {
+        Fault::Output(why)
+    }
+}
