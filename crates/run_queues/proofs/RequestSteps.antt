@@ -1,0 +1,265 @@
+-- Each step of the queue keeps the rule of the requests.
+use Rattle.std.proofs.Common.{◌≡◌, ℕ, zero, suc, ◌+◌, ◌-◌, ◌<◌, Bool, true, false, ◌||◌, true≢false, Option, Some, None, List, [], ◌∷◌, ◌++◌, set, sym, refl, ap, ◌∙◌, arith, append-nil, zero-le, ⊎_elim, subst}
+use Rattle.std.specs.List.{range_with_len}
+use mathlib.Core.Option.{some, some-injective, some-ne-none}
+use lib.ListN.{get_elem?}
+use Rattle.crossbeam_queue.specs.Fifo.{Pushes, Pops, Forks, Merges, Learns}
+use Rattle.crossbeam_queue.proofs.Lists.{at_set, at_snoc}
+use Rattle.run_queues.specs.declared.numbered.Numbered.{Numbered}
+use Rattle.run_queues.specs.declared.requests.Part.{Part}
+use Rattle.run_queues.specs.Numbers.{IsIncreasing, times, one_below, one_at}
+use Rattle.run_queues.specs.Totals.{total}
+use Rattle.run_queues.specs.Requests.{numbers, number_of, EndsLast, first_part, all_parts, Fits, IsInOrder, after_push, after_end, after_pop, after_split, new_drawer, joined, spent, HasDrawnAll}
+use Rattle.run_queues.proofs.Totals.{total_set, total_snoc, at_most_total, two_at_most_total, total_is_one, Each, each_set}
+use Rattle.run_queues.proofs.Increasing.{one_below_more, one_below_none, below_of_one, one_below_at_most, times_append, times_merged, increasing_snoc, increasing_merged}
+
+pub no_bit : {A : Type 0} → false ≡ true → A
+no_bit e = absurd (true≢false (sym e))
+
+no_number : {A : Type 0} {x : ℕ} {xs : List ℕ} → x ∷ xs ≡ [] → A
+no_number e = absurd (true≢false (ap is_full e))
+  where
+    is_full : List ℕ → Bool
+    is_full [] = false
+    is_full (z ∷ zs) = true
+
+head_is : {x y : ℕ} {xs ys : List ℕ} → x ∷ xs ≡ y ∷ ys → x ≡ y
+head_is {y = y} e = ap (first_or y) e
+  where
+    first_or : ℕ → List ℕ → ℕ
+    first_or d [] = d
+    first_or d (z ∷ zs) = z
+
+tail_is : {x y : ℕ} {xs ys : List ℕ} → x ∷ xs ≡ y ∷ ys → xs ≡ ys
+tail_is e = ap rest e
+  where
+    rest : List ℕ → List ℕ
+    rest [] = []
+    rest (z ∷ zs) = zs
+
+numbers_snoc : {T : Type 0} (items : List (Option (Numbered T))) (item : Option (Numbered T)) → numbers (items ++ item ∷ []) ≡ numbers items ++ number_of item
+numbers_snoc [] item = append-nil (number_of item)
+numbers_snoc (None ∷ items) item = numbers_snoc items item
+numbers_snoc (Some request ∷ items) item = ap (λ l. request.number ∷ l) (numbers_snoc items item)
+
+range_snoc : (a n : ℕ) → range_with_len a n ++ (a + n) ∷ [] ≡ range_with_len a (suc n)
+range_snoc a zero = ap (λ k. k ∷ []) (omega arith)
+range_snoc a (suc n) = let at : a + suc n ≡ (a + 1) + n = omega arith in ap (λ k. a ∷ (range_with_len (a + 1) n ++ k ∷ [])) at ∙ ap (λ l. a ∷ l) (range_snoc (a + 1) n)
+
+none_waits : (taken waiting : ℕ) → range_with_len taken waiting ≡ [] → waiting ≡ 0
+none_waits taken zero e = refl
+none_waits taken (suc waiting) e = no_number e
+
+ends_after_request : {T : Type 0} (items : List (Option (Numbered T))) (request : Numbered T) → EndsLast false items → EndsLast false (items ++ Some request ∷ [])
+ends_after_request [] request ends = tt
+ends_after_request (None ∷ items) request ends = no_bit ends.0
+ends_after_request (Some first ∷ items) request ends = ends_after_request items request ends
+
+ends_after_end : {T : Type 0} (closed : Bool) (items : List (Option (Numbered T))) → EndsLast closed items → EndsLast true (items ++ None ∷ [])
+ends_after_end closed [] ends = (refl, refl)
+ends_after_end closed (None ∷ items) ends = (refl, numbers_snoc items None ∙ append-nil (numbers items) ∙ ends.1)
+ends_after_end closed (Some first ∷ items) ends = ends_after_end closed items ends
+
+only_ends : {T : Type 0} (items : List (Option (Numbered T))) → numbers items ≡ [] → EndsLast true items
+only_ends [] none = tt
+only_ends (None ∷ items) none = (refl, none)
+only_ends (Some first ∷ items) none = no_number none
+
+-- the first pass knows all
+pub begins : (T : Type 0) → IsInOrder {T = T} [] (first_part ∷ [])
+begins T = (0, 0, 0, false, refl, tt, (λ x. sym (one_below_none 0 x zero-le)), refl, first)
+  where
+    first : (port : ℕ) (v : Part) → get_elem? (first_part ∷ []) port ≡ some v → Fits 0 0 0 false port v
+    first zero v e = subst (Fits 0 0 0 false 0) (some-injective _ v e) (tt, (λ _. (refl, refl, refl)), (λ e. no_bit e), λ _. refl)
+    first (suc port) v e = absurd (some-ne-none v (sym e))
+
+pub pushes : {T : Type 0} (n port : ℕ) (v : Part) (request : Numbered T) → v.pushes ≡ true → v.closed ≡ false → request.number ≡ v.pushed
+    → Pushes IsInOrder n port v (Some request) (λ w. w ≡ after_push v)
+pushes n port v request may fresh is items views room b at =
+    let source = b.0 in let taken = b.1 in let waiting = b.2 in let closed = b.3 in
+    let mine = b.8 port v at in
+    let own = mine.1 may in
+    let is_open : closed ≡ false = sym own.2 ∙ fresh in (
+      after_push v,
+      (
+        source,
+        taken,
+        suc waiting,
+        false,
+        (numbers_snoc items (Some request) ∙ ap (λ l. l ++ request.number ∷ []) b.4 ∙ ap (λ k. range_with_len taken waiting ++ k ∷ []) (is ∙ own.1) ∙ range_snoc taken waiting),
+        ends_after_request items request (subst (λ c. EndsLast c items) is_open b.5),
+        (λ x. let s = total_set (λ u. times x u.drawn) views port v (after_push v) at in let p = b.6 x in omega arith),
+        (let s = total_set (λ u. u.parts) views port v (after_push v) at in let p = b.7 in omega arith),
+        each_set (Fits source taken waiting closed) (Fits source taken (suc waiting) false) views port (after_push v) b.8
+            (mine.0, (λ _. (own.0, (let p = own.1 in omega arith), fresh)), (λ d. no_bit (sym is_open ∙ (mine.2 d).0)), mine.3)
+            (λ j u other old. (old.0, (λ p. absurd (other ((old.1 p).0 ∙ sym own.0))), (λ d. no_bit (sym is_open ∙ (old.2 d).0)), old.3)),
+      ),
+      refl,
+    )
+
+-- an end mark has no number
+pub ends : {T : Type 0} (n port : ℕ) (v : Part) → v.pushes ≡ true → Pushes (IsInOrder {T = T}) n port v None (λ w. w ≡ after_end v)
+ends n port v may items views room b at =
+    let source = b.0 in let taken = b.1 in let waiting = b.2 in let closed = b.3 in
+    let mine = b.8 port v at in
+    let own = mine.1 may in (
+      after_end v,
+      (
+        source,
+        taken,
+        waiting,
+        true,
+        (numbers_snoc items None ∙ append-nil (numbers items) ∙ b.4),
+        ends_after_end closed items b.5,
+        (λ x. let s = total_set (λ u. times x u.drawn) views port v (after_end v) at in let p = b.6 x in omega arith),
+        (let s = total_set (λ u. u.parts) views port v (after_end v) at in let p = b.7 in omega arith),
+        each_set (Fits source taken waiting closed) (Fits source taken waiting true) views port (after_end v) b.8
+            (mine.0, (λ _. (own.0, own.1, refl)), (λ d. (refl, (mine.2 d).1)), mine.3)
+            (λ j u other old. (old.0, (λ p. absurd (other ((old.1 p).0 ∙ sym own.0))), (λ d. (refl, (old.2 d).1)), old.3)),
+      ),
+      refl,
+    )
+
+-- what is drawn so far is below what is drawn next
+drawn_below : (views : List Part) (port taken : ℕ) (v : Part) → get_elem? views port ≡ some v → ((x : ℕ) → total (λ u. times x u.drawn) views ≡ one_below taken x)
+    → (x : ℕ) → 0 < times x v.drawn → x < taken
+drawn_below views port taken v at once x here = let most = at_most_total (λ u. times x u.drawn) views port v at in let is = once x in below_of_one taken x (omega arith)
+
+-- the next number, by a pass that has a part
+draws_next : {T : Type 0} (port : ℕ) (v : Part) (request : Numbered T) (items : List (Option (Numbered T))) (views : List Part) (source taken waiting : ℕ) (closed : Bool) → 0 < v.parts
+    → request.number ∷ numbers items ≡ range_with_len taken waiting → EndsLast closed items
+    → ((x : ℕ) → total (λ u. times x u.drawn) views ≡ one_below taken x) → total (λ u. u.parts) views ≡ all_parts → Each (Fits source taken waiting closed) views
+    → get_elem? views port ≡ some v
+    → IsInOrder items (set views port (after_pop (Some request) v)) × IsIncreasing (v.drawn ++ request.number ∷ [])
+draws_next port v request items views source taken zero closed has line last once parts fits at = no_number line
+draws_next port v request items views source taken (suc waiting) closed has line last once parts fits at =
+    let number : request.number ≡ taken = head_is line in
+    let mine = fits port v at in
+    let w = after_pop (Some request) v in
+    let rising : IsIncreasing (v.drawn ++ request.number ∷ []) = increasing_snoc v.drawn request.number mine.0 (λ x here. let b = drawn_below views port taken v at once x here in omega arith) in (
+      (
+        source,
+        taken + 1,
+        waiting,
+        closed,
+        tail_is line,
+        last,
+        (λ x.
+            let s = total_set (λ u. times x u.drawn) views port v w at in
+            let a = times_append x v.drawn (request.number ∷ []) in
+            let n = ap (one_at x) number in
+            let m = one_below_more taken x in
+            let p = once x in
+            omega arith),
+        (let s = total_set (λ u. u.parts) views port v w at in omega arith),
+        each_set (Fits source taken (suc waiting) closed) (Fits source (taken + 1) waiting closed) views port w fits
+            (rising, (λ may. pushed_still (mine.1 may)), (λ d. absurd (some_wait (mine.2 d).1)), λ none. absurd (none_here v.parts has none))
+            (λ j u other old. (old.0, (λ may. pushed_still (old.1 may)), (λ d. absurd (some_wait (old.2 d).1)), old.3)),
+      ),
+      rising,
+    )
+  where
+    none_here : (n : ℕ) → 0 < n → n ≡ 0 → ⊥
+    none_here n h e = omega arith
+
+    some_wait : {n : ℕ} → suc n ≡ 0 → ⊥
+    some_wait e = omega arith
+
+    pushed_still : {A B : Type 0} {n : ℕ} → A × (n ≡ taken + suc waiting) × B → A × (n ≡ (taken + 1) + waiting) × B
+    pushed_still h = (h.0, (let p = h.1 in omega arith), h.2)
+
+pub pops : {T : Type 0} (port : ℕ) (v : Part) → 0 < v.parts → Pops (IsInOrder {T = T}) port v (λ item w. (w ≡ after_pop item v) × IsIncreasing w.drawn)
+pops {T = T} port v has None items views b at =
+    let mine = b.8 port v at in
+    let w = after_pop {T = T} None v in
+    let fits = Fits b.0 b.1 b.2 b.3 in (
+      w,
+      (
+        b.0,
+        b.1,
+        b.2,
+        b.3,
+        b.4,
+        subst (λ c. EndsLast c items) (sym b.5.0) (only_ends items b.5.1),
+        (λ x. let s = total_set (λ u. times x u.drawn) views port v w at in let p = b.6 x in omega arith),
+        (let s = total_set (λ u. u.parts) views port v w at in let p = b.7 in omega arith),
+        each_set fits fits views port w b.8 (mine.0, mine.1, (λ d. (b.5.0, none_waits b.1 b.2 (sym b.4 ∙ b.5.1))), mine.3) (λ j u other old. old),
+      ),
+      (refl, mine.0),
+    )
+pops port v has (Some request) items views b at =
+    let next = draws_next port v request items views b.0 b.1 b.2 b.3 has b.4 b.5 b.6 b.7 b.8 at in (after_pop (Some request) v, next.0, (refl, next.1))
+
+-- one who draws is split off
+pub forks : {T : Type 0} (port : ℕ) (v : Part) → 1 < v.parts → Forks (IsInOrder {T = T}) port v (after_split v) new_drawer
+forks port v many items views b at =
+    let mine = b.8 port v at in
+    let w = after_split v in
+    let vs = set views port w in
+    let fits = Fits b.0 b.1 b.2 b.3 in
+    let old = each_set fits fits views port w b.8 (mine.0, mine.1, mine.2, λ none. absurd (none_left v.parts many none)) (λ j u other o. o) in (
+      b.0,
+      b.1,
+      b.2,
+      b.3,
+      b.4,
+      b.5,
+      (λ x.
+          let s = total_set (λ u. times x u.drawn) views port v w at in
+          let t = total_snoc (λ u. times x u.drawn) vs new_drawer in
+          let p = b.6 x in
+          omega arith),
+      (let s = total_set (λ u. u.parts) views port v w at in let t = total_snoc (λ u. u.parts) vs new_drawer in let p = b.7 in omega arith),
+      (λ j u e. ⊎_elim (λ x. old j u x) (λ (is : new_drawer ≡ u). subst (fits j) is (tt, (λ p. no_bit p), (λ d. no_bit d), λ none. refl)) (at_snoc vs new_drawer u j e)),
+    )
+  where
+    none_left : (n : ℕ) → 1 < n → n - 1 ≡ 0 → ⊥
+    none_left n h e = omega arith
+
+-- one who drew comes back
+pub merges : {T : Type 0} (port : ℕ) (v : Part) (other : ℕ) (w : Part) → 0 < v.parts → Merges (IsInOrder {T = T}) port v other w (joined v w) spent
+merges port v other w has items views b at apart at' =
+    let both = joined v w in
+    let vs = set views port both in
+    let fits = Fits b.0 b.1 b.2 b.3 in
+    let mine = b.8 port v at in
+    let was : get_elem? views other ≡ some w = ⊎_elim (λ x. absurd (apart x.0)) (λ x. x.1) (at_set views port other both w at') in
+    let theirs = b.8 other w was in
+    let rising = increasing_merged v.drawn w.drawn mine.0 theirs.0
+    (λ x.
+    let two = two_at_most_total (λ u. times x u.drawn) views port other v w both at at' apart in
+    let p = b.6 x in
+    let most = one_below_at_most b.1 x in
+    omega arith) in
+    let now = each_set fits fits views port both b.8 (rising, mine.1, (λ d. of_either v.drained w.drained mine.2 theirs.2 d), λ none. absurd (none_here v.parts w.parts has none)) (λ j u other o. o) in (
+      b.0,
+      b.1,
+      b.2,
+      b.3,
+      b.4,
+      b.5,
+      (λ x.
+          let s = total_set (λ u. times x u.drawn) views port v both at in
+          let t = total_set (λ u. times x u.drawn) vs other w spent at' in
+          let sum = times_merged x v.drawn w.drawn in
+          let p = b.6 x in
+          omega arith),
+      (let s = total_set (λ u. u.parts) views port v both at in let t = total_set (λ u. u.parts) vs other w spent at' in let p = b.7 in omega arith),
+      each_set fits fits vs other spent now (tt, (λ p. no_bit p), (λ d. no_bit d), λ none. refl) (λ j u other o. o),
+    )
+  where
+    none_here : (n m : ℕ) → 0 < n → n + m ≡ 0 → ⊥
+    none_here n m h e = omega arith
+
+    of_either : {A : Type 0} (c d : Bool) → (c ≡ true → A) → (d ≡ true → A) → c || d ≡ true → A
+    of_either true d first second e = first refl
+    of_either false d first second e = second e
+
+-- the pass with all parts, which pushes and took an end mark, knows that all was drawn
+pub learns : {T : Type 0} (port : ℕ) (v : Part) → v.parts ≡ all_parts → v.pushes ≡ true → v.drained ≡ true → Learns (IsInOrder {T = T}) port v (λ items. HasDrawnAll v)
+learns port v all may drained items views b at =
+    let mine = b.8 port v at in
+    let pushed : b.1 ≡ v.pushed = (let p = (mine.1 may).1 in let none = (mine.2 drained).1 in omega arith) in
+    λ x.
+    sym (total_is_one (λ u. u.parts) (λ u. times x u.drawn) views port v at (b.7 ∙ sym all) (λ j u e none. ap (times x) ((b.8 j u e).3 none)))
+    ∙ b.6 x ∙ ap (λ n. one_below n x) pushed

@@ -1,0 +1,63 @@
+-- What a queue of requests, and those who push and draw, are to a caller.
+use Rattle.std.specs.Prelude.{◌≡◌, ℕ, ◌++◌, ◌∷◌, [], Bool, true, List, Option, Some, None}
+use Rattle.atomic_table.specs.Seated.{TableId}
+use Rattle.crossbeam_queue.specs.Passes.{Pass, view}
+use Rattle.run_queues.specs.Numbers.{AllIncrease, times, times_in_all}
+use Rattle.run_queues.specs.declared.numbered.Numbered.{Numbered}
+
+-- which queue it is, and how many items it has room for
+pub record QueueFacts : Type 0 where
+  pub id : TableId
+  pub room : ℕ
+
+-- What the one who pushes knows.
+pub record SourceFacts : Type 0 where
+  pub queue : TableId
+  -- of the parts that all who draw have together, those that are here
+  pub parts : ℕ
+  -- the requests that were pushed
+  pub pushed : ℕ
+  -- an end mark was pushed: no request may follow
+  pub closed : Bool
+  -- one of those who came back took an end mark
+  pub drained : Bool
+  -- the lists of those who drew, in the order in which they came back
+  pub lists : List (List ℕ)
+  -- how many lists there is memory for
+  pub room : ℕ
+
+-- What one who draws knows.
+pub record DrawerFacts : Type 0 where
+  pub queue : TableId
+  -- it took an end mark
+  pub drained : Bool
+  -- the numbers that it drew, in order
+  pub drawn : List ℕ
+  -- how many numbers there is memory for
+  pub room : ℕ
+
+-- what a drawer knows once it has taken a request, or an end mark
+abbrev pub after_draw : {T : Type 0} → Option (Numbered T) → DrawerFacts → DrawerFacts
+after_draw None d = record d { drained = true }
+after_draw (Some request) d = record d { drawn = d.drawn ++ request.number ∷ [] }
+
+-- What the one who collects completions knows.
+pub record CollectorFacts : Type 0 where
+  pub queue : TableId
+  -- for how many completions the right to tell was given
+  pub given : ℕ
+  -- the numbers of those that were collected, in order
+  pub collected : List ℕ
+
+-- which completion it is the right to tell
+pub record DutyFacts : Type 0 where
+  pub queue : TableId
+  pub number : ℕ
+
+-- the lists increase, and hold together what the merged one holds
+abbrev pub AreGathered : List (List ℕ) → List ℕ → Type 0
+AreGathered lists drawn = AllIncrease lists × ((x : ℕ) → times x drawn ≡ times_in_all x lists)
+
+-- what a pass of a queue knows
+abbrev pub known : {T V : Type 0} → Pass T V → V
+known pass = view pass

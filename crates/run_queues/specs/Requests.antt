@@ -1,0 +1,83 @@
+-- The rule of the requests: they are pushed as 0, 1, 2 and so on, and each is drawn once, in that order. End marks stand behind them all.
+use Rattle.std.specs.Prelude.{◌≡◌, ℕ, ◌+◌, ◌-◌, Bool, true, false, ◌||◌, List, [], ◌∷◌, ◌++◌, Option, Some, None}
+use Rattle.std.specs.List.{range_with_len}
+use mathlib.Core.Option.{some}
+use lib.ListN.{get_elem?}
+use Rattle.run_queues.specs.Numbers.{IsIncreasing, times, one_below, merged}
+use Rattle.run_queues.specs.Totals.{total}
+use Rattle.run_queues.specs.declared.numbered.Numbered.{Numbered}
+use Rattle.run_queues.specs.declared.requests.Part.{Part}
+
+-- the number of a request, and none for an end mark
+abbrev pub number_of : {T : Type 0} → Option (Numbered T) → List ℕ
+number_of None = []
+number_of (Some request) = request.number ∷ []
+
+-- the numbers of the requests in a queue, oldest first
+abbrev pub numbers : {T : Type 0} → List (Option (Numbered T)) → List ℕ
+numbers [] = []
+numbers (item ∷ items) = number_of item ++ numbers items
+
+-- an end mark stands in a closed queue alone, and no request stands behind one
+abbrev pub EndsLast : {T : Type 0} → Bool → List (Option (Numbered T)) → Type 0
+EndsLast closed [] = Unit {0}
+EndsLast closed (None ∷ items) = (closed ≡ true) × (numbers items ≡ [])
+EndsLast closed (Some request ∷ items) = EndsLast closed items
+
+-- the parts of the first pass, which are all
+abbrev pub all_parts : ℕ
+all_parts = 4294967296
+
+-- the first pass, which pushes
+abbrev pub first_part : Part
+first_part = record { parts = all_parts; pushes = true; pushed = 0; closed = false; drained = false; drawn = [] }
+
+-- A pass's list increases. The one pass that pushes knows how many it pushed, and whether it closed the queue. A pass that took an end mark knows
+-- that the queue was closed, and no request waits. A pass with no part has drawn nothing.
+abbrev pub Fits : ℕ → ℕ → ℕ → Bool → ℕ → Part → Type 0
+Fits source taken waiting closed port v =
+    IsIncreasing v.drawn
+    × (v.pushes ≡ true → (port ≡ source) × (v.pushed ≡ taken + waiting) × (v.closed ≡ closed))
+    × (v.drained ≡ true → (closed ≡ true) × (waiting ≡ 0))
+    × (v.parts ≡ 0 → v.drawn ≡ [])
+
+-- The queue holds the numbers from `taken` to the last pushed, in order, and then end marks. The passes' lists together hold those below `taken`,
+-- each once, and no other.
+abbrev pub IsInOrder : {T : Type 0} → List (Option (Numbered T)) → List Part → Type 0
+IsInOrder items views =
+    (source : ℕ) × (taken : ℕ) × (waiting : ℕ) × (closed : Bool)
+    × (numbers items ≡ range_with_len taken waiting)
+    × EndsLast closed items
+    × ((x : ℕ) → total (λ v. times x v.drawn) views ≡ one_below taken x)
+    × (total (λ v. v.parts) views ≡ all_parts)
+    × ((port : ℕ) (v : Part) → get_elem? views port ≡ some v → Fits source taken waiting closed port v)
+
+-- what a push of a request leaves of a pass's view, and what one of an end mark
+abbrev pub after_push : Part → Part
+after_push v = record v { pushed = v.pushed + 1 }
+
+abbrev pub after_end : Part → Part
+after_end v = record v { closed = true }
+
+-- what a pop leaves
+abbrev pub after_pop : {T : Type 0} → Option (Numbered T) → Part → Part
+after_pop None v = record v { drained = true }
+after_pop (Some request) v = record v { drawn = v.drawn ++ request.number ∷ [] }
+
+-- what is left of a pass when one that draws is split off it, and what the new one begins with
+abbrev pub after_split : Part → Part
+after_split v = record v { parts = v.parts - 1 }
+
+abbrev pub new_drawer : Part
+new_drawer = record { parts = 1; pushes = false; pushed = 0; closed = false; drained = false; drawn = [] }
+
+-- two passes in one
+abbrev pub joined : Part → Part → Part
+joined v w = record v { parts = v.parts + w.parts; drained = v.drained || w.drained; drawn = merged v.drawn w.drawn }
+
+abbrev pub spent : Part
+spent = record { parts = 0; pushes = false; pushed = 0; closed = false; drained = false; drawn = [] }
+
+-- the pass has drawn what was pushed, each number once
+abbrev pub HasDrawnAll : Part → Type 0
+HasDrawnAll v = (x : ℕ) → times x v.drawn ≡ one_below v.pushed x

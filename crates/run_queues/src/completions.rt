@@ -1,0 +1,195 @@
+//! The queue of the completions.
+ghost use Rattle.std.specs.Prelude.{◌≡◌, ◌+◌, ◌<◌, [], ◌∷◌, ◌++◌, IfOk, IfSome, IfNone, OnSome};
+ghost use Rattle.run_queues.specs.Numbers.{times};
+
+use crate::line::Line;
+use crate::numbered::Numbered;
+use crossbeam_queue::Pass;
+use crossbeam_queue::protocol::{Lesson, Outcome, Protocol, Split};
+use std::alloc::{AllocError, Global};
+use std::collections::LinkedList;
+use std::marker::Model;
+use std::sync::Wait;
+
+/// What a pass of the queue knows: whether it collects, and for how many completions it gave turns; the numbers
+/// that it may tell, and those that it collected. It stands in proofs alone.
+pub struct Turn {
+    pub collects: bool,
+    pub given: u32,
+    pub may_tell: LinkedList<u32>,
+    pub collected: LinkedList<u32>,
+}
+
+/// The rule of the completions.
+pub struct ToldOnce;
+
+impl<T> Protocol<Numbered<T>, Turn> for ToldOnce {
+    ghost use Rattle.run_queues.specs.Completions.{IsToldOnce, first_turn};
+
+    ghost holds = { IsToldOnce };
+
+    ghost first = { first_turn };
+}
+
+// A push of a completion.
+struct Told;
+
+impl<T> Outcome<Numbered<T>, Turn> for Told {
+    ghost use Rattle.std.specs.Prelude.{◌≡◌};
+    ghost use Rattle.run_queues.specs.Completions.{no_turn};
+
+    ghost then = { λ v completion w. w ≡ no_turn };
+}
+
+impl<T> Lesson<Numbered<T>, Turn> for Told {
+    ghost use Rattle.std.specs.Prelude.{⊤};
+
+    ghost fact = { λ v items. ⊤ };
+}
+
+// A pop of a completion.
+struct Collected;
+
+impl<T> Outcome<Numbered<T>, Turn> for Collected {
+    ghost use Rattle.std.specs.Prelude.{◌≡◌, ◌<◌};
+    ghost use Rattle.run_queues.specs.Numbers.{times};
+    ghost use Rattle.run_queues.specs.Completions.{after_collect};
+
+    ghost then = { λ v completion w. (w ≡ after_collect completion v) × (completion.number < v.given) × (times completion.number v.collected ≡ 0) };
+}
+
+impl<T> Lesson<Numbered<T>, Turn> for Collected {
+    ghost use Rattle.std.specs.Prelude.{⊤};
+
+    ghost fact = { λ v items. ⊤ };
+}
+
+// How a turn splits off the one who collects.
+struct Giving;
+
+impl Split<Turn> for Giving {
+    ghost use Rattle.run_queues.specs.Completions.{after_turn, turn_of};
+
+    ghost left = { after_turn };
+
+    ghost right = { λ v. turn_of v.given };
+}
+
+type Completions<T> = Line<Numbered<T>, Turn, ToldOnce>;
+
+type Seat<T> = Pass<Numbered<T>, Turn>;
+
+/// A queue of completions, which one thread collects.
+#[derive(Drop)]
+pub struct CompletionQueue<T: Drop> {
+    line: Completions<T>,
+}
+
+impl<T: Drop> Model for CompletionQueue<T> {
+    ghost use Rattle.crossbeam_queue.specs.Passes.{ruled_capacity};
+    ghost use Rattle.run_queues.specs.Parts.{QueueFacts};
+
+    ghost Value = { QueueFacts };
+
+    ghost view = { λ q. record { id = q.line.ring.table.shared.table_id; room = ruled_capacity q.line.ring } };
+}
+
+/// The right to collect completions, and to let others tell them.
+#[derive(Drop)]
+pub struct Collector<T: Drop> {
+    seat: Seat<T>,
+}
+
+impl<T: Drop> Model for Collector<T> {
+    ghost use Rattle.std.specs.Prelude.{◌≡◌, true, []};
+    ghost use Rattle.run_queues.specs.Parts.{CollectorFacts, known};
+
+    ghost Value = { CollectorFacts };
+
+    ghost view = { λ c. record { queue = c.seat.table_id; given = (known c.seat).given; collected = (known c.seat).collected } };
+
+    ghost invariant = { λ c. (c.seat.me.1 ≡ []) × ((known c.seat).collects ≡ true) };
+}
+
+/// The right to tell one completion, once. It goes with its request to whoever does it.
+#[derive(Drop)]
+pub struct Duty<T: Drop> {
+    seat: Seat<T>,
+    number: u32,
+}
+
+impl<T: Drop> Model for Duty<T> {
+    ghost use Rattle.std.specs.Prelude.{◌≡◌, []};
+    ghost use Rattle.run_queues.specs.Completions.{turn_of};
+    ghost use Rattle.run_queues.specs.Parts.{DutyFacts, known};
+
+    ghost Value = { DutyFacts };
+
+    ghost view = { λ d. record { queue = d.seat.table_id; number = d.number } };
+
+    ghost invariant = { λ d. (d.seat.me.1 ≡ []) × (known d.seat ≡ turn_of d.number) };
+}
+
+impl<T: Drop> Duty<T> {
+    /// The number of the completion.
+    pub fn number(&self) -> u32
+        ensures { result ≡ self.now.number }
+    {
+        self.number
+    }
+}
+
+impl<T: Drop> CompletionQueue<T> {
+    /// A queue with room for so many completions, and the right to collect them. All its memory is taken here.
+    pub fn new(alloc: Global, room: usize) -> Result<(CompletionQueue<T>, Collector<T>), AllocError>
+        requires { 0 < room }
+        ensures queue { IfOk result (λ q. q.0.room ≡ room) }
+        ensures collector { IfOk result (λ q. q.1 ≡ record { queue = q.0.id; given = 0; collected = [] }) }
+    {
+        let (line, seat) = Line::new(alloc, room)?;
+        Ok((CompletionQueue { line }, Collector { seat }))
+    }
+
+    /// The right to tell the next completion. Its number is how many such rights were given before.
+    pub fn duty(&self, collector: &mut Collector<T>, number: u32) -> Duty<T>
+        requires own { collector.old.queue ≡ self.now.id }
+        requires number { number ≡ collector.old.given }
+        ensures duty { result ≡ record { queue = self.now.id; number = number } }
+        ensures collector { collector.new ≡ record collector.old { given = collector.old.given + 1 } }
+    {
+        let seat = self.line.ring.another::<Giving>(&mut collector.seat);
+        Duty { seat, number }
+    }
+
+    /// Tells a completion, and waits while there is no room.
+    pub fn tell<R: Wait>(&self, rt: &R, duty: Duty<T>, item: T)
+        requires { duty.queue ≡ self.now.id }
+    {
+        let Duty { mut seat, number } = duty;
+        self.line
+            .push_as::<Told, R>(rt, &mut seat, Numbered { number, item });
+    }
+
+    /// Takes the first completion, and waits while there is none. It is of a number for which the right to tell was
+    /// given, and which wasn't collected before.
+    pub fn collect<R: Wait>(&self, rt: &R, collector: &mut Collector<T>) -> Numbered<T>
+        requires { collector.old.queue ≡ self.now.id }
+        ensures collected { collector.new ≡ record collector.old { collected = collector.old.collected ++ result.number ∷ [] } }
+        ensures given { result.number < collector.old.given }
+        ensures first { times result.number collector.old.collected ≡ 0 }
+    {
+        self.line.pop_as::<Collected, R>(rt, &mut collector.seat)
+    }
+
+    /// Takes the first completion where there is one now, and `None` where there is none.
+    pub fn try_collect<R: Wait>(&self, rt: &R, collector: &mut Collector<T>) -> Option<Numbered<T>>
+        requires { collector.old.queue ≡ self.now.id }
+        ensures collected { IfSome result (λ c. collector.new ≡ record collector.old { collected = collector.old.collected ++ c.number ∷ [] }) }
+        ensures given { IfSome result (λ c. c.number < collector.old.given) }
+        ensures first { IfSome result (λ c. times c.number collector.old.collected ≡ 0) }
+        ensures none { IfNone result (collector.new ≡ collector.old) }
+    {
+        self.line
+            .pop_now_as::<Collected, R>(rt, &mut collector.seat)
+    }
+}

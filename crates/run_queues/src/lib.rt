@@ -1,0 +1,24 @@
+//! Queues under a rule, by which the threads of a run hand requests to one another.
+//!
+//! A [`RequestQueue`] is made with its [`Source`], the right to push. From the source each thread that is to draw gets a
+//! [`Drawer`], with memory for the numbers that it will draw. Requests are pushed as 0, 1, 2 and so on, and after the
+//! last an end mark for each drawer. A thread draws until it takes an end mark, and gives its drawer back; once all are
+//! back, `finish` gives the lists of what they drew: each increases, and together they have each request once.
+//!
+//! `specs/Requests.antt` has the rule, which holds at each moment and which each step keeps; `specs/Parts.antt` what a
+//! source and a drawer know, and `specs/Numbers.antt` what draws are. `tests/caller.rt` shows how a caller reasons. That a
+//! thread that waits gets on is promised nowhere: tests show it.
+#![tactic(auto)]
+
+mod completions;
+mod line;
+mod numbered;
+mod requests;
+mod spares;
+#[cfg(test)]
+mod tests;
+
+pub use completions::{Collector, CompletionQueue, Duty};
+pub use numbered::Numbered;
+pub use requests::{Drawer, RequestQueue, Source};
+pub use spares::SpareQueue;

@@ -1,0 +1,281 @@
+//! The queue of the requests.
+ghost use Rattle.std.specs.Prelude.{◌≡◌, ◌+◌, ◌-◌, ◌<◌, ◌≤◌, true, false, ◌||◌, [], ◌∷◌, ◌++◌, IfOk, OnOk, OnErr, length, map};
+ghost use Rattle.run_queues.specs.Numbers.{Draws, IsIncreasing};
+ghost use Rattle.run_queues.specs.Requests.{all_parts};
+ghost use Rattle.run_queues.specs.Parts.{after_draw};
+
+use crate::line::Line;
+use crate::numbered::Numbered;
+use crossbeam_queue::Pass;
+use crossbeam_queue::protocol::{Join, Lesson, Outcome, Protocol, Split};
+use std::alloc::{AllocError, Global};
+use std::collections::LinkedList;
+use std::marker::Model;
+use std::sync::Wait;
+
+/// What a pass of the queue knows: its parts of all that draw; whether it pushes, how many requests it pushed and
+/// whether it closed the queue by an end mark; whether it took an end mark, and the numbers that it drew. It stands
+/// in proofs alone.
+pub struct Part {
+    pub parts: u32,
+    pub pushes: bool,
+    pub pushed: u32,
+    pub closed: bool,
+    pub drained: bool,
+    pub drawn: LinkedList<u32>,
+}
+
+/// The rule of the requests.
+pub struct InOrder;
+
+impl<T> Protocol<Option<Numbered<T>>, Part> for InOrder {
+    ghost use Rattle.run_queues.specs.Requests.{IsInOrder, first_part};
+
+    ghost holds = { IsInOrder };
+
+    ghost first = { first_part };
+}
+
+// A push of a request.
+struct Pushed;
+
+impl<T> Outcome<Option<Numbered<T>>, Part> for Pushed {
+    ghost use Rattle.std.specs.Prelude.{◌≡◌};
+    ghost use Rattle.run_queues.specs.Requests.{after_push};
+
+    ghost then = { λ v item w. w ≡ after_push v };
+}
+
+impl<T> Lesson<Option<Numbered<T>>, Part> for Pushed {
+    ghost use Rattle.std.specs.Prelude.{⊤};
+
+    ghost fact = { λ v items. ⊤ };
+}
+
+// A push of an end mark.
+struct Ended;
+
+impl<T> Outcome<Option<Numbered<T>>, Part> for Ended {
+    ghost use Rattle.std.specs.Prelude.{◌≡◌};
+    ghost use Rattle.run_queues.specs.Requests.{after_end};
+
+    ghost then = { λ v item w. w ≡ after_end v };
+}
+
+impl<T> Lesson<Option<Numbered<T>>, Part> for Ended {
+    ghost use Rattle.std.specs.Prelude.{⊤};
+
+    ghost fact = { λ v items. ⊤ };
+}
+
+// A pop of a request or of an end mark.
+struct Popped;
+
+impl<T> Outcome<Option<Numbered<T>>, Part> for Popped {
+    ghost use Rattle.std.specs.Prelude.{◌≡◌};
+    ghost use Rattle.run_queues.specs.Numbers.{IsIncreasing};
+    ghost use Rattle.run_queues.specs.Requests.{after_pop};
+
+    ghost then = { λ v item w. (w ≡ after_pop item v) × IsIncreasing w.drawn };
+}
+
+impl<T> Lesson<Option<Numbered<T>>, Part> for Popped {
+    ghost use Rattle.std.specs.Prelude.{⊤};
+
+    ghost fact = { λ v items. ⊤ };
+}
+
+// How one who draws splits off the one who pushes, and comes back.
+struct Drawing;
+
+impl Split<Part> for Drawing {
+    ghost use Rattle.run_queues.specs.Requests.{after_split, new_drawer};
+
+    ghost left = { after_split };
+
+    ghost right = { λ v. new_drawer };
+}
+
+impl Join<Part> for Drawing {
+    ghost use Rattle.run_queues.specs.Requests.{joined, spent};
+
+    ghost both = { joined };
+
+    ghost spent = { spent };
+}
+
+// What the one who pushes learns once all that drew are back.
+struct Total;
+
+impl<T> Lesson<Option<Numbered<T>>, Part> for Total {
+    ghost use Rattle.run_queues.specs.Requests.{HasDrawnAll};
+
+    ghost fact = { λ v items. HasDrawnAll v };
+}
+
+type Requests<T> = Line<Option<Numbered<T>>, Part, InOrder>;
+
+type Seat<T> = Pass<Option<Numbered<T>>, Part>;
+
+/// A queue of requests for several threads that draw.
+#[derive(Drop)]
+pub struct RequestQueue<T: Drop> {
+    line: Requests<T>,
+}
+
+impl<T: Drop> Model for RequestQueue<T> {
+    ghost use Rattle.crossbeam_queue.specs.Passes.{ruled_capacity};
+    ghost use Rattle.run_queues.specs.Parts.{QueueFacts};
+
+    ghost Value = { QueueFacts };
+
+    ghost view = { λ q. record { id = q.line.ring.table.shared.table_id; room = ruled_capacity q.line.ring } };
+}
+
+/// The right to push requests, and the lists of those who drew them.
+#[derive(Drop)]
+pub struct Source<T: Drop> {
+    seat: Seat<T>,
+    lists: Vec<Vec<u32>>,
+}
+
+impl<T: Drop> Model for Source<T> {
+    ghost use Rattle.std.specs.Prelude.{◌≡◌, true, [], map, vec_capacity};
+    ghost use Rattle.run_queues.specs.Parts.{SourceFacts, AreGathered, known};
+
+    ghost Value = { SourceFacts };
+
+    ghost view = { λ s. record { queue = s.seat.table_id; parts = (known s.seat).parts; pushed = (known s.seat).pushed; closed = (known s.seat).closed; drained = (known s.seat).drained; lists = map (λ list. list.items) s.lists.items; room = vec_capacity s.lists } };
+
+    ghost invariant = { λ s. (s.seat.me.1 ≡ []) × ((known s.seat).pushes ≡ true) × AreGathered (map (λ list. list.items) s.lists.items) (known s.seat).drawn };
+}
+
+/// The right to draw requests, and the numbers of those that were drawn.
+#[derive(Drop)]
+pub struct Drawer<T: Drop> {
+    seat: Seat<T>,
+    drawn: Vec<u32>,
+}
+
+impl<T: Drop> Model for Drawer<T> {
+    ghost use Rattle.std.specs.Prelude.{◌≡◌, [], vec_capacity};
+    ghost use Rattle.run_queues.specs.Numbers.{IsIncreasing};
+    ghost use Rattle.run_queues.specs.Requests.{new_drawer};
+    ghost use Rattle.run_queues.specs.Parts.{DrawerFacts, known};
+
+    ghost Value = { DrawerFacts };
+
+    ghost view = { λ d. record { queue = d.seat.table_id; drained = (known d.seat).drained; drawn = d.drawn.items; room = vec_capacity d.drawn } };
+
+    ghost invariant = { λ d. (d.seat.me.1 ≡ []) × (known d.seat ≡ record new_drawer { drained = (known d.seat).drained; drawn = d.drawn.items }) × IsIncreasing d.drawn.items };
+}
+
+impl<T: Drop> RequestQueue<T> {
+    /// A queue with room for so many requests and end marks, and the right to push into it. The memory for the
+    /// lists of so many who draw is taken here too.
+    pub fn new(
+        alloc: Global,
+        room: usize,
+        drawers: usize,
+    ) -> Result<(RequestQueue<T>, Source<T>), AllocError>
+        requires { 0 < room }
+        ensures queue { IfOk result (λ q. (q.0.room ≡ room) × (q.1.queue ≡ q.0.id)) }
+        ensures source { IfOk result (λ q. q.1 ≡ record { queue = q.0.id; parts = all_parts; pushed = 0; closed = false; drained = false; lists = []; room = drawers }) }
+    {
+        let lists = Vec::with_capacity(alloc, drawers)?;
+        let (line, seat) = Line::new(alloc, room)?;
+        Ok((RequestQueue { line }, Source { seat, lists }))
+    }
+
+    /// The right to draw, with memory for so many numbers. It is split off the right to push, and comes back to it
+    /// by [`RequestQueue::gather`].
+    pub fn drawer(
+        &self,
+        alloc: Global,
+        source: &mut Source<T>,
+        room: usize,
+    ) -> Result<Drawer<T>, AllocError>
+        requires own { source.old.queue ≡ self.now.id }
+        requires parts { 1 < source.old.parts }
+        ensures drawer { IfOk result (λ d. d ≡ record { queue = self.now.id; drained = false; drawn = []; room = room }) }
+        ensures source { IfOk result (λ _. source.new ≡ record source.old { parts = source.old.parts - 1 }) }
+        ensures err { OnErr result (source.new ≡ source.old) }
+    {
+        let drawn = Vec::with_capacity(alloc, room)?;
+        let seat = self.line.ring.another::<Drawing>(&mut source.seat);
+        Ok(Drawer { seat, drawn })
+    }
+
+    /// Pushes the next request, and waits while there is no room. Its number is how many were pushed before. None
+    /// may follow an end mark.
+    pub fn push<R: Wait>(&self, rt: &R, source: &mut Source<T>, number: u32, item: T)
+        requires own { source.old.queue ≡ self.now.id }
+        requires open { source.old.closed ≡ false }
+        requires number { number ≡ source.old.pushed }
+        ensures { source.new ≡ record source.old { pushed = source.old.pushed + 1 } }
+    {
+        let request = Some(Numbered { number, item });
+        self.line
+            .push_as::<Pushed, R>(rt, &mut source.seat, request);
+    }
+
+    /// Pushes an end mark, and waits while there is no room: one call of `draw` then answers `None`.
+    pub fn end<R: Wait>(&self, rt: &R, source: &mut Source<T>)
+        requires { source.old.queue ≡ self.now.id }
+        ensures { source.new ≡ record source.old { closed = true } }
+    {
+        self.line.push_as::<Ended, R>(rt, &mut source.seat, None);
+    }
+
+    /// Takes the first request, or `None` where an end mark is first. It waits while there is neither. `AllocError`,
+    /// with nothing taken, where the list has no room left and is refused more.
+    pub fn draw<R: Wait>(
+        &self,
+        rt: &R,
+        drawer: &mut Drawer<T>,
+    ) -> Result<Option<Numbered<T>>, AllocError>
+        requires { drawer.old.queue ≡ self.now.id }
+        ensures drawn { IfOk result (λ item. drawer.new ≡ record (after_draw item drawer.old) { room = drawer.new.room }) }
+        ensures increasing { IsIncreasing drawer.new.drawn }
+        ensures room { drawer.old.room ≤ drawer.new.room }
+        ensures full { OnErr result (drawer.old.room ≤ length drawer.old.drawn) }
+        ensures err { OnErr result (drawer.new ≡ drawer.old) }
+    {
+        drawer.drawn.reserve(1)?;
+        let item = self.line.pop_as::<Popped, R>(rt, &mut drawer.seat);
+        if let Some(request) = &item {
+            drawer.drawn.push_reserved(request.number);
+        }
+        Ok(item)
+    }
+
+    /// Takes the right to draw back, with the list of what was drawn. `AllocError` where there is no room for one
+    /// list more and it is refused.
+    pub fn gather(&self, source: &mut Source<T>, drawer: Drawer<T>) -> Result<(), AllocError>
+        requires own { (source.old.queue ≡ self.now.id) × (drawer.queue ≡ self.now.id) }
+        requires parts { 0 < source.old.parts }
+        ensures ok { OnOk result (source.new ≡ record source.old { parts = source.old.parts + 1; drained = source.old.drained || drawer.drained; lists = source.old.lists ++ drawer.drawn ∷ []; room = source.new.room }) }
+        ensures room { source.old.room ≤ source.new.room }
+        ensures full { OnErr result (source.old.room ≤ length source.old.lists) }
+        ensures err { OnErr result (source.new ≡ source.old) }
+    {
+        source.lists.reserve(1)?;
+        let Drawer { seat, drawn } = drawer;
+        self.line.ring.absorb::<Drawing>(&mut source.seat, seat);
+        source.lists.push_reserved(drawn);
+        Ok(())
+    }
+
+    /// The lists of those who drew: each request was drawn once, and each list increases.
+    pub fn finish(&self, source: Source<T>) -> Vec<Vec<u32>>
+        requires own { source.queue ≡ self.now.id }
+        requires parts { source.parts ≡ all_parts }
+        requires drained { source.drained ≡ true }
+        ensures lists { map (λ list. list.items) result.items ≡ source.lists }
+        ensures draws { Draws source.pushed source.lists }
+    {
+        let Source { mut seat, lists } = source;
+        self.line.ring.learn_as::<Total>(&mut seat);
+        lists
+    }
+}
