@@ -5,9 +5,13 @@
 //! last an end mark for each drawer. A thread draws until it takes an end mark, and gives its drawer back; once all are
 //! back, `finish` gives the lists of what they drew: each increases, and together they have each request once.
 //!
-//! `specs/Requests.antt` has the rule, which holds at each moment and which each step keeps; `specs/Parts.antt` what a
-//! source and a drawer know, and `specs/Numbers.antt` what draws are. `tests/caller.rt` shows how a caller reasons. That a
-//! thread that waits gets on is promised nowhere: tests show it.
+//! A [`CompletionQueue`] goes the other way: its [`Collector`] gives a [`Duty`] for each request, which goes with the
+//! request and is used up when its completion is told. So each is collected once at most. A [`SpareQueue`] holds what
+//! isn't in use; what is known of it is what its type keeps.
+//!
+//! `specs/Requests.antt` and `specs/Completions.antt` have the rules, which hold at each moment and which each step
+//! keeps; `specs/Parts.antt` what those who take part know, and `specs/Numbers.antt` what draws are. `tests/caller.rt`
+//! shows how a caller reasons. That a thread that waits gets on is promised nowhere: tests show it.
 #![tactic(auto)]
 
 mod completions;
