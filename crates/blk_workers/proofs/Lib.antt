@@ -1,6 +1,6 @@
 -- LineSteps: what a line does to a sector of the disk. Spans: the disk of a run while requests are under way. Places: lists of replies
 -- one step further. RequestLines: what a request is answered, at its line. Desks: the thread that submits and collects, one step further.
--- Ends: its replies, once none is owed. NextLines: the script's queue one line further, and what a request is due to.
+-- TextLines: lines that stand in one text, and behind them those that are owed. Ends: its replies, once none is owed. NextLines: the script's queue one line further, and what a request is due to.
 pub mod LineSteps
 pub mod Spans
 pub mod Places
@@ -8,3 +8,4 @@ pub mod RequestLines
 pub mod Desks
 pub mod Ends
 pub mod NextLines
+pub mod TextLines

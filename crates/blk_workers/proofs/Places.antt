@@ -1,5 +1,5 @@
 -- What stands at a place of a list that grew or changed at one place, and how many replies are owed.
-use Rattle.std.proofs.Common.{◌≡◌, ◌≢◌, ◌∙◌, refl, sym, ap, ℕ, zero, suc, ◌+◌, ◌<◌, ◌≤◌, arith, Bool, true, false, List, [], ◌∷◌, ◌++◌, length, take, get_or, set, Option, Some, None, is_none, append_assoc}
+use Rattle.std.proofs.Common.{◌≡◌, ◌≢◌, ◌∙◌, refl, sym, ap, ℕ, zero, suc, ◌+◌, ◌<◌, ◌≤◌, arith, true, false, List, [], ◌∷◌, ◌++◌, length, take, get_or, set, Option, Some, None, is_none, append_assoc}
 use Rattle.std.proofs.lemmas.List.{take_more}
 use Rattle.std.specs.List.{slice_get}
 use Rattle.std.specs.Option.{option_map_or}
@@ -82,7 +82,7 @@ count_set (Some line ∷ replies) (suc p) text is = count_set replies p text is
 
 -- ---- the lines that are there, one after another
 
-joined-append : (xs ys : List (Option (List ℕ))) → joined (xs ++ ys) ≡ joined xs ++ joined ys
+pub joined-append : (xs ys : List (Option (List ℕ))) → joined (xs ++ ys) ≡ joined xs ++ joined ys
 joined-append [] ys = refl
 joined-append (None ∷ xs) ys = joined-append xs ys
 joined-append (Some line ∷ xs) ys = ap (λ t. line ++ t) (joined-append xs ys) ∙ sym (append_assoc line (joined xs) (joined ys))

@@ -26,6 +26,7 @@ mod fault;
 mod following;
 mod job;
 mod laws;
+mod lines;
 mod list;
 mod naming;
 mod ran;

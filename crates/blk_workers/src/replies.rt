@@ -2,7 +2,9 @@
 ghost use Rattle.std.specs.Prelude.{◌≡◌, ◌++◌, ◌∷◌, [], ◌<◌, true, IfOk, OnOk, OnErr, Some, None, length, set};
 ghost use Rattle.blk_workers.specs.Desk.{is_owed, owed_count, joined};
 
+use crate::lines::Lines;
 use std::alloc::{AllocError, Global};
+use std::collections::VecDeque;
 use std::marker::Model;
 
 /// The line of one reply. Contracts see its bytes.
@@ -35,21 +37,24 @@ impl Text {
 
 /// The lines of the replies to the lines of a script that are taken, in order. A reply is there, or owed by a
 /// request that is under way.
+///
+/// Lines up to the first that is owed are put into one text as more are taken, so that no line is held twice.
 #[derive(Drop)]
 pub(crate) struct Replies {
-    lines: Vec<Option<Text>>,
+    told: Lines,
+    rest: VecDeque<Option<Text>>,
     owed: usize,
 }
 
 impl Model for Replies {
-    ghost use Rattle.std.specs.Prelude.{◌≡◌, List, ℕ, Option};
+    ghost use Rattle.std.specs.Prelude.{◌≡◌, ◌++◌, List, ℕ, Option, Some, map};
     ghost use Rattle.blk_workers.specs.Desk.{owed_count};
 
     ghost Value = { List (Option (List ℕ)) };
 
-    ghost view = { λ r. r.lines.items };
+    ghost view = { λ r. map Some r.told ++ r.rest.items };
 
-    ghost invariant = { λ r. r.owed ≡ owed_count r.lines.items };
+    ghost invariant = { λ r. r.owed ≡ owed_count r.rest.items };
 }
 
 impl Replies {
@@ -58,19 +63,22 @@ impl Replies {
         ensures { IfOk result (λ replies. replies ≡ []) }
     {
         Ok(Replies {
-            lines: Vec::with_capacity(alloc, room)?,
+            told: Lines::new(alloc, room)?,
+            rest: VecDeque::new(alloc),
             owed: 0,
         })
     }
 
     /// The lines that are taken.
+    #[tactic(auto, using(crate::proofs::TextLines::count_both))]
     pub(crate) fn len(&self) -> usize
         ensures { result ≡ length self.now }
     {
-        self.lines.len()
+        self.told.len() + self.rest.len()
     }
 
     /// The replies that are owed.
+    #[tactic(auto, using(crate::proofs::TextLines::count_behind))]
     pub(crate) fn owed(&self) -> usize
         ensures { result ≡ owed_count self.now }
     {
@@ -81,10 +89,35 @@ impl Replies {
     pub(crate) fn is_owed(&self, position: usize) -> bool
         ensures { result ≡ is_owed self.now position }
     {
-        match self.lines.get(position) {
-            Some(None) => true,
-            _ => false,
+        let told = self.told.len();
+        if position < told {
+            return false;
         }
+        is_owed_in(&self.rest, position - told)
+    }
+
+    // Puts the first line that isn't in the text yet there, unless it is owed. Whether it did.
+    fn tell_first(&mut self) -> Result<bool, AllocError>
+        ensures { self.new ≡ self.old }
+    {
+        let Some(Some(line)) = self.rest.front() else {
+            return Ok(false);
+        };
+        self.told.push(line.bytes())?;
+        drop(self.rest.pop_front());
+        Ok(true)
+    }
+
+    // Puts the lines up to the first that is owed into the text.
+    fn tell(&mut self) -> Result<(), AllocError>
+        ensures { self.new ≡ self.old }
+    {
+        for _ in 0..self.rest.len() {
+            if !self.tell_first()? {
+                break;
+            }
+        }
+        Ok(())
     }
 
     /// One more line is taken, whose reply is there.
@@ -93,8 +126,9 @@ impl Replies {
         ensures ok { OnOk result (self.new ≡ self.old ++ Some text.items ∷ []) }
         ensures err { OnErr result (self.new ≡ self.old) }
     {
-        self.lines.reserve(1)?;
-        self.lines.push_reserved(Some(Text::new(text)));
+        self.tell()?;
+        self.rest.reserve(1)?;
+        self.rest.push_back_reserved(Some(Text::new(text)));
         Ok(())
     }
 
@@ -104,8 +138,9 @@ impl Replies {
         ensures ok { OnOk result (self.new ≡ self.old ++ None ∷ []) }
         ensures err { OnErr result (self.new ≡ self.old) }
     {
-        self.lines.reserve(1)?;
-        self.lines.push_reserved(None);
+        self.tell()?;
+        self.rest.reserve(1)?;
+        self.rest.push_back_reserved(None);
         self.owed += 1;
         Ok(())
     }
@@ -115,35 +150,52 @@ impl Replies {
         requires { is_owed self.old position ≡ true }
         ensures { self.new ≡ set self.old position (Some text.items) }
     {
-        self.lines[position] = Some(Text::new(text));
+        let place = position - self.told.len();
+        self.rest[place] = Some(Text::new(text));
         self.owed -= 1;
     }
 
     /// The lines that are there, one after another.
-    pub(crate) fn joined(&self, alloc: Global) -> Result<Vec<u8>, AllocError>
-        ensures { IfOk result (λ text. text.items ≡ joined self.now) }
+    pub(crate) fn into_text(self) -> Result<Vec<u8>, AllocError>
+        ensures { IfOk result (λ text. text.items ≡ joined self) }
     {
-        joined_lines(alloc, &self.lines)
+        let Replies {
+            told,
+            rest,
+            owed: _,
+        } = self;
+        let mut text = told.into_text();
+        add_lines(&mut text, &rest)?;
+        Ok(text)
+    }
+}
+
+// Whether the line at this place is owed.
+fn is_owed_in(lines: &VecDeque<Option<Text>>, place: usize) -> bool
+    ensures { result ≡ is_owed lines.now.items place }
+{
+    match lines.get(place) {
+        Some(None) => true,
+        _ => false,
     }
 }
 
 // Appends a line that is there.
-fn add(out: &mut Vec<u8>, line: &Option<Text>) -> Result<(), AllocError>
-    ensures { OnOk result (out.new.items ≡ out.old.items ++ joined (line.now ∷ [])) }
+fn add_line(text: &mut Vec<u8>, line: &Option<Text>) -> Result<(), AllocError>
+    ensures { OnOk result (text.new.items ≡ text.old.items ++ joined (line.now ∷ [])) }
 {
     match line {
-        Some(text) => out.extend_from_slice(text.bytes()),
+        Some(line) => text.extend_from_slice(line.bytes()),
         None => Ok(()),
     }
 }
 
-#[tactic(auto, using(crate::proofs::Places::joined_more))]
-fn joined_lines(alloc: Global, lines: &[Option<Text>]) -> Result<Vec<u8>, AllocError>
-    ensures { IfOk result (λ text. text.items ≡ joined lines.now) }
+// Appends the lines that are there.
+fn add_lines(text: &mut Vec<u8>, lines: &VecDeque<Option<Text>>) -> Result<(), AllocError>
+    ensures { OnOk result (text.new.items ≡ text.old.items ++ joined lines.now.items) }
 {
-    let mut out = Vec::new(alloc);
-    for line in lines {
-        add(&mut out, line)?;
+    for place in 0..lines.len() {
+        add_line(text, &lines[place])?;
     }
-    Ok(out)
+    Ok(())
 }

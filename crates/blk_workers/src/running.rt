@@ -152,7 +152,7 @@ fn run_as<J: Run + Send + Sync, R: Threads + Wait + Sync, S: Stall>(
     let submitter = Submitter::new(alloc, script, freezer)?;
     let (workers, slots) = (config.workers(), config.slots());
     let done = with_workers(rt, alloc, &hall, script, stall, submitter, workers, slots)?;
-    done.answer(alloc)
+    done.answer()
 }
 
 /// Runs a script on as many workers as the config says, whose replies and disk are those of a single thread.

@@ -134,16 +134,16 @@ impl Submitter {
     }
 
     /// What the run answers, once every line is taken and nothing is owed.
-    pub(crate) fn answer(self, alloc: Global) -> Result<Ran, RunFault>
+    pub(crate) fn answer(self) -> Result<Ran, RunFault>
         ensures { (script : Meant) → IsEnd script self → IfOk result (λ ran. IsRun script ran.replies.items ran.disk) }
     {
-        let replies = self.desk.replies.joined(alloc)?;
         let Submitter {
-            desk: Desk { disk, replies: _ },
+            desk: Desk { disk, replies },
             state: _,
             freezer: _,
             accepted: _,
         } = self;
+        let replies = replies.into_text()?;
         Ok(Ran { replies, disk })
     }
 
