@@ -12,6 +12,10 @@ use std::thread::Threads;
 const MIXED: &[u8] =
     b"blkq 1\ndisk 16 hw 8\nwrite 0 4 01\nread 8 4\nset max_sectors 3\nread 0 4\nfreeze\nfreeze\nread 0 1\nset chunk_sectors 2\nthaw\nthaw\nthaw\nwrite 4 9 0203\nread 0 2\nstat\nread 3 12\nwrite 15 2 ff\nmode atomic\nremove\nread 0 1\n";
 
+/// Two writes, a drain, and a read of both.
+const WRITTEN_THEN_READ: &[u8] =
+    b"blkq 1\ndisk 4 hw 4\nwrite 0 1 01\nwrite 1 1 02\nfreeze\nthaw\nread 0 2\n";
+
 /// Two requests that overlap in nothing, and a drain.
 const TWO: &[u8] = b"blkq 1\ndisk 8 hw 8\nwrite 0 2 01\nwrite 4 2 02\nstat\nread 0 8\n";
 
@@ -119,6 +123,34 @@ fn drains_before_answered(rt: HostRuntime) -> Result<(), Fail> {
     Ok(())
 }
 
+/// Holds one request at one point for 10,000 turns.
+#[derive(Drop)]
+struct HoldsOne {
+    number: u32,
+    point: Point,
+}
+
+impl Stall for HoldsOne {
+    fn at(&self, number: u32, point: Point) {
+        if (number, point) == (self.number, self.point) {
+            for _ in 0..10_000 {
+                thread::yield_now();
+            }
+        }
+    }
+}
+
+#[test]
+fn whoever_is_held(rt: HostRuntime) -> Result<(), Fail> {
+    for number in 0..3 {
+        for point in [Point::Entered, Point::Drawn, Point::Answered] {
+            let holds = HoldsOne { number, point };
+            assert!(rt; agrees(&rt, WRITTEN_THEN_READ, 2, 3, &holds)?, "{number}");
+        }
+    }
+    Ok(())
+}
+
 /// Yields at points that look random.
 #[derive(Drop)]
 struct Yields {
@@ -139,7 +171,7 @@ fn whatever_the_schedule(rt: HostRuntime) -> Result<(), Fail> {
     let yields = Yields {
         seed: AtomicU32::new(1),
     };
-    for _ in 0..40 {
+    for _ in 0..1_000 {
         assert!(rt; agrees(&rt, MIXED, 4, 3, &yields)?);
     }
     Ok(())
