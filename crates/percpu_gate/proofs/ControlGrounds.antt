@@ -17,7 +17,7 @@ use Rattle.percpu_core.specs.ControlSteps.{control_reply}
 use Rattle.percpu_core.specs.ControlLearns.{control_view_after}
 use Rattle.percpu_core.specs.Machine.{won}
 use Rattle.percpu_gate.specs.Seats.{GateFacts, ControlStep, ControlFinds, FindsZero}
-use Rattle.percpu_gate.specs.ControlCalls.{after_revival, IsBetweenCalls, IsInAtomicMode}
+use Rattle.percpu_gate.specs.ControlCalls.{after_revival, IsBetweenCalls}
 use Rattle.percpu_gate.proofs.Known.{moment_known}
 use Rattle.percpu_gate.proofs.SharedWords.{shared_is}
 
@@ -103,18 +103,6 @@ revived old a b new w zero calm is s t u = let first : a ≡ control_view_after 
   where
     none_won : old.releases + 0 + 0 + 0 ≡ old.releases
     none_won = omega arith
-
--- a gate in atomic mode stands between two calls as any does
-pub stands_between : (x : Phase) → IsInAtomicMode x → IsBetweenCalls x
-stands_between LiveSlots in_mode = absurd in_mode
-stands_between LiveAtomic in_mode = tt
-stands_between (Closing i) in_mode = absurd in_mode
-stands_between Collected in_mode = tt
-stands_between Confirmed in_mode = tt
-stands_between Dead in_mode = tt
-stands_between Reviving in_mode = in_mode
-stands_between Fronted in_mode = in_mode
-stands_between (Opening i) in_mode = in_mode
 
 -- ZERO is found in the phase dead alone, between two calls of the control
 pub zero_when_dead : {g : GateFacts} (old new : ControlView) (w : ℕ) (zero : Bool) → IsBetweenCalls old.standing.phase → zero ≡ (parts w).zero → ControlStep g events.LookShared old new (Shared w)

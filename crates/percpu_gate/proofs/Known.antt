@@ -3,6 +3,7 @@ use Rattle.std.specs.Prelude.{ℤ, Option}
 use Rattle.std.proofs.Common.{length, ◌≡◌, ℕ, zero, suc, ◌+◌, ◌*◌, ◌%◌, ◌^◌, ◌<◌, ◌≤◌, true, false, List, [], ◌∷◌, refl, ap, sym, ◌∙◌, subst, arith}
 use mathlib.Core.Option.{some}
 use lib.ListN.{get_elem?}
+use Rattle.percpu_core.specs.declared.limits.TheConstants.{SLOT_LIMIT}
 use Rattle.percpu_core.specs.declared.start.Start.{Start}
 use Rattle.percpu_core.specs.declared.view.PassView.{PassView}
 use Rattle.percpu_core.specs.declared.view.ControlView.{ControlView}
@@ -13,7 +14,7 @@ use Rattle.percpu_core.specs.declared.phase.Phase.{Phase}
 use Rattle.percpu_core.specs.declared.phase.Phase.TheVariants.{LiveSlots, LiveAtomic, Closing, Collected, Confirmed, Dead, Reviving, Fronted, Opening}
 use Rattle.percpu_core.specs.Cells.{Cells, slot_at, is_open, sizes_of}
 use Rattle.percpu_core.specs.Views.{count, to_undo, releases_of_passes}
-use Rattle.percpu_core.specs.Phases.{has_odd_front, is_open_in, holds_base, is_coming_back, may_be_zero}
+use Rattle.percpu_core.specs.Phases.{has_odd_front, is_dead_in, is_open_in, holds_base, is_coming_back, may_be_zero}
 use Rattle.percpu_core.specs.LimitLaw.{fronts_due, AreSmall}
 use Rattle.percpu_core.specs.GuardLaw.{AreNow}
 use Rattle.percpu_core.specs.ReleaseLaw.{Origin}
@@ -108,6 +109,10 @@ pub record ControlKnows (cells : Cells) (c : ControlView) : Type 0 where
   pub parity : c.front % 2 ≡ count (has_odd_front c.standing.phase)
   pub releases : c.releases ≤ 2 ^ 40 + 2
   pub deltas : AreSmall cells.slots
+  pub slots_most : length cells.slots ≤ SLOT_LIMIT
+  -- whether DEAD is set, and which slots are open
+  pub dead : cells.shared.dead ≡ is_dead_in c.standing.phase c.killing
+  pub open_slots : (s : ℕ) → s < length cells.slots → is_open (slot_at cells.slots s) ≡ is_open_in c.standing.phase s
   -- what an enabled step finds
   pub fits : (joining : Option PassStanding) (e : ControlEvent) → IsEnabled (hinders_control (sizes_of cells) cells.shared.zero joining c.standing e) → ControlFits cells c e
 
@@ -125,6 +130,9 @@ control_known o cells c vs l = let least = value-least o cells c vs l in let due
   parity = ap (λ (n : ℕ). n % 2) l.front.known ∙ l.front.parity;
   releases = let most = releases_most o cells c vs l in omega arith;
   deltas = l.limit.deltas;
+  slots_most = l.limit.slots;
+  dead = l.phase.dead;
+  open_slots = λ s there. l.phase.slots s (slot_at cells.slots s) (slot_there cells.slots s there);
   fits = λ joining e free. control_fits o cells c vs l joining e free;
 }
 

@@ -25,6 +25,7 @@ pub mod RevivalSteps
 pub mod WordSteps
 -- its steps of a switch
 pub mod SwitchSteps
+pub mod SwitchCalls
 -- what the answers of the control's steps show
 pub mod ControlGrounds
 -- a new table, and the seats that are made and taken in

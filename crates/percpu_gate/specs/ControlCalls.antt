@@ -1,13 +1,14 @@
 -- What the calls of the control refuse, and what they leave.
-use Rattle.std.specs.Prelude.{◌≡◌, ℕ, ◌+◌, ◌*◌, ◌≤◌, pos, Bool, true, false, ◌||◌, nat_le, if◌then◌else◌, Option, Some, None, Result, Ok, Err, slice_set}
+use Rattle.std.specs.Prelude.{◌≡◌, ℕ, ◌+◌, ◌*◌, ◌<◌, ◌≤◌, ℤ, pos, ◌+ℤ◌, unsigned_abs, Bool, true, false, ◌||◌, nat_le, if◌then◌else◌, Option, Some, None, Result, Ok, Err, slice_set}
 use Rattle.percpu_core.specs.declared.phase.Phase.{Phase}
 use Rattle.percpu_core.specs.declared.phase.Phase.TheVariants.{LiveSlots, LiveAtomic, Closing, Collected, Confirmed, Dead, Reviving, Fronted, Opening}
 use Rattle.percpu_core.specs.declared.control_standing.ControlStanding.{ControlStanding}
 use Rattle.percpu_core.specs.declared.view.ControlView.{ControlView}
 use Rattle.percpu_core.specs.Views.{count}
-use Rattle.percpu_core.specs.Phases.{is_mid_switch}
+use Rattle.percpu_words.specs.SlotWord.{most_delta}
+use Rattle.percpu_core.specs.Phases.{is_mid_switch, next_slot}
 use Rattle.percpu_core.specs.LimitLaw.{fronts_due}
-use Rattle.percpu_core.specs.declared.limits.TheConstants.{KILL_LIMIT}
+use Rattle.percpu_core.specs.declared.limits.TheConstants.{KILL_LIMIT, SLOT_LIMIT}
 use Rattle.percpu_gate.specs.declared.control_fault.ControlFault.{ControlFault}
 use Rattle.percpu_gate.specs.declared.control_fault.ControlFault.TheVariants.{AlreadyDead, NotDead, NotZero, MidSwitch, WornOut}
 use Rattle.percpu_gate.specs.declared.exit.ExitWhy.{ExitWhy}
@@ -17,6 +18,8 @@ use Rattle.percpu_gate.specs.declared.revived.Revived.{Revived}
 use Rattle.percpu_gate.specs.declared.revived.Revived.TheVariants.{AtZero, Held}
 use Rattle.percpu_gate.specs.declared.tried.Put.{Put}
 use Rattle.percpu_gate.specs.declared.tried.Put.TheVariants.{Last, NotLast}
+use Rattle.percpu_gate.specs.declared.mode.Mode.{Mode}
+use Rattle.percpu_gate.specs.Modes.{live_in, switched_to}
 use Rattle.percpu_gate.specs.Calls.{released}
 use Rattle.percpu_gate.specs.Seats.{GateFacts, ControlFacts, FindsZero}
 
@@ -55,6 +58,30 @@ abbrev pub to_close : Phase → ℕ → ℕ
 to_close LiveSlots slots = slots
 to_close _ slots = 0
 
+-- the same view in another phase
+abbrev pub in_phase : Phase → ControlView → ControlView
+in_phase phase c = record c { standing = record c.standing { phase = phase } }
+
+-- what the closing of so many slots, whose deltas have this sum, leaves
+abbrev pub after_closing : ℕ → ℤ → ControlView → ControlView
+after_closing slots sum c = record c { standing = record c.standing { phase = Closing slots; uncollected = sum } }
+
+-- what the closing of the next slot, with this delta, leaves
+abbrev pub after_close : ℤ → ControlView → ControlView
+after_close d c = record c { standing = record c.standing { phase = Closing (next_slot c.standing.phase + 1); uncollected = c.standing.uncollected +ℤ d } }
+
+-- what the collecting leaves: a kill goes on, and a switch to the shared word is done
+abbrev pub after_collect : ControlView → ControlView
+after_collect c = record c { standing = record c.standing { phase = if c.killing then Collected else LiveAtomic; uncollected = pos 0 } }
+
+-- the phase once every slot is closed and collected, of a kill or of a switch to the shared word
+abbrev pub gathered_from : Phase → Phase
+gathered_from phase = if is_mid_switch phase then Collected else LiveAtomic
+
+-- what closing every slot and collecting them leaves
+abbrev pub after_gathering : ControlView → ControlView
+after_gathering c = record c { standing = standing (if c.killing then Collected else LiveAtomic) c.standing.kills }
+
 -- what each step of a kill leaves
 abbrev pub after_mark_dead : ControlView → ControlView
 after_mark_dead c = record c { standing = standing (phase_of_kill c.standing.phase) (c.standing.kills + 1); killing = true }
@@ -76,11 +103,19 @@ IsBetweenCalls Fronted = ⊥
 IsBetweenCalls (Opening i) = ⊥
 IsBetweenCalls _ = Unit {0}
 
--- the same of a gate whose slots are all closed
-abbrev pub IsInAtomicMode : Phase → Type 0
-IsInAtomicMode LiveSlots = ⊥
-IsInAtomicMode (Closing i) = ⊥
-IsInAtomicMode phase = IsBetweenCalls phase
+-- what was closed and isn't collected is the sum of that many small deltas; there is none in any other phase
+abbrev pub IsSumIn : Phase → ℤ → Type 0
+IsSumIn (Closing i) sum = (i ≤ SLOT_LIMIT) × (unsigned_abs sum ≤ most_delta * i)
+IsSumIn _ sum = sum ≡ pos 0
+
+-- a kill is closing slots and one of so many is to be closed next, or all of them are closed
+abbrev pub HasSlotToClose : Phase → ℕ → Type 0
+HasSlotToClose (Closing i) slots = i < slots
+HasSlotToClose _ slots = ⊥
+
+abbrev pub HasClosedAll : Phase → ℕ → Type 0
+HasClosedAll (Closing i) slots = i ≡ slots
+HasClosedAll _ slots = ⊥
 
 -- the front leaves room for those that are due
 abbrev pub HasRoom : Phase → ℕ → ℕ → Type 0
@@ -107,9 +142,17 @@ abbrev pub is_at_zero : Revived → Bool
 is_at_zero AtZero = true
 is_at_zero Held = false
 
--- the phase of a live gate, by the mode that its control wants: until slots are opened, every gate is in atomic mode
+-- the phase of a live gate, by the mode that its control wants
 abbrev pub live_phase : ControlFacts → Phase
-live_phase c = LiveAtomic
+live_phase c = live_in c.wants
+
+-- why a switch is refused
+abbrev pub switch_refusal : Phase → Option ControlFault
+switch_refusal phase = if is_mid_switch phase then Some MidSwitch else None
+
+-- what a switch to this mode leaves
+abbrev pub after_switch : Mode → ControlFacts → ControlFacts
+after_switch m c = record c { view = record c.view { standing = standing (switched_to m c.view.standing.phase) c.view.standing.kills }; wants = m }
 
 -- what a revival to this phase leaves, from a gate at zero or not
 abbrev pub after_revival : Phase → Bool → ControlView → ControlView

@@ -1,5 +1,6 @@
 pub mod Layout
 pub mod Rule
+pub mod Modes
 pub mod Seats
 pub mod Calls
 pub mod Counts

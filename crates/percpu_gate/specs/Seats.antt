@@ -6,6 +6,7 @@ use Rattle.percpu_core.specs.declared.pass_event.PassEvent.{PassEvent}
 use Rattle.percpu_core.specs.declared.control_event.ControlEvent.{ControlEvent}
 use Rattle.percpu_core.specs.declared.start.Start.{Start}
 use Rattle.percpu_core.specs.declared.start.Start.TheVariants.{Atomic}
+use Rattle.percpu_core.specs.declared.slot.Slot.TheVariants.{Open}
 use Rattle.percpu_core.specs.declared.reply.Reply.{Reply}
 use Rattle.percpu_core.specs.declared.reply.Reply.TheVariants.{Given, Refused, NotLast, ToMark, Last, Lost, Won, Opened, Closed}
 use Rattle.percpu_gate.specs.declared.tried.Put.TheVariants as Put
@@ -24,7 +25,9 @@ use Rattle.percpu_core.specs.Cells.{slot_at, is_open}
 use Rattle.percpu_words.specs.SharedWord.{spelling}
 use Rattle.percpu_gate.specs.declared.rule.GateKey.{GateKey}
 use Rattle.percpu_gate.specs.declared.rule.SeatView.{SeatView}
+use Rattle.percpu_gate.specs.declared.mode.Mode.{Mode}
 use Rattle.percpu_gate.specs.Rule.{MomentOf}
+use Rattle.percpu_gate.specs.Modes.{first_mode}
 
 -- which table a gate has, and what it was told
 pub record TableFacts : Type 0 where
@@ -46,9 +49,16 @@ pub record PassFacts : Type 0 where
   pub gate : GateFacts
   pub view : PassView
 
+-- the same of the control's seat
+pub record ControlSeatFacts : Type 0 where
+  pub gate : GateFacts
+  pub view : ControlView
+
+-- which gate the control belongs to, what it knows, and the mode that it wants
 pub record ControlFacts : Type 0 where
   pub gate : GateFacts
   pub view : ControlView
+  pub wants : Mode
 
 -- the gate that a seat was told of
 abbrev pub gate_of : TableId → SeatView → GateFacts
@@ -59,7 +69,7 @@ abbrev pub fresh_pass : GateFacts → PassFacts
 fresh_pass g = record { gate = g; view = first_pass }
 
 abbrev pub fresh_control : GateFacts → ℕ → List ℕ → ControlFacts
-fresh_control g passes words = record { gate = g; view = first_control (opening g.slots passes g.start 0 words) }
+fresh_control g passes words = record { gate = g; view = first_control (opening g.slots passes g.start 0 words); wants = first_mode g.start }
 
 -- this gate between two steps, seen by a seat with this view
 abbrev pub Moment : GateFacts → View → Type 0
@@ -113,6 +123,11 @@ pub record ControlFinds (g : GateFacts) (e : ControlEvent) (old new : ControlVie
   pub moment : Moment g (OfControl old)
   pub learned : new ≡ control_view_after e moment.cells old
   pub word_found : found ≡ spelling moment.cells.shared
+
+-- the control found the slot open with this delta, at a moment of its gate
+pub record FindsDelta (g : GateFacts) (slot : ℕ) (old : ControlView) (d : ℤ) : Type 0 where
+  pub moment : Moment g (OfControl old)
+  pub found : slot_at moment.cells.slots slot ≡ Open d
 
 -- the control found ZERO set, or not, at a moment of its gate
 pub record FindsZero (g : GateFacts) (old : ControlView) (zero : Bool) : Type 0 where

@@ -2,20 +2,23 @@
 //! once nothing is held (`words`), and brings it back (`revival`).
 ghost use Rattle.std.specs.Prelude.{◌≡◌, ℕ, ◌≤◌, false};
 ghost use Rattle.percpu_core.specs.declared.limits.TheConstants.{PASS_LIMIT};
-ghost use Rattle.percpu_core.specs.Starts.{opening, first_slot};
+ghost use Rattle.percpu_core.specs.Starts.{opening};
 ghost use Rattle.percpu_core.specs.Snapshots.{first_control};
 ghost use Rattle.percpu_gate.specs.Rule.{after_retire};
+ghost use Rattle.percpu_gate.specs.Modes.{first_mode};
 ghost use Rattle.percpu_gate.specs.ControlCalls.{IsBetweenCalls, exit_refusal};
 
 mod kill;
 mod revival;
+mod switch;
 mod words;
 
 use crate::control_seat::ControlSeat;
 use crate::exit::ExitWhy;
 use crate::gate::Gate;
+use crate::mode::Mode;
 use crate::pass::Pass;
-use percpu_core::{Phase, Slot, Start};
+use percpu_core::{Phase, Start};
 use std::marker::Model;
 
 /// The one control of a gate: it kills the gate, and knows the phase, the kills and the releases.
@@ -30,20 +33,25 @@ pub struct Control<const W: usize> {
     releases: u64,
     words: [u64; W],
     passes: u32,
+    /// The sum of the deltas of the slots that a kill has closed and not collected yet.
+    uncollected: i64,
+    wants: Mode,
 }
 
 impl<const W: usize> Model for Control<W> {
     ghost use Rattle.std.specs.Prelude.{◌≡◌, ◌+◌, ◌*◌, ◌≤◌};
     ghost use Rattle.percpu_core.specs.declared.limits.TheConstants.{KILL_LIMIT, PASS_LIMIT};
     ghost use Rattle.percpu_gate.specs.Seats.{ControlFacts};
-    ghost use Rattle.percpu_gate.specs.ControlCalls.{standing, IsInAtomicMode, HasRoom};
+    ghost use Rattle.percpu_core.specs.Phases.{is_mid_switch};
+    ghost use Rattle.percpu_gate.specs.ControlCalls.{standing, IsBetweenCalls, IsSumIn, HasRoom};
 
     ghost Value = { ControlFacts };
 
-    ghost view = { λ c. c.seat };
+    ghost view = { λ c. record { gate = c.seat.gate; view = c.seat.view; wants = c.wants } };
 
-    ghost invariant = { λ c. (c.seat.view.standing ≡ standing c.phase c.kills) × IsInAtomicMode c.phase × HasRoom c.phase c.kills c.front
+    ghost invariant = { λ c. (c.seat.view.standing ≡ record (standing c.phase c.kills) { uncollected = c.uncollected }) × IsBetweenCalls c.phase × HasRoom c.phase c.kills c.front
         × (c.seat.view.front ≡ c.front) × (c.seat.view.releases ≡ c.releases) × (c.seat.view.words ≡ c.words) × (c.seat.view.passes ≡ c.passes)
+        × IsSumIn c.phase c.uncollected × (c.seat.view.killing ≡ is_mid_switch c.phase)
         × (c.passes ≤ PASS_LIMIT) × (c.releases + 2 * KILL_LIMIT * c.passes ≤ 2 * KILL_LIMIT * (PASS_LIMIT + 1)) };
 }
 
@@ -51,9 +59,8 @@ impl<const W: usize> Control<W> {
     /// The control of a new gate that has made so many passes.
     pub(crate) fn new(seat: ControlSeat, start: Start, words: [u64; W], passes: u32) -> Control<W>
         requires passes { passes ≤ PASS_LIMIT }
-        requires start { first_slot start ≡ Slot.Closed }
         requires view { (slots : ℕ) × (seat.view ≡ first_control (opening slots passes start 0 words)) }
-        ensures { result ≡ seat }
+        ensures { result ≡ record { gate = seat.gate; view = seat.view; wants = first_mode start } }
     {
         Control {
             seat,
@@ -63,6 +70,8 @@ impl<const W: usize> Control<W> {
             releases: 0,
             words,
             passes,
+            uncollected: 0,
+            wants: Mode::first(start),
         }
     }
 
@@ -81,6 +90,14 @@ impl<const W: usize> Control<W> {
         ensures { result ≡ self.now.view.standing.kills }
     {
         self.kills
+    }
+
+    /// The mode that a live gate is in, and that a dead one comes back in. Linux: `force_atomic` (lib/percpu-refcount.c).
+    #[inline]
+    pub fn wants(&self) -> Mode
+        ensures { result ≡ self.now.wants }
+    {
+        self.wants
     }
 
     /// The releases that the control has won, and those that retired passes had won.
@@ -121,7 +138,7 @@ impl<const W: usize> Control<W> {
 
     /// The seat, of a control that ends.
     pub(crate) fn into_seat(self) -> ControlSeat
-        ensures seat { result ≡ self.entry }
+        ensures seat { result ≡ record { gate = self.entry.gate; view = self.entry.view } }
         ensures stands { (self.entry.view.standing.to_mark ≡ false) × IsBetweenCalls self.entry.view.standing.phase }
     {
         let Self {
@@ -132,6 +149,8 @@ impl<const W: usize> Control<W> {
             releases: _,
             words: _,
             passes: _,
+            uncollected: _,
+            wants: _,
         } = self;
         seat
     }

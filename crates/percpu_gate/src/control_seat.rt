@@ -7,12 +7,13 @@ ghost use Rattle.percpu_core.specs.declared.view.View.TheVariants.{OfControl};
 ghost use Rattle.percpu_core.specs.declared.limits.TheConstants.{KILL_LIMIT, PASS_LIMIT};
 ghost use Rattle.percpu_core.specs.Machine.{IsEnabled};
 ghost use Rattle.percpu_core.specs.ControlSteps.{hinders_control};
+ghost use Rattle.percpu_core.specs.Phases.{is_live};
 ghost use Rattle.percpu_gate.specs.Seats.{FindsZero, SitsAsControl, facts_of, gate_of, control_of, ControlFinds, ControlStep, left, marked};
 ghost use Rattle.percpu_core.specs.Snapshots.{first_pass};
 ghost use Rattle.percpu_core.specs.SeatLaws.{with_one_more};
 ghost use Rattle.percpu_gate.specs.Rule.{sizes_at, after_retire};
 ghost use Rattle.percpu_gate.specs.Calls.{holding};
-ghost use Rattle.percpu_gate.specs.ControlCalls.{standing, after_drop_base, after_revival};
+ghost use Rattle.percpu_gate.specs.ControlCalls.{standing, after_mark_dead, after_drop_base, after_revival};
 
 mod switch;
 
@@ -35,9 +36,9 @@ pub(crate) struct ControlSeat {
 }
 
 impl Model for ControlSeat {
-    ghost use Rattle.percpu_gate.specs.Seats.{ControlFacts, gate_of, control_of, SitsAsControl};
+    ghost use Rattle.percpu_gate.specs.Seats.{ControlSeatFacts, gate_of, control_of, SitsAsControl};
 
-    ghost Value = { ControlFacts };
+    ghost Value = { ControlSeatFacts };
 
     ghost view = { λ c. record { gate = gate_of c.seat.table_id c.seat.me.0; view = control_of c.seat.me.0.view } };
 
@@ -86,8 +87,9 @@ impl ControlSeat {
     pub(crate) fn set_dead(&mut self, gate: &GateTable)
         requires own { self.old.gate ≡ facts_of gate.now }
         requires enabled { IsEnabled (hinders_control (sizes_at gate.now.key) true None self.old.view.standing events.MarkDead) }
-        ensures own { self.new.gate ≡ self.old.gate }
-        ensures step { ControlStep (facts_of gate.now) events.MarkDead self.old.view self.new.view Done }
+        requires live { is_live self.old.view.standing.phase ≡ true }
+        requires stands { self.old.view.standing ≡ standing self.old.view.standing.phase self.old.view.standing.kills }
+        ensures view { self.new ≡ record self.old { view = after_mark_dead self.old.view } }
     {
         let shared = &gate.table.shared;
         shared.fetch_or::<SetsDead>(&mut self.seat, SHARED, DEAD);

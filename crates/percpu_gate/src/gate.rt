@@ -2,7 +2,6 @@
 ghost use Rattle.std.specs.Prelude.{◌≡◌, ◌≤◌, replicate, IfOk, IfErr, OnOk};
 ghost use Rattle.percpu_core.specs.declared.phase.Phase.TheVariants.{Dead};
 ghost use Rattle.percpu_core.specs.Phases.{is_phase};
-ghost use Rattle.percpu_core.specs.Starts.{first_slot};
 ghost use Rattle.percpu_gate.specs.ControlCalls.{exit_refusal};
 ghost use Rattle.percpu_gate.specs.Exits.{why_of, Ended};
 ghost use Rattle.percpu_gate.specs.Seats.{facts_of, fresh_pass, fresh_control};
@@ -13,7 +12,7 @@ use crate::exit::{ExitFault, Final};
 use crate::pass::Pass;
 use crate::rule::GateKey;
 use crate::table::GateTable;
-use percpu_core::{Memory, PASS_LIMIT, Phase, SLOT_LIMIT, Slot, Start, WORD_LIMIT};
+use percpu_core::{Memory, PASS_LIMIT, Phase, SLOT_LIMIT, Start, WORD_LIMIT};
 use std::alloc::{AllocError, Global};
 use std::marker::Model;
 
@@ -65,9 +64,9 @@ fn make_passes<const W: usize>(
 
 impl<const W: usize> Gate<W> {
     /// A gate with so many slots (1 to 64) and guarded words (up to 8), its control, and so many passes (1 to
-    /// 64) that hold nothing. It starts as `Start::Atomic` or `Start::Dead` does, with its slots closed; to start
-    /// with `Start::Slots` isn't offered yet. Memory where a growth was refused. Linux: `percpu_ref_init`
-    /// (lib/percpu-refcount.c).
+    /// 64) that hold nothing. Live with its slots open by `Start::Slots`, live with them closed by `Start::Atomic`,
+    /// dead and at zero by `Start::Dead`, which comes back with its slots open. Memory where a growth was refused.
+    /// Linux: `percpu_ref_init` (lib/percpu-refcount.c).
     pub fn new(
         alloc: Global,
         slots: u32,
@@ -78,7 +77,6 @@ impl<const W: usize> Gate<W> {
         requires words { W ≤ WORD_LIMIT }
         requires slots { (1 ≤ slots) × (slots ≤ SLOT_LIMIT) }
         requires passes { (1 ≤ passes) × (passes ≤ PASS_LIMIT) }
-        requires start { first_slot start ≡ Slot.Closed }
         ensures gate { IfOk result (λ g. (g.0.slots ≡ slots) × (g.0.start ≡ start) × (g.0.words ≡ W)) }
         ensures control { IfOk result (λ g. g.1 ≡ fresh_control g.0 passes words.entry) }
         ensures passes { IfOk result (λ g. g.2.items ≡ replicate passes (fresh_pass g.0)) }

@@ -20,7 +20,9 @@
 //! seat knows: `view.standing.held` of a pass is what it holds, `view.standing.phase` of the control where it
 //! stands. docs/GATE.md tells the gate's life, `tests/caller.rt` shows how a caller reasons.
 //!
-//! Slots aren't opened yet: a slot number is taken and every count is on the shared word.
+//! A gate that counts on slots has one for each processor, or for each thread: a count that finds its slot open costs
+//! a look at it and one exchange, on a line that no other thread touches. A kill closes the slots and collects their
+//! sum, and a revival opens them again; `switch_to_atomic` and `switch_to_slots` do so while the gate lives on.
 #![tactic(auto)]
 
 mod control;
@@ -29,6 +31,7 @@ mod control_plays;
 mod control_seat;
 mod exit;
 mod gate;
+mod mode;
 mod pass;
 mod pass_seat;
 mod plays;
@@ -43,6 +46,7 @@ pub use control::Control;
 pub use control_fault::ControlFault;
 pub use exit::{ExitFault, ExitWhy, Final};
 pub use gate::{Gate, NewGate};
+pub use mode::Mode;
 pub use pass::Pass;
 pub use percpu_core::{
     HELD_LIMIT, KILL_LIMIT, Memory, PASS_LIMIT, Phase, SLOT_LIMIT, Start, WORD_LIMIT,

@@ -41,7 +41,7 @@ pub(crate) struct GateTable {
 
 impl Model for GateTable {
     ghost use Rattle.std.specs.Prelude.{◌≡◌, ◌≤◌};
-    ghost use Rattle.percpu_core.specs.declared.limits.TheConstants.{WORD_LIMIT};
+    ghost use Rattle.percpu_core.specs.declared.limits.TheConstants.{SLOT_LIMIT, WORD_LIMIT};
     ghost use Rattle.percpu_gate.specs.Layout.{words_in_all};
     ghost use Rattle.percpu_gate.specs.Seats.{TableFacts};
 
@@ -49,7 +49,7 @@ impl Model for GateTable {
 
     ghost view = { λ t. record { id = t.table.shared.table_id; key = t.table.shared.key } };
 
-    ghost invariant = { λ t. (t.slots ≡ t.table.shared.key.slots) × (t.table.shared.key.count ≤ WORD_LIMIT)
+    ghost invariant = { λ t. (t.slots ≡ t.table.shared.key.slots) × (1 ≤ t.slots) × (t.slots ≤ SLOT_LIMIT) × (t.table.shared.key.count ≤ WORD_LIMIT)
         × (t.table.shared.table_id.words ≡ words_in_all t.slots) × (t.table.shared.table_id.slots ≡ 0) };
 }
 
@@ -109,7 +109,9 @@ impl GateTable {
     /// The slots of the gate.
     #[inline]
     pub(crate) fn slots(&self) -> u32
-        ensures { result ≡ self.now.key.slots }
+        ensures value { result ≡ self.now.key.slots }
+        ensures some_slot { 1 ≤ result }
+        ensures few { result ≤ SLOT_LIMIT }
     {
         self.slots
     }

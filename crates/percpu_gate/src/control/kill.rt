@@ -1,7 +1,8 @@
 //! Killing a gate.
-ghost use Rattle.std.specs.Prelude.{◌≡◌, ◌+◌, ◌%◌, ◌<◌, IfOk, IfErr};
+ghost use Rattle.std.specs.Prelude.{◌≡◌, ◌*◌, ◌+◌, ◌%◌, ◌<◌, IfOk, IfErr, true};
+ghost use Rattle.percpu_core.specs.Phases.{is_live};
 ghost use Rattle.percpu_core.specs.declared.phase.Phase.TheVariants as phases;
-ghost use Rattle.percpu_gate.specs.ControlCalls.{fault_of, to_close, kill_refusal, after_mark_dead, after_confirm, after_drop_base, after_kill};
+ghost use Rattle.percpu_gate.specs.ControlCalls.{fault_of, to_close, kill_refusal, after_mark_dead, after_gathering, after_confirm, after_drop_base, after_kill};
 
 use super::Control;
 use crate::control_fault::ControlFault;
@@ -13,7 +14,7 @@ impl<const W: usize> Control<W> {
     /// Why a kill is refused now.
     fn refuse_unless_live(&self) -> Result<(), ControlFault>
         ensures refused { fault_of result ≡ kill_refusal self.now.view.standing.phase self.now.view.standing.kills }
-        ensures live { IfOk result (λ _. (self.now.view.standing.phase ≡ phases.LiveAtomic) × (self.now.view.standing.kills < KILL_LIMIT)) }
+        ensures live { IfOk result (λ _. (is_live self.now.view.standing.phase ≡ true) × (self.now.view.standing.kills < KILL_LIMIT)) }
     {
         if self.phase.is_mid_switch() {
             Err(ControlFault::MidSwitch)
@@ -36,21 +37,44 @@ impl<const W: usize> Control<W> {
         ensures begun { IfOk result (λ slots. (slots ≡ to_close self.old.view.standing.phase gate.now.slots) × (self.new ≡ record self.old { view = after_mark_dead self.old.view })) }
     {
         self.begin(gate)?;
-        Ok(0)
+        Ok(if self.phase == Phase::Collected {
+            0
+        } else {
+            gate.slots()
+        })
     }
 
-    /// Begins a kill. No slot is open, so none has to be closed.
+    /// Begins a kill: sets DEAD.
     fn begin(&mut self, gate: &Gate<W>) -> Result<(), ControlFault>
         requires own { self.old.gate ≡ gate.now }
         ensures refused { fault_of result ≡ kill_refusal self.old.view.standing.phase self.old.view.standing.kills }
         ensures unchanged { IfErr result (λ why. self.new ≡ self.old) }
-        ensures live { IfOk result (λ _. self.old.view.standing.phase ≡ phases.LiveAtomic) }
+        ensures live { IfOk result (λ _. is_live self.old.view.standing.phase ≡ true) }
         ensures begun { IfOk result (λ _. self.new ≡ record self.old { view = after_mark_dead self.old.view }) }
     {
         self.refuse_unless_live()?;
         self.seat.set_dead(&gate.table);
-        self.phase = Phase::Collected;
+        self.phase = if self.phase == Phase::LiveSlots {
+            Phase::Closing(0)
+        } else {
+            Phase::Collected
+        };
         self.kills += 1;
+        Ok(())
+    }
+
+    /// Begins a kill, and closes and collects what slots are open.
+    fn begin_and_gather(&mut self, gate: &Gate<W>) -> Result<(), ControlFault>
+        requires own { self.old.gate ≡ gate.now }
+        ensures refused { fault_of result ≡ kill_refusal self.old.view.standing.phase self.old.view.standing.kills }
+        ensures unchanged { IfErr result (λ why. self.new ≡ self.old) }
+        ensures begun { IfOk result (λ _. self.new ≡ record self.old { view = after_gathering (after_mark_dead self.old.view) }) }
+    {
+        let on_slots = self.phase == Phase::LiveSlots;
+        self.begin(gate)?;
+        if on_slots {
+            self.gather(gate);
+        }
         Ok(())
     }
 
@@ -83,7 +107,7 @@ impl<const W: usize> Control<W> {
         answer
     }
 
-    /// Kills the gate: `mark_dead`, `confirm` and `drop_base`. The put of the initial reference. Refuses
+    /// Kills the gate: `mark_dead`, `close_next` once for each open slot and `collect`, `confirm` and `drop_base`. The put of the initial reference. Refuses
     /// MidSwitch, AlreadyDead, WornOut. Linux: `percpu_ref_kill` (include/linux/percpu-refcount.h).
     pub fn kill(&mut self, gate: &Gate<W>) -> Result<Put, ControlFault>
         requires own { self.old.gate ≡ gate.now }
@@ -91,7 +115,7 @@ impl<const W: usize> Control<W> {
         ensures unchanged { IfErr result (λ why. self.new ≡ self.old) }
         ensures killed { IfOk result (λ r. self.new ≡ record self.old { view = after_kill r self.old.view }) }
     {
-        self.begin(gate)?;
+        self.begin_and_gather(gate)?;
         self.confirm(gate);
         Ok(self.drop_base(gate))
     }
@@ -111,7 +135,7 @@ impl<const W: usize> Control<W> {
         ensures killed { IfOk result (λ r. self.new ≡ record self.old { view = after_kill r.0 self.old.view }) }
         ensures called { IfOk result (λ r. ((self.old.view.front + 1) % 2 ≡ 1) × F.post confirm (self.old.view.front + 1) r.1) }
     {
-        self.begin(gate)?;
+        self.begin_and_gather(gate)?;
         let front = self.confirm(gate);
         let answer = confirm(front);
         Ok((self.drop_base(gate), answer))

@@ -7,6 +7,7 @@ ghost use Rattle.percpu_gate.specs.ControlCalls.{fault_of, live_phase, dead_refu
 use super::Control;
 use crate::control_fault::ControlFault;
 use crate::gate::Gate;
+use crate::mode::Mode;
 use crate::revived::Revived;
 use percpu_core::Phase;
 
@@ -41,7 +42,7 @@ impl<const W: usize> Control<W> {
         })
     }
 
-    /// Brings a dead gate back. Whether it was at zero.
+    /// Brings a dead gate back, in the mode that is wanted. Whether it was at zero.
     fn revive(&mut self, gate: &Gate<W>) -> bool
         requires own { self.old.gate ≡ gate.now }
         requires dead { self.old.view.standing.phase ≡ phases.Dead }
@@ -51,6 +52,9 @@ impl<const W: usize> Control<W> {
         self.front += 1;
         let at_zero = self.seat.revive(&gate.table, self.front);
         self.phase = Phase::LiveAtomic;
+        if self.wants == Mode::Slots {
+            self.open(gate);
+        }
         at_zero
     }
 }

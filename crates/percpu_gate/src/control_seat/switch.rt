@@ -1,12 +1,16 @@
 //! The control's steps of a switch: closing slots and collecting, and adding the bias and opening them.
-ghost use Rattle.std.specs.Prelude.{◌≡◌, ◌<◌, pos, ◌-ℤ◌, None, true, unwrap_or};
+ghost use Rattle.std.specs.Prelude.{◌≡◌, ◌*◌, ◌<◌, ◌≤◌, pos, ◌-ℤ◌, None, true, false, unwrap_or, unsigned_abs};
 ghost use Rattle.percpu_words.specs.SharedWord.{bias};
+ghost use Rattle.percpu_words.specs.SlotWord.{IsDelta, most_delta};
+ghost use Rattle.percpu_core.specs.declared.limits.TheConstants.{SLOT_LIMIT};
+ghost use Rattle.percpu_core.specs.declared.phase.Phase.TheVariants.{LiveSlots, LiveAtomic};
 ghost use Rattle.percpu_core.specs.declared.control_event.ControlEvent.TheVariants as events;
 ghost use Rattle.percpu_core.specs.declared.reply.Reply.TheVariants.{Collected, Done};
 ghost use Rattle.percpu_core.specs.Machine.{IsEnabled};
 ghost use Rattle.percpu_core.specs.Phases.{next_slot};
-ghost use Rattle.percpu_core.specs.ControlSteps.{hinders_control};
-ghost use Rattle.percpu_gate.specs.Seats.{ControlStep, facts_of};
+ghost use Rattle.percpu_core.specs.ControlSteps.{hinders_control, has_slot_to_close, has_closed_all};
+ghost use Rattle.percpu_gate.specs.Seats.{ControlStep, FindsDelta, facts_of};
+ghost use Rattle.percpu_gate.specs.ControlCalls.{after_close, after_closing, after_collect, in_phase};
 ghost use Rattle.percpu_gate.specs.Rule.{sizes_at};
 
 use super::ControlSeat;
@@ -70,5 +74,63 @@ impl ControlSeat {
         gate.table
             .shared
             .store::<OpensSlot>(&mut self.seat, place, word);
+    }
+
+    /// Closes the next slot, which is open. Its delta.
+    pub(crate) fn close_next(&mut self, gate: &GateTable, slot: u32) -> i64
+        requires own { self.old.gate ≡ facts_of gate.now }
+        requires next { slot ≡ next_slot self.old.view.standing.phase }
+        requires there { slot < gate.now.key.slots }
+        requires turn { has_slot_to_close gate.now.key.slots self.old.view.standing.phase ≡ true }
+        requires unmarked { self.old.view.standing.to_mark ≡ false }
+        ensures view { self.new ≡ record self.old { view = after_close result self.old.view } }
+        ensures found { FindsDelta (facts_of gate.now) slot self.old.view result }
+        ensures small { IsDelta result }
+    {
+        self.close_slot(gate, slot).unwrap_or(0)
+    }
+
+    /// Closes every slot, from the first on. The sum of their deltas.
+    pub(crate) fn close_all(&mut self, gate: &GateTable) -> i64
+        requires own { self.old.gate ≡ facts_of gate.now }
+        requires first { next_slot self.old.view.standing.phase ≡ 0 }
+        requires turn { 1 ≤ gate.now.key.slots → has_slot_to_close gate.now.key.slots self.old.view.standing.phase ≡ true }
+        requires none { self.old.view.standing.uncollected ≡ pos 0 }
+        requires unmarked { self.old.view.standing.to_mark ≡ false }
+        ensures view { self.new ≡ record self.old { view = after_closing gate.now.key.slots result self.old.view } }
+        ensures small { unsigned_abs result ≤ most_delta * gate.now.key.slots }
+        ensures slots { (1 ≤ gate.now.key.slots) × (gate.now.key.slots ≤ SLOT_LIMIT) }
+    {
+        let mut sum = 0;
+        for slot in 0..gate.slots() {
+            sum += self.close_next(gate, slot);
+        }
+        sum
+    }
+
+    /// Collects the slots, all of which are closed, with this sum of their deltas.
+    pub(crate) fn collect_sum(&mut self, gate: &GateTable, sum: i64)
+        requires own { self.old.gate ≡ facts_of gate.now }
+        requires closed { has_closed_all gate.now.key.slots self.old.view.standing.phase ≡ true }
+        requires sum { self.old.view.standing.uncollected ≡ sum }
+        requires small { unsigned_abs sum ≤ most_delta * SLOT_LIMIT }
+        requires unmarked { self.old.view.standing.to_mark ≡ false }
+        ensures view { self.new ≡ record self.old { view = after_collect self.old.view } }
+    {
+        let less = (BIAS as i64 - sum) as u64;
+        self.collect(gate, less);
+    }
+
+    /// Adds the bias and opens every slot, from the first on.
+    pub(crate) fn open_all(&mut self, gate: &GateTable)
+        requires own { self.old.gate ≡ facts_of gate.now }
+        requires live { self.old.view.standing.phase ≡ LiveAtomic }
+        requires unmarked { self.old.view.standing.to_mark ≡ false }
+        ensures view { self.new ≡ record self.old { view = in_phase LiveSlots self.old.view } }
+    {
+        self.add_bias(gate);
+        for slot in 0..gate.slots() {
+            self.open_slot(gate, slot);
+        }
     }
 }

@@ -1,12 +1,10 @@
 //! A gate with its control and its passes, played by a list of calls. Each call's conditions are looked at
 //! when it is played, so a row of calls and answers is a table and needs no proof of its own.
 ghost use Rattle.std.specs.Prelude.{◌≡◌, ◌≤◌};
-ghost use Rattle.percpu_core.specs.Starts.{first_slot};
 
 use crate::{
     Control, ControlFault, ExitWhy, Final, Gate, Memory, Pass, Phase, Put, Revived, Start, Tried,
 };
-use percpu_core::Slot;
 use std::alloc::Global;
 use std::marker::Model;
 
@@ -165,7 +163,6 @@ impl<const W: usize> Trial<W> {
         requires words { W ≤ 8 }
         requires slots { (1 ≤ slots) × (slots ≤ 64) }
         requires passes { (1 ≤ passes) × (passes ≤ 64) }
-        requires start { first_slot start ≡ Slot.Closed }
     {
         let (gate, control, passes) = Gate::new(alloc, slots, passes, start, words)?;
         Ok(Trial {

@@ -1,0 +1,128 @@
+//! Switching a gate between its two modes, and the steps with which a kill leaves the slots.
+ghost use Rattle.std.specs.Prelude.{◌≡◌, ◌*◌, ◌<◌, ◌≤◌, IfOk, IfErr, true};
+ghost use Rattle.percpu_core.specs.ControlSteps.{has_slot_to_close};
+ghost use Rattle.percpu_core.specs.Phases.{next_slot};
+ghost use Rattle.percpu_core.specs.declared.phase.Phase.TheVariants as phases;
+ghost use Rattle.percpu_gate.specs.declared.mode.Mode.TheVariants as modes;
+ghost use Rattle.percpu_gate.specs.Seats.{FindsDelta};
+ghost use Rattle.percpu_gate.specs.ControlCalls.{fault_of, switch_refusal, HasSlotToClose, HasClosedAll, after_close, after_gathering, gathered_from, after_collect, after_switch, in_phase};
+
+use super::Control;
+use crate::control_fault::ControlFault;
+use crate::gate::Gate;
+use crate::mode::Mode;
+use percpu_core::Phase;
+
+impl<const W: usize> Control<W> {
+    /// The slot that a kill closes next.
+    fn slot_to_close(&self) -> u32
+        ensures { result ≡ next_slot self.now.view.standing.phase }
+    {
+        match self.phase {
+            Phase::Closing(slot) => slot,
+            _ => 0,
+        }
+    }
+
+    /// Closes the next slot of a kill. Its delta: what was taken on it less what was given back on it.
+    pub fn close_next(&mut self, gate: &Gate<W>) -> i64
+        requires own { self.old.gate ≡ gate.now }
+        requires closing { HasSlotToClose self.old.view.standing.phase gate.now.slots }
+        ensures view { self.new ≡ record self.old { view = after_close result self.old.view } }
+        ensures found { FindsDelta gate.now (next_slot self.old.view.standing.phase) self.old.view result }
+    {
+        let slot = self.slot_to_close();
+        let delta = self.seat.close_next(&gate.table, slot);
+        self.uncollected += delta;
+        self.phase = Phase::Closing(slot + 1);
+        delta
+    }
+
+    /// Collects a kill: the sum of the closed deltas comes to the shared word and the bias off it, in one step.
+    pub fn collect(&mut self, gate: &Gate<W>)
+        requires own { self.old.gate ≡ gate.now }
+        requires closed { HasClosedAll self.old.view.standing.phase gate.now.slots }
+        ensures view { self.new ≡ record self.old { view = after_collect self.old.view } }
+    {
+        self.seat.collect_sum(&gate.table, self.uncollected);
+        self.uncollected = 0;
+        self.phase = Phase::Collected;
+    }
+
+    /// Closes every slot and collects them: the middle of a kill, or a whole switch to the shared word.
+    pub(super) fn gather(&mut self, gate: &Gate<W>)
+        requires own { self.old.gate ≡ gate.now }
+        requires first { next_slot self.old.view.standing.phase ≡ 0 }
+        requires turn { 1 ≤ gate.now.slots → has_slot_to_close gate.now.slots self.old.view.standing.phase ≡ true }
+        ensures view { self.new ≡ record self.old { view = after_gathering self.old.view } }
+    {
+        self.phase = self.gathered_phase();
+        let sum = self.seat.close_all(&gate.table);
+        self.seat.collect_sum(&gate.table, sum);
+        self.uncollected = 0;
+    }
+
+    /// The phase once every slot is closed and collected.
+    fn gathered_phase(&self) -> Phase
+        ensures { result ≡ gathered_from self.now.view.standing.phase }
+    {
+        if self.phase.is_mid_switch() {
+            Phase::Collected
+        } else {
+            Phase::LiveAtomic
+        }
+    }
+
+    /// Adds the bias and opens every slot of a gate that counts on the shared word alone.
+    pub(super) fn open(&mut self, gate: &Gate<W>)
+        requires own { self.old.gate ≡ gate.now }
+        requires live { self.old.view.standing.phase ≡ phases.LiveAtomic }
+        ensures view { self.new ≡ record self.old { view = in_phase phases.LiveSlots self.old.view } }
+    {
+        self.seat.open_all(&gate.table);
+        self.phase = Phase::LiveSlots;
+    }
+
+    /// Why a switch is refused now.
+    fn refuse_mid_switch(&self) -> Result<(), ControlFault>
+        ensures refused { fault_of result ≡ switch_refusal self.now.view.standing.phase }
+    {
+        if self.phase.is_mid_switch() {
+            Err(ControlFault::MidSwitch)
+        } else {
+            Ok(())
+        }
+    }
+
+    /// Counts on the shared word alone from now on; where the gate is dead, once it is revived. Refuses MidSwitch.
+    /// Linux: `percpu_ref_switch_to_atomic_sync` (lib/percpu-refcount.c).
+    pub fn switch_to_atomic(&mut self, gate: &Gate<W>) -> Result<(), ControlFault>
+        requires own { self.old.gate ≡ gate.now }
+        ensures refused { fault_of result ≡ switch_refusal self.old.view.standing.phase }
+        ensures unchanged { IfErr result (λ why. self.new ≡ self.old) }
+        ensures switched { IfOk result (λ _. self.new ≡ after_switch modes.Atomic self.old) }
+    {
+        self.refuse_mid_switch()?;
+        if self.phase == Phase::LiveSlots {
+            self.gather(gate);
+        }
+        self.wants = Mode::Atomic;
+        Ok(())
+    }
+
+    /// Counts on slots from now on; where the gate is dead, once it is revived. Refuses MidSwitch. Linux:
+    /// `percpu_ref_switch_to_percpu` (lib/percpu-refcount.c).
+    pub fn switch_to_slots(&mut self, gate: &Gate<W>) -> Result<(), ControlFault>
+        requires own { self.old.gate ≡ gate.now }
+        ensures refused { fault_of result ≡ switch_refusal self.old.view.standing.phase }
+        ensures unchanged { IfErr result (λ why. self.new ≡ self.old) }
+        ensures switched { IfOk result (λ _. self.new ≡ after_switch modes.Slots self.old) }
+    {
+        self.refuse_mid_switch()?;
+        if self.phase == Phase::LiveAtomic {
+            self.open(gate);
+        }
+        self.wants = Mode::Slots;
+        Ok(())
+    }
+}
