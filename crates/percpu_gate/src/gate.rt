@@ -95,7 +95,9 @@ impl<const W: usize> Gate<W> {
     /// The slots of the gate: 1 to 64.
     #[inline]
     pub fn slots(&self) -> u32
-        ensures { result ≡ self.now.slots }
+        ensures value { result ≡ self.now.slots }
+        ensures some_slot { 1 ≤ result }
+        ensures few { result ≤ SLOT_LIMIT }
     {
         self.table.slots()
     }

@@ -3,5 +3,6 @@ mod caller;
 mod ends;
 mod kills;
 mod revivals;
+mod slots;
 mod threads;
 mod trial;

@@ -2,6 +2,7 @@
 ghost use Rattle.std.specs.Prelude.{◌≡◌, ◌*◌, ◌<◌, ◌≤◌, IfOk, IfErr, true};
 ghost use Rattle.percpu_core.specs.ControlSteps.{has_slot_to_close};
 ghost use Rattle.percpu_core.specs.Phases.{next_slot};
+ghost use Rattle.percpu_words.specs.SlotWord.{IsDelta};
 ghost use Rattle.percpu_core.specs.declared.phase.Phase.TheVariants as phases;
 ghost use Rattle.percpu_gate.specs.declared.mode.Mode.TheVariants as modes;
 ghost use Rattle.percpu_gate.specs.Seats.{FindsDelta};
@@ -30,6 +31,7 @@ impl<const W: usize> Control<W> {
         requires closing { HasSlotToClose self.old.view.standing.phase gate.now.slots }
         ensures view { self.new ≡ record self.old { view = after_close result self.old.view } }
         ensures found { FindsDelta gate.now (next_slot self.old.view.standing.phase) self.old.view result }
+        ensures small { IsDelta result }
     {
         let slot = self.slot_to_close();
         let delta = self.seat.close_next(&gate.table, slot);
@@ -43,6 +45,7 @@ impl<const W: usize> Control<W> {
         requires own { self.old.gate ≡ gate.now }
         requires closed { HasClosedAll self.old.view.standing.phase gate.now.slots }
         ensures view { self.new ≡ record self.old { view = after_collect self.old.view } }
+        ensures phase { self.new.view.standing.phase ≡ phases.Collected }
     {
         self.seat.collect_sum(&gate.table, self.uncollected);
         self.uncollected = 0;

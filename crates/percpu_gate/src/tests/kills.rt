@@ -124,8 +124,10 @@ fn counts_and_is_killed(rt: HostRuntime) -> Result<(), Fail> {
 
 #[test]
 fn kill_with_confirm(rt: HostRuntime) -> Result<(), Fail> {
-    let mut trial = Trial::<1>::new(rt.alloc(), 3, 1, Start::Atomic, [7])?;
-    assert_eq!(rt; trial.differs(&KILL_WITH_CONFIRM), None);
+    for start in [Start::Slots, Start::Atomic] {
+        let mut trial = Trial::<1>::new(rt.alloc(), 3, 1, start, [7])?;
+        assert_eq!(rt; trial.differs(&KILL_WITH_CONFIRM), None);
+    }
     Ok(())
 }
 
@@ -150,21 +152,23 @@ fn as_many_as_may_be(rt: HostRuntime) -> Result<(), Fail> {
     Ok(())
 }
 
-/// While the closure of a kill runs, the front is stored and the initial reference still held: the gate is
-/// dying, isn't at zero, and gives references to a try that isn't for a live gate.
+/// While the closure of a kill runs, the front is stored and the initial reference still held: the gate is dying and
+/// isn't at zero, in either mode.
 #[test]
 fn closure_finds_the_base_held(rt: HostRuntime) -> Result<(), Fail> {
-    let (gate, mut control, mut passes) = Gate::<0>::new(rt.alloc(), 1, 1, Start::Atomic, [])?;
-    let mut pass = passes.pop().ok_or("a pass")?;
-    let seen = control.kill_and_confirm(&gate, |front| {
-        (
-            front == pass.front(&gate),
-            pass.is_dying(&gate),
-            pass.is_zero(&gate),
-        )
-    });
-    assert_eq!(rt; seen, Ok((Last, (true, true, false))));
-    assert!(rt; control.is_zero(&gate));
+    for start in [Start::Slots, Start::Atomic] {
+        let (gate, mut control, mut passes) = Gate::<0>::new(rt.alloc(), 1, 1, start, [])?;
+        let mut pass = passes.pop().ok_or("a pass")?;
+        let seen = control.kill_and_confirm(&gate, |front| {
+            (
+                front == pass.front(&gate),
+                pass.is_dying(&gate),
+                pass.is_zero(&gate),
+            )
+        });
+        assert_eq!(rt; seen, Ok((Last, (true, true, false))));
+        assert!(rt; control.is_zero(&gate));
+    }
     Ok(())
 }
 

@@ -31,23 +31,25 @@ const GATE_REVIVED: [(Call, Answer); 14] = [
     (Pass(0, PassCall::Held), Number(0)),
 ];
 
-/// And its end: a pass that is out, the last one retired.
+/// And its end: a pass that is out, the last one retired. The answers are the same in both modes.
 #[test]
-fn gate_revived(rt: HostRuntime) -> Result<(), Fail> {
-    let mut trial = Trial::<1>::new(rt.alloc(), 2, 1, Start::Atomic, [7])?;
-    assert_eq!(rt; trial.differs(&GATE_REVIVED), None);
-    let (why, mut trial) = trial.exit().err().ok_or("a pass is out")?;
-    assert_eq!(rt; why.number(), 6);
-    assert_eq!(rt; trial.differs(&[(Retire(0), Done)]), None);
-    let ended = trial.exit().ok().ok_or("all are retired")?;
-    assert!(rt; ended.dead);
-    assert_eq!(rt; (ended.kills, ended.releases), (2, 1));
-    assert_eq!(rt; ended.words, [7]);
+fn gate_in_slots(rt: HostRuntime) -> Result<(), Fail> {
+    for start in [Start::Slots, Start::Atomic] {
+        let mut trial = Trial::<1>::new(rt.alloc(), 2, 1, start, [7])?;
+        assert_eq!(rt; trial.differs(&GATE_REVIVED), None);
+        let (why, mut trial) = trial.exit().err().ok_or("a pass is out")?;
+        assert_eq!(rt; why.number(), 6);
+        assert_eq!(rt; trial.differs(&[(Retire(0), Done)]), None);
+        let ended = trial.exit().ok().ok_or("all are retired")?;
+        assert!(rt; ended.dead);
+        assert_eq!(rt; (ended.kills, ended.releases), (2, 1));
+        assert_eq!(rt; ended.words, [7]);
+    }
     Ok(())
 }
 
 /// What a live gate and a dead one refuse.
-const GATE_REFUSALS: [(Call, Answer); 14] = [
+const GATE_REFUSALS: [(Call, Answer); 16] = [
     (Control(ControlCall::Reinit), Set(Err(NotDead))),
     (Control(ControlCall::Resurrect), Revived(Err(NotDead))),
     (
@@ -67,6 +69,8 @@ const GATE_REFUSALS: [(Call, Answer); 14] = [
     (Control(ControlCall::WordAt(0)), Number(5)),
     (Control(ControlCall::Reinit), Set(Ok(()))),
     (Control(ControlCall::MarkDead), ToClose(Ok(0))),
+    (Control(ControlCall::SwitchToSlots), Set(Err(MidSwitch))),
+    (Control(ControlCall::SwitchToAtomic), Set(Err(MidSwitch))),
     (Control(ControlCall::Kill), Killed(Err(MidSwitch))),
 ];
 

@@ -1,16 +1,15 @@
-//! Two threads that count while the control kills and revives.
-ghost use Rattle.std.specs.Prelude.{◌≡◌, ◌<◌, IfOk};
+//! Threads that count, alone and while the control kills, switches modes and revives.
+ghost use Rattle.std.specs.Prelude.{◌≡◌, ◌*◌, ◌<◌, All, IfSome};
 ghost use Rattle.std.specs.Thread.{IsSync};
 ghost use Rattle.percpu_gate.specs.Calls.{holding};
 
-use crate::{Control, Gate, Pass, Put, Start, Tried};
+use crate::{Control, ControlFault, Gate, Pass, Put, Start, Tried};
+use std::alloc::Global;
+use std::marker::Model;
 use std::process::Abort;
 use std::test::Fail;
 use std::thread;
 use std::thread::Threads;
-
-/// What two threads that counted give back: each its pass, and how often it was the last.
-type TwoCounts = ((Pass<0>, u64), (Pass<0>, u64));
 
 /// Which try a thread counts by.
 #[derive(Clone, Copy)]
@@ -19,131 +18,235 @@ enum Form {
     TryGetLive,
 }
 
-/// Takes a reference and puts it, so many times. How often that was the last.
-fn take_and_put(gate: &Gate<0>, mut pass: Pass<0>, form: Form, times: u32) -> (Pass<0>, u64)
-    requires own { pass.gate ≡ gate.now }
-    requires slots { 0 < gate.now.slots }
-    requires none { pass.view.standing ≡ holding 0 }
-    ensures { (result.0.gate ≡ gate.now) × (result.0.view.standing ≡ holding 0) }
-{
-    let mut last = 0u64;
-    for _ in 0..times {
-        let tried = match form {
-            Form::TryGet => pass.try_get(gate, 0),
-            Form::TryGetLive => pass.try_get_live(gate, 0),
-        };
-        let answer = match tried {
-            Tried::Given => pass.put(gate, 0, 1),
-            Tried::Refused(answer) => answer,
-        };
-        last = last.saturating_add(u64::from(answer == Put::Last));
-    }
-    (pass, last)
+/// A thread's pass, which holds nothing between two turns, the slot on which it counts, and how often it was the last.
+#[derive(Drop)]
+struct Counter {
+    pass: Pass<0>,
+    slot: u32,
+    form: Form,
+    last: u64,
 }
 
-/// Kills and revives so many times. How often the kill was the last.
+impl Model for Counter {
+    ghost use Rattle.std.specs.Prelude.{◌≡◌, ◌<◌};
+    ghost use Rattle.percpu_gate.specs.Seats.{GateFacts};
+    ghost use Rattle.percpu_gate.specs.Calls.{holding};
+
+    ghost Value = { GateFacts };
+
+    ghost view = { λ c. c.pass.gate };
+
+    ghost invariant = { λ c. (c.slot < c.pass.gate.slots) × (c.pass.view.standing ≡ holding 0) };
+}
+
+type Two = (Counter, Counter);
+
+type Four = (Two, Two);
+
+impl Counter {
+    /// Takes a reference and puts it, once.
+    fn turn(&mut self, gate: &Gate<0>)
+        requires { self.old ≡ gate.now }
+        ensures { self.new ≡ gate.now }
+    {
+        let tried = match self.form {
+            Form::TryGet => self.pass.try_get(gate, self.slot),
+            Form::TryGetLive => self.pass.try_get_live(gate, self.slot),
+        };
+        let answer = match tried {
+            Tried::Given => self.pass.put(gate, self.slot, 1),
+            Tried::Refused(answer) => answer,
+        };
+        self.last = self.last.saturating_add(u64::from(answer == Put::Last));
+    }
+
+    /// So many turns.
+    fn count(mut self, gate: &Gate<0>, turns: u32) -> Counter
+        requires { self ≡ gate.now }
+        ensures { result ≡ gate.now }
+    {
+        for _ in 0..turns {
+            self.turn(gate);
+        }
+        self
+    }
+
+    /// Retires the pass. How often it was the last.
+    fn retire(self, gate: &Gate<0>, control: &mut Control<0>) -> u64
+        requires { (self ≡ gate.now) × (control.old.gate ≡ gate.now) }
+        ensures { control.new.gate ≡ gate.now }
+    {
+        control.retire(gate, self.pass);
+        self.last
+    }
+}
+
+/// Two threads count.
+fn count_by_two<R: Threads + Sync>(rt: &R, gate: &Gate<0>, both: Two, turns: u32) -> Two
+    requires { (both.0 ≡ gate.now) × (both.1 ≡ gate.now) }
+    ensures { (result.0 ≡ gate.now) × (result.1 ≡ gate.now) }
+{
+    let (first, second) = both;
+    thread::join(
+        rt,
+        move || -> Counter
+            requires { first ≡ gate.now }
+            ensures { result ≡ gate.entry.now }
+        { first.count(gate, turns) },
+        move || -> Counter
+            requires { second ≡ gate.now }
+            ensures { result ≡ gate.entry.now }
+        { second.count(gate, turns) },
+    )
+}
+
+/// Four threads count.
+fn count_by_four<R: Threads + Sync>(rt: &R, gate: &Gate<0>, all: Four, turns: u32) -> Four
+    requires { (all.0.0 ≡ gate.now) × (all.0.1 ≡ gate.now) × (all.1.0 ≡ gate.now) × (all.1.1 ≡ gate.now) }
+    ensures { (result.0.0 ≡ gate.now) × (result.0.1 ≡ gate.now) × (result.1.0 ≡ gate.now) × (result.1.1 ≡ gate.now) }
+{
+    let (front, back) = all;
+    thread::join(
+        rt,
+        move || -> Two
+            requires { IsSync R.row × (front.0 ≡ gate.now) × (front.1 ≡ gate.now) }
+            ensures { (result.0 ≡ gate.entry.now) × (result.1 ≡ gate.entry.now) }
+        { count_by_two(rt, gate, front, turns) },
+        move || -> Two
+            requires { IsSync R.row × (back.0 ≡ gate.now) × (back.1 ≡ gate.now) }
+            ensures { (result.0 ≡ gate.entry.now) × (result.1 ≡ gate.entry.now) }
+        { count_by_two(rt, gate, back, turns) },
+    )
+}
+
+/// Switches the mode. No kill is under way, so it isn't refused.
+fn switch(gate: &Gate<0>, control: &mut Control<0>, to_slots: bool) -> Result<(), ControlFault>
+    requires { control.old.gate ≡ gate.now }
+    ensures { control.new.gate ≡ gate.now }
+{
+    if to_slots {
+        control.switch_to_slots(gate)
+    } else {
+        control.switch_to_atomic(gate)
+    }
+}
+
+/// Kills, switches the mode and revives so many times, and switches the live gate too. How often the kill was the last.
 fn kill_and_revive(gate: &Gate<0>, mut control: Control<0>, times: u32) -> (Control<0>, u64)
-    requires own { control.gate ≡ gate.now }
+    requires { control.gate ≡ gate.now }
     ensures { result.0.gate ≡ gate.now }
 {
     let mut last = 0u64;
-    for _ in 0..times {
+    for turn in 0..times {
         let answer = control.kill(gate);
         last = last.saturating_add(u64::from(answer == Ok(Put::Last)));
+        let _switched = switch(gate, &mut control, turn % 2 == 1);
         let _revived = control.resurrect(gate);
+        let _switched = switch(gate, &mut control, turn % 3 > 0);
     }
     (control, last)
 }
 
-/// Two threads count while this one waits for them.
-fn count_by_two<R: Threads + Sync>(
+/// Four threads count while one kills, switches and revives.
+fn count_under_kills<R: Threads + Sync>(
     rt: &R,
     gate: &Gate<0>,
-    first: Pass<0>,
-    second: Pass<0>,
-    form: Form,
-) -> TwoCounts
-    requires own { (first.gate ≡ gate.now) × (second.gate ≡ gate.now) }
-    requires slots { 0 < gate.now.slots }
-    requires none { (first.view.standing ≡ holding 0) × (second.view.standing ≡ holding 0) }
-    ensures first { (result.0.0.gate ≡ gate.now) × (result.0.0.view.standing ≡ holding 0) }
-    ensures second { (result.1.0.gate ≡ gate.now) × (result.1.0.view.standing ≡ holding 0) }
+    all: Four,
+    turns: u32,
+    control: Control<0>,
+) -> (Four, (Control<0>, u64))
+    requires own { control.gate ≡ gate.now }
+    requires all { (all.0.0 ≡ gate.now) × (all.0.1 ≡ gate.now) × (all.1.0 ≡ gate.now) × (all.1.1 ≡ gate.now) }
+    ensures all { (result.0.0.0 ≡ gate.now) × (result.0.0.1 ≡ gate.now) × (result.0.1.0 ≡ gate.now) × (result.0.1.1 ≡ gate.now) }
+    ensures control { result.1.0.gate ≡ gate.now }
 {
     thread::join(
         rt,
-        move || -> (Pass<0>, u64)
-            requires { (first.gate ≡ gate.now) × (0 < gate.now.slots) × (first.view.standing ≡ holding 0) }
-            ensures { (result.0.gate ≡ gate.entry.now) × (result.0.view.standing ≡ holding 0) }
-        { take_and_put(gate, first, form, 1000) },
-        move || -> (Pass<0>, u64)
-            requires { (second.gate ≡ gate.now) × (0 < gate.now.slots) × (second.view.standing ≡ holding 0) }
-            ensures { (result.0.gate ≡ gate.entry.now) × (result.0.view.standing ≡ holding 0) }
-        { take_and_put(gate, second, form, 1000) },
+        move || -> Four
+            requires { IsSync R.row × (all.0.0 ≡ gate.now) × (all.0.1 ≡ gate.now) × (all.1.0 ≡ gate.now) × (all.1.1 ≡ gate.now) }
+            ensures { (result.0.0 ≡ gate.entry.now) × (result.0.1 ≡ gate.entry.now) × (result.1.0 ≡ gate.entry.now) × (result.1.1 ≡ gate.entry.now) }
+        { count_by_four(rt, gate, all, turns) },
+        move || -> (Control<0>, u64)
+            requires { control.gate ≡ gate.now }
+            ensures { result.0.gate ≡ gate.entry.now }
+        { kill_and_revive(gate, control, 1000) },
     )
 }
 
-/// Everything was put, so a kill wins the release.
+/// Seats a pass at a slot, if there are both.
+fn seat(gate: &Gate<0>, passes: &mut Vec<Pass<0>>, slot: u32, form: Form) -> Option<Counter>
+    requires { All (λ p. (p.gate ≡ gate.now) × (p.view.standing ≡ holding 0)) passes.old.items }
+    ensures rest { All (λ p. (p.gate ≡ gate.now) × (p.view.standing ≡ holding 0)) passes.new.items }
+    ensures counter { IfSome result (λ c. c ≡ gate.now) }
+{
+    let pass = passes.pop()?;
+    if slot >= gate.slots() {
+        return None;
+    }
+    Some(Counter {
+        pass,
+        slot,
+        form,
+        last: 0,
+    })
+}
+
+/// Seats four passes at these slots.
+fn seat_four(gate: &Gate<0>, mut passes: Vec<Pass<0>>, slots: [u32; 4], form: Form) -> Option<Four>
+    requires { All (λ p. (p.gate ≡ gate.now) × (p.view.standing ≡ holding 0)) passes.items }
+    ensures { IfSome result (λ all. (all.0.0 ≡ gate.now) × (all.0.1 ≡ gate.now) × (all.1.0 ≡ gate.now) × (all.1.1 ≡ gate.now)) }
+{
+    let [a, b, c, d] = slots;
+    let first = seat(gate, &mut passes, a, form)?;
+    let second = seat(gate, &mut passes, b, form)?;
+    let third = seat(gate, &mut passes, c, form)?;
+    let fourth = seat(gate, &mut passes, d, form)?;
+    Some(((first, second), (third, fourth)))
+}
+
+/// Everything was put, so a kill wins the release, in either mode and with each try.
 #[test]
-fn two_count_then_a_kill(rt: HostRuntime) -> Result<(), Fail> {
-    for form in [Form::TryGet, Form::TryGetLive] {
-        let (gate, mut control, mut passes) = Gate::<0>::new(rt.alloc(), 2, 2, Start::Atomic, [])?;
-        let second = passes.pop().ok_or("a pass")?;
-        let first = passes.pop().ok_or("a pass")?;
-        let ((_first, earlier), (_second, later)) = count_by_two(&rt, &gate, first, second, form);
-        assert_eq!(rt; (earlier, later), (0, 0));
+fn four_count_then_a_kill(rt: HostRuntime) -> Result<(), Fail> {
+    for (start, form) in [
+        (Start::Atomic, Form::TryGet),
+        (Start::Slots, Form::TryGetLive),
+    ] {
+        let (gate, mut control, passes) = Gate::<0>::new(rt.alloc(), 3, 4, start, [])?;
+        let all = seat_four(&gate, passes, [0, 1, 2, 2], form).ok_or("four seats")?;
+        let ((first, second), (third, fourth)) = count_by_four(&rt, &gate, all, 1000);
+        assert_eq!(rt;
+            (first.last, second.last, third.last, fourth.last),
+            (0, 0, 0, 0)
+        );
         assert_eq!(rt; control.kill(&gate), Ok(Put::Last));
     }
     Ok(())
 }
 
-/// Two threads count while a third kills and revives.
-fn count_under_kills<R: Threads + Sync>(
-    rt: &R,
-    gate: &Gate<0>,
-    first: Pass<0>,
-    second: Pass<0>,
-    form: Form,
-    control: Control<0>,
-) -> (TwoCounts, (Control<0>, u64))
-    requires own { (first.gate ≡ gate.now) × (second.gate ≡ gate.now) × (control.gate ≡ gate.now) }
-    requires slots { 0 < gate.now.slots }
-    requires none { (first.view.standing ≡ holding 0) × (second.view.standing ≡ holding 0) }
-    ensures first { (result.0.0.0.gate ≡ gate.now) × (result.0.0.0.view.standing ≡ holding 0) }
-    ensures second { (result.0.1.0.gate ≡ gate.now) × (result.0.1.0.view.standing ≡ holding 0) }
-    ensures control { result.1.0.gate ≡ gate.now }
-{
-    thread::join(
-        rt,
-        move || -> TwoCounts
-            requires { IsSync R.row × (first.gate ≡ gate.now) × (second.gate ≡ gate.now) × (0 < gate.now.slots) × (first.view.standing ≡ holding 0) × (second.view.standing ≡ holding 0) }
-            ensures { (result.0.0.gate ≡ gate.entry.now) × (result.0.0.view.standing ≡ holding 0) × (result.1.0.gate ≡ gate.entry.now) × (result.1.0.view.standing ≡ holding 0) }
-        { count_by_two(rt, gate, first, second, form) },
-        move || -> (Control<0>, u64)
-            requires { control.gate ≡ gate.now }
-            ensures { result.0.gate ≡ gate.entry.now }
-        { kill_and_revive(gate, control, 100) },
-    )
-}
-
-/// As many releases are told at the end as calls were the last.
+/// Four threads, each on a slot of its own, or two of them on one, while the control kills, switches and revives 1,000
+/// times: in the end nothing is held, and as many releases are told as calls were the last.
 #[test]
-fn no_release_is_lost(rt: HostRuntime) -> Result<(), Fail> {
-    for form in [Form::TryGet, Form::TryGetLive] {
-        let (gate, control, mut passes) = Gate::<0>::new(rt.alloc(), 2, 2, Start::Atomic, [])?;
-        let second = passes.pop().ok_or("a pass")?;
-        let first = passes.pop().ok_or("a pass")?;
-        let (counts, (mut control, killed)) = count_under_kills(
-            &rt, &gate, first, second, form, control,
-        );
-        let ((first, earlier), (second, later)) = counts;
-        control.retire(&gate, first);
-        control.retire(&gate, second);
+fn counts_agree_in_the_end(rt: HostRuntime) -> Result<(), Fail> {
+    let layouts = [
+        ([0, 1, 2, 3], Form::TryGetLive),
+        ([0, 0, 1, 2], Form::TryGet),
+        ([3, 3, 3, 3], Form::TryGetLive),
+    ];
+    for (slots, form) in layouts {
+        let (gate, control, passes) = Gate::<0>::new(rt.alloc(), 4, 4, Start::Slots, [])?;
+        let all = seat_four(&gate, passes, slots, form).ok_or("four seats")?;
+        let (all, (mut control, killed)) = count_under_kills(&rt, &gate, all, 2000, control);
+        assert_eq!(rt; control.kill(&gate), Ok(Put::Last));
+        let ((first, second), (third, fourth)) = all;
+        let last = first
+            .retire(&gate, &mut control)
+            .saturating_add(second.retire(&gate, &mut control))
+            .saturating_add(third.retire(&gate, &mut control))
+            .saturating_add(fourth.retire(&gate, &mut control))
+            .saturating_add(killed);
         let ended = gate.exit(control).ok().ok_or("all are retired")?;
-        assert_eq!(rt; ended.kills, 100);
-        assert_eq!(rt;
-            ended.releases,
-            killed.saturating_add(earlier).saturating_add(later)
-        );
+        assert_eq!(rt; ended.kills, 1001);
+        assert_eq!(rt; ended.releases, last.saturating_add(1));
     }
     Ok(())
 }

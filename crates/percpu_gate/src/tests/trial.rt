@@ -1,9 +1,11 @@
 //! A gate with its control and its passes, played by a list of calls. Each call's conditions are looked at
 //! when it is played, so a row of calls and answers is a table and needs no proof of its own.
-ghost use Rattle.std.specs.Prelude.{◌≡◌, ◌≤◌};
+ghost use Rattle.std.specs.Prelude.{◌≡◌, ◌≤◌, true};
+ghost use Rattle.percpu_gate.specs.ControlCalls.{HasSlotToClose};
 
 use crate::{
-    Control, ControlFault, ExitWhy, Final, Gate, Memory, Pass, Phase, Put, Revived, Start, Tried,
+    Control, ControlFault, ExitWhy, Final, Gate, Memory, Mode, Pass, Phase, Put, Revived, Start,
+    Tried,
 };
 use std::alloc::Global;
 use std::marker::Model;
@@ -36,12 +38,17 @@ pub(super) enum ControlCall {
     Kill,
     KillAndConfirm,
     MarkDead,
+    CloseNext,
+    Collect,
     Confirm,
     DropBase,
     Reinit,
     Resurrect,
     StoreWord { k: u32, v: u64 },
     WordAt(u32),
+    SwitchToAtomic,
+    SwitchToSlots,
+    Wants,
     IsZero,
     InPhase,
     Kills,
@@ -62,6 +69,8 @@ pub(super) enum Answer {
     Set(Result<(), ControlFault>),
     Revived(Result<Revived, ControlFault>),
     In(Phase),
+    Delta(i64),
+    Wants(Mode),
     /// A condition of the call isn't met, so it wasn't made.
     NotAllowed,
 }
@@ -116,6 +125,16 @@ fn play_pass<const W: usize>(gate: &Gate<W>, pass: &mut Pass<W>, call: PassCall)
     }
 }
 
+/// Whether a kill has one of so many slots to close.
+fn is_closing(phase: Phase, slots: u32) -> bool
+    ensures { result ≡ true → HasSlotToClose phase slots }
+{
+    match phase {
+        Phase::Closing(closed) => closed < slots,
+        _ => false,
+    }
+}
+
 /// Plays a call of the control.
 fn play_control<const W: usize>(
     gate: &Gate<W>,
@@ -131,6 +150,13 @@ fn play_control<const W: usize>(
             Answer::Confirmed(control.kill_and_confirm(gate, |front| front))
         }
         ControlCall::MarkDead => Answer::ToClose(control.mark_dead(gate)),
+        ControlCall::CloseNext if is_closing(control.phase(), gate.slots()) => {
+            Answer::Delta(control.close_next(gate))
+        }
+        ControlCall::Collect if control.phase() == Phase::Closing(gate.slots()) => {
+            control.collect(gate);
+            Answer::Done
+        }
         ControlCall::Confirm if control.phase() == Phase::Collected => {
             Answer::Number(control.confirm(gate))
         }
@@ -143,6 +169,9 @@ fn play_control<const W: usize>(
             Answer::Set(control.store_word(gate, k, v))
         }
         ControlCall::WordAt(k) if (k as usize) < W => Answer::Number(control.words()[k as usize]),
+        ControlCall::SwitchToAtomic => Answer::Set(control.switch_to_atomic(gate)),
+        ControlCall::SwitchToSlots => Answer::Set(control.switch_to_slots(gate)),
+        ControlCall::Wants => Answer::Wants(control.wants()),
         ControlCall::IsZero => Answer::Flag(control.is_zero(gate)),
         ControlCall::InPhase => Answer::In(control.phase()),
         ControlCall::Kills => Answer::Number(control.kills()),
