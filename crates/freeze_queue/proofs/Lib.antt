@@ -1,3 +1,4 @@
+pub mod LimitWords
 pub mod SetLimits
 pub mod ToldLimits
 pub mod Emptied

@@ -1,11 +1,9 @@
 -- What a tag reads while the freezer stands as it does.
-use Rattle.std.proofs.Common.{◌≡◌, ℕ, ◌<◌, ◌≤◌, Bool, true, false, List, [], ◌∷◌, refl, sym, ap, ◌∙◌, arith}
+use Rattle.std.proofs.Common.{◌≡◌, ℕ, false, List, sym, ap, ◌∙◌, arith}
 use Rattle.std.specs.Prelude.{◌==◌, ◌||◌, nat_lt, if◌then◌else◌}
 use Rattle.std.proofs.lemmas.Bool.{le-ltb, ne_eqb}
-use Rattle.percpu_core.specs.declared.view.ControlView.{ControlView}
 use Rattle.percpu_core.specs.declared.view.PassView.{PassView}
-use Rattle.percpu_core.specs.declared.view.View.TheVariants.{OfControl, OfPass}
-use Rattle.percpu_core.specs.SeatLaws.{Sees}
+use Rattle.percpu_core.specs.declared.view.View.TheVariants.{OfPass}
 use Rattle.percpu_gate.specs.Seats.{GateFacts, Moment}
 use Rattle.percpu_gate.proofs.Known.{control_knows}
 use Rattle.queue_limits.specs.Bounds.{Bounds, AreAllowed}

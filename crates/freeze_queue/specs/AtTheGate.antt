@@ -1,5 +1,5 @@
 -- What it means at the gate of a queue that limits are in force, and that the queue is drained.
-use Rattle.std.specs.Prelude.{◌≡◌, ℕ, true, Some, List, ◌∷◌}
+use Rattle.std.specs.Prelude.{◌≡◌, ℕ, ◌-◌, ◌<◌, true, Some, List, slice_index}
 use Rattle.percpu_core.specs.declared.view.PassView.{PassView}
 use Rattle.percpu_core.specs.declared.view.ControlView.{ControlView}
 use Rattle.percpu_core.specs.declared.view.View.{View}
@@ -9,14 +9,22 @@ use Rattle.percpu_core.specs.Views.{held_by_all}
 use Rattle.percpu_gate.specs.Seats.{GateFacts, Moment}
 use Rattle.queue_limits.specs.Bounds.{Bounds}
 use Rattle.queue_limits.specs.Words.{from_words}
+use Rattle.freeze_queue.specs.declared.limit_words.TheConstants.{LIMIT_WORDS}
 use Rattle.freeze_queue.specs.Queue.{QueueFacts, TagFacts, FreezerFacts, IsFreezer}
-use Rattle.freeze_queue.specs.Readings.{IsTag, limits_told}
+use Rattle.freeze_queue.specs.Readings.{IsTag, limits_told, reads_up_to}
 
--- at a moment of a call of a tag, at which its seat knew what it did before and had read the first guarded word once more, the guarded words spelled these limits
-pub record AreInForce (gate : GateFacts) (hardware : ℕ) (before : PassView) (limits : Bounds) : Type 0 where
+-- at a moment of a call of a pass, at which its seat knew what it did before and had read all of these words but the last once more, the first words of the gate were these
+pub record AreReadTogether (count : ℕ) (gate : GateFacts) (before : PassView) (words : List ℕ) : Type 0 where
   pub seat : PassView
-  pub max : ℕ
-  pub own : seat ≡ record before { read = record { word = 0; value = max } ∷ before.read }
+  pub own : seat ≡ record before { read = reads_up_to (count - 1) words before.read }
+  pub moment : Moment gate (OfPass seat)
+  pub spelled : (k : ℕ) → k < count → slice_index moment.cells.words k ≡ slice_index words k
+
+-- the same of a call of a tag: the guarded words spelled these limits then
+pub record AreInForce (gate : GateFacts) (hardware : ℕ) (before : PassView) (limits : Bounds) : Type 0 where
+  pub words : List ℕ
+  pub seat : PassView
+  pub own : seat ≡ record before { read = reads_up_to (LIMIT_WORDS - 1) words before.read }
   pub moment : Moment gate (OfPass seat)
   pub spelled : limits ≡ from_words hardware moment.cells.words
 

@@ -1,6 +1,6 @@
 -- A queue that can be frozen: what its parts know, and what each call leaves. Beside each thing stands what it is in
 -- Linux (block/blk-core.c, block/blk-mq.c, block/blk-settings.c).
-use Rattle.std.specs.Prelude.{◌≡◌, ℕ, ◌+◌, ◌-◌, ◌^◌, ◌<◌, ◌≤◌, ◌==◌, ◌&&◌, nat_le, nat_lt, Bool, true, false, if◌then◌else◌, Option, Some, None, Result, Ok, Err}
+use Rattle.std.specs.Prelude.{◌≡◌, ℕ, ◌+◌, ◌-◌, ◌^◌, ◌≤◌, ◌==◌, ◌&&◌, nat_le, nat_lt, Bool, true, false, if◌then◌else◌, Option, Some, None, Result, Ok, Err}
 use Rattle.queue_limits.specs.Bounds.{Bounds, AreAllowed, IsHardwareLimit}
 use Rattle.queue_limits.specs.Words.{to_words}
 use Rattle.percpu_core.specs.declared.phase.Phase.TheVariants.{LiveAtomic}
@@ -13,7 +13,7 @@ use Rattle.percpu_gate.specs.declared.tried.Put.{Put}
 use Rattle.percpu_gate.specs.Seats.{GateFacts, fresh_control}
 use Rattle.percpu_gate.specs.Calls.{released, after_put}
 use Rattle.percpu_gate.specs.ControlCalls.{after_kill, after_revival}
-use Rattle.freeze_queue.specs.declared.tag.TheConstants.{LIMIT_WORDS}
+use Rattle.freeze_queue.specs.declared.limit_words.TheConstants.{LIMIT_WORDS}
 use Rattle.freeze_queue.specs.declared.fault.FreezeFault.{FreezeFault}
 use Rattle.freeze_queue.specs.declared.fault.FreezeFault.TheVariants.{DepthFull, NotFrozen, NotDrained, TagsOut, WornOut}
 

@@ -1,5 +1,6 @@
 -- How what a tag and a freezer know is read off what their seats at the gate know.
-use Rattle.std.specs.Prelude.{◌≡◌, ℕ, ◌==◌, ◌≤◌, Bool, true, false, if◌then◌else◌, Option, Some, None, option_map, List, [], ◌∷◌}
+use Rattle.std.specs.Prelude.{◌≡◌, ℕ, zero, suc, ◌==◌, ◌≤◌, slice_index, Bool, true, false, if◌then◌else◌, Option, Some, None, option_map, List, [], ◌∷◌}
+use Rattle.std.specs.List.{range_with_len}
 use Rattle.percpu_core.specs.declared.phase.Phase.{Phase}
 use Rattle.percpu_core.specs.declared.phase.Phase.TheVariants.{LiveAtomic, Dead}
 use Rattle.percpu_core.specs.declared.view.WordRead.{WordRead}
@@ -8,11 +9,17 @@ use Rattle.percpu_core.specs.declared.view.ControlView.{ControlView}
 use Rattle.percpu_gate.specs.Seats.{PassFacts, ControlFacts}
 use Rattle.queue_limits.specs.Bounds.{Bounds, AreAllowed}
 use Rattle.queue_limits.specs.Words.{from_words, to_words}
+use Rattle.freeze_queue.specs.declared.limit_words.TheConstants.{LIMIT_WORDS}
 use Rattle.freeze_queue.specs.Queue.{TagFacts, FreezerFacts, most_depth}
 
--- the guarded words that hold the limits
+-- the guarded words that hold the limits, by their numbers
 abbrev pub limit_words : List ℕ
-limit_words = 0 ∷ 1 ∷ []
+limit_words = range_with_len 0 LIMIT_WORDS
+
+-- what a seat has read once it has read the first words of these once more, one after another
+abbrev pub reads_up_to : ℕ → List ℕ → List WordRead → List WordRead
+reads_up_to zero words reads = reads
+reads_up_to (suc k) words reads = record { word = k; value = slice_index words k } ∷ reads_up_to k words reads
 
 -- what the seat read last of a guarded word
 abbrev pub last_read : List WordRead → ℕ → Option ℕ

@@ -8,7 +8,7 @@ use Rattle.percpu_gate.specs.Calls.{released}
 use Rattle.percpu_gate.specs.Seats.{GateFacts, Moment, zero_at}
 use Rattle.freeze_queue.specs.declared.fault.FreezeFault.{FreezeFault}
 use Rattle.freeze_queue.specs.declared.remove.RemoveFault.{RemoveFault}
-use Rattle.freeze_queue.specs.declared.tag.TheConstants.{LIMIT_WORDS}
+use Rattle.freeze_queue.specs.declared.limit_words.TheConstants.{LIMIT_WORDS}
 use Rattle.freeze_queue.specs.Queue.{TagFacts, FreezerFacts}
 
 -- the refusal of a result, if it is one

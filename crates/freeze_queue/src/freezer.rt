@@ -10,8 +10,9 @@ ghost use Rattle.freeze_queue.specs.Queue.{IsFreezer, first_freezer, after_freez
 ghost use Rattle.freeze_queue.specs.Sets.{LooksForDrained};
 
 use crate::fault::FreezeFault;
+use crate::limit_words::{LIMIT_WORDS, store_words};
 use crate::queue::BlockQueue;
-use crate::tag::{LIMIT_WORDS, Tag};
+use crate::tag::Tag;
 use crossbeam_utils::Backoff;
 use crossbeam_utils::sync::Parker;
 use percpu_gate::Control;
@@ -184,9 +185,7 @@ impl Freezer {
         requires drained { self.old.drained ≡ true }
         ensures { self.new ≡ after_set limits self.old }
     {
-        let [max, chunk] = limits.to_words();
-        let _stored = self.control.store_word(&queue.gate, 0, max);
-        let _stored = self.control.store_word(&queue.gate, 1, chunk);
+        store_words(&mut self.control, &queue.gate, limits.to_words());
         self.limits = limits;
     }
 

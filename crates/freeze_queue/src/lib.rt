@@ -22,6 +22,7 @@
 mod fault;
 mod freezer;
 mod laws;
+mod limit_words;
 mod queue;
 mod remove;
 mod shared;
@@ -32,8 +33,9 @@ mod tests;
 pub use fault::FreezeFault;
 pub use freezer::{Freezer, MOST_DEPTH};
 pub use laws::{drained_is_empty, in_force_are_set, limits_hold_still, tags_read_what_is_set};
+pub use limit_words::LIMIT_WORDS;
 pub use percpu_gate::{Final, Memory, Put};
 pub use queue::{BlockQueue, MOST_TAGS, NewQueue};
 pub use remove::RemoveFault;
 pub use shared::{Pair, SharedFreezer};
-pub use tag::{Enter, LIMIT_WORDS, Tag};
+pub use tag::{Enter, Tag};

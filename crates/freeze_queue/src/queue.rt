@@ -12,7 +12,8 @@ ghost use Rattle.percpu_core.specs.declared.view.PassView.{PassView};
 ghost use Rattle.percpu_gate.specs.declared.tried.Tried.TheVariants.{Given};
 
 use crate::freezer::Freezer;
-use crate::tag::{Enter, LIMIT_WORDS, Tag};
+use crate::limit_words::LIMIT_WORDS;
+use crate::tag::{Enter, Tag};
 use crossbeam_utils::Backoff;
 use crossbeam_utils::sync::{EventCount, Parker, Unparker};
 use percpu_gate::{Gate, Memory, Pass, Put, Start, Tried};

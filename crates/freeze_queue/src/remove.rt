@@ -6,8 +6,9 @@ ghost use Rattle.freeze_queue.specs.Removal.{why_of, AtTheEnd, IsFrozenToEnd, ki
 
 use crate::fault::FreezeFault;
 use crate::freezer::Freezer;
+use crate::limit_words::LIMIT_WORDS;
 use crate::queue::BlockQueue;
-use crate::tag::{LIMIT_WORDS, Tag};
+use crate::tag::Tag;
 use percpu_gate::Final;
 
 /// A queue that may not end comes back with its freezer and tags, all as they were.

@@ -9,11 +9,9 @@ ghost use Rattle.percpu_gate.specs.Calls.{taken, LiveTryFinds};
 ghost use Rattle.freeze_queue.specs.AtTheGate.{AreInForce};
 ghost use Rattle.freeze_queue.specs.Readings.{IsTag};
 
+use crate::limit_words::{LIMIT_WORDS, load_words};
 use percpu_gate::{Gate, Pass, Put, Tried};
 use std::marker::Model;
-
-/// How many guarded words hold the limits of a queue.
-pub const LIMIT_WORDS: usize = 2;
 
 /// What an attempt to enter answers.
 #[derive(Clone, Copy, Debug, PartialEq, Eq)]
@@ -101,9 +99,7 @@ impl Tag {
         ensures in_force { AreInForce gate.now self.old.queue.hardware self.old.seat (from_words self.old.queue.hardware result) }
         ensures same { (l : Bounds) → self.old.limits ≡ Some l → from_words self.old.queue.hardware result ≡ l }
     {
-        let max = self.pass.word(gate, 0);
-        let chunk = self.pass.word(gate, 1);
-        [max, chunk]
+        load_words(&mut self.pass, gate)
     }
 
     /// The pass of a tag that ends.

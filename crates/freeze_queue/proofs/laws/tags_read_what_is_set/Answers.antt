@@ -1,7 +1,6 @@
 use Rattle.std.proofs.Common.{ap, sym, ◌∙◌}
 use Rattle.percpu_gate.proofs.Known.{moment_knows}
 use Rattle.freeze_queue.specs.Queue.{TagFacts, QueueFacts}
-use Rattle.freeze_queue.specs.Readings.{limits_told}
 use Rattle.queue_limits.specs.Words.{from_words}
 use Rattle.freeze_queue.proofs.ToldLimits.{told_is_now, limits_told-in}
 use Rattle.freeze_queue.proofs.SetLimits.{spelled_as_set}
