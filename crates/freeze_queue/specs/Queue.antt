@@ -3,16 +3,19 @@
 use Rattle.std.specs.Prelude.{◌≡◌, ℕ, ◌+◌, ◌-◌, ◌^◌, ◌≤◌, ◌==◌, ◌&&◌, nat_le, nat_lt, Bool, true, false, if◌then◌else◌, Option, Some, None, Result, Ok, Err}
 use Rattle.queue_limits.specs.Bounds.{Bounds, AreAllowed, IsHardwareLimit}
 use Rattle.queue_limits.specs.Words.{to_words}
-use Rattle.percpu_core.specs.declared.phase.Phase.TheVariants.{LiveAtomic}
+use Rattle.percpu_core.specs.declared.phase.Phase.TheVariants.{Dead}
 use Rattle.percpu_core.specs.declared.start.Start.TheVariants.{Atomic}
 use Rattle.percpu_core.specs.declared.view.PassView.{PassView}
 use Rattle.percpu_core.specs.declared.view.ControlView.{ControlView}
 use Rattle.percpu_core.specs.Snapshots.{first_pass}
 use Rattle.percpu_core.specs.ControlLearns.{joined}
+use Rattle.percpu_gate.specs.declared.mode.Mode.{Mode}
+use Rattle.percpu_gate.specs.declared.mode.Mode.TheVariants.{Slots}
 use Rattle.percpu_gate.specs.declared.tried.Put.{Put}
 use Rattle.percpu_gate.specs.Seats.{GateFacts, fresh_control}
 use Rattle.percpu_gate.specs.Calls.{released, after_put}
-use Rattle.percpu_gate.specs.ControlCalls.{after_kill, after_revival}
+use Rattle.percpu_gate.specs.ControlCalls.{standing, after_kill, after_revival, after_switch}
+use Rattle.percpu_gate.specs.Modes.{live_in}
 use Rattle.freeze_queue.specs.declared.limit_words.TheConstants.{LIMIT_WORDS}
 use Rattle.freeze_queue.specs.declared.fault.FreezeFault.{FreezeFault}
 use Rattle.freeze_queue.specs.declared.fault.FreezeFault.TheVariants.{DepthFull, NotFrozen, NotDrained, TagsOut, WornOut}
@@ -46,6 +49,8 @@ pub record FreezerFacts : Type 0 where
   pub drained : Bool
   -- the limits in force, which the guarded words spell. Linux: q->limits
   pub limits : Bounds
+  -- how a live queue counts, and a frozen one once it is thawed. Linux: __PERCPU_REF_ATOMIC
+  pub mode : Mode
   -- how often the gate was killed. Linux: percpu_ref_kill in blk_freeze_queue_start
   pub kills : ℕ
   -- the drops that were the last: the freezer's own, and those of tags that it took back
@@ -73,6 +78,8 @@ pub record IsQueue (q : QueueFacts) : Type 0 where
 pub record IsFreezer (f : FreezerFacts) : Type 0 where
   -- the queue is live exactly where no freeze is under way
   pub live : f.live ≡ (f.depth == 0)
+  -- a live gate is in the mode that the freezer says
+  pub phase : f.seat.standing.phase ≡ (if f.depth == 0 then live_in f.mode else Dead)
   -- so a drained queue is a frozen one
   pub drained : f.depth ≡ 0 → f.drained ≡ false
   pub depth : f.depth ≤ most_depth
@@ -82,12 +89,12 @@ pub record IsFreezer (f : FreezerFacts) : Type 0 where
   pub known : f.drained ≡ f.seat.knows_zero
   pub hardware : f.limits.hardware ≡ f.queue.hardware
 
--- a new tag, and a new freezer: the queue is live, and its limits are those that were handed in
+-- a new tag, and a new freezer: the queue is live and counts on its slots, and its limits are those that were handed in
 abbrev pub first_tag : QueueFacts → TagFacts
 first_tag queue = record { queue = queue; entered = false; limits = None; releases = 0; seat = first_pass }
 
 abbrev pub first_freezer : QueueFacts → Bounds → ℕ → FreezerFacts
-first_freezer queue limits tags = record { queue = queue; depth = 0; live = true; drained = false; limits = limits; kills = 0; releases = 0; tags = tags; seat = (fresh_control queue.gate tags (to_words limits)).view }
+first_freezer queue limits tags = record { queue = queue; depth = 0; live = true; drained = false; limits = limits; mode = Slots; kills = 0; releases = 0; tags = tags; seat = (after_switch Slots (fresh_control queue.gate tags (to_words limits))).view }
 
 -- Linux: blk_queue_enter where the queue is live. `seat`: what the tag's seat knows then
 abbrev pub after_entering : PassView → TagFacts → TagFacts
@@ -112,8 +119,12 @@ after_freeze last f =
 abbrev pub after_thaw : Bool → FreezerFacts → FreezerFacts
 after_thaw at_zero f =
     if f.depth == 1
-    then record f { depth = 0; live = true; drained = false; seat = after_revival LiveAtomic at_zero f.seat }
+    then record f { depth = 0; live = true; drained = false; seat = after_revival (live_in f.mode) at_zero f.seat }
     else record f { depth = f.depth - 1 }
+
+-- what a switch to this mode leaves: a live queue counts so from then on, a frozen one once it is thawed
+abbrev pub after_mode : Mode → FreezerFacts → FreezerFacts
+after_mode m f = record f { mode = m; seat = record f.seat { standing = standing (if f.depth == 0 then live_in m else Dead) f.kills } }
 
 -- what a look for drained leaves. Linux: percpu_ref_is_zero in blk_mq_freeze_queue_wait
 abbrev pub after_look : Bool → FreezerFacts → FreezerFacts

@@ -1,11 +1,13 @@
 -- How what a tag and a freezer know is read off what their seats at the gate know.
-use Rattle.std.specs.Prelude.{◌≡◌, ℕ, zero, suc, ◌==◌, ◌≤◌, slice_index, Bool, true, false, if◌then◌else◌, Option, Some, None, option_map, List, [], ◌∷◌}
+use Rattle.std.specs.Prelude.{◌≡◌, ℕ, zero, suc, ◌==◌, ◌≤◌, slice_index, Bool, false, if◌then◌else◌, Option, Some, None, option_map, List, [], ◌∷◌}
 use Rattle.std.specs.List.{range_with_len}
-use Rattle.percpu_core.specs.declared.phase.Phase.{Phase}
-use Rattle.percpu_core.specs.declared.phase.Phase.TheVariants.{LiveAtomic, Dead}
+use Rattle.percpu_core.specs.declared.phase.Phase.TheVariants.{Dead}
+use Rattle.percpu_core.specs.Phases.{is_live}
 use Rattle.percpu_core.specs.declared.view.WordRead.{WordRead}
 use Rattle.percpu_core.specs.declared.view.PassView.{PassView}
 use Rattle.percpu_core.specs.declared.view.ControlView.{ControlView}
+use Rattle.percpu_gate.specs.declared.mode.Mode.{Mode}
+use Rattle.percpu_gate.specs.Modes.{live_in}
 use Rattle.percpu_gate.specs.Seats.{PassFacts, ControlFacts}
 use Rattle.queue_limits.specs.Bounds.{Bounds, AreAllowed}
 use Rattle.queue_limits.specs.Words.{from_words, to_words}
@@ -58,10 +60,6 @@ tag_facts pass hardware = record {
 abbrev pub IsTag : TagFacts → Type 0
 IsTag t = t ≡ tag_facts (record { gate = t.queue.gate; view = t.seat }) t.queue.hardware
 
-abbrev pub is_live : Phase → Bool
-is_live LiveAtomic = true
-is_live _ = false
-
 abbrev pub freezer_facts : ControlFacts → ℕ → Bounds → FreezerFacts
 freezer_facts control depth limits = record {
   queue = record { gate = control.gate; hardware = limits.hardware };
@@ -69,6 +67,7 @@ freezer_facts control depth limits = record {
   live = is_live control.view.standing.phase;
   drained = control.view.knows_zero;
   limits = limits;
+  mode = control.wants;
   kills = control.view.standing.kills;
   releases = control.view.releases;
   tags = control.view.passes;
@@ -76,8 +75,8 @@ freezer_facts control depth limits = record {
 }
 
 -- what a freezer keeps true of what the control knows
-pub record Keeps (c : ControlView) (depth : ℕ) (limits : Bounds) (tags : ℕ) : Type 0 where
-  pub phase : c.standing.phase ≡ (if depth == 0 then LiveAtomic else Dead)
+pub record Keeps (c : ControlView) (mode : Mode) (depth : ℕ) (limits : Bounds) (tags : ℕ) : Type 0 where
+  pub phase : c.standing.phase ≡ (if depth == 0 then live_in mode else Dead)
   pub drained : depth ≡ 0 → c.knows_zero ≡ false
   pub most : depth ≤ most_depth
   pub words : c.words ≡ to_words limits

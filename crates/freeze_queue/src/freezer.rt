@@ -1,12 +1,14 @@
 //! The freezer: it freezes a queue, sets its limits and thaws it.
 ghost use Rattle.std.specs.Prelude.{◌≡◌, ℕ, ◌+◌, ◌<◌, ◌≤◌, Bool, true, false, IfOk, OnOk, OnErr};
 ghost use Rattle.percpu_gate.specs.Seats.{fresh_control};
+ghost use Rattle.percpu_gate.specs.ControlCalls.{after_switch};
+ghost use Rattle.percpu_gate.specs.declared.mode.Mode.TheVariants.{Slots};
 ghost use Rattle.percpu_core.specs.declared.phase.Phase.TheVariants as phases;
 ghost use Rattle.percpu_core.specs.declared.start.Start.TheVariants.{Atomic};
 ghost use Rattle.queue_limits.specs.Words.{to_words};
 ghost use Rattle.percpu_gate.specs.declared.tried.Put.{Put};
 ghost use Rattle.percpu_gate.specs.Seats.{FindsZero};
-ghost use Rattle.freeze_queue.specs.Queue.{IsFreezer, first_freezer, after_freeze, after_look, after_thaw, after_set, after_return, freeze_refusal, thaw_refusal, fault_of};
+ghost use Rattle.freeze_queue.specs.Queue.{IsFreezer, first_freezer, after_freeze, after_look, after_mode, after_thaw, after_set, after_return, freeze_refusal, thaw_refusal, fault_of};
 ghost use Rattle.freeze_queue.specs.Sets.{LooksForDrained};
 
 use crate::fault::FreezeFault;
@@ -15,7 +17,7 @@ use crate::queue::BlockQueue;
 use crate::tag::Tag;
 use crossbeam_utils::Backoff;
 use crossbeam_utils::sync::Parker;
-use percpu_gate::Control;
+use percpu_gate::{Control, Mode};
 use queue_limits::Limits;
 use std::marker::Model;
 use std::sync::Wait;
@@ -44,18 +46,18 @@ impl Model for Freezer {
 
     ghost view = { λ f. freezer_facts f.control f.depth f.limits };
 
-    ghost invariant = { λ f. Keeps f.control.view f.depth f.limits f.tags };
+    ghost invariant = { λ f. Keeps f.control.view f.control.wants f.depth f.limits f.tags };
 }
 
 impl Freezer {
-    /// The freezer of a new queue.
+    /// The freezer of a new queue, which counts on its slots.
     pub(crate) fn new(
         control: Control<LIMIT_WORDS>,
         limits: Limits,
         tags: u32,
         sleeper: Parker,
     ) -> Freezer
-        requires new { control ≡ fresh_control control.gate tags (to_words limits) }
+        requires new { control ≡ after_switch Slots (fresh_control control.gate tags (to_words limits)) }
         requires live { control.gate.start ≡ Atomic }
         ensures { result ≡ first_freezer (record { gate = control.gate; hardware = limits.hardware }) limits tags }
     {
@@ -187,6 +189,18 @@ impl Freezer {
     {
         store_words(&mut self.control, &queue.gate, limits.to_words());
         self.limits = limits;
+    }
+
+    /// Counts in this mode from now on; a frozen queue does once it is thawed. Depth and limits stay. Linux:
+    /// `percpu_ref_switch_to_atomic_sync`, `percpu_ref_switch_to_percpu` (lib/percpu-refcount.c).
+    pub fn mode(&mut self, queue: &BlockQueue, mode: Mode)
+        requires own { self.old.queue ≡ queue.now }
+        ensures { self.new ≡ after_mode mode self.old }
+    {
+        let _switched = match mode {
+            Mode::Atomic => self.control.switch_to_atomic(&queue.gate),
+            Mode::Slots => self.control.switch_to_slots(&queue.gate),
+        };
     }
 
     /// Ends a freeze: the depth that is left. The last thaw brings the gate back, drained or not. Refuses

@@ -4,8 +4,9 @@
 //!
 //! - **Live.** A submitter takes a [`Tag`] and enters with it, reads the limits under it, and hands the tag on
 //!   with its request. Whoever ends the request leaves with the tag. `try_enter` and `leave` are one counting
-//!   call of the gate each: no lock, and nothing that all submitters write but the count. `enter` counts
-//!   itself among those who wait only once it has been refused some times.
+//!   call of the gate each: no lock, and nothing that all submitters write, where each names a slot of its own
+//!   (in the other [`Mode`] they share one count). `enter` counts itself among those who wait only once it has
+//!   been refused some times.
 //! - **Frozen.** The [`Freezer`] counts freezes. The first kills the gate: no tag enters from then on. The last
 //!   tag to leave wakes the freezer, and the queue is drained.
 //! - **Set.** While it is drained its limits are set: they stand in the gate's guarded words, so they hold still
@@ -34,7 +35,7 @@ pub use fault::FreezeFault;
 pub use freezer::{Freezer, MOST_DEPTH};
 pub use laws::{drained_is_empty, in_force_are_set, limits_hold_still, tags_read_what_is_set};
 pub use limit_words::LIMIT_WORDS;
-pub use percpu_gate::{Final, Memory, Put};
+pub use percpu_gate::{Final, Memory, Mode, Put};
 pub use queue::{BlockQueue, MOST_TAGS, NewQueue};
 pub use remove::RemoveFault;
 pub use shared::{Pair, SharedFreezer};

@@ -68,8 +68,8 @@ fn make_tags(
 }
 
 impl BlockQueue {
-    /// A live queue of these limits, with so many slots (1 to 64) and tags (1 to 63), none of them entered, and
-    /// its freezer. Memory where a growth was refused. Linux: `blk_mq_alloc_queue` (block/blk-mq.c).
+    /// A live queue of these limits that counts on its slots (1 to 64), with so many tags (1 to 63), none of them
+    /// entered, and its freezer. Memory where a growth was refused. Linux: `blk_mq_alloc_queue` (block/blk-mq.c).
     pub fn new(alloc: Global, limits: Limits, slots: u32, tags: u32) -> Result<NewQueue, Memory>
         requires slots { (1 ≤ slots) × (slots ≤ 64) }
         requires tags { (1 ≤ tags) × (tags ≤ MOST_TAGS) }
@@ -80,7 +80,8 @@ impl BlockQueue {
         let sleeper = Parker::new(alloc)?;
         let drained = sleeper.unparker().clone()?;
         let words = limits.to_words();
-        let (gate, control, passes) = Gate::new(alloc, slots, tags, Start::Atomic, words)?;
+        let (gate, mut control, passes) = Gate::new(alloc, slots, tags, Start::Atomic, words)?;
+        let _switched = control.switch_to_slots(&gate);
         let hardware = limits.hw();
         let made = make_tags(alloc, &gate, passes, hardware)?;
         let queue = BlockQueue {

@@ -1,5 +1,6 @@
 mod by_hand;
 mod caller;
+mod modes;
 mod rising;
 mod rounds;
 mod threads;
