@@ -1,10 +1,9 @@
 -- When the control's steps of a switch are enabled, and what they leave.
-use Rattle.std.proofs.Common.{◌≡◌, ℕ, ◌+◌, ◌*◌, ◌-◌, ◌<◌, ◌≤◌, ◌==◌, Bool, true, false, not, ◌||◌, nat_lt, nat_le, if◌then◌else◌, Option, Some, None, length, refl, ap, sym, ◌∙◌, subst, arith}
-use Rattle.std.specs.Prelude.{ℤ, pos, ◌+ℤ◌, ◌-ℤ◌, unsigned_abs, unwrap_or}
+use Rattle.std.proofs.Common.{◌≡◌, ℕ, ◌+◌, ◌*◌, ◌<◌, ◌≤◌, ◌==◌, Bool, true, false, not, ◌||◌, nat_le, if◌then◌else◌, None, length, refl, ap, sym, ◌∙◌, subst, arith}
+use Rattle.std.specs.Prelude.{ℤ, pos, ◌+ℤ◌, unsigned_abs}
 use Rattle.std.proofs.Common.{w64, SFits, to_z, of_z}
 use Rattle.std.proofs.lemmas.Int.{ints, to_z-of_z}
 use Rattle.std.proofs.lemmas.Bool.Decides.{nat_tests}
-use Rattle.percpu_words.specs.SharedWord.{bias}
 use Rattle.percpu_words.specs.SlotWord.{IsDelta, most_delta}
 use Rattle.percpu_core.specs.declared.limits.TheConstants.{KILL_LIMIT, SLOT_LIMIT}
 use Rattle.percpu_core.specs.declared.control_event.ControlEvent.{ControlEvent}
@@ -14,7 +13,6 @@ use Rattle.percpu_core.specs.declared.not_enabled.NotEnabled.{NotEnabled}
 use Rattle.percpu_core.specs.declared.not_enabled.NotEnabled.TheVariants.{NoSuchActor, NoSuchSlot, WrongPhase, NothingHeld, MidCall, HeldFull, WornOut, NoSuchWord, BadAmount, StillHeld}
 use Rattle.percpu_core.specs.declared.phase.Phase.{Phase}
 use Rattle.percpu_core.specs.declared.phase.Phase.TheVariants.{LiveSlots, LiveAtomic, Closing, Collected, Confirmed, Dead, Reviving, Fronted, Opening}
-use Rattle.percpu_core.specs.declared.reply.Reply.{Reply}
 use Rattle.percpu_core.specs.declared.reply.Reply.TheVariants.{Done}
 use Rattle.percpu_core.specs.declared.reply.Reply.TheVariants as answers
 use Rattle.percpu_core.specs.declared.sizes.Sizes.{Sizes}
@@ -23,7 +21,7 @@ use Rattle.percpu_core.specs.declared.slot.Slot.TheVariants.{Open}
 use Rattle.percpu_core.specs.declared.slot.Slot.TheVariants.{Closed as ClosedSlot}
 use Rattle.percpu_core.specs.declared.view.ControlView.{ControlView}
 use Rattle.percpu_core.specs.declared.view.View.TheVariants.{OfControl}
-use Rattle.percpu_core.specs.Cells.{Cells, delta, slot_at, is_open}
+use Rattle.percpu_core.specs.Cells.{delta, slot_at, is_open}
 use Rattle.percpu_core.specs.ControlSteps.{hinders_control, is_in_turn, has_slot_to_close, has_closed_all, is_opening, names_no_pass, stores_no_word, must_mark, joins_mid_call, joins_holding, wears_out, phase_after}
 use Rattle.percpu_core.specs.Machine.{IsEnabled}
 use Rattle.percpu_core.specs.Phases.{is_live, is_dead_in, is_open_in, is_phase, is_mid_switch, next_slot}

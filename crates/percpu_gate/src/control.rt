@@ -92,7 +92,7 @@ impl<const W: usize> Control<W> {
         self.kills
     }
 
-    /// The mode that a live gate is in, and that a dead one comes back in. Linux: `force_atomic` (lib/percpu-refcount.c).
+    /// The mode in which a revival and a switch of a live gate end. Linux: `force_atomic` (lib/percpu-refcount.c).
     #[inline]
     pub fn wants(&self) -> Mode
         ensures { result ≡ self.now.wants }

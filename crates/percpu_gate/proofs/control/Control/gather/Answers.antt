@@ -5,7 +5,7 @@ use Rattle.percpu_core.specs.declared.phase.Phase.{Phase}
 use Rattle.percpu_core.specs.ControlSteps.{has_slot_to_close}
 use Rattle.percpu_core.specs.Phases.{is_mid_switch}
 use Rattle.percpu_gate.specs.ControlCalls.{after_collect, gathered_from, IsBetweenCalls, IsSumIn, HasRoom}
-use Rattle.percpu_gate.proofs.SwitchCalls.{KeepsGathered, keeps_gathered}
+use Rattle.percpu_gate.proofs.SwitchCalls.{keeps_gathered}
 use Rattle.percpu_gate.proofs.control.Control.gather.Goals as goal
 
 pub invariant_of-self : goal.invariant_of-self
