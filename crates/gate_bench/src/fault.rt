@@ -11,10 +11,9 @@ pub enum Fault {
     Usage,
     #[error("memory")]
     Memory,
-    #[error("the clock doesn't tell")]
-    Clock,
-    #[error("write: {0}")]
-    Output(io::Error),
+    /// The clock doesn't tell, or a line doesn't go out.
+    #[error("{0}")]
+    System(io::Error),
 }
 
 impl From<Memory> for Fault {
@@ -31,6 +30,6 @@ impl From<AllocError> for Fault {
 
 impl From<io::Error> for Fault {
     fn from(why: io::Error) -> Fault {
-        Fault::Output(why)
+        Fault::System(why)
     }
 }

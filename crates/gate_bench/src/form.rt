@@ -22,7 +22,9 @@ pub enum Form {
 }
 
 /// In the order of the table: the first is what the others are compared with.
-pub const FORMS: [Form; 6] = [
+pub const FORMS: [Form; 8] = [
+    Form::OwnSlots,
+    Form::OneSlot,
     Form::SharedWord,
     Form::Counter,
     Form::Arc,

@@ -8,8 +8,8 @@ ghost use Rattle.std.specs.Prelude.{◌≡◌, ◌≤◌, ℕ};
 
 mod fault;
 mod form;
-mod lap;
 mod race;
+mod rounds;
 mod table;
 
 use fault::Fault;
