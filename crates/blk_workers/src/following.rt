@@ -2,7 +2,7 @@
 ghost use Rattle.std.specs.Prelude.{◌≡◌, ℕ, ◌+◌, ◌<◌, ◌≤◌, ◌^◌, true};
 ghost use Rattle.blk_workers.specs.Progress.{IsFollowing};
 
-use freeze_queue::{BlockQueue, Freezer};
+use freeze_queue::{BlockQueue, Freezer, Mode};
 use queue_limits::Limits;
 use script_meaning::QueueState;
 use std::sync::Wait;
@@ -58,13 +58,22 @@ fn step_to(freezer: &mut Freezer, queue: &BlockQueue, depth: u32)
     }
 }
 
-/// Brings a frozen queue to the limits that the script's queue has, and nearer to its depth. A queue that the
-/// script removed stays frozen.
+// How a queue counts where the script's queue counts so.
+fn mode_of(mode: script_meaning::Mode) -> Mode {
+    match mode {
+        script_meaning::Mode::Atomic => Mode::Atomic,
+        script_meaning::Mode::Slots => Mode::Slots,
+    }
+}
+
+/// Brings the queue to the mode that the script's queue has, and a frozen one to its limits and nearer to its
+/// depth. A queue that the script removed stays frozen.
 pub(crate) fn follow(freezer: &mut Freezer, queue: &BlockQueue, state: &QueueState, _kills: usize)
     requires follows { IsFollowing queue.now _kills freezer.old }
     requires hardware { state.now.limits.hardware ≡ queue.now.hardware }
     ensures { IsFollowing queue.now _kills freezer.new }
 {
+    freezer.mode(queue, mode_of(state.mode()));
     if freezer.depth() == 0 {
         return;
     }
