@@ -21,7 +21,7 @@
 //! stands. docs/GATE.md tells the gate's life, `tests/caller.rt` shows how a caller reasons.
 //!
 //! A gate that counts on slots has one for each processor, or for each thread: a count that finds its slot open costs
-//! a look at it and one exchange, on a line that no other thread touches. A kill closes the slots and collects their
+//! a look at it and one exchange, on a line that no other thread touches where each keeps to a slot of its own. A kill closes the slots and collects their
 //! sum, and a revival opens them again; `switch_to_atomic` and `switch_to_slots` do so while the gate lives on.
 #![tactic(auto)]
 

@@ -99,9 +99,9 @@ impl<const W: usize> Pass<W> {
         answer
     }
 
-    /// Takes a reference unless the gate was killed. Once the pass has seen the odd front `f` of a kill, a
-    /// reference that it is given belongs to a later life: its floor is `f + 1` or more. Linux:
-    /// `percpu_ref_tryget_live` (include/linux/percpu-refcount.h).
+    /// Takes a reference unless the gate was killed; while a kill closes the slots, one that is still open may give.
+    /// Once the pass has seen the odd front `f` of a kill, a reference that it is given belongs to a later life: its
+    /// floor is `f + 1` or more. Linux: `percpu_ref_tryget_live` (include/linux/percpu-refcount.h).
     #[inline]
     pub fn try_get_live(&mut self, gate: &Gate<W>, slot: u32) -> Tried
         requires own { self.old.gate ≡ gate.now }
