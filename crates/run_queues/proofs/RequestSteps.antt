@@ -5,7 +5,6 @@ use mathlib.Core.Option.{some, some-injective, some-ne-none}
 use lib.ListN.{get_elem?}
 use Rattle.crossbeam_queue.specs.Fifo.{Pushes, Pops, Forks, Merges, Learns}
 use Rattle.crossbeam_queue.proofs.Lists.{at_set, at_snoc}
-use Rattle.run_queues.specs.declared.numbered.Numbered.{Numbered}
 use Rattle.run_queues.specs.declared.requests.Part.{Part}
 use Rattle.run_queues.specs.Numbers.{IsIncreasing, times, one_below, one_at}
 use Rattle.run_queues.specs.Totals.{total}
@@ -37,10 +36,10 @@ tail_is e = ap rest e
     rest [] = []
     rest (z ∷ zs) = zs
 
-numbers_snoc : {T : Type 0} (items : List (Option (Numbered T))) (item : Option (Numbered T)) → numbers (items ++ item ∷ []) ≡ numbers items ++ number_of item
-numbers_snoc [] item = append-nil (number_of item)
-numbers_snoc (None ∷ items) item = numbers_snoc items item
-numbers_snoc (Some request ∷ items) item = ap (λ l. request.number ∷ l) (numbers_snoc items item)
+numbers_snoc : {T : Type 0} (number : T → ℕ) (items : List (Option T)) (item : Option T) → numbers number (items ++ item ∷ []) ≡ numbers number items ++ number_of number item
+numbers_snoc number [] item = append-nil (number_of number item)
+numbers_snoc number (None ∷ items) item = numbers_snoc number items item
+numbers_snoc number (Some request ∷ items) item = ap (λ l. number request ∷ l) (numbers_snoc number items item)
 
 range_snoc : (a n : ℕ) → range_with_len a n ++ (a + n) ∷ [] ≡ range_with_len a (suc n)
 range_snoc a zero = ap (λ k. k ∷ []) (omega arith)
@@ -50,32 +49,32 @@ none_waits : (taken waiting : ℕ) → range_with_len taken waiting ≡ [] → w
 none_waits taken zero e = refl
 none_waits taken (suc waiting) e = no_number e
 
-ends_after_request : {T : Type 0} (items : List (Option (Numbered T))) (request : Numbered T) → EndsLast false items → EndsLast false (items ++ Some request ∷ [])
-ends_after_request [] request ends = tt
-ends_after_request (None ∷ items) request ends = no_bit ends.0
-ends_after_request (Some first ∷ items) request ends = ends_after_request items request ends
+ends_after_request : {T : Type 0} (number : T → ℕ) (items : List (Option T)) (request : T) → EndsLast number false items → EndsLast number false (items ++ Some request ∷ [])
+ends_after_request number [] request ends = tt
+ends_after_request number (None ∷ items) request ends = no_bit ends.0
+ends_after_request number (Some first ∷ items) request ends = ends_after_request number items request ends
 
-ends_after_end : {T : Type 0} (closed : Bool) (items : List (Option (Numbered T))) → EndsLast closed items → EndsLast true (items ++ None ∷ [])
-ends_after_end closed [] ends = (refl, refl)
-ends_after_end closed (None ∷ items) ends = (refl, numbers_snoc items None ∙ append-nil (numbers items) ∙ ends.1)
-ends_after_end closed (Some first ∷ items) ends = ends_after_end closed items ends
+ends_after_end : {T : Type 0} (number : T → ℕ) (closed : Bool) (items : List (Option T)) → EndsLast number closed items → EndsLast number true (items ++ None ∷ [])
+ends_after_end number closed [] ends = (refl, refl)
+ends_after_end number closed (None ∷ items) ends = (refl, numbers_snoc number items None ∙ append-nil (numbers number items) ∙ ends.1)
+ends_after_end number closed (Some first ∷ items) ends = ends_after_end number closed items ends
 
-only_ends : {T : Type 0} (items : List (Option (Numbered T))) → numbers items ≡ [] → EndsLast true items
-only_ends [] none = tt
-only_ends (None ∷ items) none = (refl, none)
-only_ends (Some first ∷ items) none = no_number none
+only_ends : {T : Type 0} (number : T → ℕ) (items : List (Option T)) → numbers number items ≡ [] → EndsLast number true items
+only_ends number [] none = tt
+only_ends number (None ∷ items) none = (refl, none)
+only_ends number (Some first ∷ items) none = no_number none
 
 -- the first pass knows all
-pub begins : (T : Type 0) → IsInOrder {T = T} [] (first_part ∷ [])
-begins T = (0, 0, 0, false, refl, tt, (λ x. sym (one_below_none 0 x zero-le)), refl, first)
+pub begins : (T : Type 0) (number : T → ℕ) → IsInOrder {T = T} number [] (first_part ∷ [])
+begins T number = (0, 0, 0, false, refl, tt, (λ x. sym (one_below_none 0 x zero-le)), refl, first)
   where
     first : (port : ℕ) (v : Part) → get_elem? (first_part ∷ []) port ≡ some v → Fits 0 0 0 false port v
     first zero v e = subst (Fits 0 0 0 false 0) (some-injective _ v e) (tt, (λ _. (refl, refl, refl)), (λ e. no_bit e), λ _. refl)
     first (suc port) v e = absurd (some-ne-none v (sym e))
 
-pub pushes : {T : Type 0} (n port : ℕ) (v : Part) (request : Numbered T) → v.pushes ≡ true → v.closed ≡ false → request.number ≡ v.pushed
-    → Pushes IsInOrder n port v (Some request) (λ w. w ≡ after_push v)
-pushes n port v request may fresh is items views room b at =
+pub pushes : {T : Type 0} (number : T → ℕ) (n port : ℕ) (v : Part) (request : T) → v.pushes ≡ true → v.closed ≡ false → number request ≡ v.pushed
+    → Pushes (IsInOrder number) n port v (Some request) (λ w. w ≡ after_push v)
+pushes number n port v request may fresh is items views room b at =
     let source = b.0 in let taken = b.1 in let waiting = b.2 in let closed = b.3 in
     let mine = b.8 port v at in
     let own = mine.1 may in
@@ -86,8 +85,8 @@ pushes n port v request may fresh is items views room b at =
         taken,
         suc waiting,
         false,
-        (numbers_snoc items (Some request) ∙ ap (λ l. l ++ request.number ∷ []) b.4 ∙ ap (λ k. range_with_len taken waiting ++ k ∷ []) (is ∙ own.1) ∙ range_snoc taken waiting),
-        ends_after_request items request (subst (λ c. EndsLast c items) is_open b.5),
+        (numbers_snoc number items (Some request) ∙ ap (λ l. l ++ number request ∷ []) b.4 ∙ ap (λ k. range_with_len taken waiting ++ k ∷ []) (is ∙ own.1) ∙ range_snoc taken waiting),
+        ends_after_request number items request (subst (λ c. EndsLast number c items) is_open b.5),
         (λ x. let s = total_set (λ u. times x u.drawn) views port v (after_push v) at in let p = b.6 x in omega arith),
         (let s = total_set (λ u. u.parts) views port v (after_push v) at in let p = b.7 in omega arith),
         each_set (Fits source taken waiting closed) (Fits source taken (suc waiting) false) views port (after_push v) b.8
@@ -98,8 +97,8 @@ pushes n port v request may fresh is items views room b at =
     )
 
 -- an end mark has no number
-pub ends : {T : Type 0} (n port : ℕ) (v : Part) → v.pushes ≡ true → Pushes (IsInOrder {T = T}) n port v None (λ w. w ≡ after_end v)
-ends n port v may items views room b at =
+pub ends : {T : Type 0} (number : T → ℕ) (n port : ℕ) (v : Part) → v.pushes ≡ true → Pushes (IsInOrder {T = T} number) n port v None (λ w. w ≡ after_end v)
+ends number n port v may items views room b at =
     let source = b.0 in let taken = b.1 in let waiting = b.2 in let closed = b.3 in
     let mine = b.8 port v at in
     let own = mine.1 may in (
@@ -109,8 +108,8 @@ ends n port v may items views room b at =
         taken,
         waiting,
         true,
-        (numbers_snoc items None ∙ append-nil (numbers items) ∙ b.4),
-        ends_after_end closed items b.5,
+        (numbers_snoc number items None ∙ append-nil (numbers number items) ∙ b.4),
+        ends_after_end number closed items b.5,
         (λ x. let s = total_set (λ u. times x u.drawn) views port v (after_end v) at in let p = b.6 x in omega arith),
         (let s = total_set (λ u. u.parts) views port v (after_end v) at in let p = b.7 in omega arith),
         each_set (Fits source taken waiting closed) (Fits source taken waiting true) views port (after_end v) b.8
@@ -126,17 +125,17 @@ drawn_below : (views : List Part) (port taken : ℕ) (v : Part) → get_elem? vi
 drawn_below views port taken v at once x here = let most = at_most_total (λ u. times x u.drawn) views port v at in let is = once x in below_of_one taken x (omega arith)
 
 -- the next number, by a pass that has a part
-draws_next : {T : Type 0} (port : ℕ) (v : Part) (request : Numbered T) (items : List (Option (Numbered T))) (views : List Part) (source taken waiting : ℕ) (closed : Bool) → 0 < v.parts
-    → request.number ∷ numbers items ≡ range_with_len taken waiting → EndsLast closed items
+draws_next : {T : Type 0} (number : T → ℕ) (port : ℕ) (v : Part) (request : T) (items : List (Option T)) (views : List Part) (source taken waiting : ℕ) (closed : Bool) → 0 < v.parts
+    → number request ∷ numbers number items ≡ range_with_len taken waiting → EndsLast number closed items
     → ((x : ℕ) → total (λ u. times x u.drawn) views ≡ one_below taken x) → total (λ u. u.parts) views ≡ all_parts → Each (Fits source taken waiting closed) views
     → get_elem? views port ≡ some v
-    → IsInOrder items (set views port (after_pop (Some request) v)) × IsIncreasing (v.drawn ++ request.number ∷ [])
-draws_next port v request items views source taken zero closed has line last once parts fits at = no_number line
-draws_next port v request items views source taken (suc waiting) closed has line last once parts fits at =
-    let number : request.number ≡ taken = head_is line in
+    → IsInOrder number items (set views port (after_pop number (Some request) v)) × IsIncreasing (v.drawn ++ number request ∷ [])
+draws_next number port v request items views source taken zero closed has line last once parts fits at = no_number line
+draws_next number port v request items views source taken (suc waiting) closed has line last once parts fits at =
+    let here : number request ≡ taken = head_is line in
     let mine = fits port v at in
-    let w = after_pop (Some request) v in
-    let rising : IsIncreasing (v.drawn ++ request.number ∷ []) = increasing_snoc v.drawn request.number mine.0 (λ x here. let b = drawn_below views port taken v at once x here in omega arith) in (
+    let w = after_pop number (Some request) v in
+    let rising : IsIncreasing (v.drawn ++ number request ∷ []) = increasing_snoc v.drawn (number request) mine.0 (λ x there. let b = drawn_below views port taken v at once x there in omega arith) in (
       (
         source,
         taken + 1,
@@ -146,8 +145,8 @@ draws_next port v request items views source taken (suc waiting) closed has line
         last,
         (λ x.
             let s = total_set (λ u. times x u.drawn) views port v w at in
-            let a = times_append x v.drawn (request.number ∷ []) in
-            let n = ap (one_at x) number in
+            let a = times_append x v.drawn (number request ∷ []) in
+            let n = ap (one_at x) here in
             let m = one_below_more taken x in
             let p = once x in
             omega arith),
@@ -168,10 +167,10 @@ draws_next port v request items views source taken (suc waiting) closed has line
     pushed_still : {A B : Type 0} {n : ℕ} → A × (n ≡ taken + suc waiting) × B → A × (n ≡ (taken + 1) + waiting) × B
     pushed_still h = (h.0, (let p = h.1 in omega arith), h.2)
 
-pub pops : {T : Type 0} (port : ℕ) (v : Part) → 0 < v.parts → Pops (IsInOrder {T = T}) port v (λ item w. (w ≡ after_pop item v) × IsIncreasing w.drawn)
-pops {T = T} port v has None items views b at =
+pub pops : {T : Type 0} (number : T → ℕ) (port : ℕ) (v : Part) → 0 < v.parts → Pops (IsInOrder {T = T} number) port v (λ item w. (w ≡ after_pop number item v) × IsIncreasing w.drawn)
+pops {T = T} number port v has None items views b at =
     let mine = b.8 port v at in
-    let w = after_pop {T = T} None v in
+    let w = after_pop {T = T} number None v in
     let fits = Fits b.0 b.1 b.2 b.3 in (
       w,
       (
@@ -180,19 +179,19 @@ pops {T = T} port v has None items views b at =
         b.2,
         b.3,
         b.4,
-        subst (λ c. EndsLast c items) (sym b.5.0) (only_ends items b.5.1),
+        subst (λ c. EndsLast number c items) (sym b.5.0) (only_ends number items b.5.1),
         (λ x. let s = total_set (λ u. times x u.drawn) views port v w at in let p = b.6 x in omega arith),
         (let s = total_set (λ u. u.parts) views port v w at in let p = b.7 in omega arith),
         each_set fits fits views port w b.8 (mine.0, mine.1, (λ d. (b.5.0, none_waits b.1 b.2 (sym b.4 ∙ b.5.1))), mine.3) (λ j u other old. old),
       ),
       (refl, mine.0),
     )
-pops port v has (Some request) items views b at =
-    let next = draws_next port v request items views b.0 b.1 b.2 b.3 has b.4 b.5 b.6 b.7 b.8 at in (after_pop (Some request) v, next.0, (refl, next.1))
+pops number port v has (Some request) items views b at =
+    let next = draws_next number port v request items views b.0 b.1 b.2 b.3 has b.4 b.5 b.6 b.7 b.8 at in (after_pop number (Some request) v, next.0, (refl, next.1))
 
 -- one who draws is split off
-pub forks : {T : Type 0} (port : ℕ) (v : Part) → 1 < v.parts → Forks (IsInOrder {T = T}) port v (after_split v) new_drawer
-forks port v many items views b at =
+pub forks : {T : Type 0} (number : T → ℕ) (port : ℕ) (v : Part) → 1 < v.parts → Forks (IsInOrder {T = T} number) port v (after_split v) new_drawer
+forks number port v many items views b at =
     let mine = b.8 port v at in
     let w = after_split v in
     let vs = set views port w in
@@ -217,8 +216,8 @@ forks port v many items views b at =
     none_left n h e = omega arith
 
 -- one who drew comes back
-pub merges : {T : Type 0} (port : ℕ) (v : Part) (other : ℕ) (w : Part) → 0 < v.parts → Merges (IsInOrder {T = T}) port v other w (joined v w) spent
-merges port v other w has items views b at apart at' =
+pub merges : {T : Type 0} (number : T → ℕ) (port : ℕ) (v : Part) (other : ℕ) (w : Part) → 0 < v.parts → Merges (IsInOrder {T = T} number) port v other w (joined v w) spent
+merges number port v other w has items views b at apart at' =
     let both = joined v w in
     let vs = set views port both in
     let fits = Fits b.0 b.1 b.2 b.3 in
@@ -256,8 +255,8 @@ merges port v other w has items views b at apart at' =
     of_either false d first second e = second e
 
 -- the pass with all parts, which pushes and took an end mark, knows that all was drawn
-pub learns : {T : Type 0} (port : ℕ) (v : Part) → v.parts ≡ all_parts → v.pushes ≡ true → v.drained ≡ true → Learns (IsInOrder {T = T}) port v (λ items. HasDrawnAll v)
-learns port v all may drained items views b at =
+pub learns : {T : Type 0} (number : T → ℕ) (port : ℕ) (v : Part) → v.parts ≡ all_parts → v.pushes ≡ true → v.drained ≡ true → Learns (IsInOrder {T = T} number) port v (λ items. HasDrawnAll v)
+learns number port v all may drained items views b at =
     let mine = b.8 port v at in
     let pushed : b.1 ≡ v.pushed = (let p = (mine.1 may).1 in let none = (mine.2 drained).1 in omega arith) in
     λ x.

@@ -5,3 +5,4 @@ pub mod Totals
 pub mod Requests
 pub mod Completions
 pub mod Parts
+pub mod Nobody

@@ -3,7 +3,6 @@ use Rattle.std.specs.Prelude.{◌≡◌, ℕ, ◌++◌, ◌∷◌, [], Bool, tru
 use Rattle.atomic_table.specs.Seated.{TableId}
 use Rattle.crossbeam_queue.specs.Passes.{Pass, view}
 use Rattle.run_queues.specs.Numbers.{AllIncrease, times, times_in_all}
-use Rattle.run_queues.specs.declared.numbered.Numbered.{Numbered}
 
 -- which queue it is, and how many items it has room for
 pub record QueueFacts : Type 0 where
@@ -37,9 +36,9 @@ pub record DrawerFacts : Type 0 where
   pub room : ℕ
 
 -- what a drawer knows once it has taken a request, or an end mark
-abbrev pub after_draw : {T : Type 0} → Option (Numbered T) → DrawerFacts → DrawerFacts
-after_draw None d = record d { drained = true }
-after_draw (Some request) d = record d { drawn = d.drawn ++ request.number ∷ [] }
+abbrev pub after_draw : {T : Type 0} → (T → ℕ) → Option T → DrawerFacts → DrawerFacts
+after_draw number None d = record d { drained = true }
+after_draw number (Some request) d = record d { drawn = d.drawn ++ number request ∷ [] }
 
 -- What the one who collects completions knows.
 pub record CollectorFacts : Type 0 where

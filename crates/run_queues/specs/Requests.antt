@@ -5,24 +5,23 @@ use mathlib.Core.Option.{some}
 use lib.ListN.{get_elem?}
 use Rattle.run_queues.specs.Numbers.{IsIncreasing, times, one_below, merged}
 use Rattle.run_queues.specs.Totals.{total}
-use Rattle.run_queues.specs.declared.numbered.Numbered.{Numbered}
 use Rattle.run_queues.specs.declared.requests.Part.{Part}
 
 -- the number of a request, and none for an end mark
-abbrev pub number_of : {T : Type 0} → Option (Numbered T) → List ℕ
-number_of None = []
-number_of (Some request) = request.number ∷ []
+abbrev pub number_of : {T : Type 0} → (T → ℕ) → Option T → List ℕ
+number_of number None = []
+number_of number (Some request) = number request ∷ []
 
 -- the numbers of the requests in a queue, oldest first
-abbrev pub numbers : {T : Type 0} → List (Option (Numbered T)) → List ℕ
-numbers [] = []
-numbers (item ∷ items) = number_of item ++ numbers items
+abbrev pub numbers : {T : Type 0} → (T → ℕ) → List (Option T) → List ℕ
+numbers number [] = []
+numbers number (item ∷ items) = number_of number item ++ numbers number items
 
 -- an end mark stands in a closed queue alone, and no request stands behind one
-abbrev pub EndsLast : {T : Type 0} → Bool → List (Option (Numbered T)) → Type 0
-EndsLast closed [] = Unit {0}
-EndsLast closed (None ∷ items) = (closed ≡ true) × (numbers items ≡ [])
-EndsLast closed (Some request ∷ items) = EndsLast closed items
+abbrev pub EndsLast : {T : Type 0} → (T → ℕ) → Bool → List (Option T) → Type 0
+EndsLast number closed [] = Unit {0}
+EndsLast number closed (None ∷ items) = (closed ≡ true) × (numbers number items ≡ [])
+EndsLast number closed (Some request ∷ items) = EndsLast number closed items
 
 -- the parts of the first pass, which are all
 abbrev pub all_parts : ℕ
@@ -43,11 +42,11 @@ Fits source taken waiting closed port v =
 
 -- The queue holds the numbers from `taken` to the last pushed, in order, and then end marks. The passes' lists together hold those below `taken`,
 -- each once, and no other.
-abbrev pub IsInOrder : {T : Type 0} → List (Option (Numbered T)) → List Part → Type 0
-IsInOrder items views =
+abbrev pub IsInOrder : {T : Type 0} → (T → ℕ) → List (Option T) → List Part → Type 0
+IsInOrder number items views =
     (source : ℕ) × (taken : ℕ) × (waiting : ℕ) × (closed : Bool)
-    × (numbers items ≡ range_with_len taken waiting)
-    × EndsLast closed items
+    × (numbers number items ≡ range_with_len taken waiting)
+    × EndsLast number closed items
     × ((x : ℕ) → total (λ v. times x v.drawn) views ≡ one_below taken x)
     × (total (λ v. v.parts) views ≡ all_parts)
     × ((port : ℕ) (v : Part) → get_elem? views port ≡ some v → Fits source taken waiting closed port v)
@@ -60,9 +59,9 @@ abbrev pub after_end : Part → Part
 after_end v = record v { closed = true }
 
 -- what a pop leaves
-abbrev pub after_pop : {T : Type 0} → Option (Numbered T) → Part → Part
-after_pop None v = record v { drained = true }
-after_pop (Some request) v = record v { drawn = v.drawn ++ request.number ∷ [] }
+abbrev pub after_pop : {T : Type 0} → (T → ℕ) → Option T → Part → Part
+after_pop number None v = record v { drained = true }
+after_pop number (Some request) v = record v { drawn = v.drawn ++ number request ∷ [] }
 
 -- what is left of a pass when one that draws is split off it, and what the new one begins with
 abbrev pub after_split : Part → Part

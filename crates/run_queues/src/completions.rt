@@ -23,10 +23,10 @@ pub struct Turn {
 /// The rule of the completions.
 pub struct ToldOnce;
 
-impl<T> Protocol<Numbered<T>, Turn> for ToldOnce {
+impl<T: Numbered> Protocol<T, Turn> for ToldOnce {
     ghost use Rattle.run_queues.specs.Completions.{IsToldOnce, first_turn};
 
-    ghost holds = { IsToldOnce };
+    ghost holds = { IsToldOnce T.number };
 
     ghost first = { first_turn };
 }
@@ -34,14 +34,14 @@ impl<T> Protocol<Numbered<T>, Turn> for ToldOnce {
 // A push of a completion.
 struct Told;
 
-impl<T> Outcome<Numbered<T>, Turn> for Told {
+impl<T: Numbered> Outcome<T, Turn> for Told {
     ghost use Rattle.std.specs.Prelude.{◌≡◌};
     ghost use Rattle.run_queues.specs.Completions.{no_turn};
 
     ghost then = { λ v completion w. w ≡ no_turn };
 }
 
-impl<T> Lesson<Numbered<T>, Turn> for Told {
+impl<T: Numbered> Lesson<T, Turn> for Told {
     ghost use Rattle.std.specs.Prelude.{⊤};
 
     ghost fact = { λ v items. ⊤ };
@@ -50,15 +50,15 @@ impl<T> Lesson<Numbered<T>, Turn> for Told {
 // A pop of a completion.
 struct Collected;
 
-impl<T> Outcome<Numbered<T>, Turn> for Collected {
+impl<T: Numbered> Outcome<T, Turn> for Collected {
     ghost use Rattle.std.specs.Prelude.{◌≡◌, ◌<◌};
     ghost use Rattle.run_queues.specs.Numbers.{times};
     ghost use Rattle.run_queues.specs.Completions.{after_collect};
 
-    ghost then = { λ v completion w. (w ≡ after_collect completion v) × (completion.number < v.given) × (times completion.number v.collected ≡ 0) };
+    ghost then = { λ v completion w. (w ≡ after_collect (T.number completion) v) × (T.number completion < v.given) × (times (T.number completion) v.collected ≡ 0) };
 }
 
-impl<T> Lesson<Numbered<T>, Turn> for Collected {
+impl<T: Numbered> Lesson<T, Turn> for Collected {
     ghost use Rattle.std.specs.Prelude.{⊤};
 
     ghost fact = { λ v items. ⊤ };
@@ -75,17 +75,17 @@ impl Split<Turn> for Giving {
     ghost right = { λ v. turn_of v.given };
 }
 
-type Completions<T> = Line<Numbered<T>, Turn, ToldOnce>;
+type Completions<T> = Line<T, Turn, ToldOnce>;
 
-type Seat<T> = Pass<Numbered<T>, Turn>;
+type Seat<T> = Pass<T, Turn>;
 
 /// A queue of completions, which one thread collects.
 #[derive(Drop)]
-pub struct CompletionQueue<T: Drop> {
+pub struct CompletionQueue<T: Numbered + Drop> {
     line: Completions<T>,
 }
 
-impl<T: Drop> Model for CompletionQueue<T> {
+impl<T: Numbered + Drop> Model for CompletionQueue<T> {
     ghost use Rattle.crossbeam_queue.specs.Passes.{ruled_capacity};
     ghost use Rattle.run_queues.specs.Parts.{QueueFacts};
 
@@ -96,11 +96,11 @@ impl<T: Drop> Model for CompletionQueue<T> {
 
 /// The right to collect completions, and to let others tell them.
 #[derive(Drop)]
-pub struct Collector<T: Drop> {
+pub struct Collector<T: Numbered + Drop> {
     seat: Seat<T>,
 }
 
-impl<T: Drop> Model for Collector<T> {
+impl<T: Numbered + Drop> Model for Collector<T> {
     ghost use Rattle.std.specs.Prelude.{◌≡◌, true, []};
     ghost use Rattle.run_queues.specs.Parts.{CollectorFacts, known};
 
@@ -113,12 +113,12 @@ impl<T: Drop> Model for Collector<T> {
 
 /// The right to tell one completion, once. It goes with its request to whoever does it.
 #[derive(Drop)]
-pub struct Duty<T: Drop> {
+pub struct Duty<T: Numbered + Drop> {
     seat: Seat<T>,
     number: u32,
 }
 
-impl<T: Drop> Model for Duty<T> {
+impl<T: Numbered + Drop> Model for Duty<T> {
     ghost use Rattle.std.specs.Prelude.{◌≡◌, []};
     ghost use Rattle.run_queues.specs.Completions.{turn_of};
     ghost use Rattle.run_queues.specs.Parts.{DutyFacts, known};
@@ -130,7 +130,7 @@ impl<T: Drop> Model for Duty<T> {
     ghost invariant = { λ d. (d.seat.me.1 ≡ []) × (known d.seat ≡ turn_of d.number) };
 }
 
-impl<T: Drop> Duty<T> {
+impl<T: Numbered + Drop> Duty<T> {
     /// The number of the completion.
     pub fn number(&self) -> u32
         ensures { result ≡ self.now.number }
@@ -139,7 +139,7 @@ impl<T: Drop> Duty<T> {
     }
 }
 
-impl<T: Drop> CompletionQueue<T> {
+impl<T: Numbered + Drop> CompletionQueue<T> {
     /// A queue with room for so many completions, and the right to collect them. All its memory is taken here.
     pub fn new(alloc: Global, room: usize) -> Result<(CompletionQueue<T>, Collector<T>), AllocError>
         requires { 0 < room }
@@ -161,32 +161,35 @@ impl<T: Drop> CompletionQueue<T> {
         Duty { seat, number }
     }
 
-    /// Tells a completion, and waits while there is no room.
-    pub fn tell<R: Wait>(&self, rt: &R, duty: Duty<T>, item: T)
-        requires { duty.queue ≡ self.now.id }
+    /// Tells a completion, which has the number of the duty, and waits while there is no room.
+    pub fn tell<R: Wait>(&self, rt: &R, duty: Duty<T>, completion: T)
+        requires own { duty.queue ≡ self.now.id }
+        requires number { T.number completion ≡ duty.number }
     {
-        let Duty { mut seat, number } = duty;
-        self.line
-            .push_as::<Told, R>(rt, &mut seat, Numbered { number, item });
+        let Duty {
+            mut seat,
+            number: _,
+        } = duty;
+        self.line.push_as::<Told, R>(rt, &mut seat, completion);
     }
 
     /// Takes the first completion, and waits while there is none. It is of a number for which the right to tell was
     /// given, and which wasn't collected before.
-    pub fn collect<R: Wait>(&self, rt: &R, collector: &mut Collector<T>) -> Numbered<T>
+    pub fn collect<R: Wait>(&self, rt: &R, collector: &mut Collector<T>) -> T
         requires { collector.old.queue ≡ self.now.id }
-        ensures collected { collector.new ≡ record collector.old { collected = collector.old.collected ++ result.number ∷ [] } }
-        ensures given { result.number < collector.old.given }
-        ensures first { times result.number collector.old.collected ≡ 0 }
+        ensures collected { collector.new ≡ record collector.old { collected = collector.old.collected ++ T.number result ∷ [] } }
+        ensures given { T.number result < collector.old.given }
+        ensures first { times (T.number result) collector.old.collected ≡ 0 }
     {
         self.line.pop_as::<Collected, R>(rt, &mut collector.seat)
     }
 
     /// Takes the first completion where there is one now, and `None` where there is none.
-    pub fn try_collect<R: Wait>(&self, rt: &R, collector: &mut Collector<T>) -> Option<Numbered<T>>
+    pub fn try_collect<R: Wait>(&self, rt: &R, collector: &mut Collector<T>) -> Option<T>
         requires { collector.old.queue ≡ self.now.id }
-        ensures collected { IfSome result (λ c. collector.new ≡ record collector.old { collected = collector.old.collected ++ c.number ∷ [] }) }
-        ensures given { IfSome result (λ c. c.number < collector.old.given) }
-        ensures first { IfSome result (λ c. times c.number collector.old.collected ≡ 0) }
+        ensures collected { IfSome result (λ c. collector.new ≡ record collector.old { collected = collector.old.collected ++ T.number c ∷ [] }) }
+        ensures given { IfSome result (λ c. T.number c < collector.old.given) }
+        ensures first { IfSome result (λ c. times (T.number c) collector.old.collected ≡ 0) }
         ensures none { IfNone result (collector.new ≡ collector.old) }
     {
         self.line

@@ -11,7 +11,8 @@
 //!
 //! `specs/Requests.antt` and `specs/Completions.antt` have the rules, which hold at each moment and which each step
 //! keeps; `specs/Parts.antt` what those who take part know, and `specs/Numbers.antt` what draws are. `tests/caller.rt`
-//! shows how a caller reasons. That a thread that waits gets on is promised nowhere: tests show it.
+//! and `tests/workers.rt` show how a caller reasons. That a thread that waits gets on is promised nowhere: tests show
+//! it.
 #![tactic(auto)]
 
 mod completions;

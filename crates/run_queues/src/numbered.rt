@@ -1,10 +1,14 @@
-//! A request and its number.
+//! What has a number.
+ghost use Rattle.std.specs.Prelude.{◌≡◌};
 
-/// A request on its way to whoever draws it, with its number among all that were pushed.
-#[derive(Drop)]
-pub struct Numbered<T> {
-    /// Its number: the first request that is pushed has 0.
-    pub number: u32,
-    /// What was pushed.
-    pub item: T,
+/// What is handed on has a number of its own: requests are pushed as 0, 1, 2 and so on, and a completion has the
+/// number of its request.
+pub trait Numbered {
+    ghost use Rattle.std.specs.Prelude.{ℕ};
+
+    ghost number: { Self → ℕ };
+
+    /// Its number.
+    fn number(&self) -> u32
+        ensures { result ≡ number self.now };
 }

@@ -28,10 +28,10 @@ pub struct Part {
 /// The rule of the requests.
 pub struct InOrder;
 
-impl<T> Protocol<Option<Numbered<T>>, Part> for InOrder {
+impl<T: Numbered> Protocol<Option<T>, Part> for InOrder {
     ghost use Rattle.run_queues.specs.Requests.{IsInOrder, first_part};
 
-    ghost holds = { IsInOrder };
+    ghost holds = { IsInOrder T.number };
 
     ghost first = { first_part };
 }
@@ -39,14 +39,14 @@ impl<T> Protocol<Option<Numbered<T>>, Part> for InOrder {
 // A push of a request.
 struct Pushed;
 
-impl<T> Outcome<Option<Numbered<T>>, Part> for Pushed {
+impl<T: Numbered> Outcome<Option<T>, Part> for Pushed {
     ghost use Rattle.std.specs.Prelude.{◌≡◌};
     ghost use Rattle.run_queues.specs.Requests.{after_push};
 
     ghost then = { λ v item w. w ≡ after_push v };
 }
 
-impl<T> Lesson<Option<Numbered<T>>, Part> for Pushed {
+impl<T: Numbered> Lesson<Option<T>, Part> for Pushed {
     ghost use Rattle.std.specs.Prelude.{⊤};
 
     ghost fact = { λ v items. ⊤ };
@@ -55,14 +55,14 @@ impl<T> Lesson<Option<Numbered<T>>, Part> for Pushed {
 // A push of an end mark.
 struct Ended;
 
-impl<T> Outcome<Option<Numbered<T>>, Part> for Ended {
+impl<T: Numbered> Outcome<Option<T>, Part> for Ended {
     ghost use Rattle.std.specs.Prelude.{◌≡◌};
     ghost use Rattle.run_queues.specs.Requests.{after_end};
 
     ghost then = { λ v item w. w ≡ after_end v };
 }
 
-impl<T> Lesson<Option<Numbered<T>>, Part> for Ended {
+impl<T: Numbered> Lesson<Option<T>, Part> for Ended {
     ghost use Rattle.std.specs.Prelude.{⊤};
 
     ghost fact = { λ v items. ⊤ };
@@ -71,15 +71,15 @@ impl<T> Lesson<Option<Numbered<T>>, Part> for Ended {
 // A pop of a request or of an end mark.
 struct Popped;
 
-impl<T> Outcome<Option<Numbered<T>>, Part> for Popped {
+impl<T: Numbered> Outcome<Option<T>, Part> for Popped {
     ghost use Rattle.std.specs.Prelude.{◌≡◌};
     ghost use Rattle.run_queues.specs.Numbers.{IsIncreasing};
     ghost use Rattle.run_queues.specs.Requests.{after_pop};
 
-    ghost then = { λ v item w. (w ≡ after_pop item v) × IsIncreasing w.drawn };
+    ghost then = { λ v item w. (w ≡ after_pop T.number item v) × IsIncreasing w.drawn };
 }
 
-impl<T> Lesson<Option<Numbered<T>>, Part> for Popped {
+impl<T: Numbered> Lesson<Option<T>, Part> for Popped {
     ghost use Rattle.std.specs.Prelude.{⊤};
 
     ghost fact = { λ v items. ⊤ };
@@ -107,23 +107,23 @@ impl Join<Part> for Drawing {
 // What the one who pushes learns once all that drew are back.
 struct Total;
 
-impl<T> Lesson<Option<Numbered<T>>, Part> for Total {
+impl<T: Numbered> Lesson<Option<T>, Part> for Total {
     ghost use Rattle.run_queues.specs.Requests.{HasDrawnAll};
 
     ghost fact = { λ v items. HasDrawnAll v };
 }
 
-type Requests<T> = Line<Option<Numbered<T>>, Part, InOrder>;
+type Requests<T> = Line<Option<T>, Part, InOrder>;
 
-type Seat<T> = Pass<Option<Numbered<T>>, Part>;
+type Seat<T> = Pass<Option<T>, Part>;
 
 /// A queue of requests for several threads that draw.
 #[derive(Drop)]
-pub struct RequestQueue<T: Drop> {
+pub struct RequestQueue<T: Numbered + Drop> {
     line: Requests<T>,
 }
 
-impl<T: Drop> Model for RequestQueue<T> {
+impl<T: Numbered + Drop> Model for RequestQueue<T> {
     ghost use Rattle.crossbeam_queue.specs.Passes.{ruled_capacity};
     ghost use Rattle.run_queues.specs.Parts.{QueueFacts};
 
@@ -134,12 +134,12 @@ impl<T: Drop> Model for RequestQueue<T> {
 
 /// The right to push requests, and the lists of those who drew them.
 #[derive(Drop)]
-pub struct Source<T: Drop> {
+pub struct Source<T: Numbered + Drop> {
     seat: Seat<T>,
     lists: Vec<Vec<u32>>,
 }
 
-impl<T: Drop> Model for Source<T> {
+impl<T: Numbered + Drop> Model for Source<T> {
     ghost use Rattle.std.specs.Prelude.{◌≡◌, true, [], map, vec_capacity};
     ghost use Rattle.run_queues.specs.Parts.{SourceFacts, AreGathered, known};
 
@@ -152,12 +152,12 @@ impl<T: Drop> Model for Source<T> {
 
 /// The right to draw requests, and the numbers of those that were drawn.
 #[derive(Drop)]
-pub struct Drawer<T: Drop> {
+pub struct Drawer<T: Numbered + Drop> {
     seat: Seat<T>,
     drawn: Vec<u32>,
 }
 
-impl<T: Drop> Model for Drawer<T> {
+impl<T: Numbered + Drop> Model for Drawer<T> {
     ghost use Rattle.std.specs.Prelude.{◌≡◌, [], vec_capacity};
     ghost use Rattle.run_queues.specs.Numbers.{IsIncreasing};
     ghost use Rattle.run_queues.specs.Requests.{new_drawer};
@@ -170,7 +170,7 @@ impl<T: Drop> Model for Drawer<T> {
     ghost invariant = { λ d. (d.seat.me.1 ≡ []) × (known d.seat ≡ record new_drawer { drained = (known d.seat).drained; drawn = d.drawn.items }) × IsIncreasing d.drawn.items };
 }
 
-impl<T: Drop> RequestQueue<T> {
+impl<T: Numbered + Drop> RequestQueue<T> {
     /// A queue with room for so many requests and end marks, and the right to push into it. The memory for the
     /// lists of so many who draw is taken here too.
     pub fn new(
@@ -208,15 +208,14 @@ impl<T: Drop> RequestQueue<T> {
 
     /// Pushes the next request, and waits while there is no room. Its number is how many were pushed before. None
     /// may follow an end mark.
-    pub fn push<R: Wait>(&self, rt: &R, source: &mut Source<T>, number: u32, item: T)
+    pub fn push<R: Wait>(&self, rt: &R, source: &mut Source<T>, request: T)
         requires own { source.old.queue ≡ self.now.id }
         requires open { source.old.closed ≡ false }
-        requires number { number ≡ source.old.pushed }
+        requires number { T.number request ≡ source.old.pushed }
         ensures { source.new ≡ record source.old { pushed = source.old.pushed + 1 } }
     {
-        let request = Some(Numbered { number, item });
         self.line
-            .push_as::<Pushed, R>(rt, &mut source.seat, request);
+            .push_as::<Pushed, R>(rt, &mut source.seat, Some(request));
     }
 
     /// Pushes an end mark, and waits while there is no room: one call of `draw` then answers `None`.
@@ -229,13 +228,9 @@ impl<T: Drop> RequestQueue<T> {
 
     /// Takes the first request, or `None` where an end mark is first. It waits while there is neither. `AllocError`,
     /// with nothing taken, where the list has no room left and is refused more.
-    pub fn draw<R: Wait>(
-        &self,
-        rt: &R,
-        drawer: &mut Drawer<T>,
-    ) -> Result<Option<Numbered<T>>, AllocError>
+    pub fn draw<R: Wait>(&self, rt: &R, drawer: &mut Drawer<T>) -> Result<Option<T>, AllocError>
         requires { drawer.old.queue ≡ self.now.id }
-        ensures drawn { IfOk result (λ item. drawer.new ≡ record (after_draw item drawer.old) { room = drawer.new.room }) }
+        ensures drawn { IfOk result (λ item. drawer.new ≡ record (after_draw T.number item drawer.old) { room = drawer.new.room }) }
         ensures increasing { IsIncreasing drawer.new.drawn }
         ensures room { drawer.old.room ≤ drawer.new.room }
         ensures full { OnErr result (drawer.old.room ≤ length drawer.old.drawn) }
@@ -244,7 +239,7 @@ impl<T: Drop> RequestQueue<T> {
         drawer.drawn.reserve(1)?;
         let item = self.line.pop_as::<Popped, R>(rt, &mut drawer.seat);
         if let Some(request) = &item {
-            drawer.drawn.push_reserved(request.number);
+            drawer.drawn.push_reserved(request.number());
         }
         Ok(item)
     }

@@ -3,6 +3,7 @@ ghost use Rattle.std.specs.Prelude.{◌≡◌, ◌+◌, ◌<◌, true, false, If
 ghost use Rattle.std.specs.Thread.{IsSync};
 ghost use Rattle.run_queues.specs.Numbers.{Draws};
 
+use super::Valued;
 use crate::{Drawer, RequestQueue, Source};
 use std::alloc::{AllocError, Global};
 use std::sync::Wait;
@@ -10,10 +11,10 @@ use std::test::Fail;
 use std::thread;
 use std::thread::Threads;
 
-type Drew = Result<Drawer<u64>, AllocError>;
+type Drew = Result<Drawer<Valued>, AllocError>;
 
 // Draws until there is an end mark.
-fn draw_all<R: Wait>(rt: &R, queue: &RequestQueue<u64>, mut drawer: Drawer<u64>) -> Drew
+fn draw_all<R: Wait>(rt: &R, queue: &RequestQueue<Valued>, mut drawer: Drawer<Valued>) -> Drew
     requires { drawer.queue ≡ queue.now.id }
     ensures { IfOk result (λ d. (d.queue ≡ queue.now.id) × (d.drained ≡ true)) }
 {
@@ -28,16 +29,17 @@ fn draw_all<R: Wait>(rt: &R, queue: &RequestQueue<u64>, mut drawer: Drawer<u64>)
 // Pushes so many requests, and an end mark for each of three.
 fn push_all<R: Wait>(
     rt: &R,
-    queue: &RequestQueue<u64>,
-    mut source: Source<u64>,
+    queue: &RequestQueue<Valued>,
+    mut source: Source<Valued>,
     count: u32,
-) -> Source<u64>
+) -> Source<Valued>
     requires queue { source.queue ≡ queue.now.id }
     requires fresh { (source.pushed ≡ 0) × (source.closed ≡ false) }
     ensures { result ≡ record source { pushed = count; closed = true } }
 {
     for number in 0..count {
-        queue.push(rt, &mut source, number, u64::from(number));
+        let value = u64::from(number);
+        queue.push(rt, &mut source, Valued { number, value });
     }
     queue.end(rt, &mut source);
     queue.end(rt, &mut source);
@@ -48,9 +50,9 @@ fn push_all<R: Wait>(
 // Two threads that draw.
 fn two_draw<R: Threads + Wait + Sync>(
     rt: &R,
-    queue: &RequestQueue<u64>,
-    first: Drawer<u64>,
-    second: Drawer<u64>,
+    queue: &RequestQueue<Valued>,
+    first: Drawer<Valued>,
+    second: Drawer<Valued>,
 ) -> (Drew, Drew)
     requires { (first.queue ≡ queue.now.id) × (second.queue ≡ queue.now.id) }
     ensures first { IfOk result.0 (λ d. (d.queue ≡ queue.now.id) × (d.drained ≡ true)) }
@@ -72,11 +74,11 @@ fn two_draw<R: Threads + Wait + Sync>(
 // One thread that pushes, and one that draws.
 fn push_and_draw<R: Threads + Wait + Sync>(
     rt: &R,
-    queue: &RequestQueue<u64>,
-    source: Source<u64>,
-    drawer: Drawer<u64>,
+    queue: &RequestQueue<Valued>,
+    source: Source<Valued>,
+    drawer: Drawer<Valued>,
     count: u32,
-) -> (Drew, Source<u64>)
+) -> (Drew, Source<Valued>)
     requires queue { (source.queue ≡ queue.now.id) × (drawer.queue ≡ queue.now.id) }
     requires fresh { (source.pushed ≡ 0) × (source.closed ≡ false) }
     ensures drawer { IfOk result.0 (λ d. (d.queue ≡ queue.now.id) × (d.drained ≡ true)) }
@@ -88,7 +90,7 @@ fn push_and_draw<R: Threads + Wait + Sync>(
             requires { drawer.queue ≡ queue.now.id }
             ensures { IfOk result (λ d. (d.queue ≡ queue.entry.now.id) × (d.drained ≡ true)) }
         { draw_all(rt, queue, drawer) },
-        move || -> Source<u64>
+        move || -> Source<Valued>
             requires { (source.queue ≡ queue.now.id) × (source.pushed ≡ 0) × (source.closed ≡ false) }
             ensures { result ≡ record source { pushed = count; closed = true } }
         { push_all(rt, queue, source, count) },
@@ -117,7 +119,7 @@ fn drawn<R: Threads + Wait + Sync>(
             ensures first { IfOk result.0 (λ d. (d.queue ≡ queue.entry.now.id) × (d.drained ≡ true)) }
             ensures second { IfOk result.1 (λ d. (d.queue ≡ queue.entry.now.id) × (d.drained ≡ true)) }
         { two_draw(rt, queue, first, second) },
-        move || -> (Drew, Source<u64>)
+        move || -> (Drew, Source<Valued>)
             requires queue { IsSync R.row × (source.queue ≡ queue.now.id) × (third.queue ≡ queue.now.id) }
             requires fresh { (source.pushed ≡ 0) × (source.closed ≡ false) }
             ensures drawer { IfOk result.0 (λ d. (d.queue ≡ queue.entry.now.id) × (d.drained ≡ true)) }

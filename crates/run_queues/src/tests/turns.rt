@@ -1,6 +1,7 @@
 //! Completions that one thread tells and another collects, and spares that go round.
 ghost use Rattle.std.specs.Prelude.{◌≡◌, ◌+◌, All, IfOk, length};
 
+use super::Valued;
 use crate::{Collector, CompletionQueue, Duty, SpareQueue};
 use std::alloc::{AllocError, Global};
 use std::sync::Wait;
@@ -11,10 +12,10 @@ use std::thread::Threads;
 // The duties of so many completions.
 fn duties(
     alloc: Global,
-    queue: &CompletionQueue<u64>,
-    collector: &mut Collector<u64>,
+    queue: &CompletionQueue<Valued>,
+    collector: &mut Collector<Valued>,
     count: u32,
-) -> Result<Vec<Duty<u64>>, AllocError>
+) -> Result<Vec<Duty<Valued>>, AllocError>
     requires { (collector.old.queue ≡ queue.now.id) × (collector.old.given ≡ 0) }
     ensures duties { IfOk result (λ duties. All (λ d. d.queue ≡ queue.now.id) duties.items) }
     ensures collector { IfOk result (λ _. collector.new.queue ≡ queue.now.id) }
@@ -27,12 +28,13 @@ fn duties(
 }
 
 // Tells them all, each with ten times its number.
-fn tell_all<R: Wait>(rt: &R, queue: &CompletionQueue<u64>, duties: Vec<Duty<u64>>)
+fn tell_all<R: Wait>(rt: &R, queue: &CompletionQueue<Valued>, duties: Vec<Duty<Valued>>)
     requires { All (λ d. d.queue ≡ queue.now.id) duties.items }
 {
     for duty in duties {
-        let number = u64::from(duty.number());
-        queue.tell(rt, duty, number * 10);
+        let number = duty.number();
+        let value = u64::from(number) * 10;
+        queue.tell(rt, duty, Valued { number, value });
     }
 }
 
@@ -40,8 +42,8 @@ fn tell_all<R: Wait>(rt: &R, queue: &CompletionQueue<u64>, duties: Vec<Duty<u64>
 fn collect_all<R: Wait>(
     rt: &R,
     alloc: Global,
-    queue: &CompletionQueue<u64>,
-    mut collector: Collector<u64>,
+    queue: &CompletionQueue<Valued>,
+    mut collector: Collector<Valued>,
     count: u32,
 ) -> Result<Vec<(u32, u64)>, AllocError>
     requires { collector.queue ≡ queue.now.id }
@@ -49,7 +51,7 @@ fn collect_all<R: Wait>(
     let mut came = Vec::with_capacity(alloc, count as usize)?;
     for _one in 0..count {
         let completion = queue.collect(rt, &mut collector);
-        came.push((completion.number, completion.item))?;
+        came.push((completion.number, completion.value))?;
     }
     Ok(came)
 }
@@ -94,11 +96,18 @@ fn none_is_there_yet(rt: HostRuntime) -> Result<(), Fail> {
     assert!(rt; queue.try_collect(&rt, &mut collector).is_none());
     let duty = queue.duty(&mut collector, 0);
     assert!(rt; queue.try_collect(&rt, &mut collector).is_none());
-    queue.tell(&rt, duty, 7u64);
+    queue.tell(
+        &rt,
+        duty,
+        Valued {
+            number: 0,
+            value: 7,
+        },
+    );
     let Some(completion) = queue.try_collect(&rt, &mut collector) else {
         return Err("a completion".into());
     };
-    assert_eq!(rt; (completion.number, completion.item), (0, 7));
+    assert_eq!(rt; (completion.number, completion.value), (0, 7));
     assert!(rt; queue.try_collect(&rt, &mut collector).is_none());
     Ok(())
 }

@@ -2,4 +2,4 @@ use Rattle.run_queues.proofs.CompletionSteps.{begins}
 use Rattle.run_queues.proofs.completions.CompletionQueue.new.Goals as goal
 
 pub new-requires-clause-rule : goal.new-requires-clause-rule
-new-requires-clause-rule g c = begins g.row.T.Denot
+new-requires-clause-rule g c = begins g.row.T.Denot g.T.Numbered.number

@@ -3,4 +3,4 @@ use Rattle.run_queues.proofs.RequestSteps.{pops}
 use Rattle.run_queues.proofs.requests.RequestQueue.draw.Goals as goal
 
 pub pop_as-item-requires-clause-rule : goal.pop_as-item-requires-clause-rule
-pop_as-item-requires-clause-rule g c = (pops _ _ (let one = ap (λ v. v.parts) c.drawer.invariant.1 in omega arith), λ items views b at. tt)
+pop_as-item-requires-clause-rule g c = (pops _ _ _ (let one = ap (λ v. v.parts) c.drawer.invariant.1 in omega arith), λ items views b at. tt)

@@ -7,7 +7,7 @@ use Rattle.run_queues.proofs.Gathered.{gathers}
 use Rattle.run_queues.proofs.requests.RequestQueue.gather.Goals as goal
 
 pub absorb-requires-clause-rule : goal.absorb-requires-clause-rule
-absorb-requires-clause-rule g c = merges _ _ _ _ (let parts = ap (λ s. s.parts) c.source.view_is in let some = c.requires.parts in omega arith)
+absorb-requires-clause-rule g c = merges _ _ _ _ _ (let parts = ap (λ s. s.parts) c.source.view_is in let some = c.requires.parts in omega arith)
 
 pub invariant_of-source-2 : goal.invariant_of-source-2
 invariant_of-source-2 g c =
