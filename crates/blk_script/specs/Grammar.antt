@@ -1,5 +1,5 @@
 -- What the words of one line say.
-use Rattle.std.specs.Prelude.{ℕ, Bool, true, ◌&&◌, if◌then◌else◌, List, [], ◌∷◌, Result, Ok, Err, codes}
+use Rattle.std.specs.Prelude.{ℕ, if◌then◌else◌, List, [], ◌∷◌, Result, Ok, Err, codes}
 use Rattle.std.specs.Str.{bytes_eq}
 use Rattle.line_text.specs.Hex.{hex_bytes}
 use Rattle.line_text.specs.Numbers.{◌>>=◌, number_in}
@@ -9,15 +9,22 @@ use Rattle.script_meaning.specs.declared.mode.Mode.TheVariants.{Atomic, Slots}
 use Rattle.line_text.specs.declared.fault.Why.{Why}
 use Rattle.line_text.specs.declared.fault.Why.TheVariants.{NoVersion, NoDisk, UnknownWord}
 use Rattle.script_meaning.specs.declared.line.What.{What}
+use Rattle.script_meaning.specs.declared.version.Version.{Version}
+use Rattle.script_meaning.specs.declared.version.Version.TheVariants.{One, Two}
 use Rattle.script_meaning.specs.declared.line.What.TheVariants.{Read, Write, Freeze, Thaw, SetMax, SetChunk, SetMode, Stat, Remove}
 
 -- a write repeats 1 to 64 bytes
 abbrev pub pattern_of : List ℕ → Result (List ℕ) Why
 pattern_of word = hex_bytes 64 word
 
--- the first line says `blkq 1`, and nothing else
-abbrev pub version_of : List (List ℕ) → Result Bool Why
-version_of (name ∷ number ∷ []) = if bytes_eq name (codes "blkq") && bytes_eq number (codes "1") then Ok true else Err NoVersion
+-- the first line says `blkq 1` or `blkq 2`, and nothing else
+abbrev pub version_of : List (List ℕ) → Result Version Why
+version_of (name ∷ number ∷ []) =
+    if bytes_eq name (codes "blkq") then
+    if bytes_eq number (codes "1") then Ok One
+    else if bytes_eq number (codes "2") then Ok Two
+    else Err NoVersion
+    else Err NoVersion
 version_of words = Err NoVersion
 
 -- the sectors of the disk, and those that the hardware takes in one request

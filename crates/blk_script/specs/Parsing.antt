@@ -1,5 +1,5 @@
 -- Which script a text means, or which fault it has.
-use Rattle.std.specs.Prelude.{ℕ, Bool, List, [], ◌∷◌, Result, Ok}
+use Rattle.std.specs.Prelude.{ℕ, List, [], ◌∷◌, Result, Ok}
 use Rattle.blk_script.specs.Grammar.{version_of, disk_of, what_of}
 use Rattle.blk_script.specs.declared.grammar.DiskLine.{DiskLine}
 use Rattle.line_text.specs.Answers.{at_line}
@@ -11,6 +11,7 @@ use Rattle.line_text.specs.declared.fault.Why.TheVariants.{NoVersion, NoDisk}
 use Rattle.script_meaning.specs.Script.{Meant}
 use Rattle.script_meaning.specs.declared.line.Line.{Line}
 use Rattle.script_meaning.specs.declared.line.What.{What}
+use Rattle.script_meaning.specs.declared.version.Version.{Version}
 
 -- what the words of a line ask, where it has any
 abbrev pub said_by : Result (List (List ℕ)) Why → Result What Why
@@ -25,7 +26,7 @@ further_lines (said ∷ more) =
     Ok (record { number = said.0; what = what } ∷ lines)
 
 -- the first line that says something has to be that of the version
-abbrev pub version_in : Unread → Result Bool ParseFault
+abbrev pub version_in : Unread → Result Version ParseFault
 version_in text = first_or NoVersion text >>= λ said. at_line said.0 (version_of said.1)
 
 -- and the next one that of the disk
@@ -35,10 +36,10 @@ disk_in text = first_or NoDisk text >>= λ said. at_line said.0 (disk_of said.1)
 -- the version, then the disk, then the further lines
 abbrev pub script_in : Unread → Result Meant ParseFault
 script_in text =
-    version_in text >>= λ first.
+    version_in text >>= λ version.
     disk_in (after_first text) >>= λ disk.
     further_lines (after_first (after_first text)).said >>= λ lines.
-    Ok (record { sectors = disk.sectors; hardware = disk.hardware; lines = lines })
+    Ok (record { version = version; sectors = disk.sectors; hardware = disk.hardware; lines = lines })
 
 -- the script that a text means, or its first fault
 abbrev pub meaning_of : List ℕ → Result Meant ParseFault

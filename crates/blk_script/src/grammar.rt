@@ -1,7 +1,7 @@
 //! What the words of one line say.
-ghost use Rattle.std.specs.Prelude.{◌≡◌, ◌≤◌, true, IfOk};
+ghost use Rattle.std.specs.Prelude.{◌≡◌, ◌≤◌, IfOk};
 ghost use Rattle.blk_script.specs.Grammar.{version_of, sizes_of, disk_of, pattern_of, read_of, write_of, setting_of, mode_of, alone, what_of};
-ghost use Rattle.line_text.specs.Answers.{LineAnswers, Says};
+ghost use Rattle.line_text.specs.Answers.{LineAnswers};
 
 use line_text::{
     LineFault, Why, Words, hex_bytes, is_word, no_words, one_word, short_number, three_words,
@@ -9,7 +9,7 @@ use line_text::{
 };
 use queue_limits::HARDWARE_LIMIT;
 use ram_disk::{MAX_PATTERN, MAX_SECTORS};
-use script_meaning::{Mode, Pattern, What};
+use script_meaning::{Mode, Pattern, Version, What};
 use std::alloc::Global;
 
 /// The most sectors that a line asks for in one request.
@@ -31,14 +31,19 @@ fn pattern(alloc: Global, word: &[u8]) -> Result<Pattern, LineFault>
     Ok(Pattern::new(hex_bytes(alloc, word, MAX_PATTERN)?))
 }
 
-/// Whether the line is that of the version.
-pub(crate) fn version(mut words: Words<'_>) -> Result<(), Why>
-    ensures { Says (λ _. true) result (version_of words.entry) }
+/// The version that the first line names.
+pub(crate) fn version(mut words: Words<'_>) -> Result<Version, Why>
+    ensures { result ≡ version_of words.entry }
 {
     let name = words.next().ok_or(Why::NoVersion)?;
     let number = words.next().ok_or(Why::NoVersion)?;
-    if is_word(name, "blkq") && is_word(number, "1") && words.next().is_none() {
-        Ok(())
+    if !is_word(name, "blkq") || words.next().is_some() {
+        return Err(Why::NoVersion);
+    }
+    if is_word(number, "1") {
+        Ok(Version::One)
+    } else if is_word(number, "2") {
+        Ok(Version::Two)
     } else {
         Err(Why::NoVersion)
     }

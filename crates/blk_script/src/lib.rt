@@ -3,8 +3,8 @@
 //! A script is text. Its first line names the format, its second the disk, and each further line asks the
 //! queue for something: to read or write a range of sectors, to freeze or thaw, to set a limit, to tell its
 //! counts. [`parse`] gives the [`Script`] that a text means, or the first fault of the text. [`check`] tells
-//! whether two requests that may be under way together touch one sector, and [`run_alone`] what the script
-//! writes on one thread. What a caller needs of `line_text`, `script_meaning` and `script_overlap` stands here
+//! whether two requests that may be under way together touch one sector, [`drains`] before which requests of
+//! version 2 the queue drains for that, and [`run_alone`] what the script writes on one thread. What a caller needs of `line_text`, `script_meaning` and `script_overlap` stands here
 //! too.
 #![tactic(auto)]
 
@@ -22,8 +22,10 @@ pub use line_text::{Overlap, ParseFault, ScriptFault, Why, Words, number, words}
 pub use parser::parse;
 pub use rendering::{render, render_disk};
 pub use run::run_alone;
-pub use script_meaning::{ByteRuns, Line, Mode, Pattern, PieceLengths, Reply, Script, Stat, What};
-pub use script_overlap::{check, one_first_overlap};
+pub use script_meaning::{
+    ByteRuns, Line, Mode, Pattern, PieceLengths, Reply, Script, Stat, Version, What,
+};
+pub use script_overlap::{check, drains, one_first_overlap, one_list_of_ordered_requests};
 
 #[cfg(test)]
 mod tests;

@@ -1,6 +1,5 @@
 //! Overlaps by hand: the lines expected are those that the format names.
-use crate::{ScriptFault, check, parse};
-use script_overlap::ordered_requests;
+use crate::{ScriptFault, check, drains, parse};
 use std::alloc::Global;
 use std::test::Fail;
 
@@ -158,13 +157,25 @@ fn requests_that_are_ordered(rt: HostRuntime) -> Result<(), Fail> {
     let alloc = rt.alloc();
     for (lines, ordered) in ORDERED {
         let mut text = String::new(alloc);
-        for part in ["blkq 1\ndisk 8 hw 8\n", lines] {
+        for part in ["blkq 2\ndisk 8 hw 8\n", lines] {
             text.push_str(part)?;
         }
         let script = parse(alloc, text.as_bytes())?;
-        let told = ordered_requests(alloc, &script)?;
+        assert_eq!(rt; script.version(), 2);
+        assert_eq!(rt; check(alloc, &script), Ok(()), "{lines}");
+        let told = drains(alloc, &script)?;
         assert_eq!(rt; told.as_slice(), *ordered, "{lines}");
     }
+    Ok(())
+}
+
+// Version 1 orders nothing.
+#[test]
+fn version_one_has_no_drains(rt: HostRuntime) -> Result<(), Fail> {
+    let alloc = rt.alloc();
+    let script = parse(alloc, b"blkq 1\ndisk 8 hw 8\nwrite 0 1 01\nread 0 1\n")?;
+    assert_eq!(rt; script.version(), 1);
+    assert_eq!(rt; drains(alloc, &script)?.len(), 0);
     Ok(())
 }
 

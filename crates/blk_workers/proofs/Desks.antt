@@ -17,10 +17,12 @@ use Rattle.script_meaning.specs.declared.line.What.{What}
 use Rattle.script_meaning.specs.declared.line.What.TheVariants.{Write}
 use Rattle.script_meaning.specs.declared.request.Request.{Request}
 use Rattle.script_meaning.proofs.Disks.{state_disk, length-pattern_sectors}
-use Rattle.script_overlap.specs.Overlap.{HasSector, HasNoOverlap}
+use Rattle.script_overlap.specs.Overlap.{HasSector, Clash}
+use Rattle.script_overlap.specs.SpanOfRequests.{Marks, OfSectors, Takes}
 use Rattle.blk_workers.specs.Desk.{is_owed, owed_count, installed, IsUpTo, FitsAt, MayPass, Stands}
 use Rattle.blk_workers.specs.Requests.{IsRequestAt, IsReplyLine, IsAnswer, left_by}
-use Rattle.blk_workers.specs.Span.{AreInSpan, IsAwaited, IsDiskBut}
+use Rattle.blk_workers.specs.Span.{AreInSpan, ClashesWithNone, Covers, IsAwaited, IsDiskBut}
+use Rattle.blk_workers.proofs.Covering.{covers_fewer, covers_more}
 use Rattle.blk_workers.proofs.LineSteps.{IsWriteAt, accepted_drains, sector_stays, request_within, request_writes, write_fits, writes_of}
 use Rattle.blk_workers.proofs.Places.{none_counted, get_push_below, get_push_at, get_set_same, get_set_other, owed_below, owed_push, owed_at, owed_set_other, owed_set_same}
 use Rattle.blk_workers.proofs.Spans.{fewer, none_owed, reads_stand, installed as installs}
@@ -79,6 +81,14 @@ settled script here line replies disk text up at refused pass replied = record {
   span = record {
     before = λ p is. elim (owed_before replies (Some text) p is) [ inl old ↦ omega (arith, up.span.before p old) | inr new ↦ absurd (false≢true new.1) ];
     one_span = λ p is. elim (owed_before replies (Some text) p is) [ inl old ↦ span_passes script here replies up.span pass p old | inr new ↦ absurd (false≢true new.1) ];
+    apart = λ p later one other is low high there here_too clash.
+        elim (owed_before replies (Some text) p is) [
+          | inl old ↦ elim (cases_lt later here) [
+            | inl less ↦ up.span.apart p later one other old low less there here_too clash
+            | inr more ↦ let same : later ≡ here = omega arith in no_request (accepted_at script here) other refused (sym (ap (accepted_at script) same) ∙ here_too)
+          ]
+          | inr new ↦ absurd (false≢true new.1)
+        ];
   };
   disk_is = record {
     whole = up.disk_is.whole;
@@ -98,8 +108,9 @@ settled script here line replies disk text up at refused pass replied = record {
 -- ---- a request that is submitted
 
 pub submitted : (script : Meant) (here : ℕ) (line : Line) (replies : List (Option (List ℕ))) (disk : List (List ℕ)) (request : Request) → IsUpTo script here replies disk
-    → slice_get script.lines here ≡ Some line → accepted_at script here ≡ Some request → IsUpTo script (here + 1) (replies ++ None ∷ []) disk
-submitted script here line replies disk request up at accepted = record {
+    → slice_get script.lines here ≡ Some line → accepted_at script here ≡ Some request → ClashesWithNone script (is_owed replies) request
+    → IsUpTo script (here + 1) (replies ++ None ∷ []) disk
+submitted script here line replies disk request up at accepted none = record {
   lines = length-append replies (None ∷ []) ∙ ap (λ n. n + 1) up.lines;
   told = told_more script here replies disk None up (λ text is. absurd (none_some text is));
   span = record {
@@ -109,11 +120,23 @@ submitted script here line replies disk request up at accepted = record {
           | inl old ↦ span_passes script here replies up.span (inl (accepted_drains script here request accepted)) p old cut low high
           | inr new ↦ absurd (omega (arith, new.0, up.lines, low, high))
         ];
+    apart = λ p later one other is low high there here_too clash.
+        elim (owed_before replies None p is) [
+          | inl old ↦ elim (cases_lt later here) [
+            | inl less ↦ up.span.apart p later one other old low less there here_too clash
+            | inr more ↦
+                let same : later ≡ here = omega arith in
+                let both : Some other ≡ Some request = sym here_too ∙ ap (accepted_at script) same ∙ accepted in
+                let it_is : other ≡ request = cc in
+                none p one old there (subst (Clash one) it_is clash)
+          ]
+          | inr new ↦ absurd (omega (arith, new.0, up.lines, low, high))
+        ];
   };
   disk_is = record {
     whole = up.disk_is.whole;
-    others = λ sector none.
-        up.disk_is.others sector (λ awaited. none (record {
+    others = λ sector free.
+        up.disk_is.others sector (λ awaited. free (record {
           position = awaited.position;
           request = awaited.request;
           is_owed = still_owed replies None awaited.position awaited.is_owed;
@@ -121,7 +144,7 @@ submitted script here line replies disk request up at accepted = record {
           writes = awaited.writes;
           inside = awaited.inside;
         }))
-        ∙ sym (sector_stays script here line sector at (λ r is writes inside. none (record {
+        ∙ sym (sector_stays script here line sector at (λ r is writes inside. free (record {
           position = here;
           request = r;
           is_owed = sym (ap (is_owed (replies ++ None ∷ [])) up.lines) ∙ owed_at replies None;
@@ -163,13 +186,13 @@ told_set script here replies disk p text up owed replied q t at =
 
 -- the disk once what the line leaves is installed
 disk_collected : (script : Meant) (here : ℕ) (replies : List (Option (List ℕ))) (disk : List (List ℕ)) (p : ℕ) (text : List ℕ) (line : Line) (what : What) (sectors : List (List ℕ))
-    → HasNoOverlap script → here ≤ length script.lines → IsUpTo script here replies disk → is_owed replies p ≡ true → IsRequestAt script p line → line.what ≡ what → sectors ≡ left_by what
+    → here ≤ length script.lines → IsUpTo script here replies disk → is_owed replies p ≡ true → IsRequestAt script p line → line.what ≡ what → sectors ≡ left_by what
     → IsDiskBut script (is_owed (set replies p (Some text))) here (installed what sectors disk)
-disk_collected script here replies disk p text line (Write start count pattern) sectors no_overlap end up owed request asks leaves =
+disk_collected script here replies disk p text line (Write start count pattern) sectors end up owed request asks leaves =
     let w : IsWriteAt script p start count pattern = record { line = line; at = request.at; what = asks; accepted = request.accepted } in
     let P : List (List ℕ) → Type 0 = λ made. IsDiskBut script (is_owed (set replies p (Some text))) here (installed (Write start count pattern) made disk) in
-    subst P (sym leaves) (installs script (is_owed replies) (is_owed (set replies p (Some text))) p here start count pattern disk no_overlap up.span end up.disk_is owed w (still_or_it replies p text))
-disk_collected script here replies disk p text line what sectors no_overlap end up owed request asks leaves =
+    subst P (sym leaves) (installs script (is_owed replies) (is_owed (set replies p (Some text))) p here start count pattern disk up.span end up.disk_is owed w (still_or_it replies p text))
+disk_collected script here replies disk p text line what sectors end up owed request asks leaves =
     fewer script (is_owed replies) (is_owed (set replies p (Some text))) here disk up.disk_is
     (λ sector awaited. record {
       position = awaited.position;
@@ -182,9 +205,9 @@ disk_collected script here replies disk p text line what sectors no_overlap end 
 
 -- an answer to a request that is owed
 pub collected : (script : Meant) (here : ℕ) (replies : List (Option (List ℕ))) (disk : List (List ℕ)) (p : ℕ) (text : List ℕ) (sectors : List (List ℕ)) (line : Line)
-    → HasNoOverlap script → here ≤ length script.lines → IsUpTo script here replies disk → is_owed replies p ≡ true → IsAnswer script p text sectors → slice_get script.lines p ≡ Some line
+    → here ≤ length script.lines → IsUpTo script here replies disk → is_owed replies p ≡ true → IsAnswer script p text sectors → slice_get script.lines p ≡ Some line
     → IsUpTo script here (set replies p (Some text)) (installed line.what sectors disk)
-collected script here replies disk p text sectors line no_overlap end up owed answer at =
+collected script here replies disk p text sectors line end up owed answer at =
     let both : Some answer.line ≡ Some line = sym answer.request.at ∙ at in
     let same : answer.line ≡ line = cc in
     let asks : answer.line.what ≡ line.what = ap (λ (l : Line). l.what) same in
@@ -194,8 +217,9 @@ collected script here replies disk p text sectors line no_overlap end up owed an
       span = record {
         before = λ q is. up.span.before q (left_owed replies p text q is);
         one_span = λ q is. up.span.one_span q (left_owed replies p text q is);
+        apart = λ q later one other is. up.span.apart q later one other (left_owed replies p text q is);
       };
-      disk_is = disk_collected script here replies disk p text answer.line line.what sectors no_overlap end up owed answer.request asks (answer.leaves ∙ ap left_by asks);
+      disk_is = disk_collected script here replies disk p text answer.line line.what sectors end up owed answer.request asks (answer.leaves ∙ ap left_by asks);
     }
 
 -- where nothing is owed the disk is that of a single thread
@@ -207,7 +231,7 @@ pub first : (script : Meant) → IsUpTo script 0 [] (state_at script 0).disk
 first script = record {
   lines = refl;
   told = λ p text at. absurd (none_there at);
-  span = record { before = λ p is. absurd (false≢true is); one_span = λ p is. absurd (false≢true is) };
+  span = record { before = λ p is. absurd (false≢true is); one_span = λ p is. absurd (false≢true is); apart = λ p later one other is. absurd (false≢true is) };
   disk_is = record { whole = state_disk script 0; others = λ sector none. refl };
 }
   where
@@ -230,28 +254,29 @@ answer_line script p text sectors answer line is =
     let same : line ≡ answer.line = is ∙ get_or_from_slice_get script.lines p answer.line line answer.request.at in
     (answer.request.at ∙ ap (λ (l : Line). Some l) (sym same), sym (ap (λ (l : Line). l.what) same))
 
-pub fits_answer : (script : Meant) (replies : List (Option (List ℕ))) (disk : List (List ℕ)) (p : ℕ) (text : List ℕ) (sectors : List (List ℕ)) (line : Line) → Stands script replies disk
+pub fits_answer : (script : Meant) (replies : List (Option (List ℕ))) (disk : List (List ℕ)) (p : ℕ) (text : List ℕ) (sectors : List (List ℕ)) (line : Line) → IsUpTo script (length replies) replies disk
     → IsAnswer script p text sectors → line ≡ get_or script.lines p line → FitsAt line.what sectors disk
-fits_answer script replies disk p text sectors line stands answer is =
+fits_answer script replies disk p text sectors line up answer is =
     let there = answer_line script p text sectors answer line is in
-    fits_there script disk p answer.line line.what sectors stands.up.disk_is.whole answer.request there.1 (answer.leaves ∙ ap left_by there.1)
+    fits_there script disk p answer.line line.what sectors up.disk_is.whole answer.request there.1 (answer.leaves ∙ ap left_by there.1)
 
-pub stands_collected : (script : Meant) (replies : List (Option (List ℕ))) (disk : List (List ℕ)) (p : ℕ) (text : List ℕ) (sectors : List (List ℕ)) (line : Line) → HasNoOverlap script
-    → Stands script replies disk → is_owed replies p ≡ true → IsAnswer script p text sectors → line ≡ get_or script.lines p line
-    → Stands script (set replies p (Some text)) (installed line.what sectors disk)
-stands_collected script replies disk p text sectors line no_overlap stands owed answer is =
+pub stands_collected : (script : Meant) (replies : List (Option (List ℕ))) (disk : List (List ℕ)) (span : Marks) (p : ℕ) (text : List ℕ) (sectors : List (List ℕ)) (line : Line)
+    → Stands script replies disk span → is_owed replies p ≡ true → IsAnswer script p text sectors → line ≡ get_or script.lines p line
+    → Stands script (set replies p (Some text)) (installed line.what sectors disk) span
+stands_collected script replies disk span p text sectors line stands owed answer is =
     let there = answer_line script p text sectors answer line is in
     let len = length-set replies p (Some text) in
-    let next = collected script (length replies) replies disk p text sectors line no_overlap stands.within stands.up owed answer there.0 in
+    let next = collected script (length replies) replies disk p text sectors line stands.within stands.up owed answer there.0 in
     record {
       within = omega (arith, len, stands.within);
       up = subst (λ n. IsUpTo script n (set replies p (Some text)) (installed line.what sectors disk)) (sym len) next;
+      covers = covers_fewer script (is_owed replies) (is_owed (set replies p (Some text))) span (left_owed replies p text) stands.covers;
     }
 
 -- the next line is taken, with its reply
-pub stands_settled : (script : Meant) (replies : List (Option (List ℕ))) (disk : List (List ℕ)) (text : List ℕ) → Stands script replies disk → accepted_at script (length replies) ≡ None
-    → MayPass script replies → IsReplyLine script (length replies) text → Stands script (replies ++ Some text ∷ []) disk
-stands_settled script replies disk text stands refused pass replied =
+pub stands_settled : (script : Meant) (replies : List (Option (List ℕ))) (disk : List (List ℕ)) (span : Marks) (text : List ℕ) → Stands script replies disk span → accepted_at script (length replies) ≡ None
+    → MayPass script replies → IsReplyLine script (length replies) text → Stands script (replies ++ Some text ∷ []) disk span
+stands_settled script replies disk span text stands refused pass replied =
     let len = length-append replies (Some text ∷ []) in
     let less = slice_get_within script.lines (length replies) replied.line replied.at in
     let passes : Passes script (length replies) replies = elim pass [ inl stays ↦ inl stays | inr none ↦ inr (λ p. none_counted replies p none) ] in
@@ -259,6 +284,8 @@ stands_settled script replies disk text stands refused pass replied =
     record {
       within = omega (arith, len, less);
       up = subst (λ n. IsUpTo script n (replies ++ Some text ∷ []) disk) (sym len) next;
+      covers = covers_fewer script (is_owed replies) (is_owed (replies ++ Some text ∷ [])) span
+          (λ p is. elim (owed_before replies (Some text) p is) [ inl old ↦ old | inr new ↦ absurd (false≢true new.1) ]) stands.covers;
     }
 
 -- or it is a request, and owed
@@ -272,24 +299,36 @@ request_line script p request accepted = at_place (λ (l : Line). accepted_in (o
     at_place f None {request} is = absurd (none_some request is)
     at_place f (Some line) is = (line, refl)
 
-pub stands_submitted : (script : Meant) (replies : List (Option (List ℕ))) (disk : List (List ℕ)) (request : Request) → Stands script replies disk
-    → accepted_at script (length replies) ≡ Some request → Stands script (replies ++ None ∷ []) disk
-stands_submitted script replies disk request stands accepted =
+pub stands_submitted : (script : Meant) (replies : List (Option (List ℕ))) (disk : List (List ℕ)) (old new : Marks) (request : Request) → Stands script replies disk old
+    → accepted_at script (length replies) ≡ Some request → ClashesWithNone script (is_owed replies) request → Takes old new request → OfSectors new script.sectors
+    → Stands script (replies ++ None ∷ []) disk new
+stands_submitted script replies disk old new request stands accepted none takes sectors =
     let len = length-append replies (None ∷ []) in
     let there = request_line script (length replies) request accepted in
     let less = slice_get_within script.lines (length replies) there.0 there.1 in
-    let next = submitted script (length replies) there.0 replies disk request stands.up there.1 accepted in
+    let next = submitted script (length replies) there.0 replies disk request stands.up there.1 accepted none in
     record {
       within = omega (arith, len, less);
       up = subst (λ n. IsUpTo script n (replies ++ None ∷ []) disk) (sym len) next;
+      covers = covers_more script (is_owed replies) (is_owed (replies ++ None ∷ [])) (length replies) old new request accepted takes sectors
+          (λ p is. elim (owed_before replies None p is) [ inl before ↦ inl before | inr now ↦ inr now.0 ]) stands.covers;
     }
 
+-- where nothing is owed a new span may begin
+pub stands_anew : (script : Meant) (replies : List (Option (List ℕ))) (disk : List (List ℕ)) (old new : Marks) → Stands script replies disk old → owed_count replies ≡ 0 → OfSectors new script.sectors
+    → Stands script replies disk new
+stands_anew script replies disk old new stands none sectors = record {
+  within = stands.within;
+  up = stands.up;
+  covers = record { sectors = sectors; touched = λ p request sector is accepted inside. absurd (false≢true (sym (none_counted replies p none) ∙ is)) };
+}
+
 -- what an accepted request finds on the disk of the run
-pub finds_there : (script : Meant) (replies : List (Option (List ℕ))) (disk : List (List ℕ)) (request : Request) → HasNoOverlap script → Stands script replies disk
-    → accepted_at script (length replies) ≡ Some request
+pub finds_there : (script : Meant) (replies : List (Option (List ℕ))) (disk : List (List ℕ)) (span : Marks) (request : Request) → Stands script replies disk span
+    → accepted_at script (length replies) ≡ Some request → ClashesWithNone script (is_owed replies) request
     → sectors_read request.start request.count disk ≡ sectors_read request.start request.count (state_at script (length replies)).disk
-finds_there script replies disk request no_overlap stands accepted =
-    reads_stand script (is_owed replies) (length replies) disk request no_overlap stands.up.span stands.up.disk_is accepted (request_within script (length replies) request accepted)
+finds_there script replies disk span request stands accepted none =
+    reads_stand script (is_owed replies) (length replies) disk request none stands.up.disk_is (request_within script (length replies) request accepted)
 
 pub on_ok : {A E : Type 0} (r : Result A E) (P Q : Type 0) → (P → Q) → OnOk r P → OnOk r Q
 on_ok (Ok x) P Q f h = f h

@@ -23,6 +23,7 @@ use Rattle.script_meaning.proofs.Cases.{IsOf}
 use Rattle.script_meaning.proofs.Disks.{state_queue}
 use Rattle.script_meaning.proofs.Positions.{came_at, queue_took}
 use Rattle.script_meaning.proofs.Queues.{IsGood, good}
+use Rattle.script_overlap.specs.SpanOfRequests.{Marks}
 use Rattle.blk_workers.specs.Desk.{AreJoined, IsUpTo, Stands, joined, owed_count}
 use Rattle.blk_workers.specs.Progress.{IsQueueAt, IsRun, found_at}
 use Rattle.blk_script.specs.Texts.{reply_line}
@@ -187,9 +188,9 @@ moved P told script here position same at h = subst (λ s. P s here) (sym same) 
 
 -- ---- the end
 
-pub run_ended : (script : Meant) (replies : List (Option (List ℕ))) (disk : List (List ℕ)) (text : List ℕ) → Stands script replies disk → length replies ≡ length script.lines → owed_count replies ≡ 0
+pub run_ended : (script : Meant) (replies : List (Option (List ℕ))) (disk : List (List ℕ)) (span : Marks) (text : List ℕ) → Stands script replies disk span → length replies ≡ length script.lines → owed_count replies ≡ 0
     → text ≡ joined replies → IsRun script text disk
-run_ended script replies disk text stands lines none is =
+run_ended script replies disk span text stands lines none is =
     let up : IsUpTo script (length script.lines) replies disk = subst (λ n. IsUpTo script n replies disk) lines stands.up in
     record {
       told = subst (AreJoined script) (sym is) (are_joined script replies disk up none);

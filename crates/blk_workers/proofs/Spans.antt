@@ -13,46 +13,25 @@ use Rattle.script_meaning.specs.Script.{Meant}
 use Rattle.script_meaning.specs.declared.line.Line.{Line}
 use Rattle.script_meaning.specs.declared.request.Request.{Request}
 use Rattle.script_meaning.proofs.Disks.{length-pattern_sectors, state_disk}
-use Rattle.script_overlap.specs.Overlap.{HasSector, HasNoOverlap, Clash, IsOverlap}
-use Rattle.blk_workers.specs.Span.{AreInSpan, IsAwaited, IsDiskBut, ReadsStandInASpan}
+use Rattle.script_overlap.specs.Overlap.{HasSector, Clash}
+use Rattle.blk_workers.specs.Span.{AreInSpan, ClashesWithNone, IsAwaited, IsDiskBut, ReadsStandInASpan}
 use Rattle.blk_workers.proofs.LineSteps.{IsWriteAt, accepted_drains, sector_stays, write_request, write_fits, written_next}
 
 or_right : (a b : Bool) → a ≡ true → a || b ≡ true
 or_right true b is = refl
 or_right false b is = cc
 
-or_left : (a b : Bool) → b ≡ true → a || b ≡ true
-or_left true b is = refl
-or_left false b is = is
-
--- no line between drains, up to an accepted request
-span_to : (script : Meant) (earlier later : ℕ) (request : Request) → accepted_at script later ≡ Some request
-    → ((cut : ℕ) → earlier < cut → cut < later → drains_at script cut ≡ false) → (cut : ℕ) → earlier < cut → cut ≤ later → drains_at script cut ≡ false
-span_to script earlier later request accepted between cut low high =
-    elim (cases_lt cut later) [
-      | inl less ↦ between cut low less
-      | inr more ↦ let same : cut ≡ later = omega arith in ap (drains_at script) same ∙ accepted_drains script later request accepted
-    ]
-
--- an accepted request touches no sector of a write under way
-pub apart : (script : Meant) (owed : ℕ → Bool) (here : ℕ) (request : Request) (sector : ℕ) → HasNoOverlap script → AreInSpan script owed here
-    → accepted_at script here ≡ Some request → HasSector request sector → IsAwaited script owed sector → ⊥
-apart script owed here request sector no_overlap span accepted inside awaited =
-    no_overlap awaited.position here (record {
-      first = awaited.request;
-      second = request;
-      first_accepted = awaited.accepted;
-      second_accepted = accepted;
-      in_order = span.before awaited.position awaited.is_owed;
-      one_span = span_to script awaited.position here request accepted (span.one_span awaited.position awaited.is_owed);
-      clash = record { sector = sector; in_first = awaited.inside; in_second = inside; writes = or_right awaited.request.writes request.writes awaited.writes };
-    })
+-- a request that clashes with none under way touches no sector of a write under way
+pub apart : (script : Meant) (owed : ℕ → Bool) (request : Request) (sector : ℕ) → ClashesWithNone script owed request → HasSector request sector → IsAwaited script owed sector → ⊥
+apart script owed request sector none inside awaited =
+    none awaited.position awaited.request awaited.is_owed awaited.accepted
+    (record { sector = sector; in_first = awaited.inside; in_second = inside; writes = or_right awaited.request.writes request.writes awaited.writes })
 
 pub reads_stand : ReadsStandInASpan
-reads_stand script owed here disk request no_overlap span but accepted fits =
+reads_stand script owed here disk request none but fits =
     let size = state_disk script here in
     read_same request.start request.count (state_at script here).disk disk (omega (arith, size, fits)) (but.whole ∙ sym size)
-    (λ sector within. but.others sector (apart script owed here request sector no_overlap span accepted within))
+    (λ sector within. but.others sector (apart script owed request sector none within))
 
 -- ---- what a write leaves stands until the next drain
 
@@ -77,31 +56,28 @@ stays script from (suc n) sector within untouched =
     ∙ next_stays script (from + n) sector (omega arith) (untouched (from + n) (omega arith) (omega arith))
     ∙ stays script from n sector (omega arith) (λ k low high. untouched k low (omega arith))
 
--- later requests of its span touch none of a write's sectors
-untouched_since : (script : Meant) (position here start count : ℕ) (pattern : List ℕ) (sector : ℕ) → HasNoOverlap script → IsWriteAt script position start count pattern
-    → ((cut : ℕ) → position < cut → cut < here → drains_at script cut ≡ false) → IsWithin start count sector → Untouched script (position + 1) here sector
-untouched_since script position here start count pattern sector no_overlap w between inside k low high request accepted writes touches =
-    no_overlap position k (record {
-      first = record { start = start; count = count; writes = true };
-      second = request;
-      first_accepted = write_request script position start count pattern w;
-      second_accepted = accepted;
-      in_order = omega arith;
-      one_span = span_to script position k request accepted (λ cut after before. between cut after (omega arith));
-      clash = record { sector = sector; in_first = inside; in_second = touches; writes = refl };
-    })
+-- no later request clashes with the write
+abbrev ApartFrom : Meant → ℕ → ℕ → Request → Type 0
+ApartFrom script position here first = (later : ℕ) (second : Request) → position < later → later < here → accepted_at script later ≡ Some second → Clash first second → ⊥
 
--- so the sectors of a write under way are what it wrote
-pub wrote : (script : Meant) (position here start count : ℕ) (pattern : List ℕ) (sector : ℕ) → HasNoOverlap script → IsWriteAt script position start count pattern
-    → position < here → here ≤ length script.lines → ((cut : ℕ) → position < cut → cut < here → drains_at script cut ≡ false) → IsWithin start count sector
+-- so later requests of its span touch none of its sectors
+untouched_since : (script : Meant) (position here start count : ℕ) (sector : ℕ) → ApartFrom script position here (record { start = start; count = count; writes = true })
+    → IsWithin start count sector → Untouched script (position + 1) here sector
+untouched_since script position here start count sector apart_from inside k low high request accepted writes touches =
+    apart_from k request (omega arith) high accepted (record { sector = sector; in_first = inside; in_second = touches; writes = refl })
+
+-- and the sectors of a write under way are what it wrote
+pub wrote : (script : Meant) (position here start count : ℕ) (pattern : List ℕ) (sector : ℕ) → IsWriteAt script position start count pattern
+    → ApartFrom script position here (record { start = start; count = count; writes = true })
+    → position < here → here ≤ length script.lines → IsWithin start count sector
     → sector_at (state_at script here).disk sector ≡ sector_at (pattern_sectors pattern count) (sector - start)
-wrote script position here start count pattern sector no_overlap w before end between inside =
+wrote script position here start count pattern sector w apart_from before end inside =
     let at : here ≡ (position + 1) + (here - (position + 1)) = omega arith in
     let size = length-pattern_sectors pattern count in
     let fits : start + length (pattern_sectors pattern count) ≤ length (state_at script position).disk = omega (arith, size, state_disk script position, write_fits script position start count pattern w) in
     ap (λ k. sector_at (state_at script k).disk sector) at
     ∙ stays script (position + 1) (here - (position + 1)) sector (omega arith)
-    (λ k low high. untouched_since script position here start count pattern sector no_overlap w between inside k low (omega arith))
+    (λ k low high. untouched_since script position here start count sector apart_from inside k low (omega arith))
     ∙ ap (λ disk. sector_at disk sector) (written_next script position start count pattern w)
     ∙ written_inside (state_at script position).disk (pattern_sectors pattern count) start sector fits (omega (arith, inside.0), omega (arith, inside.1, size))
 
@@ -113,11 +89,11 @@ pub fewer : (script : Meant) (owed owed' : ℕ → Bool) (here : ℕ) (disk : Li
 fewer script owed owed' here disk but more = record { whole = but.whole; others = λ sector none. but.others sector (λ awaited. none (more sector awaited)) }
 
 -- a write under way is installed: from then on it isn't owed
-pub installed : (script : Meant) (owed owed' : ℕ → Bool) (position here start count : ℕ) (pattern : List ℕ) (disk : List (List ℕ)) → HasNoOverlap script
+pub installed : (script : Meant) (owed owed' : ℕ → Bool) (position here start count : ℕ) (pattern : List ℕ) (disk : List (List ℕ))
     → AreInSpan script owed here → here ≤ length script.lines → IsDiskBut script owed here disk → owed position ≡ true → IsWriteAt script position start count pattern
     → ((p : ℕ) → owed p ≡ true → (owed' p ≡ true) ⊎ (p ≡ position))
     → IsDiskBut script owed' here (sectors_written start (pattern_sectors pattern count) disk)
-installed script owed owed' position here start count pattern disk no_overlap span end but is_owed w left =
+installed script owed owed' position here start count pattern disk span end but is_owed w left =
     let size = length-pattern_sectors pattern count in
     let fits : start + length (pattern_sectors pattern count) ≤ length disk = omega (arith, size, but.whole, write_fits script position start count pattern w) in
     record {
@@ -127,7 +103,7 @@ installed script owed owed' position here start count pattern disk no_overlap sp
             | inl inside ↦
                 let inside' : IsWithin start count sector = (omega (arith, inside.0), omega (arith, inside.1, size)) in
                 written_inside disk (pattern_sectors pattern count) start sector fits inside
-                ∙ sym (wrote script position here start count pattern sector no_overlap w (span.before position is_owed) end (span.one_span position is_owed) inside')
+                ∙ sym (wrote script position here start count pattern sector w (λ later second low high there clash. span.apart position later _ second is_owed low high (write_request script position start count pattern w) there clash) (span.before position is_owed) end inside')
             | inr outside ↦
                 written_others disk (pattern_sectors pattern count) start sector fits outside
                 ∙ but.others sector (λ awaited.

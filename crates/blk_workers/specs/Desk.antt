@@ -11,9 +11,9 @@ use Rattle.script_meaning.specs.declared.line.What.{What}
 use Rattle.script_meaning.specs.declared.line.What.TheVariants.{Write}
 use Rattle.script_meaning.specs.declared.reply.Reply.{Reply}
 use Rattle.script_meaning.specs.declared.request.Request.{Request}
-use Rattle.script_overlap.specs.Overlap.{HasNoOverlap}
+use Rattle.script_overlap.specs.SpanOfRequests.{Marks}
 use Rattle.blk_workers.specs.Requests.{IsReplyLine, IsAnswer}
-use Rattle.blk_workers.specs.Span.{AreInSpan, IsDiskBut}
+use Rattle.blk_workers.specs.Span.{AreInSpan, ClashesWithNone, Covers, IsDiskBut}
 
 -- the reply to the line at a position isn't there yet
 abbrev pub is_owed : List (Option (List ℕ)) → ℕ → Bool
@@ -48,10 +48,11 @@ abbrev pub FitsAt : What → List (List ℕ) → List (List ℕ) → Type 0
 FitsAt (Write start count pattern) sectors disk = start + length sectors ≤ length disk
 FitsAt what sectors disk = Unit {0}
 
--- as many lines of the script are taken as there are replies
-pub record Stands (script : Meant) (replies : List (Option (List ℕ))) (disk : List (List ℕ)) : Type 0 where
+-- as many lines of the script are taken as there are replies, and the span has the sectors of the requests that are owed
+pub record Stands (script : Meant) (replies : List (Option (List ℕ))) (disk : List (List ℕ)) (span : Marks) : Type 0 where
   pub within : length replies ≤ length script.lines
   pub up : IsUpTo script (length replies) replies disk
+  pub covers : Covers script (is_owed replies) span
 
 -- ---- the laws of submitting and collecting
 
@@ -65,14 +66,15 @@ TakesALine = (script : Meant) (here : ℕ) (line : Line) (replies : List (Option
     → slice_get script.lines here ≡ Some line → accepted_at script here ≡ None → (drains_at script here ≡ false) ⊎ ((p : ℕ) → is_owed replies p ≡ false) → IsReplyLine script here text
     → IsUpTo script (here + 1) (replies ++ Some text ∷ []) disk
 
--- an accepted request is owed
+-- an accepted request that clashes with none that is owed is owed too
 abbrev pub TakesARequest : Type 0
 TakesARequest = (script : Meant) (here : ℕ) (line : Line) (replies : List (Option (List ℕ))) (disk : List (List ℕ)) (request : Request) → IsUpTo script here replies disk
-    → slice_get script.lines here ≡ Some line → accepted_at script here ≡ Some request → IsUpTo script (here + 1) (replies ++ None ∷ []) disk
+    → slice_get script.lines here ≡ Some line → accepted_at script here ≡ Some request → ClashesWithNone script (is_owed replies) request
+    → IsUpTo script (here + 1) (replies ++ None ∷ []) disk
 
 -- any answer that is owed may be collected: its reply is there then, and what its line leaves is installed
 abbrev pub CollectsAnAnswer : Type 0
-CollectsAnAnswer = (script : Meant) (here : ℕ) (replies : List (Option (List ℕ))) (disk : List (List ℕ)) (p : ℕ) (text : List ℕ) (sectors : List (List ℕ)) (line : Line) → HasNoOverlap script
+CollectsAnAnswer = (script : Meant) (here : ℕ) (replies : List (Option (List ℕ))) (disk : List (List ℕ)) (p : ℕ) (text : List ℕ) (sectors : List (List ℕ)) (line : Line)
     → here ≤ length script.lines → IsUpTo script here replies disk → is_owed replies p ≡ true → IsAnswer script p text sectors → slice_get script.lines p ≡ Some line
     → IsUpTo script here (set replies p (Some text)) (installed line.what sectors disk)
 

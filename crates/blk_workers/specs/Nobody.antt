@@ -3,6 +3,7 @@ use Rattle.std.specs.Prelude.{[]}
 use Rattle.percpu_core.specs.declared.start.Start.TheVariants.{Atomic}
 use Rattle.freeze_queue.specs.Queue.{QueueFacts}
 use Rattle.script_meaning.specs.Script.{Meant}
+use Rattle.script_meaning.specs.declared.version.Version.TheVariants.{One}
 
 abbrev pub no_queue : QueueFacts
 no_queue = record {
@@ -11,4 +12,4 @@ no_queue = record {
 }
 
 abbrev pub no_script : Meant
-no_script = record { sectors = 1; hardware = 1; lines = [] }
+no_script = record { version = One; sectors = 1; hardware = 1; lines = [] }

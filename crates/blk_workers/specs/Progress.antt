@@ -23,7 +23,7 @@ pub record IsQueueAt (script : Meant) (position : ℕ) (q : Queue) : Type 0 wher
 
 -- the lines before a position are taken
 pub record IsAt (script : Meant) (queue : QueueFacts) (position : ℕ) (s : Submitter) : Type 0 where
-  pub stands : Stands script s.desk.replies s.desk.disk
+  pub stands : Stands script s.desk.replies s.desk.disk s.desk.span
   pub lines : length s.desk.replies ≡ position
   pub state : IsQueueAt script position s.state
   pub freezer : IsFollowing queue position s.freezer
@@ -34,7 +34,7 @@ found_at script position request = if request.writes then [] else sectors_read r
 
 -- every line is taken, and nothing is owed
 pub record IsEnd (script : Meant) (s : Submitter) : Type 0 where
-  pub stands : Stands script s.desk.replies s.desk.disk
+  pub stands : Stands script s.desk.replies s.desk.disk s.desk.span
   pub lines : length s.desk.replies ≡ length script.lines
   pub none_owed : owed_count s.desk.replies ≡ 0
 

@@ -5,12 +5,26 @@ use Rattle.ram_disk.specs.Writes.{sector_at}
 use Rattle.script_meaning.specs.Requests.{accepted_at, drains_at, state_at}
 use Rattle.script_meaning.specs.Script.{Meant}
 use Rattle.script_meaning.specs.declared.request.Request.{Request}
-use Rattle.script_overlap.specs.Overlap.{HasSector, HasNoOverlap}
+use Rattle.script_overlap.specs.Overlap.{HasSector, Clash}
+use Rattle.script_overlap.specs.Span.{is_touched}
+use Rattle.script_overlap.specs.SpanOfRequests.{Marks, marks_of, OfSectors}
 
--- the positions of the requests that are under way stand before this one, and no line between drains
+-- the positions of the requests that are under way stand before this one, no line between drains, and no later request clashes with one of them
 pub record AreInSpan (script : Meant) (owed : ℕ → Bool) (here : ℕ) : Type 0 where
   pub before : (position : ℕ) → owed position ≡ true → position < here
   pub one_span : (position : ℕ) → owed position ≡ true → (cut : ℕ) → position < cut → cut < here → drains_at script cut ≡ false
+  pub apart : (position later : ℕ) (first second : Request) → owed position ≡ true → position < later → later < here
+      → accepted_at script position ≡ Some first → accepted_at script later ≡ Some second → Clash first second → ⊥
+
+-- a request clashes with none that is under way
+abbrev pub ClashesWithNone : Meant → (ℕ → Bool) → Request → Type 0
+ClashesWithNone script owed request = (position : ℕ) (first : Request) → owed position ≡ true → accepted_at script position ≡ Some first → Clash first request → ⊥
+
+-- the sectors of the requests that are under way are marked
+pub record Covers (script : Meant) (owed : ℕ → Bool) (span : Marks) : Type 0 where
+  pub sectors : OfSectors span script.sectors
+  pub touched : (position : ℕ) (request : Request) (sector : ℕ) → owed position ≡ true → accepted_at script position ≡ Some request → HasSector request sector
+      → is_touched (marks_of span request.writes) sector ≡ true
 
 -- a write that is under way touches the sector
 pub record IsAwaited (script : Meant) (owed : ℕ → Bool) (sector : ℕ) : Type 0 where
@@ -26,8 +40,8 @@ pub record IsDiskBut (script : Meant) (owed : ℕ → Bool) (here : ℕ) (disk :
   pub whole : length disk ≡ script.sectors
   pub others : (sector : ℕ) → (IsAwaited script owed sector → ⊥) → sector_at disk sector ≡ sector_at (state_at script here).disk sector
 
--- where no requests overlap, one reads what a single thread reads at its line, whichever writes of its span were installed before
+-- a request that clashes with none under way reads what a single thread reads at its line, whichever writes of its span were installed before
 abbrev pub ReadsStandInASpan : Type 0
-ReadsStandInASpan = (script : Meant) (owed : ℕ → Bool) (here : ℕ) (disk : List (List ℕ)) (request : Request) → HasNoOverlap script
-    → AreInSpan script owed here → IsDiskBut script owed here disk → accepted_at script here ≡ Some request → request.start + request.count ≤ script.sectors
+ReadsStandInASpan = (script : Meant) (owed : ℕ → Bool) (here : ℕ) (disk : List (List ℕ)) (request : Request) → ClashesWithNone script owed request
+    → IsDiskBut script owed here disk → request.start + request.count ≤ script.sectors
     → sectors_read request.start request.count disk ≡ sectors_read request.start request.count (state_at script here).disk

@@ -1,6 +1,5 @@
 //! How completions are collected, and free tags taken.
 ghost use Rattle.std.specs.Prelude.{◌≡◌, ◌<◌, true, false, Some, OnOk, length};
-ghost use Rattle.script_overlap.specs.Overlap.{HasNoOverlap};
 ghost use Rattle.blk_workers.specs.Desk.{Stands, owed_count};
 
 use crate::desk::Desk;
@@ -19,9 +18,8 @@ const OWN_SLOT: u32 = 0;
 // Takes the answer to a request. `Memory` where the worker was refused it.
 fn collect<J: Run>(script: &Script, desk: &mut Desk, done: Completion<J>) -> Result<(), RunFault>
     requires script { script.now ≡ J.script }
-    requires no_overlap { HasNoOverlap script.now }
-    requires stands { Stands script.now desk.old.replies desk.old.disk }
-    ensures stands { Stands script.now desk.new.replies desk.new.disk }
+    requires stands { Stands script.now desk.old.replies desk.old.disk desk.old.span }
+    ensures stands { Stands script.now desk.new.replies desk.new.disk desk.new.span }
     ensures lines { length desk.new.replies ≡ length desk.old.replies }
 {
     let (position, answer) = done.into_parts();
@@ -40,9 +38,8 @@ pub(crate) fn collect_some<J: Run, R: Wait>(
     desk: &mut Desk,
 ) -> Result<(), RunFault>
     requires script { script.now ≡ J.script }
-    requires no_overlap { HasNoOverlap script.now }
-    requires stands { Stands script.now desk.old.replies desk.old.disk }
-    ensures stands { Stands script.now desk.new.replies desk.new.disk }
+    requires stands { Stands script.now desk.old.replies desk.old.disk desk.old.span }
+    ensures stands { Stands script.now desk.new.replies desk.new.disk desk.new.span }
     ensures lines { length desk.new.replies ≡ length desk.old.replies }
 {
     for _ in 0..desk.replies.owed() {
@@ -62,9 +59,8 @@ pub(crate) fn collect_all<J: Run, R: Wait>(
     desk: &mut Desk,
 ) -> Result<(), RunFault>
     requires script { script.now ≡ J.script }
-    requires no_overlap { HasNoOverlap script.now }
-    requires stands { Stands script.now desk.old.replies desk.old.disk }
-    ensures stands { Stands script.now desk.new.replies desk.new.disk }
+    requires stands { Stands script.now desk.old.replies desk.old.disk desk.old.span }
+    ensures stands { Stands script.now desk.new.replies desk.new.disk desk.new.span }
     ensures lines { length desk.new.replies ≡ length desk.old.replies }
     ensures none_owed { OnOk result (owed_count desk.new.replies ≡ 0) }
 {

@@ -1,22 +1,25 @@
 //! The disk and the replies of the thread that submits and collects.
-ghost use Rattle.std.specs.Prelude.{◌≡◌, ◌+◌, length, IfOk, OnOk, OnErr, Some, None};
+ghost use Rattle.std.specs.Prelude.{◌≡◌, ◌+◌, false, length, IfOk, OnOk, OnErr, Some, None};
 ghost use Rattle.ram_disk.specs.Disk.{sectors_read};
 ghost use Rattle.script_meaning.specs.Requests.{accepted_at, state_at};
-ghost use Rattle.script_overlap.specs.Overlap.{HasNoOverlap};
-ghost use Rattle.blk_workers.specs.Desk.{FitsAt, installed, MayPass, Stands};
+ghost use Rattle.blk_workers.specs.Desk.{FitsAt, installed, is_owed, MayPass, owed_count, Stands};
 ghost use Rattle.blk_workers.specs.Requests.{IsAnswer, IsReplyLine};
+ghost use Rattle.blk_workers.specs.Span.{ClashesWithNone};
 
 use crate::answer::Answer;
 use crate::replies::Replies;
 use ram_disk::{Disk, DiskFault, Sector};
 use script_meaning::{Request, Script, What};
+use script_overlap::Span;
 use std::alloc::{AllocError, Global};
 
-/// The disk and the replies of a run, of which the thread that submits is the one owner.
+/// The disk and the replies of a run, and the sectors of the requests since the last drain. The thread that submits
+/// is the one owner.
 #[derive(Drop)]
 pub(crate) struct Desk {
     pub(crate) disk: Disk,
     pub(crate) replies: Replies,
+    pub(crate) span: Span,
 }
 
 // Installs the sectors that a line leaves, where it writes.
@@ -33,10 +36,9 @@ impl Desk {
     /// Takes the answer to a request: installs what a write leaves, and keeps the reply. An answer that isn't
     /// owed is dropped.
     pub(crate) fn take(&mut self, script: &Script, position: usize, answer: Answer)
-        requires no_overlap { HasNoOverlap script.now }
-        requires stands { Stands script.now self.old.replies self.old.disk }
+        requires stands { Stands script.now self.old.replies self.old.disk self.old.span }
         requires answer { IsAnswer script.now position answer.text.items answer.sectors.items }
-        ensures stands { Stands script.now self.new.replies self.new.disk }
+        ensures stands { Stands script.now self.new.replies self.new.disk self.new.span }
         ensures lines { length self.new.replies ≡ length self.old.replies }
     {
         if !self.replies.is_owed(position) {
@@ -56,9 +58,9 @@ impl Desk {
         script: &Script,
         request: Request,
     ) -> Result<Vec<Sector>, DiskFault>
-        requires no_overlap { HasNoOverlap script.now }
-        requires stands { Stands script.now self.now.replies self.now.disk }
+        requires stands { Stands script.now self.now.replies self.now.disk self.now.span }
         requires accepted { accepted_at script.now (length self.now.replies) ≡ Some request }
+        requires apart { ClashesWithNone script.now (is_owed self.now.replies) request }
         ensures { IfOk result (λ found. found.items ≡ sectors_read request.start request.count (state_at script.now (length self.now.replies)).disk) }
     {
         self.disk
@@ -67,25 +69,46 @@ impl Desk {
 
     /// Takes the next line, whose reply is there. Where the line drains, nothing may be owed.
     pub(crate) fn settle(&mut self, _script: &Script, text: Vec<u8>) -> Result<(), AllocError>
-        requires stands { Stands _script.now self.old.replies self.old.disk }
+        requires stands { Stands _script.now self.old.replies self.old.disk self.old.span }
         requires refused { accepted_at _script.now (length self.old.replies) ≡ None }
         requires passes { MayPass _script.now self.old.replies }
         requires reply { IsReplyLine _script.now (length self.old.replies) text.items }
-        ensures stands { OnOk result (Stands _script.now self.new.replies self.new.disk) }
+        ensures stands { OnOk result (Stands _script.now self.new.replies self.new.disk self.new.span) }
         ensures lines { OnOk result (length self.new.replies ≡ length self.old.replies + 1) }
-        ensures err { OnErr result ((self.new.replies ≡ self.old.replies) × (self.new.disk ≡ self.old.disk)) }
+        ensures err { OnErr result ((self.new.replies ≡ self.old.replies) × (self.new.disk ≡ self.old.disk) × (self.new.span ≡ self.old.span)) }
     {
         self.replies.push(text)
     }
 
-    /// Takes the next line, an accepted request that is under way from now on.
-    pub(crate) fn submit(&mut self, _script: &Script, _request: Request) -> Result<(), AllocError>
-        requires stands { Stands _script.now self.old.replies self.old.disk }
-        requires accepted { accepted_at _script.now (length self.old.replies) ≡ Some _request }
-        ensures stands { OnOk result (Stands _script.now self.new.replies self.new.disk) }
-        ensures lines { OnOk result (length self.new.replies ≡ length self.old.replies + 1) }
-        ensures err { OnErr result ((self.new.replies ≡ self.old.replies) × (self.new.disk ≡ self.old.disk)) }
+    /// Whether an accepted request at the next line has to wait for a drain: it may clash with one that is under way.
+    pub(crate) fn must_wait(&self, _script: &Script, request: &Request) -> bool
+        requires stands { Stands _script.now self.now.replies self.now.disk self.now.span }
+        requires accepted { accepted_at _script.now (length self.now.replies) ≡ Some request.now }
+        ensures { result ≡ false → ClashesWithNone _script.now (is_owed self.now.replies) request.now }
     {
-        self.replies.push_owed()
+        self.span.meets(request)
+    }
+
+    /// Begins a new span, where nothing is under way any more.
+    pub(crate) fn begin_span(&mut self, _script: &Script)
+        requires stands { Stands _script.now self.old.replies self.old.disk self.old.span }
+        requires none_owed { owed_count self.old.replies ≡ 0 }
+        ensures stands { Stands _script.now self.new.replies self.new.disk self.new.span }
+        ensures replies { self.new.replies ≡ self.old.replies }
+    {
+        self.span.clear();
+    }
+
+    /// Takes the next line, an accepted request that is under way from now on. It may clash with none that is.
+    pub(crate) fn submit(&mut self, _script: &Script, request: &Request) -> Result<(), AllocError>
+        requires stands { Stands _script.now self.old.replies self.old.disk self.old.span }
+        requires accepted { accepted_at _script.now (length self.old.replies) ≡ Some request.now }
+        requires apart { ClashesWithNone _script.now (is_owed self.old.replies) request.now }
+        ensures stands { OnOk result (Stands _script.now self.new.replies self.new.disk self.new.span) }
+        ensures lines { OnOk result (length self.new.replies ≡ length self.old.replies + 1) }
+    {
+        self.replies.push_owed()?;
+        self.span.add(request);
+        Ok(())
     }
 }

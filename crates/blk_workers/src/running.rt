@@ -1,6 +1,5 @@
 //! A script's run on several threads.
 ghost use Rattle.std.specs.Prelude.{◌≡◌, ◌<◌, ◌≤◌, ◌^◌, false, All, IfOk, length};
-ghost use Rattle.script_overlap.specs.Overlap.{HasNoOverlap};
 ghost use Rattle.blk_workers.specs.Progress.{IsAt, IsEnd, IsFollowing, IsRun};
 
 use crate::config::Config;
@@ -49,7 +48,6 @@ fn lead<J: Run, R: Wait, S: Stall>(
     workers: u32,
 ) -> Result<Submitter, RunFault>
     requires script { script.now ≡ J.script }
-    requires no_overlap { HasNoOverlap script.now }
     requires hardware { J.queue.hardware ≡ J.script.hardware }
     requires slot { 0 < J.queue.gate.slots }
     requires few { length script.now.lines < 2 ^ 40 }
@@ -81,7 +79,6 @@ fn with_workers<J: Run + Send + Sync, R: Threads + Wait + Sync, S: Stall>(
     slots: u32,
 ) -> Result<Submitter, RunFault>
     requires script { script.now ≡ J.script }
-    requires no_overlap { HasNoOverlap script.now }
     requires hardware { J.queue.hardware ≡ J.script.hardware }
     requires slots { (0 < slots) × (slots ≡ J.queue.gate.slots) }
     requires few { length script.now.lines < 2 ^ 40 }
@@ -93,7 +90,6 @@ fn with_workers<J: Run + Send + Sync, R: Threads + Wait + Sync, S: Stall>(
         rt,
         move |scope| -> Result<Submitter, RunFault>
             requires script { script.now ≡ J.script }
-            requires no_overlap { HasNoOverlap script.now }
             requires hardware { J.queue.hardware ≡ J.script.hardware }
             requires slots { (0 < slots) × (slots ≡ J.queue.gate.slots) }
             requires few { length script.now.lines < 2 ^ 40 }
@@ -135,7 +131,6 @@ fn run_as<J: Run + Send + Sync, R: Threads + Wait + Sync, S: Stall>(
 ) -> Result<Ran, RunFault>
     requires script { script.now ≡ J.script }
     requires queue { parts.0 ≡ J.queue }
-    requires no_overlap { HasNoOverlap script.now }
     requires hardware { J.queue.hardware ≡ J.script.hardware }
     requires slots { J.queue.gate.slots ≡ config.slots }
     requires few { length script.now.lines < 2 ^ 40 }
@@ -167,7 +162,6 @@ pub fn run<R: Threads + Wait + Sync, S: Stall>(
     config: Config,
     stall: &S,
 ) -> Result<Ran, RunFault>
-    requires { HasNoOverlap script.now }
     ensures { IfOk result (λ ran. IsRun script.now ran.replies.items ran.disk) }
 {
     if script.lines().len() >= 1 << 40 {

@@ -4,10 +4,10 @@ ghost use Rattle.blk_script.specs.Texts.{reply_line};
 ghost use Rattle.freeze_queue.specs.Queue.{QueueFacts};
 ghost use Rattle.script_meaning.specs.Script.{Meant};
 ghost use Rattle.script_meaning.specs.Requests.{accepted_at, queue_at};
-ghost use Rattle.script_overlap.specs.Overlap.{HasNoOverlap};
-ghost use Rattle.blk_workers.specs.Desk.{MayPass, Stands, owed_count};
+ghost use Rattle.blk_workers.specs.Desk.{MayPass, Stands, is_owed, owed_count};
 ghost use Rattle.blk_workers.specs.Progress.{IsAt, IsEnd, IsFollowing, IsQueueAt, IsRun, found_at};
 ghost use Rattle.blk_workers.specs.Requests.{IsReplyLine};
+ghost use Rattle.blk_workers.specs.Span.{ClashesWithNone};
 
 use crate::collecting::{collect_all, collect_some, entered};
 use crate::desk::Desk;
@@ -24,6 +24,7 @@ use freeze_queue::Freezer;
 use queue_limits::Limits;
 use ram_disk::{Disk, Sector};
 use script_meaning::{Outcome, QueueState, Reply, Request, Script};
+use script_overlap::Span;
 use std::alloc::Global;
 use std::sync::Wait;
 
@@ -45,9 +46,9 @@ fn found(
     desk: &Desk,
     request: Request,
 ) -> Result<Vec<Sector>, RunFault>
-    requires no_overlap { HasNoOverlap script.now }
-    requires stands { Stands script.now desk.now.replies desk.now.disk }
+    requires stands { Stands script.now desk.now.replies desk.now.disk desk.now.span }
     requires accepted { accepted_at script.now (length desk.now.replies) ≡ Some request }
+    requires apart { ClashesWithNone script.now (is_owed desk.now.replies) request }
     ensures { IfOk result (λ found. found.items ≡ found_at script.now (length desk.now.replies) request) }
 {
     if request.writes {
@@ -72,17 +73,17 @@ fn hand_over<J: Run, R: Wait, S: Stall>(
     limits: Limits,
 ) -> Result<(), RunFault>
     requires script { script.now ≡ J.script }
-    requires no_overlap { HasNoOverlap script.now }
     requires slot { 0 < J.queue.gate.slots }
-    requires stands { Stands script.now desk.old.replies desk.old.disk }
+    requires stands { Stands script.now desk.old.replies desk.old.disk desk.old.span }
     requires accepted { accepted_at script.now (length desk.old.replies) ≡ Some request }
+    requires apart { ClashesWithNone script.now (is_owed desk.old.replies) request }
     requires limits { limits ≡ (queue_at script.now (length desk.old.replies)).limits }
-    ensures stands { OnOk result (Stands script.now desk.new.replies desk.new.disk) }
+    ensures stands { OnOk result (Stands script.now desk.new.replies desk.new.disk desk.new.span) }
     ensures lines { OnOk result (length desk.new.replies ≡ length desk.old.replies + 1) }
 {
     let position = desk.replies.len();
     let found = found(alloc, script, desk, request)?;
-    desk.submit(script, request)?;
+    desk.submit(script, &request)?;
     let tag = entered(rt, hall, limits);
     stall.at(number, Point::Entered);
     hall.requests
@@ -98,11 +99,11 @@ fn settle(
     number: u32,
     reply: &Reply,
 ) -> Result<(), RunFault>
-    requires stands { Stands script.now desk.old.replies desk.old.disk }
+    requires stands { Stands script.now desk.old.replies desk.old.disk desk.old.span }
     requires refused { accepted_at script.now (length desk.old.replies) ≡ None }
     requires passes { MayPass script.now desk.old.replies }
     requires reply { IsReplyLine script.now (length desk.old.replies) (reply_line (number, reply.now)) }
-    ensures stands { OnOk result (Stands script.now desk.new.replies desk.new.disk) }
+    ensures stands { OnOk result (Stands script.now desk.new.replies desk.new.disk desk.new.span) }
     ensures lines { OnOk result (length desk.new.replies ≡ length desk.old.replies + 1) }
 {
     let Ok(text) = render(alloc, number, reply) else {
@@ -125,8 +126,13 @@ impl Submitter {
             return Err(RunFault::Memory);
         };
         let replies = Replies::new(alloc, script.lines().len())?;
+        let span = Span::new(alloc, script.disk())?;
         Ok(Submitter {
-            desk: Desk { disk, replies },
+            desk: Desk {
+                disk,
+                replies,
+                span,
+            },
             state: QueueState::new(script),
             freezer,
             accepted: 0,
@@ -138,13 +144,47 @@ impl Submitter {
         ensures { (script : Meant) → IsEnd script self → IfOk result (λ ran. IsRun script ran.replies.items ran.disk) }
     {
         let Submitter {
-            desk: Desk { disk, replies },
+            desk: Desk {
+                disk,
+                replies,
+                span: _,
+            },
             state: _,
             freezer: _,
             accepted: _,
         } = self;
         let replies = replies.into_text()?;
         Ok(Ran { replies, disk })
+    }
+
+    // Drains the queue, and opens it again, before an accepted request that has to wait.
+    fn make_way<J: Run, R: Wait, S: Stall>(
+        &mut self,
+        rt: &R,
+        hall: &Hall<J>,
+        script: &Script,
+        stall: &S,
+        request: &Request,
+    ) -> Result<(), RunFault>
+        requires script { script.now ≡ J.script }
+        requires hardware { J.queue.hardware ≡ J.script.hardware }
+        requires at { IsAt J.script J.queue (length self.old.desk.replies) self.old }
+        requires few { length self.old.desk.replies < 2 ^ 40 }
+        requires accepted { accepted_at script.now (length self.old.desk.replies) ≡ Some request.now }
+        ensures stands { Stands script.now self.new.desk.replies self.new.desk.disk self.new.desk.span }
+        ensures lines { length self.new.desk.replies ≡ length self.old.desk.replies }
+        ensures state { self.new.state ≡ self.old.state }
+        ensures apart { OnOk result (ClashesWithNone script.now (is_owed self.new.desk.replies) request.now) }
+        ensures follows { IsFollowing J.queue (length self.old.desk.replies + 1) self.new.freezer }
+    {
+        collect_some(rt, hall, script, &mut self.desk)?;
+        if !self.desk.must_wait(script, request) {
+            return Ok(());
+        }
+        self.drain(rt, hall, script, stall)?;
+        let lines = self.desk.replies.len() + 1;
+        follow(&mut self.freezer, &hall.queue, &self.state, lines);
+        Ok(())
     }
 
     // Hands over the accepted request of the next line, after which the script's queue is `next`.
@@ -159,16 +199,17 @@ impl Submitter {
         request: Request,
     ) -> Result<(), RunFault>
         requires script { script.now ≡ J.script }
-        requires no_overlap { HasNoOverlap script.now }
+        requires hardware { J.queue.hardware ≡ J.script.hardware }
         requires slot { 0 < J.queue.gate.slots }
         requires at { IsAt J.script J.queue (length self.old.desk.replies) self.old }
+        requires few { length self.old.desk.replies < 2 ^ 40 }
         requires accepted { accepted_at script.now (length self.old.desk.replies) ≡ Some request }
         requires next { IsQueueAt J.script (length self.old.desk.replies + 1) next }
         ensures at { OnOk result (IsAt J.script J.queue (length self.old.desk.replies + 1) self.new) }
         ensures own { self.new.freezer.queue ≡ J.queue }
     {
         let (number, limits) = (self.accepted, self.state.limits());
-        collect_some(rt, hall, script, &mut self.desk)?;
+        self.make_way(rt, hall, script, stall, &request)?;
         hand_over(
             rt,
             alloc,
@@ -185,7 +226,7 @@ impl Submitter {
         Ok(())
     }
 
-    // Drains the queue, which it freezes where it isn't frozen, and collects all completions.
+    // Drains the queue, which it freezes where it isn't frozen, and collects all completions. A new span begins.
     fn drain<J: Run, R: Wait, S: Stall>(
         &mut self,
         rt: &R,
@@ -194,10 +235,9 @@ impl Submitter {
         stall: &S,
     ) -> Result<(), RunFault>
         requires script { script.now ≡ J.script }
-        requires no_overlap { HasNoOverlap script.now }
         requires at { IsAt J.script J.queue (length self.old.desk.replies) self.old }
         requires few { length self.old.desk.replies < 2 ^ 40 }
-        ensures stands { Stands script.now self.new.desk.replies self.new.desk.disk }
+        ensures stands { Stands script.now self.new.desk.replies self.new.desk.disk self.new.desk.span }
         ensures lines { length self.new.desk.replies ≡ length self.old.desk.replies }
         ensures state { self.new.state ≡ self.old.state }
         ensures none_owed { OnOk result (owed_count self.new.desk.replies ≡ 0) }
@@ -207,7 +247,9 @@ impl Submitter {
         if freeze(rt, &mut self.freezer, &hall.queue, lines) {
             stall.at(self.accepted, Point::Drained);
         }
-        collect_all(rt, hall, script, &mut self.desk)
+        collect_all(rt, hall, script, &mut self.desk)?;
+        self.desk.begin_span(script);
+        Ok(())
     }
 
     // Takes the next line, whose reply is there and after which the script's queue is `next`.
@@ -222,7 +264,7 @@ impl Submitter {
     ) -> Result<(), RunFault>
         requires script { script.now ≡ J.script }
         requires hardware { J.queue.hardware ≡ J.script.hardware }
-        requires stands { Stands script.now self.old.desk.replies self.old.desk.disk }
+        requires stands { Stands script.now self.old.desk.replies self.old.desk.disk self.old.desk.span }
         requires follows { IsFollowing J.queue (length self.old.desk.replies + 1) self.old.freezer }
         requires refused { accepted_at script.now (length self.old.desk.replies) ≡ None }
         requires passes { MayPass script.now self.old.desk.replies }
@@ -248,7 +290,6 @@ impl Submitter {
         stall: &S,
     ) -> Result<(), RunFault>
         requires script { script.now ≡ J.script }
-        requires no_overlap { HasNoOverlap script.now }
         requires hardware { J.queue.hardware ≡ J.script.hardware }
         requires slot { 0 < J.queue.gate.slots }
         requires at { IsAt J.script J.queue (length self.old.desk.replies) self.old }
@@ -281,12 +322,11 @@ impl Submitter {
         stall: &S,
     ) -> Result<(), RunFault>
         requires script { script.now ≡ J.script }
-        requires no_overlap { HasNoOverlap script.now }
         requires hardware { J.queue.hardware ≡ J.script.hardware }
         requires slot { 0 < J.queue.gate.slots }
         requires few { length script.now.lines < 2 ^ 40 }
         requires start { IsAt J.script J.queue 0 self.old }
-        ensures stands { OnOk result (Stands J.script self.new.desk.replies self.new.desk.disk) }
+        ensures stands { OnOk result (Stands J.script self.new.desk.replies self.new.desk.disk self.new.desk.span) }
         ensures lines { OnOk result (length self.new.desk.replies ≡ length J.script.lines) }
         ensures none_owed { OnOk result (owed_count self.new.desk.replies ≡ 0) }
         ensures own { self.new.freezer.queue ≡ J.queue }

@@ -16,6 +16,7 @@ mod queue_state;
 mod reply;
 mod request;
 mod script;
+mod version;
 
 pub use laws::{accepted_replies, depth_in_numbers, numbers_of_requests, states_of_queues};
 pub use line::{Line, What};
@@ -26,3 +27,4 @@ pub use queue_state::{DEPTH_LIMIT, QueueState};
 pub use reply::{ByteRuns, PieceLengths, Reply, Stat};
 pub use request::Request;
 pub use script::Script;
+pub use version::Version;

@@ -2,14 +2,16 @@
 ghost use Rattle.std.specs.Prelude.{◌≡◌, ◌≤◌};
 ghost use Rattle.queue_limits.specs.declared.limits.TheConstants.{HARDWARE_LIMIT};
 ghost use Rattle.ram_disk.specs.declared.disk.TheConstants.{MAX_SECTORS};
-ghost use Rattle.script_meaning.specs.Script.{Meant};
+ghost use Rattle.script_meaning.specs.Script.{Meant, orders, version_number};
 
 use crate::line::Line;
+use crate::version::Version;
 use std::marker::Model;
 
-/// A script that was read: the disk, what the hardware takes, and the lines that ask something.
+/// A script that was read: its version, the disk, what the hardware takes, and the lines that ask something.
 #[derive(Debug, Drop)]
 pub struct Script {
+    version: Version,
     sectors: u32,
     hardware: u32,
     lines: Vec<Line>,
@@ -23,24 +25,43 @@ impl Model for Script {
 
     ghost Value = { Meant };
 
-    ghost view = { λ s. record { sectors = s.sectors; hardware = s.hardware; lines = s.lines.items } };
+    ghost view = { λ s. record { version = s.version; sectors = s.sectors; hardware = s.hardware; lines = s.lines.items } };
 
     ghost invariant = { λ s. (1 ≤ s.sectors) × (s.sectors ≤ MAX_SECTORS) × (1 ≤ s.hardware) × (s.hardware ≤ HARDWARE_LIMIT) };
 }
 
 impl Script {
     /// A script on a disk of 1 to 4,096 sectors, whose hardware takes 1 to 65,535 sectors in one request.
-    pub fn new(sectors: u32, hardware: u32, lines: Vec<Line>) -> Self
+    pub fn new(version: Version, sectors: u32, hardware: u32, lines: Vec<Line>) -> Self
         requires some_sectors { 1 ≤ sectors }
         requires few_sectors { sectors ≤ MAX_SECTORS }
         requires some_hardware { 1 ≤ hardware }
         requires few_hardware { hardware ≤ HARDWARE_LIMIT }
-        ensures { result ≡ record { sectors = sectors; hardware = hardware; lines = lines.items } }
+        ensures { result ≡ record { version = version; sectors = sectors; hardware = hardware; lines = lines.items } }
     {
         Script {
+            version,
             sectors,
             hardware,
             lines,
+        }
+    }
+
+    /// The script's version: 1 or 2.
+    pub fn version(&self) -> u32
+        ensures { result ≡ version_number self.now.version }
+    {
+        self.version.number()
+    }
+
+    /// Whether overlapping requests are ordered by a drain, as version 2 has it. In version 1 they refuse the
+    /// script.
+    pub fn orders_overlaps(&self) -> bool
+        ensures { result ≡ orders self.now.version }
+    {
+        match self.version {
+            Version::One => false,
+            Version::Two => true,
         }
     }
 

@@ -1,12 +1,12 @@
 -- The first overlap of a script, and scripts without one.
-use Rattle.std.proofs.Common.{◌≡◌, ◌∙◌, refl, sym, ap, subst, ℕ, ◌+◌, ◌<◌, ◌≤◌, inl, inr, arith, [], length, Option, Some, None, IsSome, Contains}
+use Rattle.std.proofs.Common.{◌≡◌, ◌∙◌, refl, sym, ap, subst, ℕ, ◌+◌, ◌<◌, ◌≤◌, inl, inr, arith, [], length, Option, Some, None, IsSome, Contains, Bool, true, false}
 use Rattle.std.proofs.lemmas.Bool.{cases_lt}
 use Rattle.std.proofs.lemmas.Option.{slice_get_past}
 use Rattle.std.specs.Option.{option_and_then}
 use Rattle.script_meaning.specs.Requests.{queue_at, accepted_at, number_at}
 use Rattle.script_meaning.specs.Taken.{accepted}
 use Rattle.script_overlap.specs.Overlap.{Clash, IsOverlap, HasNoOverlap, IsReported, IsFirstOverlap}
-use Rattle.script_meaning.specs.Script.{Meant}
+use Rattle.script_meaning.specs.Script.{Meant, orders}
 use Rattle.script_overlap.specs.Ordered.{MustWait}
 use Rattle.script_overlap.specs.Partners.{Finds, IsPartner, IsEarliest}
 use Rattle.line_text.specs.declared.fault.Overlap.{Overlap}
@@ -27,8 +27,9 @@ wait_is_found script i request None accepted waits finds =
       clash = subst P (same_accepted script i waits.second request waits.second_accepted accepted) waits.clash;
     }))
 
-overlap_of_partner : (script : Meant) (i : ℕ) (request : Request) (e : ℕ) → accepted_at script i ≡ Some request → IsPartner script i request e → IsOverlap script e i
-overlap_of_partner script i request e accepted p = record {
+overlap_of_partner : (script : Meant) (i : ℕ) (request : Request) (e : ℕ) → orders script.version ≡ false → accepted_at script i ≡ Some request → IsPartner script i request e → IsOverlap script e i
+overlap_of_partner script i request e one accepted p = record {
+  refuses = one;
   first = p.other;
   second = request;
   first_accepted = p.other_accepted;
@@ -50,13 +51,13 @@ partner_of_overlap script i request e accepted o =
     }
 
 -- the first line that clashes with the first that overlaps one
-pub reported : (script : Meant) (i : ℕ) (request : Request) (pair : Overlap) → accepted_at script i ≡ Some request → number_at script i ≡ Some pair.line
+pub reported : (script : Meant) (i : ℕ) (request : Request) (pair : Overlap) → orders script.version ≡ false → accepted_at script i ≡ Some request → number_at script i ≡ Some pair.line
     → ((e l : ℕ) → l < i → IsOverlap script e l → ⊥) → IsEarliest script i request pair.earlier → IsReported script pair
-reported script i request pair accepted line apart first = record {
+reported script i request pair one accepted line apart first = record {
   earlier = first.earlier;
   later = i;
   is_first = record {
-    overlap = overlap_of_partner script i request first.earlier accepted first.partner;
+    overlap = overlap_of_partner script i request first.earlier one accepted first.partner;
     least_later = λ e l o. elim (cases_lt l i) [ inl less ↦ absurd (apart e l less o) | inr more ↦ more ];
     least_earlier = λ e o. first.least e (partner_of_overlap script i request e accepted o);
   };
@@ -87,6 +88,13 @@ apart_here script i joins e o = joins (record {
   joins = λ between low high. (o.one_span between low (omega arith), none_ordered between);
   clash = o.clash;
 })
+
+-- in version 2 none overlap
+pub none_of_two : (script : Meant) → orders script.version ≡ true → HasNoOverlap script
+none_of_two script two e l o = both (orders script.version) two o.refuses
+  where
+    both : (b : Bool) → b ≡ true → b ≡ false → ⊥
+    both b x y = cc
 
 -- past the last line there is nothing
 pub apart_at_end : (script : Meant) (i : ℕ) → length script.lines ≤ i → ((e l : ℕ) → l < i → IsOverlap script e l → ⊥) → HasNoOverlap script

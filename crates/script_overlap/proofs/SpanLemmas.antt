@@ -87,7 +87,7 @@ takes_touched old new request writes sector takes touched =
           ]
     ]
 
-takes_keeps : (old new : Marks) (request : Request) (writes : Bool) (sector : ℕ) → Takes old new request → is_touched (marks_of old writes) sector ≡ true → is_touched (marks_of new writes) sector ≡ true
+pub takes_keeps : (old new : Marks) (request : Request) (writes : Bool) (sector : ℕ) → Takes old new request → is_touched (marks_of old writes) sector ≡ true → is_touched (marks_of new writes) sector ≡ true
 takes_keeps old new request writes sector takes touched =
     elim (same_or_not writes request.writes) [
       | inr other ↦ ap (λ (marks : List Bool). is_touched marks sector) (takes.keeps writes other) ∙ touched
@@ -103,7 +103,7 @@ takes_keeps old new request writes sector takes touched =
           ]
     ]
 
-takes_here : (old new : Marks) (request : Request) (sector : ℕ) → Takes old new request → HasSector request sector → is_touched (marks_of new request.writes) sector ≡ true
+pub takes_here : (old new : Marks) (request : Request) (sector : ℕ) → Takes old new request → HasSector request sector → is_touched (marks_of new request.writes) sector ≡ true
 takes_here old new request sector takes inside = takes.adds.inside sector inside.0 inside.1
 
 -- an accepted request that joins the span

@@ -1,9 +1,11 @@
 -- Which requests of a script are ordered: one that clashes with a request of the span that it would join begins a new span, and a drain
 -- stands before it.
-use Rattle.std.specs.Prelude.{◌≡◌, ℕ, ◌<◌, false, List, Some, Contains, AllPairs, map}
+use Rattle.std.specs.Prelude.{◌≡◌, ℕ, ◌<◌, false, List, [], Some, Contains, AllPairs, map}
 use Rattle.script_meaning.specs.Requests.{accepted_at, drains_at, number_at}
 use Rattle.script_meaning.specs.Script.{Meant}
 use Rattle.script_meaning.specs.declared.request.Request.{Request}
+use Rattle.script_meaning.specs.declared.version.Version.{Version}
+use Rattle.script_meaning.specs.declared.version.Version.TheVariants.{One, Two}
 use Rattle.script_overlap.specs.Overlap.{Clash}
 
 -- a position parts no span: its line doesn't drain, and its request isn't ordered
@@ -37,12 +39,20 @@ pub record AreOrderedLines (script : Meant) (lines : List ℕ) : Type 0 where
   pub ordered : AreOrdered script positions
   pub numbers : map (number_at script) positions ≡ map Some lines
 
--- there is one list of them
+-- the lines before which a drain has to stand: in version 1 overlapping requests refuse the script, and no request is ordered
+abbrev pub AreDrainsOf : Version → Meant → List ℕ → Type 0
+AreDrainsOf One script lines = lines ≡ []
+AreDrainsOf Two script lines = AreOrderedLines script lines
+
+abbrev pub AreDrains : Meant → List ℕ → Type 0
+AreDrains script lines = AreDrainsOf script.version script lines
+
+-- there is one list of ordered requests, and one of these lines
 abbrev pub IsOneOrder : Type 0
 IsOneOrder = (script : Meant) (a b : List ℕ) → AreOrdered script a → AreOrdered script b → a ≡ b
 
-abbrev pub IsOneListOfLines : Type 0
-IsOneListOfLines = (script : Meant) (a b : List ℕ) → AreOrderedLines script a → AreOrderedLines script b → a ≡ b
+abbrev pub IsOneListOfDrains : Type 0
+IsOneListOfDrains = (script : Meant) (a b : List ℕ) → AreDrains script a → AreDrains script b → a ≡ b
 
 -- no two requests clash that no drain parts: neither a line that drains, nor the drain before an ordered request
 abbrev pub PartsAllClashes : Type 0

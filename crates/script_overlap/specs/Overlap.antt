@@ -1,7 +1,7 @@
 -- Which requests of a script overlap, and which pair of them is reported.
 use Rattle.std.specs.Prelude.{◌≡◌, ℕ, ◌+◌, ◌<◌, ◌≤◌, Bool, true, false, ◌||◌, Some, Result, Ok, Err}
 use Rattle.script_meaning.specs.Requests.{accepted_at, drains_at, number_at}
-use Rattle.script_meaning.specs.Script.{Meant}
+use Rattle.script_meaning.specs.Script.{Meant, orders}
 use Rattle.script_meaning.specs.declared.request.Request.{Request}
 use Rattle.line_text.specs.declared.fault.Overlap.{Overlap}
 use Rattle.line_text.specs.declared.fault.ScriptFault.{ScriptFault}
@@ -22,8 +22,10 @@ pub record Clash (first second : Request) : Type 0 where
   pub in_second : HasSector second sector
   pub writes : first.writes || second.writes ≡ true
 
--- the requests at two positions overlap: they are accepted, in one span, and clash. A span ends where a line drains
+-- the requests at two positions of a script of version 1 overlap: they are accepted, in one span, and clash. A span ends where a line drains.
+-- In version 2 none overlap, since a span also ends before an ordered request: Ordered.antt
 pub record IsOverlap (script : Meant) (earlier later : ℕ) : Type 0 where
+  pub refuses : orders script.version ≡ false
   pub first : Request
   pub second : Request
   pub first_accepted : accepted_at script earlier ≡ Some first

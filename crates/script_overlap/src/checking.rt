@@ -2,7 +2,7 @@
 ghost use Rattle.std.specs.Prelude.{◌≡◌, ◌+◌, ◌<◌, ◌≤◌, ◌^◌, IfOk, IfErr, length};
 ghost use Rattle.script_meaning.specs.Queue.{counted};
 ghost use Rattle.script_meaning.specs.Taken.{outcome, queue_after};
-ghost use Rattle.script_overlap.specs.Ordered.{AreOrderedLines};
+ghost use Rattle.script_overlap.specs.Ordered.{AreDrains, AreOrderedLines};
 ghost use Rattle.script_overlap.specs.Overlap.{IsChecked};
 ghost use Rattle.script_overlap.specs.Partners.{Finds};
 ghost use Rattle.script_overlap.specs.SpanOfRequests.{IsNext, OfSectors};
@@ -48,14 +48,17 @@ fn waiting(queue: &mut QueueState, span: &mut Span, what: &What) -> Option<Reque
     span.take(&came)
 }
 
-/// Whether no two requests of a script overlap.
+/// Whether no two requests of a script overlap. In version 2 none do, since the queue orders them: [`drains`].
 ///
-/// Refused with `Overlap` exactly where two do: of all overlapping pairs it tells the one with the least later
+/// Refused with `Overlap` exactly where two of version 1 do: of all overlapping pairs it tells the one with the least later
 /// line, and of these the one with the least earlier line. Refused with `Memory` only where a growth of memory
 /// was refused.
 pub fn check(alloc: Global, script: &Script) -> Result<(), ScriptFault>
     ensures { IsChecked script.now result }
 {
+    if script.orders_overlaps() {
+        return Ok(());
+    }
     let mut queue = QueueState::new(script);
     let mut span = Span::new(alloc, script.disk())?;
     for (position, line) in script.lines().iter().enumerate() {
@@ -70,10 +73,8 @@ pub fn check(alloc: Global, script: &Script) -> Result<(), ScriptFault>
     Ok(())
 }
 
-/// The numbers of the lines whose requests are ordered: an accepted request that overlaps one of the span that
-/// it would join begins a new span, and a drain has to stand before it. The numbers are in the script's order.
-/// Refused with `Memory`, and only where a growth of memory was refused.
-pub fn ordered_requests(alloc: Global, script: &Script) -> Result<Vec<u32>, ScriptFault>
+// The numbers of the lines whose requests are ordered.
+fn ordered_requests(alloc: Global, script: &Script) -> Result<Vec<u32>, ScriptFault>
     ensures lines { IfOk result (λ lines. AreOrderedLines script.now lines.items) }
     ensures fault { IfErr result (λ fault. fault ≡ ScriptFault.Memory) }
 {
@@ -86,4 +87,19 @@ pub fn ordered_requests(alloc: Global, script: &Script) -> Result<Vec<u32>, Scri
         }
     }
     Ok(lines)
+}
+
+/// The numbers of the lines before which a drain has to stand, in the script's order: in version 2 those of the
+/// ordered requests, in version 1 none.
+///
+/// An accepted request is ordered where it overlaps an accepted request of the span that it would join; it begins a
+/// new span. Refused with `Memory`, and only where a growth of memory was refused.
+pub fn drains(alloc: Global, script: &Script) -> Result<Vec<u32>, ScriptFault>
+    ensures lines { IfOk result (λ lines. AreDrains script.now lines.items) }
+    ensures fault { IfErr result (λ fault. fault ≡ ScriptFault.Memory) }
+{
+    if !script.orders_overlaps() {
+        return Ok(Vec::new(alloc));
+    }
+    ordered_requests(alloc, script)
 }

@@ -1,7 +1,7 @@
 //! What holds of the definitions of overlaps and of ordered requests, apart from the code. The functions do nothing;
 //! their contracts are laws.
 ghost use Rattle.std.specs.Prelude.{◌≡◌, ℕ};
-ghost use Rattle.script_overlap.specs.Ordered.{IsOneListOfLines, IsOneOrder, PartsAllClashes};
+ghost use Rattle.script_overlap.specs.Ordered.{IsOneListOfDrains, IsOneOrder, PartsAllClashes};
 ghost use Rattle.script_overlap.specs.Overlap.{IsFirstOverlap, IsReported};
 ghost use Rattle.script_meaning.specs.Script.{Meant};
 ghost use Rattle.line_text.specs.declared.fault.Overlap.{Overlap};
@@ -12,10 +12,10 @@ pub fn one_first_overlap()
     ensures pair { (script : Meant) (a b : Overlap) → IsReported script a → IsReported script b → a ≡ b }
 {}
 
-/// A script has at most one list of ordered requests, and one of their lines. Where a drain stands before each of
+/// A script has at most one list of ordered requests, and one of the lines before which a drain stands. Where a drain stands before each of
 /// them, no two requests clash that no drain parts.
 pub fn one_list_of_ordered_requests()
     ensures positions { IsOneOrder }
-    ensures lines { IsOneListOfLines }
+    ensures lines { IsOneListOfDrains }
     ensures parts { PartsAllClashes }
 {}

@@ -39,8 +39,8 @@ impl Span {
         })
     }
 
-    // Whether a request shares a sector with one of the span, and one of the two writes.
-    fn meets(&self, request: &Request) -> bool
+    /// Whether a request within the disk shares a sector with one of the span, and one of the two writes.
+    pub fn meets(&self, request: &Request) -> bool
         requires reads { request.now.start + request.now.count ≤ length self.now.reads }
         requires writes { request.now.start + request.now.count ≤ length self.now.writes }
         ensures { MatchBool result (Conflicts self.now request.now) (ConflictsNot self.now request.now) }
@@ -49,8 +49,8 @@ impl Span {
             || request.writes && self.reads.meets(request.start, request.count)
     }
 
-    // Takes a request into the span.
-    fn add(&mut self, request: &Request)
+    /// Takes a request within the disk into the span.
+    pub fn add(&mut self, request: &Request)
         requires reads { request.now.start + request.now.count ≤ length self.old.reads }
         requires writes { request.now.start + request.now.count ≤ length self.old.writes }
         ensures takes { Takes self.old self.new request.now }
@@ -63,8 +63,8 @@ impl Span {
         }
     }
 
-    // The next span has no requests yet.
-    fn clear(&mut self)
+    /// A drain ends the span: the next one has no requests yet.
+    pub fn clear(&mut self)
         ensures reads { length self.new.reads ≡ length self.old.reads }
         ensures writes { length self.new.writes ≡ length self.old.writes }
         ensures none { IsEmpty self.new }

@@ -1,6 +1,8 @@
 //! What no clause says of a run: that its threads work at the same time, and that it drains through the queue.
 use crate::{Config, NoStall, Point, Ran, Stall, run};
 use blk_script::{check, parse, render_disk, run_alone};
+use std::alloc::Global;
+use std::fmt::Write;
 use std::process::Abort;
 use std::sync::atomic::{AtomicBool, AtomicU32, Ordering};
 use std::sync::{Barrier, Wait};
@@ -18,6 +20,9 @@ const WRITTEN_THEN_READ: &[u8] =
 
 /// Two requests that overlap in nothing, and a drain.
 const TWO: &[u8] = b"blkq 1\ndisk 8 hw 8\nwrite 0 2 01\nwrite 4 2 02\nstat\nread 0 8\n";
+
+/// The last request overlaps the one before it, and waits for a drain.
+const ORDERED: &[u8] = b"blkq 2\ndisk 8 hw 8\nread 0 4\nread 2 4\nwrite 6 1 ff\nread 6 2\n";
 
 // Runs a script, and tells whether its text is the one of a single thread.
 fn agrees<R: Threads + Wait + AllocGlobal + Sync, S: Stall>(
@@ -74,9 +79,10 @@ fn two_at_once(rt: HostRuntime) -> Result<(), Fail> {
     Ok(())
 }
 
-/// Holds the first request at a point for 10,000 turns, and notes a drain that comes before.
+/// Holds a request at a point for 10,000 turns, and notes a drain that comes before.
 #[derive(Drop)]
 struct Holds {
+    number: u32,
     point: Point,
     passed: AtomicBool,
     early: AtomicBool,
@@ -84,7 +90,7 @@ struct Holds {
 
 impl Stall for Holds {
     fn at(&self, number: u32, point: Point) {
-        if point == self.point && number == 0 {
+        if point == self.point && number == self.number {
             for _ in 0..10_000 {
                 thread::yield_now();
             }
@@ -96,30 +102,101 @@ impl Stall for Holds {
     }
 }
 
-// Whether a run drains only once its first request has passed this point.
+// Whether a run drains only once this request has passed this point.
 fn drains_after(
     rt: &(impl Threads + Wait + AllocGlobal + Sync),
+    text: &[u8],
+    number: u32,
     point: Point,
 ) -> Result<bool, Fail> {
     let holds = Holds {
+        number,
         point,
         passed: AtomicBool::new(false),
         early: AtomicBool::new(false),
     };
-    let agrees = agrees(rt, TWO, 2, 2, &holds)?;
+    let agrees = agrees(rt, text, 2, 2, &holds)?;
     Ok(agrees && !holds.early.load(Ordering::SeqCst))
 }
 
 #[test]
 fn freeze_waits(rt: HostRuntime) -> Result<(), Fail> {
-    assert!(rt; drains_after(&rt, Point::Drawn)?);
+    assert!(rt; drains_after(&rt, TWO, 0, Point::Drawn)?);
     Ok(())
 }
 
 // A worker that has queued its completion still holds its tag.
 #[test]
 fn drains_before_answered(rt: HostRuntime) -> Result<(), Fail> {
-    assert!(rt; drains_after(&rt, Point::Answered)?);
+    assert!(rt; drains_after(&rt, TWO, 0, Point::Answered)?);
+    Ok(())
+}
+
+// An ordered request waits for the one that it overlaps.
+#[test]
+fn ordered_requests_wait(rt: HostRuntime) -> Result<(), Fail> {
+    for point in [Point::Entered, Point::Drawn, Point::Answered] {
+        assert!(rt; drains_after(&rt, ORDERED, 2, point)?);
+    }
+    Ok(())
+}
+
+/// Notes after how many requests the last drain came before the end.
+#[derive(Drop)]
+struct Counts {
+    drains: AtomicU32,
+}
+
+impl Stall for Counts {
+    fn at(&self, _number: u32, point: Point) {
+        if point == Point::Drained {
+            self.drains.fetch_add(1, Ordering::SeqCst);
+        }
+    }
+}
+
+// Each ordered request drains the queue, and so does the end; of version 1 only the end does.
+#[test]
+fn as_many_drains_as_are_ordered(rt: HostRuntime) -> Result<(), Fail> {
+    for (text, drains) in [
+        (
+            b"blkq 2\ndisk 4 hw 4\nwrite 0 2 01\nwrite 1 2 02\nwrite 0 1 03\nread 1 1\n".as_slice(),
+            3,
+        ),
+        (ORDERED, 2),
+        (b"blkq 1\ndisk 4 hw 4\nread 0 4\nread 0 4\n", 1),
+    ] {
+        let counts = Counts {
+            drains: AtomicU32::new(0),
+        };
+        assert!(rt; agrees(&rt, text, 2, 2, &counts)?);
+        assert_eq!(rt; counts.drains.load(Ordering::SeqCst), drains);
+    }
+    Ok(())
+}
+
+// A script of requests that overlap as they look random.
+fn overlapping(alloc: Global, seed: &mut u32) -> Result<String, Fail> {
+    let mut text = String::from_str(alloc, "blkq 2\ndisk 8 hw 3\n")?;
+    for line in 0..12u32 {
+        *seed = seed.wrapping_mul(1_664_525).wrapping_add(1_013_904_223);
+        let (start, count) = (*seed >> 29, (*seed >> 26) % 3 + 1);
+        if *seed >> 25 & 1 == 0 {
+            write!(text, "read {start} {count}\n")?;
+        } else {
+            write!(text, "write {start} {count} {:02x}\n", line + 1)?;
+        }
+    }
+    Ok(text)
+}
+
+#[test]
+fn whatever_overlaps(rt: HostRuntime) -> Result<(), Fail> {
+    let mut seed = 7;
+    for _ in 0..40 {
+        let text = overlapping(rt.alloc(), &mut seed)?;
+        assert!(rt; agrees(&rt, text.as_bytes(), 4, 5, &NoStall)?, "{text}");
+    }
     Ok(())
 }
 

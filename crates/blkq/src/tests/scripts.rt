@@ -210,10 +210,29 @@ pub(super) const ROWS: &[Row] = &[
         ..WHOLE
     },
     Row {
-        name: "refused_version_2",
-        input: b"blkq 2\n",
+        name: "refused_version_3",
+        input: b"blkq 3\n",
         status: 2,
         errors: b"line 1: no version\n",
+        ..WHOLE
+    },
+    Row {
+        name: "version_2_no_disk",
+        input: b"blkq 2\n",
+        status: 2,
+        errors: b"line 2: no disk\n",
+        ..WHOLE
+    },
+    Row {
+        name: "ordered_once",
+        input: b"blkq 2\ndisk 8 hw 8\nread 0 4\nread 2 4\nwrite 6 1 ff\nread 6 2\n",
+        out: b"3 ok 4 00*2048\n4 ok 4 00*2048\n5 ok 1\n6 ok 2 ff*512,00*512\ndisk 00*3072,ff*512,00*512\n",
+        ..WHOLE
+    },
+    Row {
+        name: "ordered_twice",
+        input: b"blkq 2\ndisk 4 hw 4\nwrite 0 2 01\nwrite 1 2 02\nwrite 0 1 03\nread 1 1\n",
+        out: b"3 ok 2\n4 ok 2\n5 ok 1\n6 ok 1 02*512\ndisk 03*512,02*1024,00*512\n",
         ..WHOLE
     },
 ];

@@ -1,4 +1,4 @@
-use Rattle.std.proofs.Common.{◌≡◌, ◌∙◌, refl, ap, subst, ℕ, ◌<◌, arith, List, [], length, get_or, Option, Some}
+use Rattle.std.proofs.Common.{◌≡◌, ◌∙◌, refl, sym, ap, subst, ℕ, ◌<◌, arith, List, [], length, get_or, Option, Some}
 use Rattle.std.proofs.lemmas.Option.{slice_get_read}
 use Rattle.std.specs.List.{slice_get}
 use Rattle.script_meaning.specs.Script.{Meant}
@@ -9,7 +9,7 @@ use Rattle.script_overlap.specs.SpanOfRequests.{IsNext}
 use Rattle.script_meaning.specs.declared.line.Line.{Line}
 use Rattle.script_meaning.proofs.Positions.{came_at, number_at_line, queue_took}
 use Rattle.script_overlap.proofs.SpanLemmas.{span_stepped, span_waited}
-use Rattle.script_overlap.proofs.Overlaps.{none_ordered, wait_is_found, reported, apart_further, apart_here, apart_at_end}
+use Rattle.script_overlap.proofs.Overlaps.{none_of_two, none_ordered, wait_is_found, reported, apart_further, apart_here, apart_at_end}
 use Rattle.script_overlap.proofs.checking.check.Goals as goal
 
 pub unwrap-earlier-requires : goal.unwrap-earlier-requires
@@ -39,7 +39,10 @@ returns-in-Some c =
     let part = came_at script i line c.loop-position.queue came at before.stands refl in
     let step = span_waited script [] i c.loop-position.span c.waiting.new.span came c.in-Some.request part.0 c.in-Some.ensures.next before.at in
     let P : Option ℕ → Type 0 = λ found. Finds script i c.in-Some.request found in
-    reported script i c.in-Some.request _ step.accepted (number_at_line script i line at) before.apart (subst P c.unwrap-earlier.ensures c.earliest.ensures)
+    reported script i c.in-Some.request _ (sym c.orders_overlaps.ensures ∙ c.if-orders_overlaps.false) step.accepted (number_at_line script i line at) before.apart (subst P c.unwrap-earlier.ensures c.earliest.ensures)
+
+pub returns-then-orders_overlaps : goal.returns-then-orders_overlaps
+returns-then-orders_overlaps c = none_of_two c.args.script.now (sym c.orders_overlaps.ensures ∙ c.if-orders_overlaps.true)
 
 pub loop-position-preserved : goal.loop-position-preserved
 loop-position-preserved c =

@@ -9,5 +9,5 @@ returns c =
     IfOk-weaker c.share.result _ _
     (λ found is.
     is ∙ ap (λ n. sectors_read n c.args.request.count c.args.self.now.disk) c.from.ensures
-    ∙ finds_there c.args.script.now c.args.self.now.replies c.args.self.now.disk c.args.request c.requires.no_overlap c.requires.stands c.requires.accepted)
+    ∙ finds_there c.args.script.now c.args.self.now.replies c.args.self.now.disk c.args.self.now.span c.args.request c.requires.stands c.requires.accepted c.requires.apart)
     c.share.ensures.read

@@ -1,0 +1,24 @@
+//! The versions of the script.
+ghost use Rattle.std.specs.Prelude.{◌≡◌};
+ghost use Rattle.script_meaning.specs.Script.{version_number};
+
+/// The version of a script. They differ in what becomes of requests that overlap.
+#[derive(Clone, Copy, Debug, PartialEq, Eq)]
+pub enum Version {
+    /// A script in which requests overlap is refused.
+    One,
+    /// The queue drains before a request that overlaps one of the span that it would join.
+    Two,
+}
+
+impl Version {
+    /// The number that a script's first line gives: 1 or 2.
+    pub fn number(&self) -> u32
+        ensures { result ≡ version_number self.now }
+    {
+        match self {
+            Version::One => 1,
+            Version::Two => 2,
+        }
+    }
+}
