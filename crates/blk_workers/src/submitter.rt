@@ -144,15 +144,16 @@ impl Submitter {
         ensures { (script : Meant) → IsEnd script self → IfOk result (λ ran. IsRun script ran.replies.items ran.disk) }
     {
         let Submitter {
-            desk: Desk {
-                disk,
-                replies,
-                span: _,
-            },
+            desk,
             state: _,
             freezer: _,
             accepted: _,
         } = self;
+        let Desk {
+            disk,
+            replies,
+            span: _,
+        } = desk;
         let replies = replies.into_text()?;
         Ok(Ran { replies, disk })
     }
