@@ -3,8 +3,9 @@ ghost use Rattle.std.specs.Prelude.{◌≡◌, ◌<◌, true, false};
 ghost use Rattle.std.specs.Thread.{IsSync};
 
 use crate::tests::caller::change_limits;
-use crate::{BlockQueue, Final, Freezer, Tag};
+use crate::{BlockQueue, Final, Freezer, Mode, Tag};
 use queue_limits::Limits;
+use std::alloc::Global;
 use std::process::Abort;
 use std::sync::Wait;
 use std::test::Fail;
@@ -66,8 +67,13 @@ fn read_rounds<R: Wait>(rt: &R, queue: &BlockQueue, mut tag: Tag, slot: u32) -> 
     (tag, seen)
 }
 
-/// Sets max to 2, 3 and so on. How many of these were set.
-fn raise<R: Wait>(rt: &R, queue: &BlockQueue, mut freezer: Freezer) -> (Freezer, u32)
+/// Sets max to 2, 3 and so on, and switches the mode before each where it is to. How many of these were set.
+fn raise<R: Wait>(
+    rt: &R,
+    queue: &BlockQueue,
+    mut freezer: Freezer,
+    switches: bool,
+) -> (Freezer, u32)
     requires own { freezer.queue ≡ queue.now }
     requires hardware { queue.now.hardware ≡ HARDWARE }
     ensures { result.0.queue ≡ queue.now }
@@ -77,6 +83,10 @@ fn raise<R: Wait>(rt: &R, queue: &BlockQueue, mut freezer: Freezer) -> (Freezer,
         let Ok(limits) = Limits::new(HARDWARE, max, 0) else {
             continue;
         };
+        if switches {
+            let odd = max % 2 == 1;
+            freezer.mode(queue, if odd { Mode::Slots } else { Mode::Atomic });
+        }
         if change_limits(rt, queue, &mut freezer, limits).is_ok() {
             done = done.saturating_add(1);
         }
@@ -90,6 +100,7 @@ fn read_and_raise<R: Threads + Wait + Sync>(
     queue: &BlockQueue,
     tag: Tag,
     freezer: Freezer,
+    switches: bool,
 ) -> ((Tag, Seen), (Freezer, u32))
     requires own { (tag.queue ≡ queue.now) × (freezer.queue ≡ queue.now) }
     requires slot { 1 < queue.now.gate.slots }
@@ -107,7 +118,7 @@ fn read_and_raise<R: Threads + Wait + Sync>(
         move || -> (Freezer, u32)
             requires { (freezer.queue ≡ queue.now) × (queue.now.hardware ≡ HARDWARE) }
             ensures { result.0.queue ≡ queue.entry.now }
-        { raise(rt, queue, freezer) },
+        { raise(rt, queue, freezer, switches) },
     )
 }
 
@@ -143,6 +154,7 @@ fn all_four<R: Threads + Wait + Sync>(
     queue: &BlockQueue,
     tags: (Tag, Tag, Tag),
     freezer: Freezer,
+    switches: bool,
 ) -> (((Tag, Seen), (Freezer, u32)), ((Tag, Seen), (Tag, Seen)))
     requires own { (tags.0.queue ≡ queue.now) × (tags.1.queue ≡ queue.now) × (tags.2.queue ≡ queue.now) × (freezer.queue ≡ queue.now) }
     requires slot { 1 < queue.now.gate.slots }
@@ -158,7 +170,7 @@ fn all_four<R: Threads + Wait + Sync>(
         move || -> ((Tag, Seen), (Freezer, u32))
             requires { IsSync R.row × (first.queue ≡ queue.now) × (1 < queue.now.gate.slots) × (first.entered ≡ false) × (freezer.queue ≡ queue.now) × (queue.now.hardware ≡ HARDWARE) }
             ensures { (result.0.0.queue ≡ queue.entry.now) × (result.0.0.entered ≡ false) × (result.0.1.equal ≡ true) × (result.1.0.queue ≡ queue.entry.now) }
-        { read_and_raise(rt, queue, first, freezer) },
+        { read_and_raise(rt, queue, first, freezer, switches) },
         move || -> ((Tag, Seen), (Tag, Seen))
             requires { IsSync R.row × (second.queue ≡ queue.now) × (third.queue ≡ queue.now) × (1 < queue.now.gate.slots) × (second.entered ≡ false) × (third.entered ≡ false) }
             ensures { (result.0.0.queue ≡ queue.entry.now) × (result.0.0.entered ≡ false) × (result.0.1.equal ≡ true) × (result.1.0.queue ≡ queue.entry.now) × (result.1.0.entered ≡ false) × (result.1.1.equal ≡ true) }
@@ -167,14 +179,17 @@ fn all_four<R: Threads + Wait + Sync>(
 }
 
 /// No thread reads a max that is less than one that it has read, and the freezer's last one is left.
-#[test]
-fn max_only_rises(rt: HostRuntime) -> Result<(), Fail> {
+fn rise<R: Threads + Wait + Sync + Abort>(
+    rt: &R,
+    alloc: Global,
+    switches: bool,
+) -> Result<(), Fail> {
     let limits = Limits::new(HARDWARE, 1, 0)?;
-    let (queue, freezer, mut tags) = BlockQueue::new(rt.alloc(), limits, 2, 3)?;
+    let (queue, freezer, mut tags) = BlockQueue::new(alloc, limits, 2, 3)?;
     let third = tags.pop().ok_or("a tag")?;
     let second = tags.pop().ok_or("a tag")?;
     let first = tags.pop().ok_or("a tag")?;
-    let (one, two) = all_four(&rt, &queue, (first, second, third), freezer);
+    let (one, two) = all_four(rt, &queue, (first, second, third), freezer, switches);
     let ((first, by_first), (freezer, done)) = one;
     let ((second, by_second), (third, by_third)) = two;
     assert_eq!(rt; done, GREATEST - 1);
@@ -191,4 +206,14 @@ fn max_only_rises(rt: HostRuntime) -> Result<(), Fail> {
     };
     assert_eq!(rt; left, expected);
     Ok(())
+}
+
+#[test]
+fn max_only_rises(rt: HostRuntime) -> Result<(), Fail> {
+    rise(&rt, rt.alloc(), false)
+}
+
+#[test]
+fn max_only_rises_through_switches(rt: HostRuntime) -> Result<(), Fail> {
+    rise(&rt, rt.alloc(), true)
 }
