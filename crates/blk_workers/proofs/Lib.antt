@@ -10,4 +10,5 @@ pub mod Covering
 pub mod Desks
 pub mod Ends
 pub mod NextLines
+pub mod Counting
 pub mod TextLines

@@ -1,5 +1,6 @@
 //! How the queue's freezer follows a script.
 ghost use Rattle.std.specs.Prelude.{◌≡◌, ℕ, ◌+◌, ◌<◌, ◌≤◌, ◌^◌, true};
+ghost use Rattle.blk_workers.specs.Following.{depth_after, mode_of, one_nearer};
 ghost use Rattle.blk_workers.specs.Progress.{IsFollowing};
 
 use freeze_queue::{BlockQueue, Freezer, Mode};
@@ -34,6 +35,8 @@ fn set_limits(freezer: &mut Freezer, queue: &BlockQueue, limits: Limits)
     requires hardware { limits.hardware ≡ queue.now.hardware }
     ensures follows { (kills : ℕ) → IsFollowing queue.now kills freezer.old → IsFollowing queue.now kills freezer.new }
     ensures depth { freezer.new.depth ≡ freezer.old.depth }
+    ensures limits { freezer.new.limits ≡ limits }
+    ensures mode { freezer.new.mode ≡ freezer.old.mode }
 {
     if freezer.limits() != limits {
         let set = freezer.set(queue, limits);
@@ -46,7 +49,10 @@ fn step_to(freezer: &mut Freezer, queue: &BlockQueue, depth: u32)
     requires own { freezer.old.queue ≡ queue.now }
     requires frozen { 0 < freezer.old.depth }
     requires shallow { depth ≤ 1000 }
-    ensures { (kills : ℕ) → IsFollowing queue.now kills freezer.old → IsFollowing queue.now kills freezer.new }
+    ensures follows { (kills : ℕ) → IsFollowing queue.now kills freezer.old → IsFollowing queue.now kills freezer.new }
+    ensures depth { freezer.new.depth ≡ one_nearer freezer.old.depth depth }
+    ensures limits { freezer.new.limits ≡ freezer.old.limits }
+    ensures mode { freezer.new.mode ≡ freezer.old.mode }
 {
     let now = freezer.depth();
     if now < depth {
@@ -59,7 +65,9 @@ fn step_to(freezer: &mut Freezer, queue: &BlockQueue, depth: u32)
 }
 
 // How a queue counts where the script's queue counts so.
-fn mode_of(mode: script_meaning::Mode) -> Mode {
+fn mode_of(mode: script_meaning::Mode) -> Mode
+    ensures { result ≡ mode_of mode }
+{
     match mode {
         script_meaning::Mode::Atomic => Mode::Atomic,
         script_meaning::Mode::Slots => Mode::Slots,
@@ -71,13 +79,20 @@ fn mode_of(mode: script_meaning::Mode) -> Mode {
 pub(crate) fn follow(freezer: &mut Freezer, queue: &BlockQueue, state: &QueueState, _kills: usize)
     requires follows { IsFollowing queue.now _kills freezer.old }
     requires hardware { state.now.limits.hardware ≡ queue.now.hardware }
-    ensures { IsFollowing queue.now _kills freezer.new }
+    ensures follows { IsFollowing queue.now _kills freezer.new }
+    ensures mode { freezer.new.mode ≡ mode_of state.now.mode }
+    ensures limits { 0 < freezer.old.depth → freezer.new.limits ≡ state.now.limits }
+    ensures depth { freezer.new.depth ≡ depth_after freezer.old.depth state.now }
 {
     freezer.mode(queue, mode_of(state.mode()));
     if freezer.depth() == 0 {
         return;
     }
     set_limits(freezer, queue, state.limits());
-    let least = if state.is_removed() { 1 } else { 0 };
-    step_to(freezer, queue, state.depth().max(least));
+    let goal = if state.is_removed() && state.depth() == 0 {
+        1
+    } else {
+        state.depth()
+    };
+    step_to(freezer, queue, goal);
 }

@@ -1,5 +1,7 @@
 //! A script's run on several threads.
-ghost use Rattle.std.specs.Prelude.{◌≡◌, ◌<◌, ◌≤◌, ◌^◌, false, All, IfOk, length};
+ghost use Rattle.std.specs.Prelude.{◌≡◌, ◌<◌, ◌≤◌, ◌^◌, false, All, IfOk, is_some, length};
+ghost use Rattle.script_meaning.specs.Requests.{accepted_in_all};
+ghost use Rattle.script_meaning.specs.Taken.{accepted_in};
 ghost use Rattle.blk_workers.specs.Progress.{IsAt, IsEnd, IsFollowing, IsRun};
 
 use crate::config::Config;
@@ -18,12 +20,21 @@ use std::sync::Wait;
 use std::thread;
 use std::thread::Threads;
 
+// Whether a line came to an accepted request.
+fn is_accepted(came: &Outcome) -> bool
+    ensures { result ≡ is_some (accepted_in came.now) }
+{
+    matches!(came, Outcome::Accepted(_))
+}
+
 // How many of a script's requests the queue accepts.
-fn accepted_requests(script: &Script) -> usize {
+fn accepted_requests(script: &Script) -> usize
+    ensures { result ≡ accepted_in_all script.now }
+{
     let mut queue = QueueState::new(script);
     let mut accepted = 0;
     for line in script.lines() {
-        if let Outcome::Accepted(_) = queue.take(&line.what) {
+        if is_accepted(&queue.take(&line.what)) {
             accepted += 1;
         }
     }

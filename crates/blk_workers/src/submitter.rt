@@ -60,6 +60,14 @@ fn found(
     }
 }
 
+// An accepted request of the next line: its number among the accepted ones, and the limits in force.
+#[derive(Clone, Copy)]
+struct Accepted {
+    request: Request,
+    number: u32,
+    limits: Limits,
+}
+
 // Hands an accepted request to the workers: it enters the queue under the limits in force, and is owed.
 fn hand_over<J: Run, R: Wait, S: Stall>(
     rt: &R,
@@ -68,19 +76,22 @@ fn hand_over<J: Run, R: Wait, S: Stall>(
     script: &Script,
     stall: &S,
     desk: &mut Desk,
-    request: Request,
-    number: u32,
-    limits: Limits,
+    accepted: Accepted,
 ) -> Result<(), RunFault>
     requires script { script.now ≡ J.script }
     requires slot { 0 < J.queue.gate.slots }
     requires stands { Stands script.now desk.old.replies desk.old.disk desk.old.span }
-    requires accepted { accepted_at script.now (length desk.old.replies) ≡ Some request }
-    requires apart { ClashesWithNone script.now (is_owed desk.old.replies) request }
-    requires limits { limits ≡ (queue_at script.now (length desk.old.replies)).limits }
+    requires accepted { accepted_at script.now (length desk.old.replies) ≡ Some accepted.request }
+    requires apart { ClashesWithNone script.now (is_owed desk.old.replies) accepted.request }
+    requires limits { accepted.limits ≡ (queue_at script.now (length desk.old.replies)).limits }
     ensures stands { OnOk result (Stands script.now desk.new.replies desk.new.disk desk.new.span) }
     ensures lines { OnOk result (length desk.new.replies ≡ length desk.old.replies + 1) }
 {
+    let Accepted {
+        request,
+        number,
+        limits,
+    } = accepted;
     let position = desk.replies.len();
     let found = found(alloc, script, desk, request)?;
     desk.submit(script, &request)?;
@@ -209,19 +220,13 @@ impl Submitter {
         ensures at { OnOk result (IsAt J.script J.queue (length self.old.desk.replies + 1) self.new) }
         ensures own { self.new.freezer.queue ≡ J.queue }
     {
-        let (number, limits) = (self.accepted, self.state.limits());
-        self.make_way(rt, hall, script, stall, &request)?;
-        hand_over(
-            rt,
-            alloc,
-            hall,
-            script,
-            stall,
-            &mut self.desk,
+        let accepted = Accepted {
             request,
-            number,
-            limits,
-        )?;
+            number: self.accepted,
+            limits: self.state.limits(),
+        };
+        self.make_way(rt, hall, script, stall, &request)?;
+        hand_over(rt, alloc, hall, script, stall, &mut self.desk, accepted)?;
         self.accepted = self.accepted.saturating_add(1);
         self.state = next;
         Ok(())

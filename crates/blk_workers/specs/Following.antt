@@ -1,0 +1,20 @@
+-- How a queue's freezer follows a script's queue.
+use Rattle.std.specs.Prelude.{ℕ, ◌+◌, ◌-◌, ◌==◌, ◌&&◌, nat_lt, if◌then◌else◌}
+use Rattle.percpu_gate.specs.declared.mode.Mode.{Mode}
+use Rattle.percpu_gate.specs.declared.mode.Mode.TheVariants as gate_modes
+use Rattle.script_meaning.specs.Queue.{Queue}
+use Rattle.script_meaning.specs.declared.mode.Mode as script_mode
+use Rattle.script_meaning.specs.declared.mode.Mode.TheVariants as script_modes
+
+-- how the queue counts where the script's queue counts so
+abbrev pub mode_of : script_mode.Mode → Mode
+mode_of script_modes.Atomic = gate_modes.Atomic
+mode_of script_modes.Slots = gate_modes.Slots
+
+-- a depth one step nearer to another
+abbrev pub one_nearer : ℕ → ℕ → ℕ
+one_nearer now depth = if nat_lt now depth then now + 1 else if nat_lt depth now then now - 1 else now
+
+-- a live queue stays live; a frozen one comes a step nearer to the script's depth, and stays frozen where the script removed it
+abbrev pub depth_after : ℕ → Queue → ℕ
+depth_after now q = if now == 0 then 0 else one_nearer now (if q.removed && q.depth == 0 then 1 else q.depth)
