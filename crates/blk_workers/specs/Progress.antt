@@ -8,6 +8,7 @@ use Rattle.script_meaning.specs.Requests.{queue_at, state_at}
 use Rattle.script_meaning.specs.Script.{Meant}
 use Rattle.script_meaning.specs.declared.request.Request.{Request}
 use Rattle.blk_workers.specs.Desk.{AreJoined, Stands, owed_count}
+use Rattle.blk_workers.specs.Following.{mode_of}
 use Rattle.blk_workers.specs.declared.submitter.Submitter.{Submitter}
 
 -- the freezer is the queue's, knows a frozen queue to be drained, and killed its gate at most so often
@@ -27,6 +28,7 @@ pub record IsAt (script : Meant) (queue : QueueFacts) (position : ℕ) (s : Subm
   pub lines : length s.desk.replies ≡ position
   pub state : IsQueueAt script position s.state
   pub freezer : IsFollowing queue position s.freezer
+  pub mode : s.freezer.mode ≡ mode_of s.state.mode
 
 -- the sectors that a request finds: a write finds none
 abbrev pub found_at : Meant → ℕ → Request → List (List ℕ)

@@ -17,7 +17,8 @@ pub(crate) fn freeze<R: Wait>(
 ) -> bool
     requires follows { IsFollowing queue.now _kills freezer.old }
     requires few { _kills < 2 ^ 40 }
-    ensures { IsFollowing queue.now (_kills + 1) freezer.new }
+    ensures follows { IsFollowing queue.now (_kills + 1) freezer.new }
+    ensures mode { freezer.new.mode ≡ freezer.old.mode }
 {
     if freezer.depth() > 0 {
         return false;

@@ -1,7 +1,9 @@
 //! A script's run on several threads.
 ghost use Rattle.std.specs.Prelude.{◌≡◌, ◌<◌, ◌≤◌, ◌^◌, false, All, IfOk, is_some, length};
+ghost use Rattle.script_meaning.specs.Queue.{start_queue};
 ghost use Rattle.script_meaning.specs.Requests.{accepted_in_all};
 ghost use Rattle.script_meaning.specs.Taken.{accepted_in};
+ghost use Rattle.blk_workers.specs.Following.{mode_of};
 ghost use Rattle.blk_workers.specs.Progress.{IsAt, IsEnd, IsFollowing, IsRun};
 
 use crate::config::Config;
@@ -146,6 +148,7 @@ fn run_as<J: Run + Send + Sync, R: Threads + Wait + Sync, S: Stall>(
     requires slots { J.queue.gate.slots ≡ config.slots }
     requires few { length script.now.lines < 2 ^ 40 }
     requires freezer { IsFollowing J.queue 0 parts.1 }
+    requires mode { parts.1.mode ≡ mode_of (start_queue script.now).mode }
     requires tags { All (λ t. (t.queue ≡ J.queue) × (t.entered ≡ false)) parts.2.items }
     ensures { IfOk result (λ ran. IsRun J.script ran.replies.items ran.disk) }
 {

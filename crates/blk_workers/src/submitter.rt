@@ -2,9 +2,11 @@
 ghost use Rattle.std.specs.Prelude.{◌≡◌, ◌+◌, ◌<◌, ◌≤◌, ◌^◌, [], IfOk, OnOk, Some, None, length};
 ghost use Rattle.blk_script.specs.Texts.{reply_line};
 ghost use Rattle.freeze_queue.specs.Queue.{QueueFacts};
+ghost use Rattle.script_meaning.specs.Queue.{start_queue};
 ghost use Rattle.script_meaning.specs.Script.{Meant};
 ghost use Rattle.script_meaning.specs.Requests.{accepted_at, queue_at};
 ghost use Rattle.blk_workers.specs.Desk.{MayPass, Stands, is_owed, owed_count};
+ghost use Rattle.blk_workers.specs.Following.{mode_of};
 ghost use Rattle.blk_workers.specs.Progress.{IsAt, IsEnd, IsFollowing, IsQueueAt, IsRun, found_at};
 ghost use Rattle.blk_workers.specs.Requests.{IsReplyLine};
 ghost use Rattle.blk_workers.specs.Span.{ClashesWithNone};
@@ -131,7 +133,7 @@ impl Submitter {
         script: &Script,
         freezer: Freezer,
     ) -> Result<Submitter, RunFault>
-        ensures { IfOk result (λ s. (queue : QueueFacts) → IsFollowing queue 0 freezer → IsAt script.now queue 0 s) }
+        ensures { IfOk result (λ s. (queue : QueueFacts) → IsFollowing queue 0 freezer → freezer.mode ≡ mode_of (start_queue script.now).mode → IsAt script.now queue 0 s) }
     {
         let Ok(disk) = Disk::new(alloc, script.disk()) else {
             return Err(RunFault::Memory);
@@ -188,6 +190,7 @@ impl Submitter {
         ensures state { self.new.state ≡ self.old.state }
         ensures apart { OnOk result (ClashesWithNone script.now (is_owed self.new.desk.replies) request.now) }
         ensures follows { IsFollowing J.queue (length self.old.desk.replies + 1) self.new.freezer }
+        ensures mode { self.new.freezer.mode ≡ mode_of self.new.state.mode }
     {
         collect_some(rt, hall, script, &mut self.desk)?;
         if !self.desk.must_wait(script, request) {
@@ -217,6 +220,7 @@ impl Submitter {
         requires few { length self.old.desk.replies < 2 ^ 40 }
         requires accepted { accepted_at script.now (length self.old.desk.replies) ≡ Some request }
         requires next { IsQueueAt J.script (length self.old.desk.replies + 1) next }
+        requires mode { next.mode ≡ self.old.state.mode }
         ensures at { OnOk result (IsAt J.script J.queue (length self.old.desk.replies + 1) self.new) }
         ensures own { self.new.freezer.queue ≡ J.queue }
     {
@@ -248,6 +252,7 @@ impl Submitter {
         ensures state { self.new.state ≡ self.old.state }
         ensures none_owed { OnOk result (owed_count self.new.desk.replies ≡ 0) }
         ensures follows { IsFollowing J.queue (length self.old.desk.replies + 1) self.new.freezer }
+        ensures mode { self.new.freezer.mode ≡ self.old.freezer.mode }
     {
         let lines = self.desk.replies.len();
         if freeze(rt, &mut self.freezer, &hall.queue, lines) {

@@ -4,4 +4,4 @@ use Rattle.blk_workers.proofs.running.run_as.Goals as goal
 
 pub with_workers-requires-clause-start : goal.with_workers-requires-clause-start
 with_workers-requires-clause-start g c κs within =
-    subst (λ s. IsAt s g.J.Run.queue 0 c.in_ok-submitter.submitter) c.requires.script (c.in_ok-submitter.ensures g.J.Run.queue c.requires.freezer)
+    subst (λ s. IsAt s g.J.Run.queue 0 c.in_ok-submitter.submitter) c.requires.script (c.in_ok-submitter.ensures g.J.Run.queue c.requires.freezer c.requires.mode)

@@ -1,10 +1,12 @@
-use Rattle.std.proofs.Common.{◌≡◌, refl, ◌+◌, false, length, None, inl}
+use Rattle.std.proofs.Common.{◌≡◌, ◌∙◌, sym, ap, refl, ◌+◌, false, length, None, inl}
 use Rattle.blk_script.specs.Texts.{reply_line}
+use Rattle.script_meaning.specs.Queue.{Queue}
 use Rattle.script_meaning.specs.Requests.{accepted_at, drains_at}
+use Rattle.script_meaning.specs.Taken.{accepted_in}
 use Rattle.script_meaning.specs.declared.outcome.Outcome.TheVariants.{Accepted, Drained, Replied}
 use Rattle.blk_workers.specs.Progress.{IsQueueAt}
 use Rattle.blk_workers.specs.Requests.{IsReplyLine}
-use Rattle.blk_workers.proofs.NextLines.{came_to, next_queue, accepted_there, drains_there, reply_drained, reply_replied, moved}
+use Rattle.blk_workers.proofs.NextLines.{came_to, next_queue, accepted_there, drains_there, reply_drained, reply_replied, moved, mode_kept}
 use Rattle.blk_workers.proofs.submitter.Submitter.take_next.Goals as goal
 
 pub submit-requires-clause-next : goal.submit-requires-clause-next
@@ -12,6 +14,10 @@ submit-requires-clause-next g c κs within =
     let came = came_to g.J.Run.script c.args.script.now (length c.args.self.now.desk.replies) c.len.result c.lines.result.now c.index-lines-len.result c.args.self.now.state c.take.new.self (Accepted c.in-Accepted.request) c.requires.script
     c.lines.ensures c.len.ensures c.requires.more c.index-lines-len.is c.requires.at.state c.in-Accepted.ensures.outcome c.take.ensures.after c.take.ensures.counts in
     next_queue g.J.Run.script (length c.args.self.now.desk.replies) c.index-lines-len.result c.args.self.now.state c.take.new.self (Accepted c.in-Accepted.request) came
+
+pub submit-requires-clause-mode : goal.submit-requires-clause-mode
+submit-requires-clause-mode g c κs within =
+    ap (λ (q : Queue). q.mode) c.take.ensures.after ∙ mode_kept c.args.self.now.state c.index-lines-len.result.what c.in-Accepted.request (sym (ap accepted_in c.in-Accepted.ensures.outcome))
 
 pub pass-requires-clause-refused : goal.pass-requires-clause-refused
 pass-requires-clause-refused g c =
