@@ -1,8 +1,9 @@
 //! The end of a gate.
-use super::trial::Answer::{Done, Killed, NotAllowed, Set};
-use super::trial::Call::{Control, Retire};
-use super::trial::{Answer, Call, ControlCall, Trial};
-use crate::Put::Last;
+use super::trial::Answer::{Delta, Done, Killed, NotAllowed, Number, Put, Set, ToClose, Tried};
+use super::trial::Call::{Control, Pass, Retire};
+use super::trial::{Answer, Call, ControlCall, PassCall, Trial};
+use crate::Put::{Last, NotLast};
+use crate::Tried::{Given, Refused};
 use crate::{ExitWhy, Start};
 use std::process::Abort;
 use std::test::Fail;
@@ -39,5 +40,35 @@ fn live_end(rt: HostRuntime) -> Result<(), Fail> {
     assert!(rt; !ended.dead);
     assert_eq!(rt; (ended.kills, ended.releases), (1, 1));
     assert_eq!(rt; ended.words, [3, 4]);
+    Ok(())
+}
+
+/// While a kill closes the slots, the pass counts on one that is still open and on the shared word.
+const COUNTED_WHILE_CLOSING: [(Call, Answer); 12] = [
+    (Pass(0, PassCall::TryGet { slot: 1 }), Tried(Given)),
+    (Control(ControlCall::MarkDead), ToClose(Ok(2))),
+    (Control(ControlCall::CloseNext), Delta(0)),
+    (Pass(0, PassCall::Get { slot: 1, n: 2 }), Done),
+    (Pass(0, PassCall::Put { slot: 0, n: 1 }), Put(NotLast)),
+    (Control(ControlCall::CloseNext), Delta(3)),
+    (Control(ControlCall::Collect), Done),
+    (
+        Pass(0, PassCall::TryGetLive { slot: 0 }),
+        Tried(Refused(NotLast)),
+    ),
+    (Control(ControlCall::Confirm), Number(1)),
+    (Control(ControlCall::DropBase), Put(NotLast)),
+    (Pass(0, PassCall::Put { slot: 1, n: 2 }), Put(Last)),
+    (Retire(0), Done),
+];
+
+/// The end of a gate that was killed step by step tells the one release, which the pass won.
+#[test]
+fn killed_while_counted(rt: HostRuntime) -> Result<(), Fail> {
+    let mut trial = Trial::<0>::new(rt.alloc(), 2, 1, Start::Slots, [])?;
+    assert_eq!(rt; trial.differs(&COUNTED_WHILE_CLOSING), None);
+    let ended = trial.exit().ok().ok_or("all are retired")?;
+    assert!(rt; ended.dead);
+    assert_eq!(rt; (ended.kills, ended.releases), (1, 1));
     Ok(())
 }
