@@ -11,7 +11,7 @@ use Rattle.line_text.specs.declared.fault.Why.TheVariants.{NoVersion, NoDisk, Un
 use Rattle.script_meaning.specs.declared.line.What.{What}
 use Rattle.script_meaning.specs.declared.version.Version.{Version}
 use Rattle.script_meaning.specs.declared.version.Version.TheVariants.{One, Two}
-use Rattle.script_meaning.specs.declared.line.What.TheVariants.{Read, Write, Freeze, Thaw, SetMax, SetChunk, SetMode, Stat, Remove}
+use Rattle.script_meaning.specs.declared.line.What.TheVariants.{Read, Write, Freeze, Thaw, SetMax, SetChunk, SetPhysical, SetMode, Stat, Remove}
 
 -- a write repeats 1 to 64 bytes
 abbrev pub pattern_of : List ℕ → Result (List ℕ) Why
@@ -54,11 +54,17 @@ write_of words =
     pattern_of word.2 >>= λ pattern.
     Ok (Write start count pattern)
 
-abbrev pub setting_of : List (List ℕ) → Result What Why
-setting_of words =
+-- version 1 has no such setting
+abbrev pub physical_of : Version → List ℕ → Result What Why
+physical_of One word = Err UnknownWord
+physical_of Two word = number_in 0 4294967295 word >>= λ value. Ok (SetPhysical value)
+
+abbrev pub setting_of : Version → List (List ℕ) → Result What Why
+setting_of version words =
     two_words words >>= λ word.
     if bytes_eq word.0 (codes "max_sectors") then (number_in 0 4294967295 word.1 >>= λ value. Ok (SetMax value))
     else if bytes_eq word.0 (codes "chunk_sectors") then (number_in 0 4294967295 word.1 >>= λ value. Ok (SetChunk value))
+    else if bytes_eq word.0 (codes "physical_sectors") then physical_of version word.1
     else Err UnknownWord
 
 abbrev pub mode_of : List (List ℕ) → Result What Why
@@ -73,14 +79,14 @@ abbrev pub alone : What → List (List ℕ) → Result What Why
 alone what words = no_words words >>= λ none. Ok what
 
 -- every further line, by its first word
-abbrev pub what_of : List (List ℕ) → Result What Why
-what_of [] = Err UnknownWord
-what_of (first ∷ words) =
+abbrev pub what_of : Version → List (List ℕ) → Result What Why
+what_of version [] = Err UnknownWord
+what_of version (first ∷ words) =
     if bytes_eq first (codes "read") then read_of words
     else if bytes_eq first (codes "write") then write_of words
     else if bytes_eq first (codes "freeze") then alone Freeze words
     else if bytes_eq first (codes "thaw") then alone Thaw words
-    else if bytes_eq first (codes "set") then setting_of words
+    else if bytes_eq first (codes "set") then setting_of version words
     else if bytes_eq first (codes "mode") then mode_of words
     else if bytes_eq first (codes "stat") then alone Stat words
     else if bytes_eq first (codes "remove") then alone Remove words

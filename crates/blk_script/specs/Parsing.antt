@@ -14,15 +14,15 @@ use Rattle.script_meaning.specs.declared.line.What.{What}
 use Rattle.script_meaning.specs.declared.version.Version.{Version}
 
 -- what the words of a line ask, where it has any
-abbrev pub said_by : Result (List (List ℕ)) Why → Result What Why
-said_by words = words >>= what_of
+abbrev pub said_by : Version → Result (List (List ℕ)) Why → Result What Why
+said_by version words = words >>= what_of version
 
 -- the further lines, or the first fault among them
-abbrev pub further_lines : List (ℕ × Result (List (List ℕ)) Why) → Result (List Line) ParseFault
-further_lines [] = Ok []
-further_lines (said ∷ more) =
-    at_line said.0 (said_by said.1) >>= λ what.
-    further_lines more >>= λ lines.
+abbrev pub further_lines : Version → List (ℕ × Result (List (List ℕ)) Why) → Result (List Line) ParseFault
+further_lines version [] = Ok []
+further_lines version (said ∷ more) =
+    at_line said.0 (said_by version said.1) >>= λ what.
+    further_lines version more >>= λ lines.
     Ok (record { number = said.0; what = what } ∷ lines)
 
 -- the first line that says something has to be that of the version
@@ -38,7 +38,7 @@ abbrev pub script_in : Unread → Result Meant ParseFault
 script_in text =
     version_in text >>= λ version.
     disk_in (after_first text) >>= λ disk.
-    further_lines (after_first (after_first text)).said >>= λ lines.
+    further_lines version (after_first (after_first text)).said >>= λ lines.
     Ok (record { version = version; sectors = disk.sectors; hardware = disk.hardware; lines = lines })
 
 -- the script that a text means, or its first fault

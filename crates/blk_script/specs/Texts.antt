@@ -1,5 +1,5 @@
 -- The text of each reply, and of the disk.
-use Rattle.std.specs.Prelude.{ℕ, ◌++◌, List, [], ◌∷◌, map, codes, decimal}
+use Rattle.std.specs.Prelude.{ℕ, ◌++◌, List, [], ◌∷◌, map, codes, decimal, Option, Some, None}
 use Rattle.std.specs.List.{join_with_byte}
 use Rattle.hex.specs.Hex.{encode_lower}
 use Rattle.line_text.specs.Named.{named}
@@ -29,12 +29,17 @@ mode_name Slots = codes "slots"
 unfoldable pub named_mode : List ℕ → Mode → List ℕ
 named_mode name mode = name ++ mode_name mode
 
+-- the sectors of a physical block, where they are told
+unfoldable pub physical_text : Option ℕ → List ℕ
+physical_text None = []
+physical_text (Some size) = named (codes " physical ") size
+
 abbrev pub counts_text : Counts → List ℕ
 counts_text counts =
     named (codes "stat reads ") counts.reads ++ named (codes " writes ") counts.writes
     ++ named (codes " again ") counts.again ++ named (codes " eio ") counts.eio
     ++ named (codes " depth ") counts.depth ++ named (codes " max ") counts.max
-    ++ named (codes " chunk ") counts.chunk ++ named_mode (codes " mode ") counts.mode
+    ++ named (codes " chunk ") counts.chunk ++ physical_text counts.physical ++ named_mode (codes " mode ") counts.mode
 
 abbrev pub reply_text : Reply → List ℕ
 reply_text (Data pieces runs) = codes "ok " ++ pieces_text pieces ++ codes " " ++ runs_text runs

@@ -1,6 +1,6 @@
 //! What the words of one line say.
 ghost use Rattle.std.specs.Prelude.{◌≡◌, ◌≤◌, IfOk};
-ghost use Rattle.blk_script.specs.Grammar.{version_of, sizes_of, disk_of, pattern_of, read_of, write_of, setting_of, mode_of, alone, what_of};
+ghost use Rattle.blk_script.specs.Grammar.{version_of, sizes_of, disk_of, pattern_of, read_of, write_of, physical_of, setting_of, mode_of, alone, what_of};
 ghost use Rattle.line_text.specs.Answers.{LineAnswers};
 
 use line_text::{
@@ -99,14 +99,26 @@ fn write(alloc: Global, words: Words<'_>) -> Result<What, LineFault>
     })
 }
 
-fn setting(words: Words<'_>) -> Result<What, Why>
-    ensures { result ≡ setting_of words.entry }
+// The setting of a physical block's size, which version 1 doesn't have.
+fn physical(version: Version, value: &[u8]) -> Result<What, Why>
+    ensures { result ≡ physical_of version value.now }
+{
+    match version {
+        Version::One => Err(Why::UnknownWord),
+        Version::Two => Ok(What::SetPhysical(short_number(value, 0, u32::MAX)?)),
+    }
+}
+
+fn setting(version: Version, words: Words<'_>) -> Result<What, Why>
+    ensures { result ≡ setting_of version words.entry }
 {
     let (name, value) = two_words(words)?;
     if is_word(name, "max_sectors") {
         Ok(What::SetMax(short_number(value, 0, u32::MAX)?))
     } else if is_word(name, "chunk_sectors") {
         Ok(What::SetChunk(short_number(value, 0, u32::MAX)?))
+    } else if is_word(name, "physical_sectors") {
+        physical(version, value)
     } else {
         Err(Why::UnknownWord)
     }
@@ -132,9 +144,9 @@ fn alone(what: What, words: Words<'_>) -> Result<What, Why>
     Ok(what)
 }
 
-/// What a line asks of the queue.
-pub(crate) fn what(alloc: Global, mut words: Words<'_>) -> Result<What, LineFault>
-    ensures { LineAnswers result (what_of words.entry) }
+/// What a line asks of the queue, in a script of this version.
+pub(crate) fn what(alloc: Global, version: Version, mut words: Words<'_>) -> Result<What, LineFault>
+    ensures { LineAnswers result (what_of version words.entry) }
 {
     let first = words.next().ok_or(Why::UnknownWord)?;
     if is_word(first, "read") {
@@ -146,7 +158,7 @@ pub(crate) fn what(alloc: Global, mut words: Words<'_>) -> Result<What, LineFaul
     } else if is_word(first, "thaw") {
         Ok(alone(What::Thaw, words)?)
     } else if is_word(first, "set") {
-        Ok(setting(words)?)
+        Ok(setting(version, words)?)
     } else if is_word(first, "mode") {
         Ok(mode(words)?)
     } else if is_word(first, "stat") {

@@ -1,7 +1,7 @@
 //! The texts of replies and of the disk.
 ghost use Rattle.std.specs.Prelude.{◌≡◌, ◌++◌, ◌∷◌, [], ℕ, List, OnOk, IfOk, IfErr, codes, decimal};
 ghost use Rattle.line_text.specs.Named.{named};
-ghost use Rattle.blk_script.specs.Texts.{pieces_text, run_text, runs_text, named_mode, counts_text, reply_text, reply_line, disk_line};
+ghost use Rattle.blk_script.specs.Texts.{pieces_text, run_text, runs_text, named_mode, physical_text, counts_text, reply_text, reply_line, disk_line};
 ghost use Rattle.ram_disk.specs.Runs.{IsRuns};
 ghost use Rattle.ram_disk.specs.Sector.{bytes_of};
 
@@ -53,6 +53,16 @@ fn push_mode(out: &mut Vec<u8>, name: &str, mode: Mode) -> Result<(), AllocError
     }
 }
 
+#[tactic(auto, unfolding(crate::specs::Texts::physical_text))]
+fn push_physical(out: &mut Vec<u8>, size: Option<u32>) -> Result<(), AllocError>
+    ensures { OnOk result (out.new.items ≡ out.old.items ++ physical_text size) }
+{
+    match size {
+        None => Ok(()),
+        Some(size) => push_named(out, " physical ", u64::from(size)),
+    }
+}
+
 fn push_counts(out: &mut Vec<u8>, counts: &Stat) -> Result<(), AllocError>
     ensures { OnOk result (out.new.items ≡ out.old.items ++ counts_text counts.now) }
 {
@@ -63,6 +73,7 @@ fn push_counts(out: &mut Vec<u8>, counts: &Stat) -> Result<(), AllocError>
     push_named(out, " depth ", u64::from(counts.depth))?;
     push_named(out, " max ", u64::from(counts.max))?;
     push_named(out, " chunk ", u64::from(counts.chunk))?;
+    push_physical(out, counts.physical)?;
     push_mode(out, " mode ", counts.mode)
 }
 

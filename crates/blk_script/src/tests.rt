@@ -46,17 +46,32 @@ fn many_lines(rt: HostRuntime) -> Result<(), Fail> {
     Ok(())
 }
 
-// A disk of 8 sectors, and this third line.
-fn third_line(alloc: Global, line: &[u8]) -> Result<Vec<u8>, Fail> {
-    let mut text = Vec::from_slice(alloc, b"blkq 1\ndisk 8 hw 8\n")?;
+// A disk of 8 sectors in a script of a version, and this third line.
+fn third_line(alloc: Global, version: &str, line: &[u8]) -> Result<Vec<u8>, Fail> {
+    let mut text = Vec::from_slice(alloc, version.as_bytes())?;
+    text.extend_from_slice(b"\ndisk 8 hw 8\n")?;
     text.extend_from_slice(line)?;
     Ok(text)
 }
 
+fn check_lines(
+    rt: &(impl Abort + AllocGlobal),
+    version: &str,
+    lines: &[(&[u8], Result<(), Why>)],
+) -> Result<(), Fail> {
+    let alloc = rt.alloc();
+    for (line, why) in lines {
+        let text = third_line(alloc, version, line)?;
+        let found = parse(alloc, &text).map(|_| ());
+        let wanted = why.map_err(|why| ScriptFault::Parse(ParseFault { line: 3, why }));
+        assert_eq!(rt; found, wanted, "{line:?}");
+    }
+    Ok(())
+}
+
 #[test]
 fn odd_lines(rt: HostRuntime) -> Result<(), Fail> {
-    let alloc = rt.alloc();
-    let lines: [(&[u8], Result<(), Why>); 34] = [
+    let lines: [(&[u8], Result<(), Why>); 37] = [
         (b"\tread\t0  1 \t\n", Ok(())),
         (b"read 0 1\r\n", Ok(())),
         (b"read 0 1\r\r\n", Err(Why::BadNumber)),
@@ -91,14 +106,25 @@ fn odd_lines(rt: HostRuntime) -> Result<(), Fail> {
         (b"set sectors x\n", Err(Why::UnknownWord)),
         (b"mode\n", Err(Why::MissingWord)),
         (b"stat 1\n", Err(Why::ExtraWord)),
+        (b"set physical_sectors\n", Err(Why::MissingWord)),
+        (b"set physical_sectors 4\n", Err(Why::UnknownWord)),
+        (b"set physical_sectors x\n", Err(Why::UnknownWord)),
     ];
-    for (line, why) in lines {
-        let text = third_line(alloc, line)?;
-        let found = parse(alloc, &text).map(|_| ());
-        let wanted = why.map_err(|why| ScriptFault::Parse(ParseFault { line: 3, why }));
-        assert_eq!(rt; found, wanted, "{line:?}");
-    }
-    Ok(())
+    check_lines(&rt, "blkq 1", &lines)
+}
+
+#[test]
+fn physical_sizes_in_version_two(rt: HostRuntime) -> Result<(), Fail> {
+    let lines: [(&[u8], Result<(), Why>); 7] = [
+        (b"set physical_sectors 0\n", Ok(())),
+        (b"set physical_sectors 4294967295\n", Ok(())),
+        (b"set physical_sectors 4294967296\n", Err(Why::OutOfRange)),
+        (b"set physical_sectors x\n", Err(Why::BadNumber)),
+        (b"set physical_sectors\n", Err(Why::MissingWord)),
+        (b"set physical_sectors 4 4\n", Err(Why::ExtraWord)),
+        (b"set physical 4\n", Err(Why::UnknownWord)),
+    ];
+    check_lines(&rt, "blkq 2", &lines)
 }
 
 #[test]
@@ -109,7 +135,7 @@ fn patterns_have_up_to_64_bytes(rt: HostRuntime) -> Result<(), Fail> {
         for _ in 0..digits {
             line.push(b'a')?;
         }
-        let text = third_line(alloc, &line)?;
+        let text = third_line(alloc, "blkq 1", &line)?;
         assert_eq!(rt; parse(alloc, &text).is_ok(), fits, "{digits}");
     }
     Ok(())
@@ -165,7 +191,12 @@ fn texts_of_replies(rt: HostRuntime) -> Result<(), Fail> {
         depth: 5,
         max: 6,
         chunk: 0,
+        physical: None,
         mode: Mode::Atomic,
+    };
+    let with_physical = Stat {
+        physical: Some(32_768),
+        ..counts
     };
     let pieces = PieceLengths::new(vec![in alloc; 2, 4]?);
     let runs = ByteRuns::new(vec![in alloc; (0, 512), (255, 1)]?);
@@ -187,6 +218,10 @@ fn texts_of_replies(rt: HostRuntime) -> Result<(), Fail> {
         (
             Reply::Stat(counts),
             "7 stat reads 18446744073709551615 writes 2 again 3 eio 4 depth 5 max 6 chunk 0 mode atomic\n",
+        ),
+        (
+            Reply::Stat(with_physical),
+            "7 stat reads 18446744073709551615 writes 2 again 3 eio 4 depth 5 max 6 chunk 0 physical 32768 mode atomic\n",
         ),
         (Reply::Removed, "7 removed\n"),
         (Reply::Gone, "7 ENODEV\n"),

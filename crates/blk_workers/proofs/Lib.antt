@@ -1,6 +1,6 @@
 -- LineSteps: what a line does to a sector of the disk. Spans: the disk of a run while requests are under way. Places: lists of replies
 -- one step further. RequestLines: what a request is answered, at its line. Desks: the thread that submits and collects, one step further.
--- Covering: the span that it keeps. TextLines: lines that stand in one text, and behind them those that are owed. Ends: its replies, once
+-- Covering: the span that it keeps. Numbering: the numbers of accepted requests. Awaited: which replies are owed. TextLines: lines that stand in one text, and behind them those that are owed. Ends: its replies, once
 -- none is owed. NextLines: the script's queue one line further, and what a request is due to.
 pub mod LineSteps
 pub mod Spans
@@ -11,4 +11,6 @@ pub mod Desks
 pub mod Ends
 pub mod NextLines
 pub mod Counting
+pub mod Numbering
+pub mod Awaited
 pub mod TextLines

@@ -16,7 +16,7 @@ use Rattle.script_meaning.specs.Script.{Meant}
 use Rattle.script_meaning.specs.Taken.{outcome, accepted, accepted_in, drains, drains_in}
 use Rattle.script_meaning.specs.declared.line.Line.{Line}
 use Rattle.script_meaning.specs.declared.line.What.{What}
-use Rattle.script_meaning.specs.declared.line.What.TheVariants.{Read, Write, Freeze, Thaw, SetMax, SetChunk, SetMode, Stat, Remove}
+use Rattle.script_meaning.specs.declared.line.What.TheVariants.{Read, Write, Freeze, Thaw, SetMax, SetChunk, SetPhysical, SetMode, Stat, Remove}
 use Rattle.script_meaning.specs.declared.outcome.Outcome.{Outcome}
 use Rattle.script_meaning.specs.declared.outcome.Outcome.TheVariants.{Accepted, Drained, Replied}
 use Rattle.script_meaning.specs.declared.request.Request.{Request}
@@ -149,6 +149,7 @@ of_writes Freeze request is = absurd is
 of_writes Thaw request is = absurd is
 of_writes (SetMax value) request is = absurd is
 of_writes (SetChunk value) request is = absurd is
+of_writes (SetPhysical value) request is = absurd is
 of_writes (SetMode mode) request is = absurd is
 of_writes Stat request is = absurd is
 of_writes Remove request is = absurd is

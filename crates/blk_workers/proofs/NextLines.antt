@@ -4,7 +4,7 @@ use Rattle.std.proofs.Math.Seq.{take-length}
 use Rattle.std.proofs.lemmas.Option.{get_or_from_slice_get, slice_get_read, slice_get_within}
 use Rattle.std.specs.List.{slice_get}
 use Rattle.std.specs.Option.{option_and_then}
-use Rattle.queue_limits.specs.Bounds.{Bounds}
+use Rattle.queue_limits.specs.Bounds.{Bounds, is_physical_size}
 use Rattle.ram_disk.specs.Disk.{sectors_read}
 use Rattle.script_meaning.specs.Meaning.{IsReplyTo, after_lines, start_of}
 use Rattle.script_meaning.specs.Queue.{Queue, counted, start_queue}
@@ -13,7 +13,7 @@ use Rattle.script_meaning.specs.Script.{Meant}
 use Rattle.script_meaning.specs.Taken.{request_taken, limits_taken, taken_there, taken, queue_after, outcome, accepted, accepted_in, drains_in}
 use Rattle.script_meaning.specs.declared.line.Line.{Line}
 use Rattle.script_meaning.specs.declared.line.What.{What}
-use Rattle.script_meaning.specs.declared.line.What.TheVariants.{Read, Write, Freeze, Thaw, SetMax, SetChunk, SetMode, Stat, Remove}
+use Rattle.script_meaning.specs.declared.line.What.TheVariants.{Read, Write, Freeze, Thaw, SetMax, SetChunk, SetPhysical, SetMode, Stat, Remove}
 use Rattle.script_meaning.specs.declared.mode.Mode.{Mode}
 use Rattle.script_meaning.specs.declared.outcome.Outcome.{Outcome}
 use Rattle.script_meaning.specs.declared.outcome.Outcome.TheVariants.{Accepted, Drained, Replied}
@@ -60,6 +60,9 @@ there_stays q (SetMax value) =
 there_stays q (SetChunk value) =
     let limits : Bounds = let old : Bounds = q.limits in record old { chunk = value } in
     either_stays (nat_lt 65535 value) (Replied Invalid, q) (limits_taken q limits) q.limits.hardware refl refl
+there_stays q (SetPhysical value) =
+    let limits : Bounds = let old : Bounds = q.limits in record old { physical = value } in
+    either_stays (is_physical_size value) (limits_taken q limits) (Replied Invalid, q) q.limits.hardware refl refl
 there_stays q (SetMode mode) = refl
 there_stays q Stat = refl
 there_stays q Remove = refl
@@ -102,6 +105,9 @@ there_keeps q (SetMax value) =
 there_keeps q (SetChunk value) =
     let limits : Bounds = let old : Bounds = q.limits in record old { chunk = value } in
     either_keeps (nat_lt 65535 value) (Replied Invalid, q) (limits_taken q limits) q.mode (λ request is. refl) (λ request is. refl)
+there_keeps q (SetPhysical value) =
+    let limits : Bounds = let old : Bounds = q.limits in record old { physical = value } in
+    either_keeps (is_physical_size value) (limits_taken q limits) (Replied Invalid, q) q.mode (λ request is. refl) (λ request is. refl)
 there_keeps q (SetMode mode) = λ request is. absurd (none_accepted request is)
   where
     none_accepted : (request : Request) → None ≡ Some request → ⊥
@@ -132,6 +138,7 @@ finds_as Freeze request disk is = absurd is
 finds_as Thaw request disk is = absurd is
 finds_as (SetMax value) request disk is = absurd is
 finds_as (SetChunk value) request disk is = absurd is
+finds_as (SetPhysical value) request disk is = absurd is
 finds_as (SetMode mode) request disk is = absurd is
 finds_as Stat request disk is = absurd is
 finds_as Remove request disk is = absurd is

@@ -1,5 +1,5 @@
 -- How far the thread that submits and collects has come in a script: the lines of the replies, and the disk.
-use Rattle.std.specs.Prelude.{◌≡◌, ℕ, ◌+◌, ◌≤◌, ◌⊎◌, ◌++◌, Bool, true, false, List, [], ◌∷◌, length, Option, Some, None, is_none, set, slice_get, flat_map}
+use Rattle.std.specs.Prelude.{◌≡◌, ℕ, ◌+◌, ◌<◌, ◌≤◌, ◌⊎◌, ◌++◌, Bool, true, false, List, [], ◌∷◌, length, Option, Some, None, is_none, set, slice_get, flat_map}
 use Rattle.std.specs.Option.{option_map_or}
 use Rattle.ram_disk.specs.Disk.{sectors_written}
 use Rattle.blk_script.specs.Texts.{reply_line}
@@ -12,12 +12,18 @@ use Rattle.script_meaning.specs.declared.line.What.TheVariants.{Write}
 use Rattle.script_meaning.specs.declared.reply.Reply.{Reply}
 use Rattle.script_meaning.specs.declared.request.Request.{Request}
 use Rattle.script_overlap.specs.SpanOfRequests.{Marks}
-use Rattle.blk_workers.specs.Requests.{IsReplyLine, IsAnswer}
+use Rattle.run_queues.specs.Numbers.{times}
+use Rattle.blk_workers.specs.Requests.{IsAcceptedAt, IsReplyLine, IsAnswer}
 use Rattle.blk_workers.specs.Span.{AreInSpan, ClashesWithNone, Covers, IsDiskBut}
 
 -- the reply to the line at a position isn't there yet
 abbrev pub is_owed : List (Option (List ℕ)) → ℕ → Bool
 is_owed replies position = option_map_or is_none (slice_get replies position) false
+
+-- the reply to each accepted request whose completion may come and wasn't collected yet is owed
+abbrev pub AreAwaited : Meant → List (Option (List ℕ)) → ℕ → List ℕ → Type 0
+AreAwaited script replies given collected =
+    (number position : ℕ) → IsAcceptedAt script number position → number < given → times number collected ≡ 0 → is_owed replies position ≡ true
 
 -- how many replies aren't there
 abbrev pub owed_count : List (Option (List ℕ)) → ℕ

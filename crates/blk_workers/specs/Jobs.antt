@@ -3,20 +3,29 @@ use Rattle.std.specs.Prelude.{◌≡◌, ℕ, true, List, Some}
 use Rattle.queue_limits.specs.Bounds.{Bounds}
 use Rattle.script_meaning.specs.Script.{Meant}
 use Rattle.freeze_queue.specs.Queue.{QueueFacts, TagFacts}
-use Rattle.blk_workers.specs.Requests.{IsDue}
+use Rattle.atomic_table.specs.Seated.{TableId}
+use Rattle.run_queues.specs.Parts.{DutyFacts}
+use Rattle.blk_workers.specs.Requests.{IsAcceptedAt, IsDue}
 
--- a request on its way to a worker: its number among the accepted ones, the position of its line, the tag that entered for it, and the sectors
+-- a request on its way to a worker: the duty to tell its completion, which has its number among the accepted ones, the position of its line, the tag that entered for it, and the sectors
 -- that it finds
 pub record JobFacts : Type 0 where
-  pub number : ℕ
+  pub duty : DutyFacts
   pub position : ℕ
   pub tag : TagFacts
   pub found : List (List ℕ)
 
--- its tag is entered in the queue and was told the limits in force at its line, and it finds what a single thread finds there
-pub record IsJob (script : Meant) (queue : QueueFacts) (job : JobFacts) : Type 0 where
+-- its duty is that of the run's completions, its line is the accepted request of its number, its tag is entered in the queue and was told the limits in force at its line, and it finds what a single thread finds there
+pub record IsJob (script : Meant) (queue : QueueFacts) (completions : TableId) (job : JobFacts) : Type 0 where
   pub own : job.tag.queue ≡ queue
   pub entered : job.tag.entered ≡ true
   pub limits : Bounds
   pub told : job.tag.limits ≡ Some limits
+  pub may_tell : job.duty.queue ≡ completions
+  pub numbered : IsAcceptedAt script job.duty.number job.position
   pub due : IsDue script job.position limits job.found
+
+-- a request that a worker is done with: its number, and the position of its line
+pub record CompletionFacts : Type 0 where
+  pub number : ℕ
+  pub position : ℕ

@@ -1,13 +1,17 @@
 -- How far the thread that submits and collects has come.
-use Rattle.std.specs.Prelude.{◌≡◌, ℕ, ◌+◌, ◌<◌, ◌≤◌, true, if◌then◌else◌, List, [], length}
+use Rattle.std.specs.Prelude.{◌≡◌, ℕ, ◌+◌, ◌<◌, ◌≤◌, true, false, if◌then◌else◌, List, [], length, Option}
 use Rattle.ram_disk.specs.Disk.{sectors_read}
+use Rattle.atomic_table.specs.Seated.{TableId}
+use Rattle.run_queues.specs.Numbers.{Draws}
+use Rattle.run_queues.specs.Parts.{CollectorFacts, DrawerFacts, SourceFacts}
+use Rattle.run_queues.specs.Requests.{all_parts}
 use Rattle.freeze_queue.specs.Queue.{QueueFacts, FreezerFacts}
 use Rattle.script_meaning.specs.Meaning.{after_lines, start_of}
 use Rattle.script_meaning.specs.Queue.{Queue, counted}
-use Rattle.script_meaning.specs.Requests.{queue_at, state_at}
+use Rattle.script_meaning.specs.Requests.{accepted_before, accepted_in_all, queue_at, state_at}
 use Rattle.script_meaning.specs.Script.{Meant}
 use Rattle.script_meaning.specs.declared.request.Request.{Request}
-use Rattle.blk_workers.specs.Desk.{AreJoined, Stands, owed_count}
+use Rattle.blk_workers.specs.Desk.{AreAwaited, AreJoined, Stands, owed_count}
 use Rattle.blk_workers.specs.Following.{mode_of}
 use Rattle.blk_workers.specs.declared.submitter.Submitter.{Submitter}
 
@@ -22,6 +26,19 @@ pub record IsQueueAt (script : Meant) (position : ℕ) (q : Queue) : Type 0 wher
   pub is : q ≡ queue_at script position
   pub counts : counted q ≤ position
 
+-- so many requests were accepted before a position
+pub record IsCounted (script : Meant) (position accepted : ℕ) : Type 0 where
+  pub is : accepted ≡ accepted_before script position
+  pub few : accepted ≤ position
+
+-- the requests that were accepted before a position are pushed, each with the duty to tell its completion, and the replies to those whose
+-- completions weren't collected are owed
+pub record AreHandedOver (script : Meant) (position : ℕ) (replies : List (Option (List ℕ))) (source : SourceFacts) (collector : CollectorFacts) : Type 0 where
+  pub requests : source.pushed ≡ accepted_before script position
+  pub not_ended : source.closed ≡ false
+  pub duties : collector.given ≡ accepted_before script position
+  pub awaited : AreAwaited script replies collector.given collector.collected
+
 -- the lines before a position are taken
 pub record IsAt (script : Meant) (queue : QueueFacts) (position : ℕ) (s : Submitter) : Type 0 where
   pub stands : Stands script s.desk.replies s.desk.disk s.desk.span
@@ -29,6 +46,7 @@ pub record IsAt (script : Meant) (queue : QueueFacts) (position : ℕ) (s : Subm
   pub state : IsQueueAt script position s.state
   pub freezer : IsFollowing queue position s.freezer
   pub mode : s.freezer.mode ≡ mode_of s.state.mode
+  pub counted : IsCounted script position s.accepted
 
 -- the sectors that a request finds: a write finds none
 abbrev pub found_at : Meant → ℕ → Request → List (List ℕ)
@@ -39,6 +57,43 @@ pub record IsEnd (script : Meant) (s : Submitter) : Type 0 where
   pub stands : Stands script s.desk.replies s.desk.disk s.desk.span
   pub lines : length s.desk.replies ≡ length script.lines
   pub none_owed : owed_count s.desk.replies ≡ 0
+
+-- the two ends are those of these queues
+pub record AreEndsOf (requests completions : TableId) (source : SourceFacts) (collector : CollectorFacts) : Type 0 where
+  pub pushes : source.queue ≡ requests
+  pub collects : collector.queue ≡ completions
+
+-- the right to push, of whose parts so many are with drawers, before the first request
+pub record IsNewSource (line : TableId) (out : ℕ) (source : SourceFacts) : Type 0 where
+  pub own : source.queue ≡ line
+  pub parts : source.parts + out ≡ all_parts
+  pub none_pushed : source.pushed ≡ 0
+  pub not_ended : source.closed ≡ false
+  pub no_lists : source.lists ≡ []
+
+-- the ends of both queues before the first request
+pub record AreNewEnds (requests completions : TableId) (out : ℕ) (source : SourceFacts) (collector : CollectorFacts) : Type 0 where
+  pub none_pushed : IsNewSource requests out source
+  pub collects : collector.queue ≡ completions
+  pub none_given : collector.given ≡ 0
+
+-- the right to draw, before the first request, with room for so many
+pub record IsNewDrawer (line : TableId) (room : ℕ) (drawer : DrawerFacts) : Type 0 where
+  pub own : drawer.queue ≡ line
+  pub none_drawn : drawer.drawn ≡ []
+  pub has_room : room ≤ drawer.room
+
+-- all workers are back, each with the list of what it drew
+pub record AreBack (line : TableId) (workers : ℕ) (source : SourceFacts) : Type 0 where
+  pub own : source.queue ≡ line
+  pub parts : source.parts ≡ all_parts
+  pub drained : source.drained ≡ true
+  pub lists : length source.lists ≡ workers
+
+-- what the workers of a run drew: a list for each, which increases, and together the number of each accepted request once, and no other
+pub record AreDrawn (script : Meant) (workers : ℕ) (lists : List (List ℕ)) : Type 0 where
+  pub for_each : length lists ≡ workers
+  pub draws : Draws (accepted_in_all script) lists
 
 -- what a run answers: the text of a single thread's replies, and the disk that it leaves
 pub record IsRun (script : Meant) (replies : List ℕ) (disk : List (List ℕ)) : Type 0 where

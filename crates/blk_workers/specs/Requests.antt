@@ -4,7 +4,7 @@ use Rattle.ram_disk.specs.Disk.{sectors_read}
 use Rattle.ram_disk.specs.Pattern.{pattern_sectors}
 use Rattle.queue_limits.specs.Bounds.{Bounds}
 use Rattle.script_meaning.specs.Meaning.{State, IsAnswered, IsReply}
-use Rattle.script_meaning.specs.Requests.{queue_at, state_at}
+use Rattle.script_meaning.specs.Requests.{accepted_at, accepted_before, queue_at, state_at}
 use Rattle.script_meaning.specs.Script.{Meant}
 use Rattle.script_meaning.specs.Taken.{accepted}
 use Rattle.script_meaning.specs.declared.line.Line.{Line}
@@ -17,6 +17,11 @@ use Rattle.blk_script.specs.Texts.{reply_line}
 pub record IsRequestAt (script : Meant) (position : ℕ) (line : Line) : Type 0 where
   pub at : slice_get script.lines position ≡ Some line
   pub accepted : is_some (accepted (queue_at script position) line.what) ≡ true
+
+-- the accepted request of this number, counted from 0 in the script's order, is the line at this position
+pub record IsAcceptedAt (script : Meant) (number position : ℕ) : Type 0 where
+  pub accepted : is_some (accepted_at script position) ≡ true
+  pub count : accepted_before script position ≡ number
 
 -- the sectors that a read finds
 abbrev pub found_by : List (List ℕ) → What → List (List ℕ)

@@ -1,5 +1,5 @@
 //! The disk and the replies of the thread that submits and collects.
-ghost use Rattle.std.specs.Prelude.{◌≡◌, ◌+◌, false, length, IfOk, OnOk, OnErr, Some, None};
+ghost use Rattle.std.specs.Prelude.{◌≡◌, ◌++◌, ◌∷◌, [], true, false, length, set, IfOk, OnOk, OnErr, Some, None};
 ghost use Rattle.ram_disk.specs.Disk.{sectors_read};
 ghost use Rattle.script_meaning.specs.Requests.{accepted_at, state_at};
 ghost use Rattle.blk_workers.specs.Desk.{FitsAt, installed, is_owed, MayPass, owed_count, Stands};
@@ -33,17 +33,14 @@ fn install(disk: &mut Disk, what: &What, sectors: Vec<Sector>)
 }
 
 impl Desk {
-    /// Takes the answer to a request: installs what a write leaves, and keeps the reply. An answer that isn't
-    /// owed is dropped.
+    /// Takes the answer to a request, which is owed: installs what a write leaves, and keeps the reply.
     pub(crate) fn take(&mut self, script: &Script, position: usize, answer: Answer)
         requires stands { Stands script.now self.old.replies self.old.disk self.old.span }
+        requires owed { is_owed self.old.replies position ≡ true }
         requires answer { IsAnswer script.now position answer.text.items answer.sectors.items }
         ensures stands { Stands script.now self.new.replies self.new.disk self.new.span }
-        ensures lines { length self.new.replies ≡ length self.old.replies }
+        ensures taken { self.new.replies ≡ set self.old.replies position (Some answer.text.items) }
     {
-        if !self.replies.is_owed(position) {
-            return;
-        }
         let Answer { text, sectors } = answer;
         let line = &script.lines()[position];
         install(&mut self.disk, &line.what, sectors);
@@ -74,7 +71,7 @@ impl Desk {
         requires passes { MayPass _script.now self.old.replies }
         requires reply { IsReplyLine _script.now (length self.old.replies) text.items }
         ensures stands { OnOk result (Stands _script.now self.new.replies self.new.disk self.new.span) }
-        ensures lines { OnOk result (length self.new.replies ≡ length self.old.replies + 1) }
+        ensures told { OnOk result (self.new.replies ≡ self.old.replies ++ Some text.items ∷ []) }
         ensures err { OnErr result ((self.new.replies ≡ self.old.replies) × (self.new.disk ≡ self.old.disk) × (self.new.span ≡ self.old.span)) }
     {
         self.replies.push(text)
@@ -105,7 +102,7 @@ impl Desk {
         requires accepted { accepted_at _script.now (length self.old.replies) ≡ Some request.now }
         requires apart { ClashesWithNone _script.now (is_owed self.old.replies) request.now }
         ensures stands { OnOk result (Stands _script.now self.new.replies self.new.disk self.new.span) }
-        ensures lines { OnOk result (length self.new.replies ≡ length self.old.replies + 1) }
+        ensures owed { OnOk result (self.new.replies ≡ self.old.replies ++ None ∷ []) }
     {
         self.replies.push_owed()?;
         self.span.add(request);

@@ -1,61 +1,82 @@
 //! What a worker is handed for a request, and what it hands back.
 ghost use Rattle.std.specs.Prelude.{◌≡◌, ◌<◌, true, false, IfSome};
-ghost use Rattle.blk_workers.specs.Requests.{IsAnswer};
+ghost use Rattle.blk_workers.specs.Requests.{IsAcceptedAt, IsAnswer};
 ghost use Rattle.blk_workers.specs.Jobs.{IsJob};
 
 use crate::answer::{Answer, answered};
-use crate::naming::Run;
+use crate::naming::{Line, Run};
 use freeze_queue::{BlockQueue, Tag};
 use ram_disk::Sector;
+use run_queues::{Duty, Numbered};
 use script_meaning::Script;
 use std::alloc::Global;
 use std::marker::{Model, PhantomData};
 
-/// A request on its way to a worker: its number among the accepted requests, the position of its line, and the
-/// tag that entered the queue for it, with the sectors that a read finds.
+/// A request on its way to a worker: the duty to tell its completion, the position of its line, and the tag that
+/// entered the queue for it, with the sectors that a read finds.
 ///
-/// The type keeps that the tag is entered in the run's queue and was told the limits in force at the line, and
-/// that the sectors are those that a single thread finds there. It carries no limits: the worker reads them
-/// under the tag.
+/// The type keeps that the duty is one of the run's completions, that the line is the accepted request of its
+/// number, that the tag is entered in the run's queue and was told the limits in force at the line, and that the
+/// sectors are those that a single thread finds there. It carries no limits: the worker reads them under the tag.
 #[derive(Drop)]
-pub(crate) struct Job<J: Run> {
-    number: u32,
+pub(crate) struct Job<J: Run, C: Line> {
+    duty: Duty<Completion<J>>,
     position: usize,
     tag: Tag,
     found: Vec<Sector>,
-    of: PhantomData<J>,
+    of: PhantomData<C>,
 }
 
-impl<J: Run> Model for Job<J> {
+impl<J: Run, C: Line> Model for Job<J, C> {
     ghost use Rattle.blk_workers.specs.Jobs.{JobFacts, IsJob};
 
     ghost Value = { JobFacts };
 
-    ghost view = { λ j. record { number = j.number; position = j.position; tag = j.tag; found = j.found.items } };
+    ghost view = { λ j. record { duty = j.duty; position = j.position; tag = j.tag; found = j.found.items } };
 
-    ghost invariant = { λ j. IsJob J.script J.queue (record { number = j.number; position = j.position; tag = j.tag; found = j.found.items }) };
+    ghost invariant = { λ j. IsJob J.script J.queue C.id (record { duty = j.duty; position = j.position; tag = j.tag; found = j.found.items }) };
+}
+
+impl<J: Run, C: Line> Numbered for Job<J, C> {
+    ghost number = { λ j. j.duty.number };
+
+    /// The request's number among the accepted ones.
+    fn number(&self) -> u32 {
+        self.duty.number()
+    }
 }
 
 /// A request that a worker is done with.
 ///
-/// The type keeps that the answer is that of a single thread to the line at the position. There is none where
-/// the worker was refused memory.
+/// The type keeps that the line at the position is the accepted request of this number, and that the answer is that
+/// of a single thread to it. There is none where the worker was refused memory.
 #[derive(Drop)]
 pub(crate) struct Completion<J: Run> {
+    number: u32,
     position: usize,
     answer: Option<Answer>,
     of: PhantomData<J>,
 }
 
 impl<J: Run> Model for Completion<J> {
-    ghost use Rattle.std.specs.Prelude.{ℕ, IfSome};
-    ghost use Rattle.blk_workers.specs.Requests.{IsAnswer};
+    ghost use Rattle.std.specs.Prelude.{IfSome};
+    ghost use Rattle.blk_workers.specs.Jobs.{CompletionFacts};
+    ghost use Rattle.blk_workers.specs.Requests.{IsAcceptedAt, IsAnswer};
 
-    ghost Value = { ℕ };
+    ghost Value = { CompletionFacts };
 
-    ghost view = { λ c. c.position };
+    ghost view = { λ c. record { number = c.number; position = c.position } };
 
-    ghost invariant = { λ c. IfSome c.answer (λ answer. IsAnswer J.script c.position answer.text.items answer.sectors.items) };
+    ghost invariant = { λ c. IsAcceptedAt J.script c.number c.position × IfSome c.answer (λ answer. IsAnswer J.script c.position answer.text.items answer.sectors.items) };
+}
+
+impl<J: Run> Numbered for Completion<J> {
+    ghost number = { λ c. c.number };
+
+    /// The request's number among the accepted ones.
+    fn number(&self) -> u32 {
+        self.number
+    }
 }
 
 /// A tag that isn't entered, on its way back to whoever submits.
@@ -98,10 +119,13 @@ impl<J: Run> FreeTag<J> {
 }
 
 impl<J: Run> Completion<J> {
-    fn new(position: usize, answer: Option<Answer>) -> Completion<J>
-        requires { IfSome answer (λ a. IsAnswer J.script position a.text.items a.sectors.items) }
+    fn new(number: u32, position: usize, answer: Option<Answer>) -> Completion<J>
+        requires request { IsAcceptedAt J.script number position }
+        requires answer { IfSome answer (λ a. IsAnswer J.script position a.text.items a.sectors.items) }
+        ensures { result ≡ record { number = number; position = position } }
     {
         Completion {
+            number,
             position,
             answer,
             of: PhantomData,
@@ -110,9 +134,12 @@ impl<J: Run> Completion<J> {
 
     /// The position of the request's line, and the answer. `None` where the worker was refused memory.
     pub(crate) fn into_parts(self) -> (usize, Option<Answer>)
-        ensures { IfSome result.1 (λ a. IsAnswer J.script result.0 a.text.items a.sectors.items) }
+        ensures position { result.0 ≡ self.position }
+        ensures request { IsAcceptedAt J.script self.number self.position }
+        ensures answer { IfSome result.1 (λ a. IsAnswer J.script result.0 a.text.items a.sectors.items) }
     {
         let Completion {
+            number: _,
             position,
             answer,
             of: _,
@@ -121,12 +148,18 @@ impl<J: Run> Completion<J> {
     }
 }
 
-impl<J: Run> Job<J> {
-    pub(crate) fn new(number: u32, position: usize, tag: Tag, found: Vec<Sector>) -> Job<J>
-        requires { IsJob J.script J.queue (record { number = number; position = position; tag = tag; found = found.items }) }
+impl<J: Run, C: Line> Job<J, C> {
+    pub(crate) fn new(
+        duty: Duty<Completion<J>>,
+        position: usize,
+        tag: Tag,
+        found: Vec<Sector>,
+    ) -> Job<J, C>
+        requires { IsJob J.script J.queue C.id (record { duty = duty; position = position; tag = tag; found = found.items }) }
+        ensures { result.duty ≡ duty }
     {
         Job {
-            number,
+            duty,
             position,
             tag,
             found,
@@ -134,26 +167,24 @@ impl<J: Run> Job<J> {
         }
     }
 
-    /// The request's number among the accepted ones.
-    pub(crate) fn number(&self) -> u32 {
-        self.number
-    }
-
     /// Does the request: reads the limits under its tag, cuts the pieces, and makes the line of its reply and the
-    /// sectors that a write leaves. Its tag is still entered.
+    /// sectors that a write leaves. Its tag is still entered, and its completion still to be told.
     pub(crate) fn done(
         self,
         alloc: Global,
         queue: &BlockQueue,
         script: &Script,
-    ) -> (Tag, Completion<J>)
+    ) -> (Tag, Duty<Completion<J>>, Completion<J>)
         requires queue { queue.now ≡ J.queue }
         requires script { script.now ≡ J.script }
         ensures own { result.0.queue ≡ J.queue }
         ensures entered { result.0.entered ≡ true }
+        ensures request { IsAcceptedAt J.script self.duty.number self.position }
+        ensures may_tell { result.1.queue ≡ C.id }
+        ensures number { result.2.number ≡ result.1.number }
     {
         let Job {
-            number: _,
+            duty,
             position,
             mut tag,
             found,
@@ -161,6 +192,7 @@ impl<J: Run> Job<J> {
         } = self;
         let limits = queue.limits(&mut tag);
         let answer = answered(alloc, script, position, limits, &found);
-        (tag, Completion::new(position, answer))
+        let number = duty.number();
+        (tag, duty, Completion::new(number, position, answer))
     }
 }

@@ -15,7 +15,8 @@
 //!
 //! What threads hand to one another is known by its type alone, so the types of requests, completions and free
 //! tags keep what [`run`]'s contract rests on; `specs/Jobs.antt` says what a request's type keeps. Requests,
-//! completions and tags stand in lists of a fixed room, whose memory is taken before the first thread starts.
+//! completions and free tags stand in queues under a rule (`run_queues`) of a fixed room, whose memory is taken before
+//! the first thread starts, and so is that for the lists of what each worker draws.
 #![tactic(auto)]
 
 mod answer;
@@ -27,7 +28,6 @@ mod following;
 mod job;
 mod laws;
 mod lines;
-mod list;
 mod naming;
 mod ran;
 mod replies;

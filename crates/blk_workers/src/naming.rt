@@ -1,4 +1,4 @@
-//! Which run it is.
+//! Which run it is, and which of its queues.
 
 use std::marker::Brand;
 
@@ -18,4 +18,18 @@ impl Run for Brand {
     ghost script = { no_script };
 
     ghost queue = { no_queue };
+}
+
+/// A queue by which the threads of a run hand something on. It is made once the run has its name, so it has a name
+/// of its own.
+pub(crate) trait Line {
+    ghost use Rattle.atomic_table.specs.Seated.{TableId};
+
+    ghost id: { TableId };
+}
+
+impl Line for Brand {
+    ghost use Rattle.run_queues.specs.Nobody.{no_table};
+
+    ghost id = { no_table };
 }

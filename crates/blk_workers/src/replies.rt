@@ -85,17 +85,6 @@ impl Replies {
         self.owed
     }
 
-    /// Whether the reply to the line at a position is owed.
-    pub(crate) fn is_owed(&self, position: usize) -> bool
-        ensures { result ≡ is_owed self.now position }
-    {
-        let told = self.told.len();
-        if position < told {
-            return false;
-        }
-        is_owed_in(&self.rest, position - told)
-    }
-
     // Puts the first line that isn't in the text yet there, unless it is owed. Whether it did.
     fn tell_first(&mut self) -> Result<bool, AllocError>
         ensures { self.new ≡ self.old }
@@ -167,16 +156,6 @@ impl Replies {
         let mut text = told.into_text();
         add_lines(&mut text, &rest)?;
         Ok(text)
-    }
-}
-
-// Whether the line at this place is owed.
-fn is_owed_in(lines: &VecDeque<Option<Text>>, place: usize) -> bool
-    ensures { result ≡ is_owed lines.now.items place }
-{
-    match lines.get(place) {
-        Some(None) => true,
-        _ => false,
     }
 }
 

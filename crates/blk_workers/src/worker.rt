@@ -1,95 +1,168 @@
 //! What the threads of a run share, and what a worker does.
-ghost use Rattle.std.specs.Prelude.{◌≡◌, ◌<◌, false, All};
+ghost use Rattle.std.specs.Prelude.{◌≡◌, ◌<◌, true, false, [], All, IfOk, length};
+ghost use Rattle.script_meaning.specs.Requests.{accepted_in_all};
+ghost use Rattle.run_queues.specs.Requests.{all_parts};
+ghost use Rattle.blk_workers.specs.Requests.{IsAcceptedAt};
 
 use crate::fault::RunFault;
 use crate::job::{Completion, FreeTag, Job};
-use crate::list::List;
-use crate::naming::Run;
+use crate::naming::{Line, Run};
 use crate::stall::{Point, Stall};
 use freeze_queue::{BlockQueue, Tag};
+use run_queues::{CompletionQueue, Drawer, Numbered, RequestQueue, Source, SpareQueue};
 use script_meaning::Script;
 use std::alloc::{AllocError, Global};
+use std::marker::{Model, PhantomData};
 use std::sync::Wait;
 
 /// What the threads of a run share: the queue that requests enter, and the lists by which they hand requests,
 /// completions and free tags to one another.
 #[derive(Drop)]
-pub(crate) struct Hall<J: Run> {
+pub(crate) struct Hall<J: Run, C: Line> {
     pub(crate) queue: BlockQueue,
-    pub(crate) requests: List<Job<J>>,
-    pub(crate) completions: List<Completion<J>>,
-    pub(crate) tags: List<FreeTag<J>>,
-    pub(crate) ghost queue_is: { queue ≡ J.queue },
+    pub(crate) requests: RequestQueue<Job<J, C>>,
+    pub(crate) completions: CompletionQueue<Completion<J>>,
+    pub(crate) tags: SpareQueue<FreeTag<J>>,
 }
 
-/// How much room the lists need beside the tags: an end mark for each worker, and a completion for each request
-/// that the queue accepts.
-#[derive(Clone, Copy)]
-pub(crate) struct Room {
-    pub(crate) workers: u32,
-    pub(crate) accepted: usize,
-}
-
-// A list of these tags.
+// A queue of these tags.
 fn free_tags<J: Run, R: Wait>(
     rt: &R,
     alloc: Global,
     tags: Vec<Tag>,
-) -> Result<List<FreeTag<J>>, AllocError>
-    requires { All (λ t. (t.queue ≡ J.queue) × (t.entered ≡ false)) tags.items }
+) -> Result<SpareQueue<FreeTag<J>>, AllocError>
+    requires some { 0 < length tags.items }
+    requires tags { All (λ t. (t.queue ≡ J.queue) × (t.entered ≡ false)) tags.items }
 {
-    let free = List::new(alloc, tags.len())?;
+    let free = SpareQueue::new(alloc, tags.len())?;
     for tag in tags {
-        free.push(rt, FreeTag::new(tag));
+        free.put(rt, FreeTag::new(tag));
     }
     Ok(free)
 }
 
-impl<J: Run> Hall<J> {
-    /// The hall of a queue, in which all its tags are free. All room of the lists is taken here.
+impl<J: Run, C: Line> Hall<J, C> {
+    /// The hall of a queue, in which all its tags are free, and the right to push requests. The room of both queues is
+    /// taken here, and that for the workers' lists.
     pub(crate) fn new<R: Wait>(
         rt: &R,
         alloc: Global,
         queue: BlockQueue,
         tags: Vec<Tag>,
-        room: Room,
-    ) -> Result<Hall<J>, RunFault>
+        completions: CompletionQueue<Completion<J>>,
+        workers: u32,
+    ) -> Result<(Hall<J, C>, Source<Job<J, C>>), RunFault>
         requires queue { queue ≡ J.queue }
+        requires some { 0 < length tags.items }
         requires tags { All (λ t. (t.queue ≡ J.queue) × (t.entered ≡ false)) tags.items }
+        ensures queue { IfOk result (λ h. h.0.queue ≡ queue) }
+        ensures completions { IfOk result (λ h. h.0.completions ≡ completions) }
+        ensures source { IfOk result (λ h. h.1 ≡ record { queue = h.0.requests.id; parts = all_parts; pushed = 0; closed = false; drained = false; lists = []; room = workers }) }
     {
-        let most = tags.len().saturating_add(room.workers as usize);
-        Ok(Hall {
+        let (requests, source) = RequestQueue::new(alloc, tags.len(), workers as usize)?;
+        let hall = Hall {
             queue,
-            requests: List::new(alloc, most)?,
-            completions: List::new(alloc, room.accepted)?,
+            requests,
+            completions,
             tags: free_tags(rt, alloc, tags)?,
-        })
+        };
+        Ok((hall, source))
     }
 }
 
-/// Does requests until it takes an end mark. The tag leaves on this worker's own slot once the completion is
-/// queued, and goes back to whoever submits.
-pub(crate) fn work<J: Run, R: Wait, S: Stall>(
+/// What a worker hands back: the right to draw, once it has taken an end mark.
+#[derive(Drop)]
+pub(crate) struct Back<J: Run, C: Line, L: Line> {
+    drawer: Drawer<Job<J, C>>,
+    of: PhantomData<L>,
+}
+
+impl<J: Run, C: Line, L: Line> Model for Back<J, C, L> {
+    ghost use Rattle.std.specs.Prelude.{◌≡◌, true};
+    ghost use Rattle.run_queues.specs.Parts.{DrawerFacts};
+
+    ghost Value = { DrawerFacts };
+
+    ghost view = { λ b. b.drawer };
+
+    ghost invariant = { λ b. (b.drawer.queue ≡ L.id) × (b.drawer.drained ≡ true) };
+}
+
+impl<J: Run, C: Line, L: Line> Back<J, C, L> {
+    fn new(drawer: Drawer<Job<J, C>>) -> Back<J, C, L>
+        requires own { drawer.queue ≡ L.id }
+        requires drained { drawer.drained ≡ true }
+    {
+        Back {
+            drawer,
+            of: PhantomData,
+        }
+    }
+
+    /// The right to draw, with the list of what was drawn.
+    pub(crate) fn into_drawer(self) -> Drawer<Job<J, C>>
+        ensures own { result.queue ≡ L.id }
+        ensures drained { result.drained ≡ true }
+    {
+        let Back { drawer, of: _ } = self;
+        drawer
+    }
+}
+
+// Does a request: the tag leaves on this worker's own slot once the completion is queued, and goes back to whoever
+// submits.
+fn serve<J: Run, C: Line, R: Wait, S: Stall>(
     rt: &R,
     alloc: Global,
-    hall: &Hall<J>,
+    hall: &Hall<J, C>,
     script: &Script,
     stall: &S,
     slot: u32,
+    job: Job<J, C>,
 )
+    requires queue { hall.now.queue ≡ J.queue }
+    requires completions { hall.now.completions.id ≡ C.id }
     requires slot { slot < J.queue.gate.slots }
     requires script { script.now ≡ J.script }
+    ensures { IsAcceptedAt J.script job.duty.number job.position }
+{
+    let number = job.number();
+    stall.at(number, Point::Drawn);
+    let (mut tag, duty, completion) = job.done(alloc, &hall.queue, script);
+    hall.completions.tell(rt, duty, completion);
+    stall.at(number, Point::Answered);
+    let _last = hall.queue.leave(&mut tag, slot);
+    hall.tags.put(rt, FreeTag::new(tag));
+}
+
+/// Does requests until it takes an end mark. There is room for the number of each request of the script, so no
+/// memory is asked for.
+pub(crate) fn work<J: Run, C: Line, L: Line, R: Wait, S: Stall>(
+    rt: &R,
+    alloc: Global,
+    hall: &Hall<J, C>,
+    script: &Script,
+    stall: &S,
+    slot: u32,
+    mut drawer: Drawer<Job<J, C>>,
+) -> Back<J, C, L>
+    requires queue { hall.now.queue ≡ J.queue }
+    requires completions { hall.now.completions.id ≡ C.id }
+    requires slot { slot < J.queue.gate.slots }
+    requires script { script.now ≡ J.script }
+    requires line { hall.now.requests.id ≡ L.id }
+    requires own { drawer.queue ≡ L.id }
+    requires fresh { drawer.drawn ≡ [] }
+    requires room { accepted_in_all J.script < drawer.room }
 {
     for _ in rt.forever() {
-        let Some(job) = hall.requests.pop(rt) else {
-            return;
+        let Ok(drawn) = hall.requests.draw(rt, &mut drawer) else {
+            unreachable!()
         };
-        let number = job.number();
-        stall.at(number, Point::Drawn);
-        let (mut tag, completion) = job.done(alloc, &hall.queue, script);
-        hall.completions.push(rt, completion);
-        stall.at(number, Point::Answered);
-        let _last = hall.queue.leave(&mut tag, slot);
-        hall.tags.push(rt, FreeTag::new(tag));
+        let Some(job) = drawn else {
+            return Back::new(drawer);
+        };
+        serve(rt, alloc, hall, script, stall, slot, job);
     }
+    unreachable!()
 }

@@ -18,7 +18,11 @@ fn text_of(alloc: Global, ran: Ran) -> Result<Vec<u8>, Fault>
     ensures text { IfOk result (λ text. (script : Meant) → IsRun script ran.replies.items ran.disk → IsText script text.items) }
     ensures memory { IfErr result (λ fault. fault ≡ Fault.Memory) }
 {
-    let Ran { replies, disk } = ran;
+    let Ran {
+        replies,
+        disk,
+        drawn: _,
+    } = ran;
     let mut text = replies;
     let Ok(line) = render_disk(alloc, &disk) else {
         return Err(Fault::Memory);

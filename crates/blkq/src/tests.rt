@@ -1,6 +1,8 @@
 //! The program on worked inputs, and with words, readers and writers of every kind.
 mod arguments;
 mod driver;
+mod each_byte;
+mod fakes;
 mod scripts;
 mod texts;
 mod ways;

@@ -1,4 +1,5 @@
 pub mod LimitWords
 pub mod SetLimits
+pub mod Thaws
 pub mod ToldLimits
 pub mod Emptied

@@ -15,7 +15,8 @@ pub from_same_words : (hardware : ℕ) (a b : List ℕ) → ((k : ℕ) → k < L
 from_same_words hardware a b same =
     let max = same 0 (omega arith) in
     let chunk = same 1 (omega arith) in
-    λ j. from_words hardware (max j ∷ chunk j ∷ [])
+    let physical = same 2 (omega arith) in
+    λ j. from_words hardware (max j ∷ chunk j ∷ physical j ∷ [])
 
 -- a write leaves the words before it
 pub set_before : (xs : List ℕ) (k v i : ℕ) → i < k → slice_index (slice_set xs k v) i ≡ slice_index xs i

@@ -16,8 +16,8 @@
 //! `specs/Queue.antt` says in five minutes what a tag and a freezer know and what each call leaves. What it means
 //! at the gate that limits hold still and that a queue is drained is proved by [`limits_hold_still`] and
 //! [`drained_is_empty`]; that what tags read is what the freezer set, by [`in_force_are_set`] and
-//! [`tags_read_what_is_set`]. `tests/caller.rt` shows how a caller reasons. That a waiter wakes is promised nowhere:
-//! tests show it.
+//! [`tags_read_what_is_set`]. Its tests are a crate of their own, `queue_trials`, in which `tests/caller.rt` shows how a
+//! caller reasons. That a waiter wakes is promised nowhere: tests show it.
 #![tactic(auto)]
 
 mod fault;
@@ -28,8 +28,6 @@ mod queue;
 mod remove;
 mod shared;
 mod tag;
-#[cfg(test)]
-mod tests;
 
 pub use fault::FreezeFault;
 pub use freezer::{Freezer, MOST_DEPTH};

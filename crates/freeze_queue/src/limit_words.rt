@@ -8,7 +8,7 @@ ghost use Rattle.freeze_queue.specs.AtTheGate.{AreReadTogether};
 use percpu_gate::{Control, Gate, Pass};
 
 /// How many guarded words hold the limits of a queue.
-pub const LIMIT_WORDS: usize = 2;
+pub const LIMIT_WORDS: usize = 3;
 
 /// Loads the words, for a pass that holds a reference.
 #[inline]

@@ -13,8 +13,6 @@ mod replay;
 mod reply_lines;
 mod schedule;
 mod schedule_parser;
-#[cfg(test)]
-mod tests;
 mod world_line;
 
 pub use laws::replays_are_runs;

@@ -1,5 +1,5 @@
-//! What appends to a text.
-ghost use Rattle.std.specs.Prelude.{◌≡◌, ◌++◌, ◌∷◌, [], OnOk, decimal};
+//! What appends to a text. Where memory is refused, the text is as before.
+ghost use Rattle.std.specs.Prelude.{◌≡◌, ◌++◌, ◌∷◌, [], OnErr, OnOk, decimal};
 ghost use Rattle.hex.specs.Hex.{encode_lower};
 ghost use Rattle.line_text.specs.Named.{named};
 
@@ -8,7 +8,8 @@ use std::alloc::AllocError;
 
 /// Appends a number in decimal.
 pub fn push_number(out: &mut Vec<u8>, number: u64) -> Result<(), AllocError>
-    ensures { OnOk result (out.new.items ≡ out.old.items ++ decimal number) }
+    ensures ok { OnOk result (out.new.items ≡ out.old.items ++ decimal number) }
+    ensures err { OnErr result (out.new.items ≡ out.old.items) }
 {
     let mut buffer = Buffer::new();
     out.extend_from_slice(buffer.format(number).as_bytes())
@@ -16,7 +17,8 @@ pub fn push_number(out: &mut Vec<u8>, number: u64) -> Result<(), AllocError>
 
 /// Appends a text.
 pub fn push_text(out: &mut Vec<u8>, text: &str) -> Result<(), AllocError>
-    ensures { OnOk result (out.new.items ≡ out.old.items ++ text.now) }
+    ensures ok { OnOk result (out.new.items ≡ out.old.items ++ text.now) }
+    ensures err { OnErr result (out.new.items ≡ out.old.items) }
 {
     out.extend_from_slice(text.as_bytes())
 }
@@ -24,15 +26,22 @@ pub fn push_text(out: &mut Vec<u8>, text: &str) -> Result<(), AllocError>
 /// Appends a name, and a number after it in decimal.
 #[tactic(auto, unfolding(crate::specs::Named::named))]
 pub fn push_named(out: &mut Vec<u8>, name: &str, number: u64) -> Result<(), AllocError>
-    ensures { OnOk result (out.new.items ≡ out.old.items ++ named name.now number) }
+    ensures ok { OnOk result (out.new.items ≡ out.old.items ++ named name.now number) }
+    ensures err { OnErr result (out.new.items ≡ out.old.items) }
 {
+    let before = out.len();
     push_text(out, name)?;
-    push_number(out, number)
+    let pushed = push_number(out, number);
+    if pushed.is_err() {
+        out.truncate(before);
+    }
+    pushed
 }
 
 /// Appends a byte in two lower-case hexadecimal digits.
 pub fn push_hex(out: &mut Vec<u8>, byte: u8) -> Result<(), AllocError>
-    ensures { OnOk result (out.new.items ≡ out.old.items ++ encode_lower (byte ∷ [])) }
+    ensures ok { OnOk result (out.new.items ≡ out.old.items ++ encode_lower (byte ∷ [])) }
+    ensures err { OnErr result (out.new.items ≡ out.old.items) }
 {
     let mut digits = [0; 2];
     let _ = hex::encode_to_slice([byte].as_slice(), &mut digits);

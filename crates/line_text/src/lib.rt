@@ -25,6 +25,3 @@ pub use splitting::words;
 pub use statements::{LONGEST_TEXT, Statements};
 pub use word_counts::{is_word, no_words, one_word, three_words, two_words};
 pub use word_list::Words;
-
-#[cfg(test)]
-mod tests;

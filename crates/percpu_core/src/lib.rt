@@ -41,8 +41,6 @@ mod sizes;
 mod slot;
 mod slots;
 mod start;
-#[cfg(test)]
-mod tests;
 mod view;
 mod world;
 

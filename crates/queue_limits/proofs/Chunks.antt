@@ -1,16 +1,16 @@
--- Where the boundaries of chunks lie, and how long a piece may be.
+-- Where the boundaries of chunks lie, and how far the reach goes.
 use Rattle.std.proofs.Common.{◌≡◌, ℕ, ◌+◌, ◌-◌, ◌*◌, ◌/◌, ◌%◌, ◌<◌, ◌≤◌, ◌⊎◌, inl, inr, min, arith, subst}
 use Rattle.std.proofs.lemmas.Bool.{cases_lt, cases_eq}
 use Rattle.std.proofs.lemmas.Bool.Decides.{nat_tests}
 use Rattle.std.proofs.lemmas.Nat.{div-add-mod', mod_below}
 use Rattle.std.proofs.Math.Nat.{mul-le-mul_right}
 use Rattle.queue_limits.specs.Bounds.{Bounds}
-use Rattle.queue_limits.specs.Pieces.{StaysInChunk, IsAllowed}
+use Rattle.queue_limits.specs.Pieces.{StaysInChunk, IsWithinReach}
 use Rattle.queue_limits.specs.Greedy.{reach}
 
 -- what fits at a place fits when it is shorter
-pub allowed_shorter : (bounds : Bounds) (start n m : ℕ) → n ≤ m → IsAllowed bounds start m → IsAllowed bounds start n
-allowed_shorter bounds start n m le h = (omega (arith, h.0), λ k after. omega (arith, h.1 k after))
+pub within_shorter : (bounds : Bounds) (start n m : ℕ) → n ≤ m → IsWithinReach bounds start m → IsWithinReach bounds start n
+within_shorter bounds start n m le h = (omega (arith, h.0), λ k after. omega (arith, h.1 k after))
 
 -- a multiple of c after q * c + r, for r below c, is at (q + 1) * c or later
 next_multiple : (c q r k : ℕ) → q * c + r < k * c → (q + 1) * c ≤ k * c
@@ -60,20 +60,23 @@ reach_positive bounds start pos =
       | inr h ↦ let below : start % bounds.chunk < bounds.chunk = mod_below start bounds.chunk h.0 in omega (arith, h.1)
     ]
 
-pub reach_allowed : (bounds : Bounds) (start n : ℕ) → n ≤ reach bounds start → IsAllowed bounds start n
-reach_allowed bounds start n le =
+pub reach_within : (bounds : Bounds) (start n : ℕ) → n ≤ reach bounds start → IsWithinReach bounds start n
+reach_within bounds start n le =
     elim (reach_by bounds start) [
       | inl h ↦ (omega (arith, h.1), stays_without bounds start n h.0)
       | inr h ↦ (omega (arith, h.1), stays_to_boundary bounds start n h.0 (omega (arith, h.1)))
     ]
 
-pub reach_longest : (bounds : Bounds) (start n : ℕ) → reach bounds start < n → IsAllowed bounds start n → ⊥
-reach_longest bounds start n lt allowed =
+pub reach_most : (bounds : Bounds) (start n : ℕ) → IsWithinReach bounds start n → n ≤ reach bounds start
+reach_most bounds start n within =
     elim (reach_by bounds start) [
-      | inl h ↦ omega (arith, h.1, allowed.0)
+      | inl h ↦ omega (arith, h.1, within.0)
       | inr h ↦
           elim (cases_lt (bounds.chunk - start % bounds.chunk) n) [
-            | inl past ↦ boundary_inside bounds start n h.0 past allowed.1
-            | inr within ↦ omega (arith, h.1, allowed.0)
+            | inl past ↦ absurd (boundary_inside bounds start n h.0 past within.1)
+            | inr inside ↦ omega (arith, h.1, within.0)
           ]
     ]
+
+pub past_reach : (bounds : Bounds) (start n : ℕ) → reach bounds start < n → ¬ (IsWithinReach bounds start n)
+past_reach bounds start n past = λ within. let most : n ≤ reach bounds start = reach_most bounds start n within in absurd (omega arith)

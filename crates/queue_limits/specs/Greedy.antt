@@ -1,14 +1,24 @@
--- Which list of pieces it is: each piece takes as many of the sectors left as its place allows.
-use Rattle.std.specs.Prelude.{ℕ, ◌+◌, ◌-◌, ◌%◌, ◌==◌, if◌then◌else◌, min, zero, suc, List, [], ◌∷◌}
+-- Which list of pieces it is: from the first on, each is cut off what is left by its place alone.
+use Rattle.std.specs.Prelude.{ℕ, ◌+◌, ◌-◌, ◌%◌, ◌==◌, if◌then◌else◌, min, zero, suc, List, [], ◌∷◌, nat_le, nat_lt}
 use Rattle.queue_limits.specs.Bounds.{Bounds}
 
--- the length of the longest piece that may begin at `start`
+-- the reach at `start`: the most sectors from there on that the limits allow in one piece
 abbrev pub reach : Bounds → ℕ → ℕ
 reach bounds start = if bounds.chunk == 0 then bounds.max else min bounds.max (bounds.chunk - start % bounds.chunk)
 
--- at most `turns` pieces of the `left` sectors from `start` on, each the longest that may begin there
-abbrev pub longest_pieces : ℕ → Bounds → ℕ → ℕ → List ℕ
-longest_pieces zero bounds start left = []
-longest_pieces (suc turns) bounds start left =
-    let length = min left (reach bounds start) in
-    if left == 0 then [] else length ∷ longest_pieces turns bounds (start + length) (left - length)
+-- of the `sectors` from `start` on, those up to the last multiple of the physical size, or all where none is above `start`
+abbrev pub to_block : Bounds → ℕ → ℕ → ℕ
+to_block bounds start sectors =
+    let past = (start + sectors) % bounds.physical in
+    if nat_lt past sectors then sectors - past else sectors
+
+-- the length of the first piece of the `left` sectors from `start` on
+abbrev pub first_piece : Bounds → ℕ → ℕ → ℕ
+first_piece bounds start left = if nat_le left (reach bounds start) then left else to_block bounds start (reach bounds start)
+
+-- at most `turns` pieces of the `left` sectors from `start` on
+abbrev pub greedy_pieces : ℕ → Bounds → ℕ → ℕ → List ℕ
+greedy_pieces zero bounds start left = []
+greedy_pieces (suc turns) bounds start left =
+    let length = first_piece bounds start left in
+    if left == 0 then [] else length ∷ greedy_pieces turns bounds (start + length) (left - length)

@@ -1,7 +1,8 @@
--- Bounds: what limits are. Pieces: what a range is cut into. Greedy: which list that is. Words: limits as two words. FaultNumber: the numbers
--- of the refusals.
+-- Bounds: what limits are. Pieces: what a range is cut into. Greedy: which list that is. LongestPieces: what the list is where a physical
+-- block is one sector. Words: limits as three words. FaultNumber: the numbers of the refusals.
 pub mod Bounds
 pub mod FaultNumber
 pub mod Greedy
+pub mod LongestPieces
 pub mod Pieces
 pub mod Words

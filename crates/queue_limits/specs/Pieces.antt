@@ -1,32 +1,42 @@
 -- The pieces of a range of sectors: what one request is cut into under the limits.
 use Rattle.std.specs.Prelude.{◌≡◌, ℕ, ◌+◌, ◌*◌, ◌<◌, ◌≤◌, List, [], ◌∷◌, sum}
+use Rattle.std.specs.List.{All}
 use Rattle.queue_limits.specs.Bounds.{Bounds}
 
 -- no multiple of the chunk lies strictly inside the `length` sectors from `start` on; a chunk of 0 has no multiple but 0
 abbrev pub StaysInChunk : Bounds → ℕ → ℕ → Type 0
 StaysInChunk bounds start length = (k : ℕ) → start < k * bounds.chunk → start + length ≤ k * bounds.chunk
 
--- the `length` sectors from `start` on may be one piece
-abbrev pub IsAllowed : Bounds → ℕ → ℕ → Type 0
-IsAllowed bounds start length = (length ≤ bounds.max) × StaysInChunk bounds start length
+-- the `length` sectors from `start` on are within the reach there: no more than the limit, and in one chunk
+abbrev pub IsWithinReach : Bounds → ℕ → ℕ → Type 0
+IsWithinReach bounds start length = (length ≤ bounds.max) × StaysInChunk bounds start length
 
--- P holds of each piece, by its first sector and its length, where the first piece begins at `start`
-abbrev pub EachPiece : (ℕ → ℕ → Type 0) → ℕ → List ℕ → Type 0
+-- some sectors from `start` on, within the reach there, end where a physical block ends
+abbrev pub EndsWithBlock : Bounds → ℕ → ℕ → Type 0
+EndsWithBlock bounds start length = (0 < length) × IsWithinReach bounds start length × ((k : ℕ) × (start + length ≡ k * bounds.physical))
+
+-- the greatest length of which P holds
+abbrev pub IsGreatest : (ℕ → Type 0) → ℕ → Type 0
+IsGreatest P length = P length × ((other : ℕ) → P other → other ≤ length)
+
+-- of the `left` sectors from `start` on the first piece has `length`
+pub record IsFirstPiece (bounds : Bounds) (start left length : ℕ) : Type 0 where
+  -- all that is left is one piece where it is within the reach
+  pub whole : IsWithinReach bounds start left → length ≡ left
+  -- else the piece ends with the last physical block that ends within the reach
+  pub with_block : ¬ (IsWithinReach bounds start left) → (some : ℕ) → EndsWithBlock bounds start some → IsGreatest (EndsWithBlock bounds start) length
+  -- and where none ends there, it has its reach
+  pub in_block : ¬ (IsWithinReach bounds start left) → ((some : ℕ) → ¬ (EndsWithBlock bounds start some)) → IsGreatest (IsWithinReach bounds start) length
+
+-- P holds of each piece, by its first sector, the sectors that are left there, and its length, where the first piece begins at `start`
+abbrev pub EachPiece : (ℕ → ℕ → ℕ → Type 0) → ℕ → List ℕ → Type 0
 EachPiece P start [] = Unit {0}
-EachPiece P start (length ∷ lengths) = P start length × EachPiece P (start + length) lengths
-
--- the same of each piece but the last
-abbrev pub EachButLast : (ℕ → ℕ → Type 0) → ℕ → List ℕ → Type 0
-EachButLast P start [] = Unit {0}
-EachButLast P start (length ∷ []) = Unit {0}
-EachButLast P start (length ∷ next ∷ lengths) = P start length × EachButLast P (start + length) (next ∷ lengths)
+EachPiece P start (length ∷ lengths) = P start (length + sum lengths) length × EachPiece P (start + length) lengths
 
 -- these are the lengths of the pieces of the `count` sectors from `start` on
 pub record IsSplit (bounds : Bounds) (start count : ℕ) (lengths : List ℕ) : Type 0 where
   -- they join to the range
   pub joined : sum lengths ≡ count
-  pub non_empty : EachPiece (λ at length. 0 < length) start lengths
-  -- none is longer than the limit, and none has a multiple of the chunk strictly inside
-  pub allowed : EachPiece (IsAllowed bounds) start lengths
-  -- none but the last could be one sector longer
-  pub longest : EachButLast (λ at length. ¬ (IsAllowed bounds at (length + 1))) start lengths
+  pub non_empty : All (λ length. 0 < length) lengths
+  -- each is the first piece of what is left where it begins
+  pub cut : EachPiece (IsFirstPiece bounds) start lengths

@@ -17,6 +17,9 @@ pub enum LimitFault {
     /// The hardware limit isn't from 1 to 65,535 sectors.
     #[error("a hardware limit outside 1 to 65535 sectors")]
     HardwareRange,
+    /// The physical block hasn't a power of two of sectors, or more than 32,768.
+    #[error("a physical block that isn't a power of two from 1 to 32768 sectors")]
+    BadPhysical,
 }
 
 impl LimitFault {
@@ -28,6 +31,7 @@ impl LimitFault {
             LimitFault::AboveHardware => 1,
             LimitFault::ChunkTooLarge => 2,
             LimitFault::HardwareRange => 3,
+            LimitFault::BadPhysical => 4,
         }
     }
 }

@@ -16,8 +16,8 @@ mod limits;
 mod pieces;
 
 pub use fault::LimitFault;
-pub use laws::{limits_in_numbers, one_split};
-pub use limits::{CHUNK_LIMIT, HARDWARE_LIMIT, Limits};
+pub use laws::{limits_in_numbers, one_split, physical_sizes, pieces_of_one_sector_blocks};
+pub use limits::{CHUNK_LIMIT, HARDWARE_LIMIT, Limits, PHYSICAL_LIMIT};
 pub use pieces::Pieces;
 
 #[cfg(test)]

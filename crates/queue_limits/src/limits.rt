@@ -1,7 +1,7 @@
 //! The limits of a queue.
-ghost use Rattle.std.specs.Prelude.{◌≡◌, ◌==◌, if◌then◌else◌, ℕ, ◌+◌, ◌<◌, ◌≤◌, ◌^◌, ◌∷◌, ◌↔◌, ◌⊎◌, List, min, IfOk, IfErr, IsErrOf, OnOk, OnErr};
-ghost use Rattle.queue_limits.specs.Greedy.{reach};
-ghost use Rattle.queue_limits.specs.Bounds.{Bounds, AreAllowed, IsHardwareLimit};
+ghost use Rattle.std.specs.Prelude.{◌≡◌, ◌==◌, if◌then◌else◌, ℕ, ◌+◌, ◌-◌, ◌%◌, ◌<◌, ◌≤◌, ◌^◌, ◌∷◌, ◌↔◌, ◌⊎◌, true, false, List, IfOk, IfErr, IsErrOf, OnOk, OnErr};
+ghost use Rattle.queue_limits.specs.Greedy.{reach, to_block, first_piece};
+ghost use Rattle.queue_limits.specs.Bounds.{Bounds, AreAllowed, IsHardwareLimit, is_physical_size};
 ghost use Rattle.queue_limits.specs.Words.{to_words, from_words};
 ghost use Rattle.queue_limits.specs.Pieces.{IsSplit};
 
@@ -15,15 +15,20 @@ pub const HARDWARE_LIMIT: u32 = 65_535;
 /// The greatest chunk, in sectors.
 pub const CHUNK_LIMIT: u32 = 65_535;
 
+/// The greatest physical block, in sectors.
+pub const PHYSICAL_LIMIT: u32 = 32_768;
+
 /// The limits of a queue, in sectors of 512 bytes: what the hardware takes in one request, the most that
-/// the queue sends in one, and the chunk that no request may cross (0: none).
+/// the queue sends in one, the chunk that no request may cross (0: none), and the physical block, with the end of which a
+/// request that is cut shall end (1: any sector).
 ///
-/// Linux: `struct queue_limits` (`max_hw_sectors`, `max_sectors`, `chunk_sectors`).
+/// Linux: `struct queue_limits` (`max_hw_sectors`, `max_sectors`, `chunk_sectors`, `physical_block_size`).
 #[derive(Clone, Copy, Debug, PartialEq, Eq)]
 pub struct Limits {
     hardware: u32,
     max: u32,
     chunk: u32,
+    physical: u32,
 }
 
 impl Model for Limits {
@@ -31,25 +36,27 @@ impl Model for Limits {
 
     ghost Value = { Bounds };
 
-    ghost view = { λ a. record { hardware = a.hardware; max = a.max; chunk = a.chunk } };
+    ghost view = { λ a. record { hardware = a.hardware; max = a.max; chunk = a.chunk; physical = a.physical } };
 
-    ghost invariant = { λ a. AreAllowed (record { hardware = a.hardware; max = a.max; chunk = a.chunk }) };
+    ghost invariant = { λ a. AreAllowed (record { hardware = a.hardware; max = a.max; chunk = a.chunk; physical = a.physical }) };
 
-    ghost inverse = { λ b. record { hardware = b.hardware; max = b.max; chunk = b.chunk } };
+    ghost inverse = { λ b. record { hardware = b.hardware; max = b.max; chunk = b.chunk; physical = b.physical } };
 }
 
 impl Limits {
     /// Limits of `hw` sectors a request by hardware, of `max` by choice (0: as many as the hardware
-    /// takes), and a chunk of `chunk` sectors (0: none; it need not be a power of two).
+    /// takes), and a chunk of `chunk` sectors (0: none; it need not be a power of two). A physical block is one sector.
     ///
     /// Refused, in this order: `HardwareRange` where `hw` isn't from 1 to 65,535, `AboveHardware` where
     /// `max` is above `hw`, `ChunkTooLarge` where `chunk` is above 65,535.
+    #[tactic(auto, using(crate::proofs::PowersOfTwo::one_is_a_size))]
     pub fn new(hw: u32, max: u32, chunk: u32) -> Result<Self, LimitFault>
-        ensures made { IfOk result (λ l. l ≡ record { hardware = hw; max = (if max == 0 then hw else max); chunk = chunk }) }
+        ensures made { IfOk result (λ l. l ≡ record { hardware = hw; max = (if max == 0 then hw else max); chunk = chunk; physical = 1 }) }
         ensures allowed { IfOk result AreAllowed }
         ensures hardware_range { IsErrOf result LimitFault.HardwareRange ↔ ((hw < 1) ⊎ (HARDWARE_LIMIT < hw)) }
         ensures above_hardware { IsErrOf result LimitFault.AboveHardware ↔ ((1 ≤ hw) × (hw ≤ HARDWARE_LIMIT) × (hw < max)) }
         ensures chunk_too_large { IsErrOf result LimitFault.ChunkTooLarge ↔ ((1 ≤ hw) × (hw ≤ HARDWARE_LIMIT) × (max ≤ hw) × (CHUNK_LIMIT < chunk)) }
+        ensures never_bad_physical { ¬ (IsErrOf result LimitFault.BadPhysical) }
     {
         if hw < 1 || hw > HARDWARE_LIMIT {
             Err(LimitFault::HardwareRange)
@@ -63,14 +70,16 @@ impl Limits {
                 hardware: hw,
                 max,
                 chunk,
+                physical: 1,
             })
         }
     }
 
-    /// The limits that a queue starts with: as many sectors a request as the hardware takes, no chunk.
+    /// The limits that a queue starts with: as many sectors a request as the hardware takes, no chunk, and a
+    /// physical block of one sector.
     /// Refused with `HardwareRange` where `hw` isn't from 1 to 65,535.
     pub fn start(hw: u32) -> Result<Self, LimitFault>
-        ensures made { IfOk result (λ l. l ≡ record { hardware = hw; max = hw; chunk = 0 }) }
+        ensures made { IfOk result (λ l. l ≡ record { hardware = hw; max = hw; chunk = 0; physical = 1 }) }
         ensures allowed { IfOk result AreAllowed }
         ensures hardware_range { IsErrOf result LimitFault.HardwareRange ↔ ((hw < 1) ⊎ (HARDWARE_LIMIT < hw)) }
         ensures only_fault { IfErr result (λ fault. fault ≡ LimitFault.HardwareRange) }
@@ -100,6 +109,14 @@ impl Limits {
         ensures allowed { AreAllowed self.now }
     {
         self.chunk
+    }
+
+    /// The sectors of a physical block: a power of two from 1 to 32,768.
+    pub fn physical(&self) -> u32
+        ensures value { result ≡ self.now.physical }
+        ensures allowed { AreAllowed self.now }
+    {
+        self.physical
     }
 
     /// Sets the most sectors of one request; 0 restores what the hardware takes. Refused with
@@ -136,23 +153,47 @@ impl Limits {
         Ok(())
     }
 
-    /// The limits that can change, as two words: `max()` and `chunk()`.
-    pub fn to_words(&self) -> [u64; 2]
-        ensures { result ≡ to_words self.now }
+    /// Sets the sectors of a physical block. Refused with `BadPhysical` where `physical` isn't a power of two from 1 to 32,768:
+    /// the old limits stay.
+    ///
+    /// Linux: `blk_validate_limits` (block/blk-settings.c), in bytes there, where such a size is the driver's mistake.
+    pub fn set_physical(&mut self, physical: u32) -> Result<(), LimitFault>
+        ensures set { OnOk result (self.new ≡ record self.old { physical = physical }) }
+        ensures bad_physical { IsErrOf result LimitFault.BadPhysical ↔ (is_physical_size physical ≡ false) }
+        ensures only_fault { IfErr result (λ fault. fault ≡ LimitFault.BadPhysical) }
+        ensures same { OnErr result (self.new ≡ self.old) }
+        ensures allowed { OnOk result (AreAllowed self.new) }
     {
-        [u64::from(self.max), u64::from(self.chunk)]
+        if !is_block_size(u64::from(physical)) {
+            return Err(LimitFault::BadPhysical);
+        }
+        self.physical = physical;
+        Ok(())
     }
 
-    /// The limits that two words tell, for a hardware limit of 1 to 65,535 sectors. Any words will do: a
-    /// first word of 0 or above `hw` is read as `hw`, a second above 65,535 as 0.
-    pub fn from_words(hw: u32, words: [u64; 2]) -> Self
+    /// The limits that can change, as three words: `max()`, `chunk()` and `physical()`.
+    pub fn to_words(&self) -> [u64; 3]
+        ensures { result ≡ to_words self.now }
+    {
+        [
+            u64::from(self.max),
+            u64::from(self.chunk),
+            u64::from(self.physical),
+        ]
+    }
+
+    /// The limits that three words tell, for a hardware limit of 1 to 65,535 sectors. Any words will do: a
+    /// first word of 0 or above `hw` is read as `hw`, a second above 65,535 as 0, a third that isn't a power of two from 1 to
+    /// 32,768 as 1.
+    #[tactic(auto, using(crate::proofs::PowersOfTwo::one_is_a_size))]
+    pub fn from_words(hw: u32, words: [u64; 3]) -> Self
         requires { IsHardwareLimit hw }
         ensures read { result ≡ from_words hw words }
         ensures allowed { AreAllowed result }
         // What limits told of themselves is read as these limits.
         ensures back { (limits : Bounds) → AreAllowed limits → limits.hardware ≡ hw → words ≡ to_words limits → result ≡ limits }
     {
-        let [max, chunk] = words;
+        let [max, chunk, physical] = words;
         let in_range = max > 0 && max <= u64::from(hw);
         Limits {
             hardware: hw,
@@ -161,6 +202,11 @@ impl Limits {
                 0
             } else {
                 chunk as u32
+            },
+            physical: if is_block_size(physical) {
+                physical as u32
+            } else {
+                1
             },
         }
     }
@@ -173,7 +219,7 @@ impl Limits {
         requires place { start < 2 ^ 33 }
         ensures first { (others : List ℕ) × IsSplit self.now start left (result ∷ others) }
     {
-        self.longest_piece(start, left)
+        self.first_piece(start, left)
     }
 
     /// The lengths, in sectors, of the pieces of the `count` sectors from `start` on, in order.
@@ -186,17 +232,50 @@ impl Limits {
         Pieces::new(*self, start, count)
     }
 
-    // The sectors of a piece end at the next boundary of a chunk, or before it where `max` comes first.
-    pub(crate) fn longest_piece(&self, start: u64, left: u32) -> u32
-        ensures length { result ≡ min left (reach self.now start) }
+    // A rest within the reach stays whole. Else the piece ends with a physical block, so that the next begins with one.
+    pub(crate) fn first_piece(&self, start: u64, left: u32) -> u32
+        requires place { start < 2 ^ 33 }
+        ensures length { result ≡ first_piece self.now start left }
         ensures allowed { AreAllowed self.now }
     {
-        let most = left.min(self.max);
-        if self.chunk == 0 {
-            return most;
+        let reach = self.reach(start);
+        if left <= reach {
+            return left;
         }
-        let chunk = u64::from(self.chunk);
-        let to_boundary = chunk - start % chunk;
-        most.min(to_boundary as u32)
+        // The remainder by a power of two.
+        let past = (start + u64::from(reach)) & (u64::from(self.physical) - 1);
+        if past < u64::from(reach) {
+            reach - past as u32
+        } else {
+            reach
+        }
     }
+
+    // The sectors of a piece end at the next boundary of a chunk, or before it where `max` comes first.
+    fn reach(&self, start: u64) -> u32
+        ensures length { result ≡ reach self.now start }
+        ensures allowed { AreAllowed self.now }
+    {
+        if self.chunk == 0 {
+            return self.max;
+        }
+        self.max.min(sectors_to_boundary(start, self.chunk))
+    }
+}
+
+// How far it is from `start` to the next multiple of the chunk.
+fn sectors_to_boundary(start: u64, chunk: u32) -> u32
+    requires { 0 < chunk }
+    ensures { result ≡ chunk - start % chunk }
+{
+    let chunk = u64::from(chunk);
+    let to_boundary = chunk - start % chunk;
+    to_boundary as u32
+}
+
+// Whether a physical block may have that many sectors.
+fn is_block_size(sectors: u64) -> bool
+    ensures { result ≡ is_physical_size sectors }
+{
+    sectors <= u64::from(PHYSICAL_LIMIT) && sectors.is_power_of_two()
 }

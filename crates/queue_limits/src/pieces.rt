@@ -20,11 +20,11 @@ pub struct Pieces {
 impl Model for Pieces {
     ghost use Rattle.std.specs.Prelude.{List, ℕ, ◌+◌, ◌<◌, ◌^◌};
     ghost use Rattle.queue_limits.specs.Bounds.{AreAllowed};
-    ghost use Rattle.queue_limits.specs.Greedy.{longest_pieces};
+    ghost use Rattle.queue_limits.specs.Greedy.{greedy_pieces};
 
     ghost Value = { List ℕ };
 
-    ghost view = { λ p. longest_pieces p.left p.limits p.start p.left };
+    ghost view = { λ p. greedy_pieces p.left p.limits p.start p.left };
 
     ghost invariant = { λ p. AreAllowed p.limits × (p.start + p.left < 2 ^ 33) };
 }
@@ -55,7 +55,7 @@ impl Iterator for Pieces {
         if self.left == 0 {
             return None;
         }
-        let length = self.limits.longest_piece(self.start, self.left);
+        let length = self.limits.first_piece(self.start, self.left);
         self.start += u64::from(length);
         self.left -= length;
         Some(length)

@@ -18,14 +18,26 @@ fn collected(alloc: Global, limits: &Limits, start: u64, count: u32) -> Result<V
 #[derive(Drop)]
 struct Row<'a> {
     limits: (u32, u32, u32),
+    physical: u32,
     start: u32,
     count: u32,
     pieces: &'a [u32],
 }
 
 fn cut<'a>(limits: (u32, u32, u32), start: u32, count: u32, pieces: &'a [u32]) -> Row<'a> {
+    cut_by_block(limits, 1, start, count, pieces)
+}
+
+fn cut_by_block<'a>(
+    limits: (u32, u32, u32),
+    physical: u32,
+    start: u32,
+    count: u32,
+    pieces: &'a [u32],
+) -> Row<'a> {
     Row {
         limits,
+        physical,
         start,
         count,
         pieces,
@@ -35,10 +47,16 @@ fn cut<'a>(limits: (u32, u32, u32), start: u32, count: u32, pieces: &'a [u32]) -
 fn check_rows(rt: &(impl Abort + AllocGlobal), rows: &[Row]) -> Result<(), Fail> {
     for row in rows {
         let (hw, max, chunk) = row.limits;
-        let limits = Limits::new(hw, max, chunk)?;
+        let mut limits = Limits::new(hw, max, chunk)?;
+        limits.set_physical(row.physical)?;
         let start = u64::from(row.start);
         let found = collected(rt.alloc(), &limits, start, row.count)?;
-        assert_eq!(rt; found.as_slice(), row.pieces, "{start} {hw} {max} {chunk}");
+        assert_eq!(rt;
+            found.as_slice(),
+            row.pieces,
+            "{start} {hw} {max} {chunk} {}",
+            row.physical
+        );
         if row.count > 0 {
             let first = limits.next_piece(start, row.count);
             assert_eq!(rt; row.pieces.first().copied(), Some(first));
@@ -83,6 +101,70 @@ fn pieces_without_a_chunk(rt: HostRuntime) -> Result<(), Fail> {
 }
 
 #[test]
+fn pieces_that_end_with_a_block(rt: HostRuntime) -> Result<(), Fail> {
+    let rows = [
+        cut_by_block((10, 10, 6), 4, 0, 12, &[4, 2, 6]),
+        cut_by_block((10, 10, 0), 4, 3, 20, &[9, 8, 3]),
+        cut_by_block((10, 10, 0), 4, 0, 20, &[8, 8, 4]),
+        cut_by_block((10, 10, 0), 4, 1, 11, &[7, 4]),
+        cut_by_block((10, 10, 0), 8, 0, 25, &[8, 8, 9]),
+        cut_by_block((10, 5, 0), 2, 0, 11, &[4, 4, 3]),
+        cut_by_block((10, 5, 0), 2, 1, 11, &[5, 4, 2]),
+        cut_by_block((9, 9, 0), 4, 2, 10, &[6, 4]),
+        cut_by_block((8, 8, 0), 8, 0, 9, &[8, 1]),
+        cut_by_block((8, 8, 0), 1, 3, 17, &[8, 8, 1]),
+        // What is left is one piece where the limits allow it, wherever it ends.
+        cut_by_block((10, 10, 0), 4, 0, 10, &[10]),
+        cut_by_block((9, 9, 0), 4, 2, 9, &[9]),
+        cut_by_block((8, 8, 0), 8, 0, 8, &[8]),
+        cut_by_block((8, 8, 0), 8, 3, 0, &[]),
+    ];
+    check_rows(&rt, &rows)
+}
+
+#[test]
+fn pieces_where_blocks_do_not_fit(rt: HostRuntime) -> Result<(), Fail> {
+    let rows = [
+        // The block is larger than the limit.
+        cut_by_block((10, 3, 0), 4, 0, 8, &[3, 1, 3, 1]),
+        cut_by_block((10, 10, 0), 16, 0, 30, &[10, 6, 10, 4]),
+        cut_by_block((10, 10, 0), 16, 15, 20, &[1, 10, 9]),
+        cut_by_block((8, 1, 0), 4, 2, 3, &[1, 1, 1]),
+        // The chunk is smaller than the block, or no multiple of it.
+        cut_by_block((10, 10, 4), 8, 0, 12, &[4, 4, 4]),
+        cut_by_block((10, 10, 4), 8, 2, 11, &[2, 4, 4, 1]),
+        cut_by_block((10, 10, 6), 4, 1, 12, &[3, 2, 6, 1]),
+        cut_by_block((10, 4, 6), 4, 0, 12, &[4, 2, 2, 4]),
+        cut_by_block((10, 10, 7), 2, 20, 15, &[1, 7, 7]),
+        cut_by_block((10, 10, 7), 2, 0, 14, &[6, 1, 7]),
+        cut_by_block((10, 10, 12), 8, 5, 20, &[3, 4, 4, 8, 1]),
+        // The greatest numbers.
+        cut_by_block((8, 8, 0), 4, 4_294_967_295, 10, &[5, 5]),
+        cut_by_block((8, 8, 8), 4, 4_294_967_295, 10, &[1, 8, 1]),
+        cut_by_block((65_535, 0, 0), 32_768, 4_294_967_295, 65_535, &[65_535]),
+        cut_by_block(
+            (65_535, 0, 0),
+            32_768,
+            0,
+            100_000,
+            &[32_768, 32_768, 34_464],
+        ),
+        cut_by_block(
+            (65_535, 0, 65_535),
+            32_768,
+            32_767,
+            65_536,
+            &[1, 32_767, 32_768],
+        ),
+    ];
+    check_rows(&rt, &rows)
+}
+
+fn numbers_of(limits: &Limits) -> (u32, u32, u32, u32) {
+    (limits.hw(), limits.max(), limits.chunk(), limits.physical())
+}
+
+#[test]
 fn limits_by_hand(rt: HostRuntime) -> Result<(), Fail> {
     let refused = [
         ((0, 0, 0), LimitFault::HardwareRange),
@@ -99,15 +181,13 @@ fn limits_by_hand(rt: HostRuntime) -> Result<(), Fail> {
             "{hw} {max} {chunk}"
         );
     }
-    let limits = Limits::new(65_535, 0, 65_535)?;
-    assert_eq!(rt;
-        (limits.hw(), limits.max(), limits.chunk()),
-        (65_535, 65_535, 65_535)
-    );
-    let limits = Limits::new(8, 3, 5)?;
-    assert_eq!(rt; (limits.hw(), limits.max(), limits.chunk()), (8, 3, 5));
-    let limits = Limits::start(8)?;
-    assert_eq!(rt; (limits.hw(), limits.max(), limits.chunk()), (8, 8, 0));
+    for (limits, numbers) in [
+        (Limits::new(65_535, 0, 65_535), (65_535, 65_535, 65_535, 1)),
+        (Limits::new(8, 3, 5), (8, 3, 5, 1)),
+        (Limits::start(8), (8, 8, 0, 1)),
+    ] {
+        assert_eq!(rt; numbers_of(&limits?), numbers);
+    }
     assert_eq!(rt; Limits::start(65_536), Err(LimitFault::HardwareRange));
     Ok(())
 }
@@ -117,21 +197,23 @@ fn settings_and_words(rt: HostRuntime) -> Result<(), Fail> {
     let mut limits = Limits::new(8, 3, 5)?;
     assert_eq!(rt; limits.set_max(9), Err(LimitFault::AboveHardware));
     assert_eq!(rt; limits.set_chunk(65_536), Err(LimitFault::ChunkTooLarge));
-    assert_eq!(rt; limits.to_words(), [3, 5]);
+    for physical in [0, 3, 65_536] {
+        assert_eq!(rt; limits.set_physical(physical), Err(LimitFault::BadPhysical));
+    }
+    assert_eq!(rt; limits.to_words(), [3, 5, 1]);
     limits.set_max(0)?;
     limits.set_chunk(65_535)?;
-    assert_eq!(rt; limits.to_words(), [8, 65_535]);
-    for (words, max, chunk) in [
-        ([9, 70_000], 8, 0),
-        ([0, 65_535], 8, 65_535),
-        ([8, 0], 8, 0),
-        ([1, 65_536], 1, 0),
+    limits.set_physical(32_768)?;
+    assert_eq!(rt; limits.to_words(), [8, 65_535, 32_768]);
+    for (words, max, chunk, physical) in [
+        ([9, 70_000, 3], 8, 0, 1),
+        ([0, 65_535, 0], 8, 65_535, 1),
+        ([8, 0, 65_536], 8, 0, 1),
+        ([1, 65_536, 32_768], 1, 0, 32_768),
+        ([1, 2, 1 << 32], 1, 2, 1),
     ] {
         let limits = Limits::from_words(8, words);
-        assert_eq!(rt;
-            (limits.hw(), limits.max(), limits.chunk()),
-            (8, max, chunk)
-        );
+        assert_eq!(rt; numbers_of(&limits), (8, max, chunk, physical));
     }
     Ok(())
 }
@@ -153,6 +235,11 @@ fn faults_have_numbers_and_texts(rt: HostRuntime) -> Result<(), Fail> {
             LimitFault::HardwareRange,
             3,
             "a hardware limit outside 1 to 65535 sectors",
+        ),
+        (
+            LimitFault::BadPhysical,
+            4,
+            "a physical block that isn't a power of two from 1 to 32768 sectors",
         ),
     ];
     for (fault, number, text) in texts {

@@ -40,6 +40,3 @@ pub use laws::{
 pub use pattern::{MAX_PATTERN, patterned};
 pub use run::{one_list_of_runs, runs};
 pub use sector::{SECTOR_BYTES, Sector};
-
-#[cfg(test)]
-mod tests;

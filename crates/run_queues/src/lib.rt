@@ -10,9 +10,8 @@
 //! isn't in use; what is known of it is what its type keeps.
 //!
 //! `specs/Requests.antt` and `specs/Completions.antt` have the rules, which hold at each moment and which each step
-//! keeps; `specs/Parts.antt` what those who take part know, and `specs/Numbers.antt` what draws are. `tests/caller.rt`
-//! and `tests/workers.rt` show how a caller reasons. That a thread that waits gets on is promised nowhere: tests show
-//! it.
+//! keeps; `specs/Parts.antt` what those who take part know, and `specs/Numbers.antt` what draws are. The tests in
+//! `run_trials` show how a caller reasons. That a thread that waits gets on is promised nowhere: they show it.
 #![tactic(auto)]
 
 mod completions;
@@ -20,8 +19,6 @@ mod line;
 mod numbered;
 mod requests;
 mod spares;
-#[cfg(test)]
-mod tests;
 
 pub use completions::{Collector, CompletionQueue, Duty};
 pub use numbered::Numbered;

@@ -3,23 +3,33 @@ ghost use Rattle.std.specs.Prelude.{◌≡◌, ◌<◌, [], ◌∷◌, IfOk, IfN
 ghost use Rattle.crossbeam_queue.specs.Fifo.{Pushes, Pops, Learns};
 ghost use Rattle.crossbeam_queue.specs.Passes.{view, IsSamePass, IsPassOf, ruled_capacity};
 
-use crossbeam_queue::protocol::{Lesson, Outcome, Protocol};
+use crossbeam_queue::protocol::{Free, Lesson, Outcome, Protocol};
 use crossbeam_queue::{Pass, RuledArrayQueue};
 use crossbeam_utils::Backoff;
 use crossbeam_utils::sync::EventCount;
 use std::alloc::{AllocError, Global};
 use std::sync::Wait;
+use std::sync::atomic::{AtomicUsize, Ordering};
+use std::thread;
+
+/// How often a thread that finds nothing looks again before it sleeps.
+const LOOKS: u32 = 8;
 
 /// A queue under a rule, and those who sleep at it.
 ///
-/// A push and a pop take effect at one step each, and take no lock. A thread that finds nothing tries again some
-/// times, and then announces that it will sleep, looks once more, and sleeps. Whoever pushes looks for such
-/// announcements after its step; so one of the two sees the other.
+/// A push and a pop take effect at one step each, and take no lock. A thread that finds nothing looks some times,
+/// and then announces that it will sleep, looks once more, and sleeps. Whoever pushes looks for such announcements
+/// after its step; so one of the two sees the other.
+///
+/// A push wakes nobody while a thread looks, since that one finds the item. Where it finds one and leaves others, it
+/// wakes the next, once it no longer counts as looking.
 #[derive(Drop)]
 pub(crate) struct Line<T: Drop, V, P: Protocol<T, V>> {
     pub(crate) ring: RuledArrayQueue<T, V, P>,
     added: EventCount,
     taken: EventCount,
+    /// How many threads look for an item.
+    looking: AtomicUsize,
 }
 
 impl<T: Drop, V, P: Protocol<T, V>> Line<T, V, P> {
@@ -34,6 +44,7 @@ impl<T: Drop, V, P: Protocol<T, V>> Line<T, V, P> {
             ring,
             added: EventCount::new(),
             taken: EventCount::new(),
+            looking: AtomicUsize::new(0),
         };
         Ok((line, pass))
     }
@@ -60,7 +71,7 @@ impl<T: Drop, V, P: Protocol<T, V>> Line<T, V, P> {
             };
             match self.ring.push_as::<M, R>(rt, pass, item) {
                 Ok(()) => {
-                    self.added.notify_one();
+                    self.wake();
                     return;
                 }
                 Err(back) => item = back,
@@ -84,23 +95,13 @@ impl<T: Drop, V, P: Protocol<T, V>> Line<T, V, P> {
         ensures queue { IsSamePass pass.old pass.new }
         ensures rule { M.then (view pass.old) result (view pass.new) }
     {
-        let backoff = Backoff::new();
-        for _ in rt.forever() {
-            let more = if backoff.is_completed() {
-                Some(self.added.prepare_wait())
-            } else {
-                None
-            };
-            if let Some(item) = self.ring.pop_as::<M, R>(rt, pass) {
-                self.taken.notify_one();
-                return item;
-            }
-            match more {
-                Some(more) => more.wait(rt),
-                None => backoff.snooze(),
-            }
+        if let Some(item) = self.pop_now_as::<M, R>(rt, pass) {
+            return item;
         }
-        unreachable!()
+        if let Some(item) = self.look_as::<M, R>(rt, pass) {
+            return item;
+        }
+        self.sleep_as::<M, R>(rt, pass)
     }
 
     /// Takes the first item where there is one now, and `None` only where there was none at one moment of the call.
@@ -116,7 +117,86 @@ impl<T: Drop, V, P: Protocol<T, V>> Line<T, V, P> {
         ensures rule { IfSome result (λ item. M.then (view pass.old) item (view pass.new)) }
     {
         let item = self.ring.pop_as::<M, R>(rt, pass)?;
-        self.taken.notify_one();
+        self.pass_on(pass);
         Some(item)
+    }
+
+    // Looks some times for an item, and counts meanwhile as one who looks.
+    fn look_as<M: Outcome<T, V> + Lesson<T, V>, R: Wait>(
+        &self,
+        rt: &R,
+        pass: &mut Pass<T, V>,
+    ) -> Option<T>
+        requires queue { IsPassOf self.now.ring pass.old }
+        requires rule { Pops P.holds pass.old.id (view pass.old) (M.then (view pass.old)) × Learns P.holds pass.old.id (view pass.old) (M.fact (view pass.old)) }
+        ensures queue { IsSamePass pass.old pass.new }
+        ensures none { IfNone result (view pass.new ≡ view pass.old) }
+        ensures rule { IfSome result (λ item. M.then (view pass.old) item (view pass.new)) }
+    {
+        self.looking.fetch_add(1, Ordering::SeqCst);
+        let item = self.find_as::<M, R>(rt, pass);
+        self.looking.fetch_sub(1, Ordering::SeqCst);
+        if item.is_some() {
+            self.pass_on(pass);
+        }
+        item
+    }
+
+    // Tries to pop some times, and lets other threads run between.
+    fn find_as<M: Outcome<T, V> + Lesson<T, V>, R: Wait>(
+        &self,
+        rt: &R,
+        pass: &mut Pass<T, V>,
+    ) -> Option<T>
+        requires queue { IsPassOf self.now.ring pass.old }
+        requires rule { Pops P.holds pass.old.id (view pass.old) (M.then (view pass.old)) × Learns P.holds pass.old.id (view pass.old) (M.fact (view pass.old)) }
+        ensures queue { IsSamePass pass.old pass.new }
+        ensures none { IfNone result (view pass.new ≡ view pass.old) }
+        ensures rule { IfSome result (λ item. M.then (view pass.old) item (view pass.new)) }
+    {
+        for _ in 0..LOOKS {
+            thread::yield_now();
+            if let Some(item) = self.ring.pop_as::<M, R>(rt, pass) {
+                return Some(item);
+            }
+        }
+        None
+    }
+
+    // Takes the first item, and sleeps while there is none.
+    fn sleep_as<M: Outcome<T, V> + Lesson<T, V>, R: Wait>(&self, rt: &R, pass: &mut Pass<T, V>) -> T
+        requires queue { IsPassOf self.now.ring pass.old }
+        requires rule { Pops P.holds pass.old.id (view pass.old) (M.then (view pass.old)) × Learns P.holds pass.old.id (view pass.old) (M.fact (view pass.old)) }
+        ensures queue { IsSamePass pass.old pass.new }
+        ensures rule { M.then (view pass.old) result (view pass.new) }
+    {
+        for _ in rt.forever() {
+            let more = self.added.prepare_wait();
+            if let Some(item) = self.ring.pop_as::<M, R>(rt, pass) {
+                drop(more);
+                self.pass_on(pass);
+                return item;
+            }
+            more.wait(rt);
+        }
+        unreachable!()
+    }
+
+    // After a pop: there is room, and what is left is for the next.
+    fn pass_on(&self, pass: &mut Pass<T, V>)
+        requires { IsPassOf self.now.ring pass.old }
+        ensures { IsSamePass pass.old pass.new × (view pass.new ≡ view pass.old) }
+    {
+        self.taken.notify_one();
+        if !self.ring.is_empty_as::<Free>(pass) {
+            self.wake();
+        }
+    }
+
+    // Wakes a sleeper, where no thread looks for what it would find.
+    fn wake(&self) {
+        if self.looking.load(Ordering::SeqCst) == 0 {
+            self.added.notify_one();
+        }
     }
 }

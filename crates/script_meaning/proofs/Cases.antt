@@ -1,13 +1,13 @@
 -- Every case of the table: what a line can come to, and the queue that it can leave.
 use Rattle.std.proofs.Common.{◌≡◌, refl, ℕ, ◌+◌, ◌-◌, ◌≤◌, arith, Bool, true, false, cond, eqb, nat_lt}
 use Rattle.std.proofs.lemmas.Bool.Decides.{nat_tests}
-use Rattle.queue_limits.specs.Bounds.{Bounds}
+use Rattle.queue_limits.specs.Bounds.{Bounds, is_physical_size}
 use Rattle.queue_limits.specs.declared.limits.TheConstants.{CHUNK_LIMIT}
 use Rattle.script_meaning.specs.Queue.{Queue, counted}
 use Rattle.script_meaning.specs.Replies.{is_ok_of_request}
 use Rattle.script_meaning.specs.Taken.{counts_of, request_taken, limits_taken, taken_there, taken}
 use Rattle.script_meaning.specs.declared.line.What.{What}
-use Rattle.script_meaning.specs.declared.line.What.TheVariants.{Read, Write, Freeze, Thaw, SetMax, SetChunk, SetMode, Stat, Remove}
+use Rattle.script_meaning.specs.declared.line.What.TheVariants.{Read, Write, Freeze, Thaw, SetMax, SetChunk, SetPhysical, SetMode, Stat, Remove}
 use Rattle.script_meaning.specs.declared.outcome.Outcome.{Outcome}
 use Rattle.script_meaning.specs.declared.queue_state.TheConstants.{DEPTH_LIMIT}
 use Rattle.script_meaning.specs.declared.outcome.Outcome.TheVariants.{Accepted, Drained, Replied}
@@ -85,6 +85,9 @@ by_there P q (SetMax value) own request =
 by_there P q (SetChunk value) own request =
     let limits : Bounds = let old : Bounds = q.limits in record old { chunk = value } in
     either P (nat_lt CHUNK_LIMIT value) (Replied Invalid, q) (limits_taken q limits) (own (Replied Invalid) q refl (same q)) (λ _. by_limits P q limits own)
+by_there P q (SetPhysical value) own request =
+    let limits : Bounds = let old : Bounds = q.limits in record old { physical = value } in
+    either P (is_physical_size value) (limits_taken q limits) (Replied Invalid, q) (by_limits P q limits own) (λ _. own (Replied Invalid) q refl (same q))
 by_there P q (SetMode mode) own request = own (Replied Done) (record q { mode = mode }) refl (record { sectors = refl; counts = omega arith })
 by_there P q Stat own request = own (Drained (Told (counts_of q))) q refl (same q)
 by_there P q Remove own request = own (Drained Removed) (record q { removed = true }) refl (record { sectors = refl; counts = omega arith })

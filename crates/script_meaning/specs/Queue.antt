@@ -4,8 +4,11 @@ use Rattle.queue_limits.specs.Bounds.{Bounds}
 use Rattle.script_meaning.specs.Script.{Meant}
 use Rattle.script_meaning.specs.declared.mode.Mode.{Mode}
 use Rattle.script_meaning.specs.declared.mode.Mode.TheVariants.{Slots}
+use Rattle.script_meaning.specs.declared.version.Version.{Version}
 
 pub record Queue : Type 0 where
+  -- the version of its script, by which it tells of itself
+  pub version : Version
   -- the disk's sectors
   pub sectors : ℕ
   pub limits : Bounds
@@ -19,11 +22,12 @@ pub record Queue : Type 0 where
   pub again : ℕ
   pub eio : ℕ
 
--- at the start the limits are those of the hardware, and nothing was asked
+-- at the start the limits are those of the hardware, the physical block is a sector, and nothing was asked
 abbrev pub start_queue : Meant → Queue
 start_queue script = record {
+  version = script.version;
   sectors = script.sectors;
-  limits = record { hardware = script.hardware; max = script.hardware; chunk = 0 };
+  limits = record { hardware = script.hardware; max = script.hardware; chunk = 0; physical = 1 };
   depth = 0;
   removed = false;
   mode = Slots;

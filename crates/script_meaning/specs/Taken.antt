@@ -1,16 +1,18 @@
 -- What each line of a script comes to, and the queue after it: the table of docs/FORMATS.md. It asks nothing of the disk's bytes.
 use Rattle.std.specs.Prelude.{ℕ, ◌+◌, ◌-◌, ◌≤◌, ◌==◌, Bool, true, false, nat_lt, if◌then◌else◌, Option, Some, None}
-use Rattle.queue_limits.specs.Bounds.{Bounds}
+use Rattle.queue_limits.specs.Bounds.{Bounds, is_physical_size}
 use Rattle.queue_limits.specs.declared.limits.TheConstants.{CHUNK_LIMIT}
 use Rattle.script_meaning.specs.Queue.{Queue}
 use Rattle.script_meaning.specs.declared.line.What.{What}
-use Rattle.script_meaning.specs.declared.line.What.TheVariants.{Read, Write, Freeze, Thaw, SetMax, SetChunk, SetMode, Stat as Tell, Remove}
+use Rattle.script_meaning.specs.declared.line.What.TheVariants.{Read, Write, Freeze, Thaw, SetMax, SetChunk, SetPhysical, SetMode, Stat as Tell, Remove}
 use Rattle.script_meaning.specs.declared.outcome.Outcome.{Outcome}
 use Rattle.script_meaning.specs.declared.queue_state.TheConstants.{DEPTH_LIMIT}
 use Rattle.script_meaning.specs.declared.outcome.Outcome.TheVariants.{Accepted, Drained, Replied}
 use Rattle.script_meaning.specs.declared.reply.Stat.{Stat as Counts}
 use Rattle.script_meaning.specs.declared.reply.Reply.TheVariants.{Done, Depth, NotFrozen, DepthFull, Again, PastEnd, Invalid, Stat as Told, Removed, Gone}
 use Rattle.script_meaning.specs.declared.request.Request.{Request}
+use Rattle.script_meaning.specs.declared.version.Version.{Version}
+use Rattle.script_meaning.specs.declared.version.Version.TheVariants.{One, Two}
 
 -- a request: a freeze refuses it, and so does the disk's end; else it is accepted
 abbrev pub request_taken : Queue → Request → Outcome × Queue
@@ -23,9 +25,14 @@ request_taken q request =
 abbrev pub limits_taken : Queue → Bounds → Outcome × Queue
 limits_taken q limits = (if q.depth == 0 then Drained Done else Replied Done, record q { limits = limits })
 
+-- version 1 knows no physical block, and tells of none
+abbrev pub told_physical : Version → Bounds → Option ℕ
+told_physical One limits = None
+told_physical Two limits = Some limits.physical
+
 -- what the queue tells of itself
 abbrev pub counts_of : Queue → Counts
-counts_of q = record { reads = q.reads; writes = q.writes; again = q.again; eio = q.eio; depth = q.depth; max = q.limits.max; chunk = q.limits.chunk; mode = q.mode }
+counts_of q = record { reads = q.reads; writes = q.writes; again = q.again; eio = q.eio; depth = q.depth; max = q.limits.max; chunk = q.limits.chunk; physical = told_physical q.version q.limits; mode = q.mode }
 
 -- a line of a queue that isn't removed
 abbrev pub taken_there : Queue → What → Outcome × Queue
@@ -43,6 +50,9 @@ taken_there q (SetMax value) =
 taken_there q (SetChunk value) =
     if nat_lt CHUNK_LIMIT value then (Replied Invalid, q)
     else limits_taken q (let limits = q.limits in record limits { chunk = value })
+taken_there q (SetPhysical value) =
+    if is_physical_size value then limits_taken q (let limits = q.limits in record limits { physical = value })
+    else (Replied Invalid, q)
 taken_there q (SetMode mode) = (Replied Done, record q { mode = mode })
 taken_there q Tell = (Drained (Told (counts_of q)), q)
 taken_there q Remove = (Drained Removed, record q { removed = true })

@@ -25,6 +25,8 @@ pub enum What {
     SetMax(u32),
     /// To set the sectors of a chunk; 0 is none.
     SetChunk(u32),
+    /// To set the sectors of a physical block of the device.
+    SetPhysical(u32),
     /// To count requests in this way.
     SetMode(Mode),
     /// To tell the counts and limits.

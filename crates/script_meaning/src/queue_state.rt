@@ -1,7 +1,7 @@
 //! The queue without its disk.
 ghost use Rattle.std.specs.Prelude.{◌≡◌, ◌+◌, ◌<◌, ◌≤◌, ◌^◌, false};
 ghost use Rattle.script_meaning.specs.Queue.{counted, start_queue};
-ghost use Rattle.script_meaning.specs.Taken.{IsWithin, counts_of, limits_taken, outcome, queue_after, request_taken};
+ghost use Rattle.script_meaning.specs.Taken.{IsWithin, counts_of, limits_taken, outcome, queue_after, request_taken, told_physical};
 
 use crate::line::What;
 use crate::mode::Mode;
@@ -9,6 +9,7 @@ use crate::outcome::Outcome;
 use crate::reply::{Reply, Stat};
 use crate::request::Request;
 use crate::script::Script;
+use crate::version::Version;
 use queue_limits::Limits;
 use std::marker::Model;
 
@@ -20,6 +21,7 @@ pub const DEPTH_LIMIT: u32 = 1_000;
 /// reply but that to an accepted request. Contracts see the record of these.
 #[derive(Clone, Copy, Debug)]
 pub struct QueueState {
+    version: Version,
     sectors: u32,
     limits: Limits,
     depth: u32,
@@ -38,11 +40,11 @@ impl Model for QueueState {
 
     ghost Value = { Queue };
 
-    ghost view = { λ q. record { sectors = q.sectors; limits = q.limits; depth = q.depth; removed = q.removed; mode = q.mode; reads = q.reads; writes = q.writes; again = q.again; eio = q.eio } };
+    ghost view = { λ q. record { version = q.version; sectors = q.sectors; limits = q.limits; depth = q.depth; removed = q.removed; mode = q.mode; reads = q.reads; writes = q.writes; again = q.again; eio = q.eio } };
 
     ghost invariant = { λ q. q.depth ≤ DEPTH_LIMIT };
 
-    ghost inverse = { λ q. record { sectors = q.sectors; limits = q.limits; depth = q.depth; removed = q.removed; mode = q.mode; reads = q.reads; writes = q.writes; again = q.again; eio = q.eio } };
+    ghost inverse = { λ q. record { version = q.version; sectors = q.sectors; limits = q.limits; depth = q.depth; removed = q.removed; mode = q.mode; reads = q.reads; writes = q.writes; again = q.again; eio = q.eio } };
 }
 
 impl QueueState {
@@ -51,6 +53,7 @@ impl QueueState {
         ensures { result ≡ start_queue script.now }
     {
         QueueState {
+            version: script.form(),
             sectors: script.disk(),
             limits: Limits::start(script.hw()).unwrap(),
             depth: 0,
@@ -99,6 +102,16 @@ impl QueueState {
         self.mode
     }
 
+    // The sectors of a physical block, where the script's version knows of one.
+    fn told_physical(&self) -> Option<u32>
+        ensures { result ≡ told_physical self.now.version self.now.limits }
+    {
+        match self.version {
+            Version::One => None,
+            Version::Two => Some(self.limits.physical()),
+        }
+    }
+
     // What the queue tells of itself.
     fn stat(&self) -> Stat
         ensures { result ≡ counts_of self.now }
@@ -111,6 +124,7 @@ impl QueueState {
             depth: self.depth,
             max: self.limits.max(),
             chunk: self.limits.chunk(),
+            physical: self.told_physical(),
             mode: self.mode,
         }
     }
@@ -198,6 +212,18 @@ impl QueueState {
         }
     }
 
+    fn set_physical(&mut self, size: u32) -> Outcome
+        requires { self.old.removed ≡ false }
+        ensures outcome { result ≡ outcome self.old (What.SetPhysical size) }
+        ensures after { self.new ≡ queue_after self.old (What.SetPhysical size) }
+    {
+        let mut limits = self.limits;
+        match limits.set_physical(size) {
+            Ok(()) => self.set(limits),
+            Err(_) => Outcome::Replied(Reply::Invalid),
+        }
+    }
+
     /// Takes a line, and tells what it comes to. An accepted request is within the disk. No memory is taken.
     pub fn take(&mut self, what: &What) -> Outcome
         requires { counted self.old + 1 < 2 ^ 64 }
@@ -237,6 +263,7 @@ impl QueueState {
             What::Thaw => self.thaw(),
             What::SetMax(max) => self.set_max(*max),
             What::SetChunk(chunk) => self.set_chunk(*chunk),
+            What::SetPhysical(size) => self.set_physical(*size),
             What::SetMode(mode) => {
                 self.mode = *mode;
                 Outcome::Replied(Reply::Done)

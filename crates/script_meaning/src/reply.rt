@@ -95,6 +95,8 @@ pub struct Stat {
     pub max: u32,
     /// The sectors of a chunk, or 0 for none.
     pub chunk: u32,
+    /// The sectors of a physical block; none is told in version 1 of the script.
+    pub physical: Option<u32>,
     pub mode: Mode,
 }
 

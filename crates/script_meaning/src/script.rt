@@ -54,6 +54,13 @@ impl Script {
         self.version.number()
     }
 
+    // The script's version, as what it is.
+    pub(crate) fn form(&self) -> Version
+        ensures { result ≡ self.now.version }
+    {
+        self.version
+    }
+
     /// Whether overlapping requests are ordered by a drain, as version 2 has it. In version 1 they refuse the
     /// script.
     pub fn orders_overlaps(&self) -> bool

@@ -2,7 +2,8 @@
 ghost use Rattle.std.specs.Prelude.{◌≡◌};
 ghost use Rattle.script_meaning.specs.Script.{version_number};
 
-/// The version of a script. They differ in what becomes of requests that overlap.
+/// The version of a script. They differ in what becomes of requests that overlap, and version 2 alone knows a
+/// physical block size.
 #[derive(Clone, Copy, Debug, PartialEq, Eq)]
 pub enum Version {
     /// A script in which requests overlap is refused.

@@ -1,5 +1,5 @@
 //! A device that may be removed while requests run on it.
-ghost use Rattle.std.specs.Prelude.{◌≡◌, ◌+◌, ◌<◌, IfOk};
+ghost use Rattle.std.specs.Prelude.{◌≡◌, ◌+◌, ◌<◌, IfOk, OnErr};
 ghost use Rattle.percpu_core.specs.declared.phase.Phase.TheVariants.{Dead};
 ghost use Rattle.percpu_gate.specs.Calls.{holding, released};
 ghost use Rattle.percpu_gate.specs.ControlCalls.{fault_of, kill_refusal};
@@ -45,6 +45,7 @@ pub fn remove(gate: &Gate<1>, control: &mut Control<1>) -> Result<Put, ControlFa
     ensures passes { control.new.view.passes ≡ control.old.view.passes }
     ensures zeros { control.new.view.zeros_cleared ≡ control.old.view.zeros_cleared }
     ensures refused { fault_of result ≡ kill_refusal control.old.view.standing.phase control.old.view.standing.kills }
+    ensures unchanged { OnErr result (control.new ≡ control.old) }
     ensures dead { IfOk result (λ put. control.new.view.standing.phase ≡ Dead) }
     ensures told { IfOk result (λ put. control.new.view.releases ≡ control.old.view.releases + released put) }
 {

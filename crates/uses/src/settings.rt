@@ -2,6 +2,7 @@
 ghost use Rattle.std.specs.Prelude.{◌≡◌, ◌<◌, ◌^◌, false, IfOk, IfSome, OnOk, OnErr};
 ghost use Rattle.queue_limits.specs.Bounds.{Bounds, AreAllowed};
 ghost use Rattle.queue_limits.specs.Pieces.{IsSplit};
+ghost use Rattle.freeze_queue.specs.Queue.{fault_of, freeze_refusal};
 ghost use Rattle.uses.specs.Commands.{lengths};
 
 use crate::cutting::{Command, commands};
@@ -50,6 +51,7 @@ pub fn change_limits<R: Wait>(
     requires own { freezer.old.queue ≡ queue.now }
     requires hardware { limits.hardware ≡ freezer.old.queue.hardware }
     ensures own { freezer.new.queue ≡ queue.now }
+    ensures refused { fault_of result ≡ freeze_refusal freezer.old }
     ensures limits { OnOk result (freezer.new.limits ≡ limits) }
     ensures depth { freezer.new.depth ≡ freezer.old.depth }
     ensures unchanged { OnErr result (freezer.new ≡ freezer.old) }

@@ -36,7 +36,11 @@ fn agrees<R: Threads + Wait + AllocGlobal + Sync, S: Stall>(
     let script = parse(alloc, text)?;
     check(alloc, &script)?;
     let config = Config::new(workers, 3, tags).ok_or("within the limits")?;
-    let Ran { mut replies, disk } = run(rt, alloc, &script, config, stall)?;
+    let Ran {
+        mut replies,
+        disk,
+        drawn: _,
+    } = run(rt, alloc, &script, config, stall)?;
     let line = render_disk(alloc, &disk)?;
     replies.extend_from_slice(&line)?;
     Ok(replies == run_alone(alloc, &script)?)
@@ -238,16 +242,19 @@ fn whoever_is_held(rt: HostRuntime) -> Result<(), Fail> {
     Ok(())
 }
 
-/// Yields at points that look random.
+/// Spins at points for turns that look random, and yields at one of eight.
 #[derive(Drop)]
-struct Yields {
+struct Dallies {
     seed: AtomicU32,
 }
 
-impl Stall for Yields {
+impl Stall for Dallies {
     fn at(&self, _number: u32, _point: Point) {
         let seed = self.seed.fetch_add(2_654_435_769, Ordering::SeqCst);
-        for _ in 0..seed >> 28 {
+        for _ in 0..(seed >> 16) % 512 {
+            hint::spin_loop();
+        }
+        if seed >> 29 == 0 {
             thread::yield_now();
         }
     }
@@ -255,11 +262,11 @@ impl Stall for Yields {
 
 #[test]
 fn whatever_the_schedule(rt: HostRuntime) -> Result<(), Fail> {
-    let yields = Yields {
+    let dallies = Dallies {
         seed: AtomicU32::new(1),
     };
-    for _ in 0..1_000 {
-        assert!(rt; agrees(&rt, MIXED, 4, 3, &yields)?);
+    for _ in 0..2_000 {
+        assert!(rt; agrees(&rt, MIXED, 4, 3, &dallies)?);
     }
     Ok(())
 }

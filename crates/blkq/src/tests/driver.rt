@@ -1,9 +1,9 @@
 //! The program, played on a table of words, inputs and writers.
+use super::fakes::{Feed, Sink};
 use crate::command::command;
 use counted_io::Counted;
 use std::alloc::{AllocError, Global};
-use std::io;
-use std::io::{Error, ErrorKind, Read, Write};
+use std::io::ErrorKind;
 use std::process::Abort;
 use std::sync::Wait;
 use std::test::Fail;
@@ -49,57 +49,6 @@ pub(super) const WHOLE: Row = Row {
     errors: b"",
 };
 
-/// Gives `rest`, and then fails or is at its end.
-#[derive(Drop)]
-struct Feed<'a> {
-    rest: &'a [u8],
-    fails: bool,
-    is_read: bool,
-}
-
-impl Read for Feed<'_> {
-    fn read(&mut self, buf: &mut [u8]) -> io::Result<usize> {
-        self.is_read = true;
-        if self.rest.is_empty() && self.fails {
-            return Err(Error::from(ErrorKind::Other));
-        }
-        let count = self.rest.len().min(buf.len());
-        let (now, later) = self.rest.split_at(count);
-        buf[..count].copy_from_slice(now);
-        self.rest = later;
-        Ok(count)
-    }
-}
-
-/// Takes at most `room` bytes in all, and then nothing.
-#[derive(Drop)]
-struct Sink {
-    taken: Vec<u8>,
-    room: usize,
-}
-
-impl Write for Sink {
-    fn write(&mut self, buf: &[u8]) -> io::Result<usize> {
-        let count = buf.len().min(self.room);
-        self.taken.extend_from_slice(&buf[..count])?;
-        self.room -= count;
-        Ok(count)
-    }
-
-    fn flush(&mut self) -> io::Result<()> {
-        Ok(())
-    }
-}
-
-impl Sink {
-    fn new(alloc: Global, room: usize) -> Self {
-        Sink {
-            taken: Vec::new(alloc),
-            room,
-        }
-    }
-}
-
 pub(super) fn words(alloc: Global, line: &str) -> Result<Vec<String>, AllocError> {
     let mut all = Vec::new(alloc);
     for word in line.split_whitespace() {
@@ -125,22 +74,19 @@ pub(super) fn call(
     sides: Sides,
 ) -> Result<Answer, Fail> {
     let args = words(rt.alloc(), line)?;
-    let mut feed = Feed {
-        rest: input,
-        fails: sides.fails,
-        is_read: false,
-    };
-    let (mut out, mut errors) = (
-        Sink::new(rt.alloc(), sides.room),
-        Sink::new(rt.alloc(), sides.room_for_errors),
-    );
+    let mut feed = Feed::new(input);
+    if sides.fails {
+        feed.failure = Some(ErrorKind::Other);
+    }
+    let (mut out, mut errors) = (Sink::new(rt.alloc()), Sink::new(rt.alloc()));
+    (out.room, errors.room) = (sides.room, sides.room_for_errors);
     let (mut reader, mut writer) = (Counted::new(&mut feed), Counted::new(&mut out));
     let status = command(rt, rt.alloc(), &args, &mut reader, &mut writer, &mut errors);
     Ok(Answer {
         status,
         out: out.taken,
         errors: errors.taken,
-        is_read: feed.is_read,
+        is_read: feed.reads > 0,
     })
 }
 

@@ -235,4 +235,10 @@ pub(super) const ROWS: &[Row] = &[
         out: b"3 ok 2\n4 ok 2\n5 ok 1\n6 ok 1 02*512\ndisk 03*512,02*1024,00*512\n",
         ..WHOLE
     },
+    Row {
+        name: "physical",
+        input: b"blkq 2\ndisk 32 hw 10\nset physical_sectors 4\nread 3 20\nset physical_sectors 3\nset max_sectors 3\nread 0 8\nstat\n",
+        out: b"3 ok\n4 ok 9+8+3 00*10240\n5 EINVAL\n6 ok\n7 ok 3+1+3+1 00*4096\n8 stat reads 2 writes 0 again 0 eio 0 depth 0 max 3 chunk 0 physical 4 mode slots\ndisk 00*16384\n",
+        ..WHOLE
+    },
 ];

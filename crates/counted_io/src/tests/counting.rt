@@ -1,7 +1,7 @@
 //! What is counted as a failure, and that the inner reader's and writer's answers are passed on.
 use super::fakes::{Feed, Sink};
 use crate::Counted;
-use std::io::{Read, Write};
+use std::io::{ErrorKind, Read, Write};
 use std::test::Fail;
 
 #[test]
@@ -10,7 +10,7 @@ fn errors_of_reading(rt: HostRuntime) {
         rest: b"ab",
         most: usize::MAX,
         interruptions: 2,
-        fails: true,
+        failure: Some(ErrorKind::Other),
         reads: 0,
     });
     let mut buf = [0u8; 8];
@@ -31,13 +31,13 @@ fn the_end_is_no_failure(rt: HostRuntime) {
 
 #[test]
 fn errors_of_writing(rt: HostRuntime) -> Result<(), Fail> {
-    for (fails, last) in [(true, None), (false, Some(0))] {
+    for (failure, last) in [(Some(ErrorKind::Other), None), (None, Some(0))] {
         let mut writer = Counted::new(Sink {
             taken: Vec::new(rt.alloc()),
             most: usize::MAX,
             room: 1,
             interruptions: 1,
-            fails,
+            failure,
             writes: 0,
         });
         assert_eq!(rt; writer.write(b"").ok(), None);

@@ -2,14 +2,25 @@
 use std::io;
 use std::io::{Error, ErrorKind, Read, Write};
 
-/// Gives `rest`, at most `most` bytes a read, each read after `interruptions` that are left. Then it fails, or
-/// is at its end.
+/// Some of what devices fail with. No kind but an interruption is a reason to try again, not even one that says
+/// to try later or that memory is wanted.
+pub(super) const KINDS: [ErrorKind; 6] = [
+    ErrorKind::Other,
+    ErrorKind::BrokenPipe,
+    ErrorKind::WouldBlock,
+    ErrorKind::UnexpectedEof,
+    ErrorKind::OutOfMemory,
+    ErrorKind::Interrupted,
+];
+
+/// Gives `rest`, at most `most` bytes a read, each read after `interruptions` that are left. Then each read
+/// fails, or is at the end.
 #[derive(Clone, Copy)]
 pub(super) struct Feed<'a> {
     pub(super) rest: &'a [u8],
     pub(super) most: usize,
     pub(super) interruptions: u32,
-    pub(super) fails: bool,
+    pub(super) failure: Option<ErrorKind>,
     pub(super) reads: u32,
 }
 
@@ -20,8 +31,8 @@ impl Read for Feed<'_> {
             self.interruptions -= 1;
             return Err(Error::from(ErrorKind::Interrupted));
         }
-        if self.rest.is_empty() && self.fails {
-            return Err(Error::from(ErrorKind::Other));
+        if let (true, Some(kind)) = (self.rest.is_empty(), self.failure) {
+            return Err(Error::from(kind));
         }
         let count = self.rest.len().min(buf.len()).min(self.most);
         let (now, later) = self.rest.split_at(count);
@@ -32,14 +43,14 @@ impl Read for Feed<'_> {
 }
 
 /// Takes at most `most` bytes a write and `room` in all, each write after `interruptions` that are left. Then
-/// it fails, or takes nothing.
+/// each write fails, or takes nothing.
 #[derive(Drop)]
 pub(super) struct Sink {
     pub(super) taken: Vec<u8>,
     pub(super) most: usize,
     pub(super) room: usize,
     pub(super) interruptions: u32,
-    pub(super) fails: bool,
+    pub(super) failure: Option<ErrorKind>,
     pub(super) writes: u32,
 }
 
@@ -50,8 +61,8 @@ impl Write for Sink {
             self.interruptions -= 1;
             return Err(Error::from(ErrorKind::Interrupted));
         }
-        if self.room == 0 && self.fails {
-            return Err(Error::from(ErrorKind::Other));
+        if let (0, Some(kind)) = (self.room, self.failure) {
+            return Err(Error::from(kind));
         }
         let count = buf.len().min(self.most).min(self.room);
         self.taken.extend_from_slice(&buf[..count])?;

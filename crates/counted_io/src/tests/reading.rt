@@ -1,6 +1,7 @@
 //! Inputs that come whole, in pieces, interrupted, or not at all.
-use super::fakes::Feed;
-use crate::{Counted, InputFault, read_whole};
+use super::fakes::{Feed, KINDS};
+use crate::{Counted, InputFault, TRIES, read_whole};
+use std::io::ErrorKind;
 use std::test::Fail;
 
 const TEXT: &[u8] = b"0123456789";
@@ -10,7 +11,7 @@ const WHOLE: Feed<'static> = Feed {
     rest: TEXT,
     most: usize::MAX,
     interruptions: 0,
-    fails: false,
+    failure: None,
     reads: 0,
 };
 
@@ -82,7 +83,7 @@ const ROWS: &[Row] = &[
     },
     Row {
         feed: Feed {
-            fails: true,
+            failure: Some(ErrorKind::Other),
             ..WHOLE
         },
         most: 11,
@@ -92,7 +93,7 @@ const ROWS: &[Row] = &[
     },
     Row {
         feed: Feed {
-            fails: true,
+            failure: Some(ErrorKind::Other),
             most: 3,
             ..WHOLE
         },
@@ -116,6 +117,27 @@ fn inputs(rt: HostRuntime) {
         }
         assert_eq!(rt; reader.failures(), row.failures);
         assert_eq!(rt; feed.reads, row.reads);
+    }
+}
+
+/// Whatever a reader fails with, and behind whichever byte, that is the fault, and only an interruption is tried
+/// again.
+#[test]
+fn fails_behind_each_byte(rt: HostRuntime) {
+    for failure in KINDS {
+        for (k, _) in TEXT.iter().enumerate() {
+            let mut reader = Counted::new(Feed {
+                rest: &TEXT[..k],
+                most: 1,
+                failure: Some(failure),
+                ..WHOLE
+            });
+            let found = read_whole(rt.alloc(), &mut reader, 11).err();
+            assert_eq!(rt; found, Some(InputFault::Read), "{failure:?} behind {k}");
+            let interrupted = failure == ErrorKind::Interrupted;
+            let failures = if interrupted { u64::from(TRIES) } else { 1 };
+            assert_eq!(rt; reader.failures(), failures, "{failure:?} behind {k}");
+        }
     }
 }
 

@@ -1,6 +1,7 @@
 //! Texts that go out whole, in pieces, interrupted, or in part.
-use super::fakes::Sink;
-use crate::{Counted, WriteFault, write_whole};
+use super::fakes::{KINDS, Sink};
+use crate::{Counted, TRIES, WriteFault, write_whole};
+use std::io::ErrorKind;
 use std::test::Fail;
 
 const TEXT: &[u8] = b"0123456789";
@@ -10,7 +11,7 @@ struct Row {
     most: usize,
     room: usize,
     interruptions: u32,
-    fails: bool,
+    failure: Option<ErrorKind>,
     written: usize,
     failures: u64,
     writes: u32,
@@ -21,7 +22,7 @@ const ROWS: &[Row] = &[
         most: usize::MAX,
         room: 10,
         interruptions: 0,
-        fails: true,
+        failure: Some(ErrorKind::Other),
         written: 10,
         failures: 0,
         writes: 1,
@@ -30,7 +31,7 @@ const ROWS: &[Row] = &[
         most: 1,
         room: 10,
         interruptions: 999,
-        fails: true,
+        failure: Some(ErrorKind::Other),
         written: 10,
         failures: 999,
         writes: 1_009,
@@ -39,7 +40,7 @@ const ROWS: &[Row] = &[
         most: 4,
         room: 9,
         interruptions: 0,
-        fails: true,
+        failure: Some(ErrorKind::Other),
         written: 9,
         failures: 1,
         writes: 4,
@@ -48,7 +49,7 @@ const ROWS: &[Row] = &[
         most: 4,
         room: 9,
         interruptions: 0,
-        fails: false,
+        failure: None,
         written: 9,
         failures: 1,
         writes: 4,
@@ -57,7 +58,7 @@ const ROWS: &[Row] = &[
         most: usize::MAX,
         room: 0,
         interruptions: 0,
-        fails: false,
+        failure: None,
         written: 0,
         failures: 1,
         writes: 1,
@@ -66,7 +67,7 @@ const ROWS: &[Row] = &[
         most: usize::MAX,
         room: 10,
         interruptions: 1_000,
-        fails: false,
+        failure: None,
         written: 0,
         failures: 1_000,
         writes: 1_000,
@@ -81,7 +82,7 @@ fn texts(rt: HostRuntime) {
             most: row.most,
             room: row.room,
             interruptions: row.interruptions,
-            fails: row.fails,
+            failure: row.failure,
             writes: 0,
         };
         let mut writer = Counted::new(&mut sink);
@@ -95,6 +96,31 @@ fn texts(rt: HostRuntime) {
         assert_eq!(rt; writer.failures(), row.failures);
         assert_eq!(rt; sink.writes, row.writes);
         assert_eq!(rt; sink.taken.as_slice(), &TEXT[..row.written.min(TEXT.len())]);
+    }
+}
+
+/// Whatever a writer fails with, and behind whichever byte, exactly the bytes before are told as written, and only
+/// an interruption is tried again.
+#[test]
+fn fails_behind_each_byte(rt: HostRuntime) {
+    for failure in KINDS {
+        for (k, _) in TEXT.iter().enumerate() {
+            let mut sink = Sink {
+                taken: Vec::new(rt.alloc()),
+                most: 1,
+                room: k,
+                interruptions: 0,
+                failure: Some(failure),
+                writes: 0,
+            };
+            let mut writer = Counted::new(&mut sink);
+            let fault = WriteFault { written: k as u64 };
+            assert_eq!(rt; write_whole(&mut writer, TEXT), Err(fault), "{failure:?}");
+            let interrupted = failure == ErrorKind::Interrupted;
+            let failures = if interrupted { u64::from(TRIES) } else { 1 };
+            assert_eq!(rt; writer.failures(), failures, "{failure:?} behind {k}");
+            assert_eq!(rt; sink.taken.as_slice(), &TEXT[..k], "{failure:?}");
+        }
     }
 }
 

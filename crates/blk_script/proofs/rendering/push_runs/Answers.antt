@@ -8,7 +8,7 @@ pub loop-index-preserved : goal.loop-index-preserved
 loop-index-preserved c =
     elim c.if-index-gt0.branch [
       | then-index-gt0+in_ok-push_text w ↦
-          let mid : c.if-index-gt0.out.items ≡ c.loop-index.out.items ++ 44 ∷ [] = cc (w.in_ok-push_text.ensures) in
+          let mid : c.if-index-gt0.out.items ≡ c.loop-index.out.items ++ 44 ∷ [] = cc (w.in_ok-push_text.ensures.ok) in
           append-three c.push_run.new.out.items c.if-index-gt0.out.items c.loop-index.out.items c.args.out.now.items (runs_text (take c.loop-index.index c.args.runs.now)) (runs_text (take (c.loop-index.index + 1) c.args.runs.now)) (44 ∷ []) _
           c.in_ok-push_run.ensures mid c.loop-index.invariant (join-more 44 run_text c.args.runs.now c.loop-index.index (0, 0) w.if-index-gt0.true c.loop-index-test.true)
       | else-index-gt0 w ↦

@@ -1,8 +1,13 @@
 use Rattle.std.proofs.Common.{◌≡◌, length}
-use Rattle.blk_workers.specs.Desk.{Stands}
+use Rattle.blk_workers.specs.Desk.{AreAwaited, Stands}
 use Rattle.blk_workers.proofs.collecting.collect_all.Given as goal
 
 abbrev pub invariant-loop : goal.invariant-loop
-invariant-loop g l =
-    (goal.iterator-loop g).can_next l.iterator' × (goal.iterator-loop g).is_finite l.iterator'
-    × Stands l.script l.desk.replies l.desk.disk l.desk.span × (length l.desk.replies ≡ length l.initial.desk.replies)
+invariant-loop g l = record {
+  goes_on : (goal.iterator-loop g).can_next l.iterator';
+  is_finite : (goal.iterator-loop g).is_finite l.iterator';
+  stands : Stands l.script l.desk.replies l.desk.disk l.desk.span;
+  lines : length l.desk.replies ≡ length l.initial.desk.replies;
+  awaited : AreAwaited l.script l.desk.replies l.collector.given l.collector.collected;
+  collector : l.collector ≡ record l.initial.collector { collected = l.collector.collected };
+}

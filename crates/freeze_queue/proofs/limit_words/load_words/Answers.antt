@@ -14,7 +14,7 @@ loop-k-preserved c =
     let words = c.loop-k.words in
     let value = c.word.result in
     let first = c.args.pass.now.view in
-    let within : k < length words = let two : length words ≡ 2 = all in let more = c.loop-k-test.true in omega arith in
+    let within : k < length words = let three : length words ≡ 3 = all in let more = c.loop-k-test.true in omega arith in
     let some : 0 < c.loop-k.pass.view.standing.held = let held = ap (λ (p : PassView). p.standing.held) view in let given = c.requires.held in omega arith in
     let reads = ap (λ (p : PassView). p.read) view in (
       length-set words k value ∙ all,
@@ -27,13 +27,13 @@ loop-k-preserved c =
 pub returns-clause-together : goal.returns-clause-together
 returns-clause-together c =
     let (all, own, view, together, same) = c.loop-k.invariant in
-    let end : c.loop-k.k ≡ 2 = let most = c.loop-k.auto.k-end in let done = c.loop-k-test.false in omega arith in
+    let end : c.loop-k.k ≡ 3 = let most = c.loop-k.auto.k-end in let done = c.loop-k-test.false in omega arith in
     let some : 0 < c.loop-k.k = omega arith in
     subst (λ (n : ℕ). AreReadTogether n c.args.gate.now c.args.pass.now.view c.loop-k.words) end (together some)
 
 pub returns-clause-same : goal.returns-clause-same
 returns-clause-same c = λ k v h has.
     let (all, own, view, together, same) = c.loop-k.invariant in
-    let end : c.loop-k.k ≡ 2 = let most = c.loop-k.auto.k-end in let done = c.loop-k-test.false in omega arith in
-    let within : k < 2 = h in
+    let end : c.loop-k.k ≡ 3 = let most = c.loop-k.auto.k-end in let done = c.loop-k-test.false in omega arith in
+    let within : k < 3 = h in
     same k v (omega arith) has

@@ -7,4 +7,4 @@ returns-clause-some c = λ bounds start count allowed. greedy_splits count bound
 
 pub returns-clause-only : goal.returns-clause-only
 returns-clause-only c = λ bounds start count a b x y.
-    one_list bounds start a b (x.joined ∙ sym y.joined) x.non_empty y.non_empty x.allowed y.allowed x.longest y.longest
+    one_list bounds start a b (x.joined ∙ sym y.joined) x.non_empty y.non_empty x.cut y.cut

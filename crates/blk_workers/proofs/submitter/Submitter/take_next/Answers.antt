@@ -1,12 +1,15 @@
 use Rattle.std.proofs.Common.{◌≡◌, ◌∙◌, sym, ap, refl, ◌+◌, false, length, None, inl}
 use Rattle.blk_script.specs.Texts.{reply_line}
 use Rattle.script_meaning.specs.Queue.{Queue}
-use Rattle.script_meaning.specs.Requests.{accepted_at, drains_at}
+use Rattle.script_meaning.specs.Requests.{accepted_at, accepted_before, drains_at}
 use Rattle.script_meaning.specs.Taken.{accepted_in}
 use Rattle.script_meaning.specs.declared.outcome.Outcome.TheVariants.{Accepted, Drained, Replied}
 use Rattle.blk_workers.specs.Progress.{IsQueueAt}
 use Rattle.blk_workers.specs.Requests.{IsReplyLine}
 use Rattle.blk_workers.proofs.NextLines.{came_to, next_queue, accepted_there, drains_there, reply_drained, reply_replied, moved, mode_kept}
+use Rattle.run_queues.specs.Parts.{CollectorFacts}
+use Rattle.blk_workers.proofs.Desks.{on_ok}
+use Rattle.blk_workers.proofs.Numbering.{counts_line}
 use Rattle.blk_workers.proofs.submitter.Submitter.take_next.Goals as goal
 
 pub submit-requires-clause-next : goal.submit-requires-clause-next
@@ -60,3 +63,38 @@ pass-requires-in-Replied-clause-next g c =
     let came = came_to g.J.Run.script c.args.script.now (length c.args.self.now.desk.replies) c.len.result c.lines.result.now c.index-lines-len.result c.args.self.now.state c.take.new.self (Replied c.in-Replied.reply) c.requires.script
     c.lines.ensures c.len.ensures c.requires.more c.index-lines-len.is c.requires.at.state c.in-Replied.ensures.outcome c.take.ensures.after c.take.ensures.counts in
     next_queue g.J.Run.script (length c.args.self.now.desk.replies) c.index-lines-len.result c.args.self.now.state c.take.new.self (Replied c.in-Replied.reply) came
+
+pub returns-in_ok-drain-in-Drained-clause-handed_over : goal.returns-in_ok-drain-in-Drained-clause-handed_over
+returns-in_ok-drain-in-Drained-clause-handed_over g c =
+    let came = came_to g.J.Run.script c.args.script.now (length c.args.self.now.desk.replies) c.len.result c.lines.result.now c.index-lines-len.result c.args.self.now.state c.take.new.self (Drained c.in-Drained.reply) c.requires.script
+    c.lines.ensures c.len.ensures c.requires.more c.index-lines-len.is c.requires.at.state c.in-Drained.ensures.outcome c.take.ensures.after c.take.ensures.counts in
+    let here = length c.args.self.now.desk.replies in
+    let same = sym (counts_line g.J.Run.script here (accepted_there g.J.Run.script here c.index-lines-len.result c.args.self.now.state c.take.new.self (Drained c.in-Drained.reply) came)) in
+    let handed = c.requires.handed_over in
+    let given = ap (λ (k : CollectorFacts). k.given) c.drain.ensures.collector ∙ handed.duties in
+    let mine : CollectorFacts = c.drain.new.collector in
+    on_ok c.pass.result _ _
+    (λ keeps. record {
+      requests = handed.requests ∙ same;
+      not_ended = handed.not_ended;
+      duties = given ∙ same;
+      awaited = keeps mine.given mine.collected (given ∙ ap (accepted_before g.J.Run.script) (sym c.drain.ensures.lines)) c.drain.ensures.awaited;
+    })
+    c.pass.ensures.awaited
+
+pub returns-in-Replied-clause-handed_over : goal.returns-in-Replied-clause-handed_over
+returns-in-Replied-clause-handed_over g c =
+    let came = came_to g.J.Run.script c.args.script.now (length c.args.self.now.desk.replies) c.len.result c.lines.result.now c.index-lines-len.result c.args.self.now.state c.take.new.self (Replied c.in-Replied.reply) c.requires.script
+    c.lines.ensures c.len.ensures c.requires.more c.index-lines-len.is c.requires.at.state c.in-Replied.ensures.outcome c.take.ensures.after c.take.ensures.counts in
+    let here = length c.args.self.now.desk.replies in
+    let same = sym (counts_line g.J.Run.script here (accepted_there g.J.Run.script here c.index-lines-len.result c.args.self.now.state c.take.new.self (Replied c.in-Replied.reply) came)) in
+    let handed = c.requires.handed_over in
+    let mine : CollectorFacts = c.args.ends.now.collector in
+    on_ok c.pass-in-Replied.result _ _
+    (λ keeps. record {
+      requests = handed.requests ∙ same;
+      not_ended = handed.not_ended;
+      duties = handed.duties ∙ same;
+      awaited = keeps mine.given mine.collected handed.duties handed.awaited;
+    })
+    c.pass-in-Replied.ensures.awaited

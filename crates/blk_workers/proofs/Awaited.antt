@@ -1,0 +1,74 @@
+-- Which replies are owed once a completion is collected, or a line taken: those of the accepted requests whose completions weren't collected.
+use Rattle.std.proofs.Common.{◌≡◌, ◌≢◌, ◌∙◌, sym, ap, subst, ℕ, ◌+◌, ◌<◌, ◌≤◌, inl, inr, arith, true, List, [], ◌∷◌, ◌++◌, length, set, Option, Some, None, is_none, is_some}
+use Rattle.std.proofs.lemmas.Bool.{cases_eq, cases_lt}
+use Rattle.run_queues.specs.Numbers.{times, one_at}
+use Rattle.run_queues.specs.Parts.{CollectorFacts}
+use Rattle.run_queues.proofs.Increasing.{one_at_itself, times_append}
+use Rattle.script_meaning.specs.Requests.{accepted_at, accepted_before}
+use Rattle.script_meaning.specs.Script.{Meant}
+use Rattle.script_meaning.specs.declared.request.Request.{Request}
+use Rattle.script_meaning.proofs.Numbers.{in_order}
+use Rattle.blk_workers.specs.Desk.{AreAwaited, is_owed}
+use Rattle.blk_workers.specs.Requests.{IsAcceptedAt}
+use Rattle.blk_workers.proofs.Places.{owed_push, owed_at, owed_set_other}
+use Rattle.blk_workers.proofs.Numbering.{before_grows}
+
+-- a request whose number is below the count before a position stands before it
+stands_before : (script : Meant) (number position here : ℕ) → IsAcceptedAt script number position → number < accepted_before script here → position < here
+stands_before script number position here at less =
+    elim (cases_lt position here) [ inl before ↦ before | inr behind ↦ absurd (omega (arith, at.count, less, before_grows script here position behind)) ]
+
+-- a number is that of one request
+one_position : (script : Meant) (number p q : ℕ) → IsAcceptedAt script number p → IsAcceptedAt script number q → p ≡ q
+one_position script number p q first second =
+    elim (cases_eq p q) [
+      | inl same ↦ same
+      | inr other ↦ elim (cases_lt p q) [
+        | inl less ↦ absurd (omega (arith, first.count, second.count, in_order script p q less first.accepted))
+        | inr more ↦ absurd (omega (arith, first.count, second.count, in_order script q p (omega (arith, more, other)) second.accepted))
+      ]
+    ]
+
+-- a number that wasn't collected after one more wasn't before, and is another
+not_before : (number last : ℕ) (collected : List ℕ) → times number (collected ++ last ∷ []) ≡ 0 → times number collected ≡ 0
+not_before number last collected none = omega (arith, none, times_append number collected (last ∷ []))
+
+is_another : (number last : ℕ) (collected : List ℕ) → times number (collected ++ last ∷ []) ≡ 0 → number ≢ last
+is_another number last collected none = λ same.
+    let here : one_at number last ≡ 1 = subst (λ n. one_at number n ≡ 1) same (one_at_itself number) in
+    omega (arith, none, here, times_append number collected (last ∷ []))
+
+-- a collector that collected more, twice
+pub same_but_collected : (first second third : CollectorFacts) (xs : List ℕ) → second ≡ record first { collected = second.collected } → third ≡ record second { collected = xs }
+    → third ≡ record first { collected = third.collected }
+same_but_collected first second third xs once again =
+    again ∙ ap (λ (k : CollectorFacts). record k { collected = xs }) once ∙ ap (λ (numbers : List ℕ). record first { collected = numbers }) (sym (ap (λ (k : CollectorFacts). k.collected) again))
+
+pub awaited_first : (script : Meant) (replies : List (Option (List ℕ))) (given : ℕ) (collected : List ℕ) → given ≡ 0 → AreAwaited script replies given collected
+awaited_first script replies given collected is = λ number position at less none. absurd (omega (arith, less, is))
+
+-- a completion is collected that brings no answer, and one that does
+pub awaited_fewer : (script : Meant) (replies : List (Option (List ℕ))) (given last : ℕ) (collected : List ℕ) → AreAwaited script replies given collected → AreAwaited script replies given (collected ++ last ∷ [])
+awaited_fewer script replies given last collected awaited = λ number position at less none. awaited number position at less (not_before number last collected none)
+
+pub awaited_taken : (script : Meant) (replies : List (Option (List ℕ))) (given last here : ℕ) (text : Option (List ℕ)) (collected : List ℕ) → IsAcceptedAt script last here
+    → AreAwaited script replies given collected → AreAwaited script (set replies here text) given (collected ++ last ∷ [])
+awaited_taken script replies given last here text collected done awaited = λ number position at less none.
+    let other : position ≢ here = λ same. is_another number last collected none (sym at.count ∙ ap (accepted_before script) same ∙ done.count) in
+    owed_set_other replies here position text other ∙ awaited number position at less (not_before number last collected none)
+
+-- a line is taken that is no accepted request, and one that is
+pub awaited_settled : (script : Meant) (replies : List (Option (List ℕ))) (given : ℕ) (collected : List ℕ) (reply : Option (List ℕ)) → given ≡ accepted_before script (length replies)
+    → AreAwaited script replies given collected → AreAwaited script (replies ++ reply ∷ []) given collected
+awaited_settled script replies given collected reply is awaited = λ number position at less none.
+    owed_push replies reply position (stands_before script number position (length replies) at (omega (arith, less, is))) ∙ awaited number position at less none
+
+pub awaited_submitted : (script : Meant) (replies : List (Option (List ℕ))) (given : ℕ) (collected : List ℕ) (request : Request) → given ≡ accepted_before script (length replies)
+    → accepted_at script (length replies) ≡ Some request → AreAwaited script replies given collected → AreAwaited script (replies ++ None ∷ []) (given + 1) collected
+awaited_submitted script replies given collected request is accepted awaited = λ number position at less none.
+    elim (cases_lt number given) [
+      | inl before ↦ owed_push replies None position (stands_before script number position (length replies) at (omega (arith, before, is))) ∙ awaited number position at before none
+      | inr last ↦
+          let mine : IsAcceptedAt script number (length replies) = record { accepted = ap is_some accepted; count = omega (arith, is, last, less) } in
+          ap (is_owed (replies ++ None ∷ [])) (one_position script number position (length replies) at mine) ∙ owed_at replies None
+    ]

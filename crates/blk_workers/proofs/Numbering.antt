@@ -1,0 +1,75 @@
+-- The numbers of accepted requests, one line further, and how many numbers an increasing list can hold.
+use Rattle.std.proofs.Common.{zero, suc, ◌≡◌, ◌∙◌, ap, sym, ℕ, ◌+◌, ◌<◌, ◌≤◌, arith, true, cond, All, List, [], ◌∷◌, take, length, Some, None, is_some}
+use Rattle.std.proofs.Math.Seq.{take-length}
+use Rattle.run_queues.specs.Numbers.{AllAbove, IsIncreasing}
+use Rattle.script_meaning.specs.Queue.{Queue, start_queue}
+use Rattle.script_meaning.specs.Requests.{accepted_at, accepted_among, accepted_before, accepted_in_all}
+use Rattle.script_meaning.specs.Script.{Meant}
+use Rattle.script_meaning.specs.Taken.{queue_after, accepted}
+use Rattle.script_meaning.specs.declared.line.Line.{Line}
+use Rattle.script_meaning.specs.declared.request.Request.{Request}
+use Rattle.script_meaning.proofs.Numbers.{accepted_there, in_order}
+use Rattle.blk_workers.specs.Requests.{IsAcceptedAt}
+
+among_step : (q : Queue) (lines : List Line) (i : ℕ) → accepted_among q (take (suc i) lines) ≡ accepted_among q (take i lines) + cond (is_some (accepted_there q lines i)) 1 0
+among_step q [] zero = omega arith
+among_step q [] (suc i) = omega arith
+among_step q (line ∷ lines) zero = omega arith
+among_step q (line ∷ lines) (suc i) = omega (arith, among_step (queue_after q line.what) lines i)
+
+among_at_most : (q : Queue) (lines : List Line) (i : ℕ) → accepted_among q (take i lines) ≤ accepted_among q lines
+among_at_most q [] zero = omega arith
+among_at_most q [] (suc i) = omega arith
+among_at_most q (line ∷ lines) zero = omega arith
+among_at_most q (line ∷ lines) (suc i) = omega (arith, among_at_most (queue_after q line.what) lines i)
+
+among_grows : (q : Queue) (lines : List Line) (e l : ℕ) → e ≤ l → accepted_among q (take e lines) ≤ accepted_among q (take l lines)
+among_grows q [] zero zero le = omega arith
+among_grows q [] zero (suc l) le = omega arith
+among_grows q [] (suc e) zero le = omega arith
+among_grows q [] (suc e) (suc l) le = omega arith
+among_grows q (line ∷ lines) zero l le = omega arith
+among_grows q (line ∷ lines) (suc e) zero le = absurd (omega (arith, le))
+among_grows q (line ∷ lines) (suc e) (suc l) le = omega (arith, among_grows (queue_after q line.what) lines e l (omega (arith, le)))
+
+pub before_grows : (script : Meant) (e l : ℕ) → e ≤ l → accepted_before script e ≤ accepted_before script l
+before_grows script e l le = among_grows (start_queue script) script.lines e l le
+
+before_step : (script : Meant) (i : ℕ) → accepted_before script (i + 1) ≡ accepted_before script i + cond (is_some (accepted_at script i)) 1 0
+before_step script i = let next : i + 1 ≡ suc i = omega arith in ap (accepted_before script) next ∙ among_step (start_queue script) script.lines i
+
+pub counts_request : (script : Meant) (i : ℕ) (request : Request) → accepted_at script i ≡ Some request → accepted_before script (i + 1) ≡ accepted_before script i + 1
+counts_request script i request is = before_step script i ∙ ap (λ o. accepted_before script i + cond (is_some o) 1 0) is
+
+pub counts_line : (script : Meant) (i : ℕ) → accepted_at script i ≡ None → accepted_before script (i + 1) ≡ accepted_before script i
+counts_line script i is = let none : accepted_before script (i + 1) ≡ accepted_before script i + 0 = before_step script i ∙ ap (λ o. accepted_before script i + cond (is_some o) 1 0) is in omega (arith, none)
+
+pub counts_all : (script : Meant) → accepted_before script (length script.lines) ≡ accepted_in_all script
+counts_all script = ap (accepted_among (start_queue script)) (take-length script.lines)
+
+-- an accepted request's number is below the count of all
+pub number_below : (script : Meant) (number position : ℕ) → IsAcceptedAt script number position → number < accepted_in_all script
+number_below script number position at =
+    let order = in_order script position (position + 1) (omega arith) at.accepted in
+    let most = among_at_most (start_queue script) script.lines (position + 1) in
+    omega (arith, at.count, order, most)
+
+-- what holds of all of a list holds of its first, and of all others
+first_below : (bound x : ℕ) (xs : List ℕ) → All (λ n. n < bound) (x ∷ xs) → x < bound
+first_below bound x xs below = below 0 x (omega arith)
+
+rest_below : (bound x : ℕ) (xs : List ℕ) → All (λ n. n < bound) (x ∷ xs) → All (λ n. n < bound) xs
+rest_below bound x xs below = λ k d less. below (suc k) d (omega (arith, less))
+
+few_above : (low bound : ℕ) (xs : List ℕ) → low < bound → AllAbove low xs → IsIncreasing xs → All (λ n. n < bound) xs → length xs + low < bound
+few_above low bound [] less above increasing below = omega (arith, less)
+few_above low bound (x ∷ xs) less above increasing below =
+    let rest = few_above x bound xs (first_below bound x xs below) increasing.0 increasing.1 (rest_below bound x xs below) in
+    omega (arith, rest, above.0)
+
+-- an increasing list of numbers below a bound has no more of them than the bound says
+pub few_increasing : (bound : ℕ) (xs : List ℕ) → IsIncreasing xs → All (λ n. n < bound) xs → length xs ≤ bound
+few_increasing bound [] increasing below = omega arith
+few_increasing bound (x ∷ xs) increasing below =
+    let rest = few_above x bound xs (first_below bound x xs below) increasing.0 increasing.1 (rest_below bound x xs below) in
+    omega (arith, rest)

@@ -1,0 +1,18 @@
+use Rattle.std.proofs.Common.{sym, subst, ◌++◌, ◌∷◌, [], Some}
+use Rattle.blk_workers.specs.Desk.{AreAwaited}
+use Rattle.blk_workers.specs.Requests.{IsAcceptedAt}
+use Rattle.blk_workers.proofs.Awaited.{awaited_fewer, awaited_taken}
+use Rattle.blk_workers.proofs.NextLines.{moved}
+use Rattle.blk_workers.proofs.collecting.take.Goals as goal
+
+pub returns-in_default-clause-awaited : goal.returns-in_default-clause-awaited
+returns-in_default-clause-awaited g c = λ given collected awaited. awaited_fewer c.args.script.now c.args.desk.now.replies given c.args.done.number collected awaited
+
+pub returns-clause-awaited : goal.returns-clause-awaited
+returns-clause-awaited g c = λ given collected awaited.
+    let here = c.into_parts-position.result.0 in
+    let at : IsAcceptedAt c.args.script.now c.args.done.number here =
+    moved (λ s p. IsAcceptedAt s c.args.done.number p) c.args.script.now g.J.Run.script here c.args.done.position c.requires.script c.into_parts-position.ensures.position c.into_parts-position.ensures.request
+    in
+    subst (λ replies. AreAwaited c.args.script.now replies given (collected ++ c.args.done.number ∷ [])) (sym c.take.ensures.taken)
+    (awaited_taken c.args.script.now c.args.desk.now.replies given c.args.done.number here (Some c.in-Some.answer.text.items) collected at awaited)

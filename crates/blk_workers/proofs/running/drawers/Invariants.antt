@@ -1,0 +1,8 @@
+use Rattle.std.proofs.Common.{◌≡◌, ◌+◌, ◌-◌, All, length}
+use Rattle.blk_workers.specs.Progress.{IsNewDrawer}
+use Rattle.blk_workers.proofs.running.drawers.Given as goal
+
+abbrev pub invariant-loop-worker : goal.invariant-loop-worker
+invariant-loop-worker g l =
+    (l.source ≡ record l.initial.source { parts = l.initial.source.parts - l.worker })
+    × (length l.drawers.items ≡ l.worker) × All (IsNewDrawer g.L.Line.id l.room) l.drawers.items

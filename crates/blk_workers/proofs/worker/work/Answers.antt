@@ -1,0 +1,26 @@
+use Rattle.std.proofs.Common.{◌≡◌, ◌∙◌, sym, ap, ◌<◌, ◌∷◌, ◌++◌, [], All, arith, subst}
+use Rattle.std.proofs.lemmas.List.Elements.{All-push}
+use Rattle.run_queues.specs.Numbers.{IsIncreasing}
+use Rattle.run_queues.specs.Parts.{DrawerFacts, after_draw}
+use Rattle.script_meaning.specs.Requests.{accepted_in_all}
+use Rattle.blk_workers.proofs.Numbering.{few_increasing, number_below}
+use Rattle.blk_workers.proofs.worker.work.Goals as goal
+
+pub unreachable-requires : goal.unreachable-requires
+unreachable-requires g c =
+    let increasing = subst (λ (d : DrawerFacts). IsIncreasing d.drawn) c.in_default.ensures.err c.draw.ensures.increasing in
+    let few = few_increasing (accepted_in_all g.J.Run.script) c.loop.drawer.drawn increasing c.loop.invariant.4 in
+    omega (arith, few, c.loop.invariant.3, c.in_default.ensures.full)
+
+pub loop-preserved : goal.loop-preserved
+loop-preserved g c =
+    let bound = accepted_in_all g.J.Run.script in
+    let job = c.in-Some-drawn.job in
+    let drew = c.in-Ok.ensures.drawn ∙ ap (λ item. let d : DrawerFacts = after_draw (λ j. j.duty.number) item c.loop.drawer in record d { room = c.draw.new.drawer.room }) c.in-Some-drawn.is in
+    let less = number_below g.J.Run.script job.duty.number job.position c.serve.ensures in (
+      tt,
+      tt,
+      ap (λ (d : DrawerFacts). d.queue) drew ∙ c.loop.invariant.2,
+      omega (arith, c.loop.invariant.3, c.in-Ok.ensures.room),
+      subst (All (λ n. n < bound)) (sym (ap (λ (d : DrawerFacts). d.drawn) drew)) (All-push (λ n. n < bound) c.loop.drawer.drawn job.duty.number c.loop.invariant.4 less),
+    )

@@ -1,6 +1,0 @@
-mod by_hand;
-mod caller;
-mod modes;
-mod rising;
-mod rounds;
-mod threads;

@@ -1,0 +1,102 @@
+//! Schedules at the limit of kills and on guarded words, and want of memory.
+use super::{CONTROL_LOOK, CONTROL_MARK, answers, refuses};
+use percpu_core::ControlEvent::{
+    ClearDead, Confirm, DropBase, MarkDead, NextFront, StoreWord, TakeBase,
+};
+use percpu_core::Event::{Control, Pass};
+use percpu_core::PassEvent::{AddLive, AddTry, LoadFront, LoadWord, LookShared, Sub};
+use percpu_core::{Memory, NotEnabled, Phase, ReplayFault, Reply, Start, World, replay};
+use std::test::Fail;
+
+#[test]
+fn replay_worn_out(rt: HostRuntime) -> Result<(), Fail> {
+    let mut world = World::with_kills(rt.alloc(), 1, 1, Start::Atomic, 1_099_511_627_775, &[])?;
+    let events = [
+        Control(MarkDead),
+        Control(Confirm),
+        Control(DropBase),
+        CONTROL_MARK,
+        Control(TakeBase),
+        Control(NextFront),
+        Control(ClearDead),
+        Control(MarkDead),
+    ];
+    refuses(&rt, rt.alloc(), &mut world, &events, NotEnabled::WornOut)?;
+    assert_eq!(rt; world.kills(), 1_099_511_627_776);
+    assert_eq!(rt; world.releases(), 1);
+    assert_eq!(rt; world.front(), 2_199_023_255_552);
+    assert_eq!(rt; world.phase(), Phase::LiveAtomic);
+    Ok(())
+}
+
+/// The words that a step loads and stores.
+#[test]
+fn guarded_words(rt: HostRuntime) -> Result<(), Fail> {
+    let mut world = World::new(rt.alloc(), 1, 1, Start::Atomic, &[7, 8])?;
+    let events = [
+        Pass(0, AddLive),
+        Pass(0, LoadWord(1)),
+        Pass(0, LookShared),
+        Pass(0, Sub(1)),
+        Control(MarkDead),
+        Control(Confirm),
+        Pass(0, LoadFront),
+        Control(DropBase),
+        CONTROL_MARK,
+        Control(StoreWord { k: 1, v: 9 }),
+        CONTROL_LOOK,
+        Control(TakeBase),
+        Control(NextFront),
+        Control(ClearDead),
+        Pass(0, AddTry),
+        Pass(0, LoadWord(1)),
+    ];
+    let want = [
+        Reply::Given,
+        Reply::Number(8),
+        Reply::Shared(2),
+        Reply::NotLast,
+        Reply::Done,
+        Reply::Done,
+        Reply::Number(1),
+        Reply::ToMark,
+        Reply::Last,
+        Reply::Done,
+        Reply::Shared(13_835_058_055_282_163_712),
+        Reply::Done,
+        Reply::Done,
+        Reply::Done,
+        Reply::Given,
+        Reply::Number(9),
+    ];
+    answers(&rt, rt.alloc(), &mut world, &events, &want)?;
+    assert_eq!(rt; world.word(0), 7);
+    assert_eq!(rt; world.word(1), 9);
+    Ok(())
+}
+
+/// Without memory no world is made, and none changes. To be run with each allocation failing in turn.
+#[test]
+fn want_of_memory(rt: HostRuntime) -> Result<(), Fail> {
+    let mut world = match World::new(rt.alloc(), 2, 2, Start::Atomic, &[1, 2, 3]) {
+        Ok(world) => world,
+        Err(refused) => {
+            assert_eq!(rt; refused, Memory);
+            return Ok(());
+        }
+    };
+    match replay(
+        rt.alloc(),
+        &mut world,
+        &[Pass(0, AddTry), Control(MarkDead)],
+    ) {
+        Ok(replies) => assert_eq!(rt; replies.as_slice(), [Reply::Given, Reply::Done].as_slice()),
+        Err(fault) => {
+            assert_eq!(rt; fault, ReplayFault::Memory);
+            assert_eq!(rt; world.shared(), 1);
+            assert_eq!(rt; world.kills(), 0);
+            assert_eq!(rt; world.held_by_all(), 0);
+        }
+    }
+    Ok(())
+}

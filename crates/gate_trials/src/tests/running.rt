@@ -1,0 +1,9 @@
+//! Worked rows by hand, limits, threads and the end.
+mod caller;
+mod ends;
+mod kills;
+mod revivals;
+mod rows;
+mod slots;
+mod threads;
+mod trial;

@@ -1,0 +1,124 @@
+//! Revivals and guarded words.
+use super::trial::Answer::{Done, Killed, Number, Put, Revived, Set, ToClose, Tried};
+use super::trial::Call::{Control, Pass, Retire};
+use super::trial::{Answer, Call, ControlCall, PassCall, Trial};
+use percpu_gate::ControlFault::{AlreadyDead, MidSwitch, NotDead, NotZero};
+use percpu_gate::Put::{Last, NotLast};
+use percpu_gate::Revived::{AtZero, Held};
+use percpu_gate::Start;
+use percpu_gate::Tried::{Given, Refused};
+use std::process::Abort;
+use std::test::Fail;
+
+/// A kill, a revival while references are held, and a second kill.
+const GATE_REVIVED: [(Call, Answer); 14] = [
+    (Pass(0, PassCall::TryGetLive { slot: 0 }), Tried(Given)),
+    (Pass(0, PassCall::Word(0)), Number(7)),
+    (Control(ControlCall::Kill), Killed(Ok(NotLast))),
+    (Pass(0, PassCall::Front), Number(1)),
+    (
+        Pass(0, PassCall::TryGetLive { slot: 0 }),
+        Tried(Refused(NotLast)),
+    ),
+    (Pass(0, PassCall::TryGet { slot: 1 }), Tried(Given)),
+    (Pass(0, PassCall::Put { slot: 1, n: 1 }), Put(NotLast)),
+    (Control(ControlCall::Resurrect), Revived(Ok(Held))),
+    (Pass(0, PassCall::Front), Number(2)),
+    (Pass(0, PassCall::Get { slot: 1, n: 3 }), Done),
+    (Pass(0, PassCall::Put { slot: 0, n: 3 }), Put(NotLast)),
+    (Control(ControlCall::Kill), Killed(Ok(NotLast))),
+    (Pass(0, PassCall::Put { slot: 1, n: 1 }), Put(Last)),
+    (Pass(0, PassCall::Held), Number(0)),
+];
+
+/// And its end: a pass that is out, the last one retired. The answers are the same in both modes.
+#[test]
+fn gate_in_slots(rt: HostRuntime) -> Result<(), Fail> {
+    for start in [Start::Slots, Start::Atomic] {
+        let mut trial = Trial::<1>::new(rt.alloc(), 2, 1, start, [7])?;
+        assert_eq!(rt; trial.differs(&GATE_REVIVED), None);
+        let (why, mut trial) = trial.exit().err().ok_or("a pass is out")?;
+        assert_eq!(rt; why.number(), 6);
+        assert_eq!(rt; trial.differs(&[(Retire(0), Done)]), None);
+        let ended = trial.exit().ok().ok_or("all are retired")?;
+        assert!(rt; ended.dead);
+        assert_eq!(rt; (ended.kills, ended.releases), (2, 1));
+        assert_eq!(rt; ended.words, [7]);
+    }
+    Ok(())
+}
+
+/// What a live gate and a dead one refuse.
+const GATE_REFUSALS: [(Call, Answer); 16] = [
+    (Control(ControlCall::Reinit), Set(Err(NotDead))),
+    (Control(ControlCall::Resurrect), Revived(Err(NotDead))),
+    (
+        Control(ControlCall::StoreWord { k: 0, v: 5 }),
+        Set(Err(NotDead)),
+    ),
+    (Pass(0, PassCall::TryGet { slot: 0 }), Tried(Given)),
+    (Control(ControlCall::Kill), Killed(Ok(NotLast))),
+    (Control(ControlCall::Kill), Killed(Err(AlreadyDead))),
+    (Control(ControlCall::Reinit), Set(Err(NotZero))),
+    (
+        Control(ControlCall::StoreWord { k: 0, v: 5 }),
+        Set(Err(NotZero)),
+    ),
+    (Pass(0, PassCall::Put { slot: 0, n: 1 }), Put(Last)),
+    (Control(ControlCall::StoreWord { k: 0, v: 5 }), Set(Ok(()))),
+    (Control(ControlCall::WordAt(0)), Number(5)),
+    (Control(ControlCall::Reinit), Set(Ok(()))),
+    (Control(ControlCall::MarkDead), ToClose(Ok(0))),
+    (Control(ControlCall::SwitchToSlots), Set(Err(MidSwitch))),
+    (Control(ControlCall::SwitchToAtomic), Set(Err(MidSwitch))),
+    (Control(ControlCall::Kill), Killed(Err(MidSwitch))),
+];
+
+/// After an end that was refused in the middle of a kill, the kill goes on.
+const REFUSED_MID_SWITCH: [(Call, Answer); 3] = [
+    (Control(ControlCall::Confirm), Number(3)),
+    (Control(ControlCall::DropBase), Put(Last)),
+    (Control(ControlCall::Resurrect), Revived(Ok(AtZero))),
+];
+
+#[test]
+fn gate_refusals(rt: HostRuntime) -> Result<(), Fail> {
+    let mut trial = Trial::<1>::new(rt.alloc(), 1, 1, Start::Atomic, [0])?;
+    assert_eq!(rt; trial.differs(&GATE_REFUSALS), None);
+    let (why, mut trial) = trial.exit().err().ok_or("a kill is under way")?;
+    assert_eq!(rt; why.number(), 4);
+    assert_eq!(rt; trial.differs(&REFUSED_MID_SWITCH), None);
+    Ok(())
+}
+
+/// All eight guarded words, stored and read.
+const EIGHT_WORDS: [(Call, Answer); 20] = [
+    (Pass(0, PassCall::TryGet { slot: 0 }), Tried(Given)),
+    (Pass(0, PassCall::Word(0)), Number(10)),
+    (Pass(0, PassCall::Word(7)), Number(u64::MAX)),
+    (Pass(0, PassCall::Put { slot: 0, n: 1 }), Put(NotLast)),
+    (Control(ControlCall::Kill), Killed(Ok(Last))),
+    (Control(ControlCall::StoreWord { k: 7, v: 20 }), Set(Ok(()))),
+    (Control(ControlCall::StoreWord { k: 0, v: 21 }), Set(Ok(()))),
+    (Control(ControlCall::WordAt(0)), Number(21)),
+    (Control(ControlCall::WordAt(1)), Number(11)),
+    (Control(ControlCall::WordAt(2)), Number(12)),
+    (Control(ControlCall::WordAt(3)), Number(13)),
+    (Control(ControlCall::WordAt(4)), Number(14)),
+    (Control(ControlCall::WordAt(5)), Number(15)),
+    (Control(ControlCall::WordAt(6)), Number(16)),
+    (Control(ControlCall::WordAt(7)), Number(20)),
+    (Control(ControlCall::Reinit), Set(Ok(()))),
+    (Pass(0, PassCall::TryGetLive { slot: 0 }), Tried(Given)),
+    (Pass(0, PassCall::Word(0)), Number(21)),
+    (Pass(0, PassCall::Word(7)), Number(20)),
+    (Pass(0, PassCall::Word(6)), Number(16)),
+];
+
+#[test]
+fn eight_words(rt: HostRuntime) -> Result<(), Fail> {
+    let words = [10, 11, 12, 13, 14, 15, 16, u64::MAX];
+    let mut trial = Trial::<8>::new(rt.alloc(), 1, 1, Start::Atomic, words)?;
+    assert_eq!(rt; trial.differs(&EIGHT_WORDS), None);
+    Ok(())
+}

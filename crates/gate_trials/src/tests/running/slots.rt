@@ -1,0 +1,128 @@
+//! Counting on slots, and the switches between the modes.
+use super::trial::Answer::{Delta, Done, In, Number, Put, Revived, Set, ToClose, Tried, Wants};
+use super::trial::Call::{Control, Pass};
+use super::trial::{Answer, Call, ControlCall, PassCall, Trial};
+use percpu_gate::Put::{Last, NotLast};
+use percpu_gate::Revived::Held;
+use percpu_gate::Tried::Given;
+use percpu_gate::{Mode, Phase, Start};
+use std::process::Abort;
+use std::test::Fail;
+
+/// A reference taken on one slot and put on the other: the slots' words tell both once a kill closes them.
+pub(super) const SLOTS_REALLY_COUNT: &[(Call, Answer)] = &[
+    (Pass(0, PassCall::TryGet { slot: 0 }), Tried(Given)),
+    (Pass(0, PassCall::Put { slot: 1, n: 1 }), Put(NotLast)),
+    (Control(ControlCall::InPhase), In(Phase::LiveSlots)),
+    (Control(ControlCall::MarkDead), ToClose(Ok(2))),
+    (Control(ControlCall::CloseNext), Delta(1)),
+    (Control(ControlCall::InPhase), In(Phase::Closing(1))),
+    (Control(ControlCall::CloseNext), Delta(-1)),
+    (Control(ControlCall::Collect), Done),
+    (Control(ControlCall::Confirm), Number(1)),
+    (Control(ControlCall::DropBase), Put(Last)),
+];
+
+/// The most that a pass takes on one slot and puts on the other.
+const PAIR: [(Call, Answer); 2] = [
+    (Pass(0, PassCall::Get { slot: 0, n: 65_534 }), Done),
+    (Pass(0, PassCall::Put { slot: 1, n: 65_534 }), Put(NotLast)),
+];
+
+/// What was counted on the slots by then, and the last put.
+const PAST_THE_LIMIT: &[(Call, Answer)] = &[
+    (Control(ControlCall::MarkDead), ToClose(Ok(2))),
+    (Control(ControlCall::CloseNext), Delta(1_048_545)),
+    (Control(ControlCall::CloseNext), Delta(-1_048_544)),
+    (Control(ControlCall::Collect), Done),
+    (Control(ControlCall::Confirm), Number(1)),
+    (Control(ControlCall::DropBase), Put(NotLast)),
+    (Pass(0, PassCall::Put { slot: 0, n: 1 }), Put(Last)),
+];
+
+/// A dead start comes back in the mode that is wanted by then, and a switch in between waits for the revival.
+pub(super) const DEAD_START_SWITCHED: &[(Call, Answer)] = &[
+    (Control(ControlCall::Wants), Wants(Mode::Slots)),
+    (Control(ControlCall::SwitchToAtomic), Set(Ok(()))),
+    (Control(ControlCall::Wants), Wants(Mode::Atomic)),
+    (Control(ControlCall::InPhase), In(Phase::Dead)),
+    (Control(ControlCall::Reinit), Set(Ok(()))),
+    (Control(ControlCall::InPhase), In(Phase::LiveAtomic)),
+    (Pass(0, PassCall::TryGet { slot: 0 }), Tried(Given)),
+    (Control(ControlCall::MarkDead), ToClose(Ok(0))),
+    (Control(ControlCall::Confirm), Number(3)),
+    (Control(ControlCall::DropBase), Put(NotLast)),
+    (Control(ControlCall::SwitchToSlots), Set(Ok(()))),
+    (Control(ControlCall::InPhase), In(Phase::Dead)),
+    (Control(ControlCall::Resurrect), Revived(Ok(Held))),
+    (Control(ControlCall::InPhase), In(Phase::LiveSlots)),
+    (Control(ControlCall::MarkDead), ToClose(Ok(2))),
+    (Control(ControlCall::CloseNext), Delta(0)),
+];
+
+/// A live gate is switched to and fro, with a reference held that one slot gave and another takes back.
+pub(super) const LIVE_SWITCHES: &[(Call, Answer)] = &[
+    (Pass(0, PassCall::TryGetLive { slot: 1 }), Tried(Given)),
+    (Control(ControlCall::SwitchToAtomic), Set(Ok(()))),
+    (Control(ControlCall::InPhase), In(Phase::LiveAtomic)),
+    (Control(ControlCall::SwitchToAtomic), Set(Ok(()))),
+    (Pass(0, PassCall::IsDying), Answer::Flag(false)),
+    (Pass(0, PassCall::TryGetLive { slot: 1 }), Tried(Given)),
+    (Control(ControlCall::SwitchToSlots), Set(Ok(()))),
+    (Control(ControlCall::InPhase), In(Phase::LiveSlots)),
+    (Control(ControlCall::Wants), Wants(Mode::Slots)),
+    (Pass(0, PassCall::Put { slot: 0, n: 2 }), Put(NotLast)),
+    (Control(ControlCall::MarkDead), ToClose(Ok(2))),
+    (Control(ControlCall::CloseNext), Delta(-2)),
+];
+
+/// Each counting call counts on the slot that it is given. While a kill closes the slots, one that is still open gives,
+/// and one that is closed refuses.
+pub(super) const EACH_ON_ITS_SLOT: &[(Call, Answer)] = &[
+    (Pass(0, PassCall::TryGet { slot: 1 }), Tried(Given)),
+    (Pass(0, PassCall::TryGetLive { slot: 2 }), Tried(Given)),
+    (Pass(0, PassCall::Get { slot: 3, n: 4 }), Done),
+    (Pass(0, PassCall::Put { slot: 0, n: 2 }), Put(NotLast)),
+    (Control(ControlCall::MarkDead), ToClose(Ok(4))),
+    (Control(ControlCall::CloseNext), Delta(-2)),
+    (
+        Pass(0, PassCall::TryGetLive { slot: 0 }),
+        Tried(percpu_gate::Tried::Refused(NotLast)),
+    ),
+    (Pass(0, PassCall::TryGetLive { slot: 3 }), Tried(Given)),
+    (Pass(0, PassCall::TryGet { slot: 0 }), Tried(Given)),
+    (Control(ControlCall::CloseNext), Delta(1)),
+    (Control(ControlCall::CloseNext), Delta(1)),
+    (Control(ControlCall::CloseNext), Delta(5)),
+    (Control(ControlCall::Collect), Done),
+    (Control(ControlCall::InPhase), In(Phase::Collected)),
+];
+
+/// Up to the limit itself each count is on its slot, and past it on the shared word.
+const TO_THE_LIMIT: &[(Call, Answer)] = &[
+    (Pass(0, PassCall::Get { slot: 0, n: 31 }), Done),
+    (Pass(0, PassCall::Put { slot: 1, n: 31 }), Put(NotLast)),
+    (Pass(0, PassCall::Get { slot: 0, n: 1 }), Done),
+    (Pass(0, PassCall::Put { slot: 1, n: 1 }), Put(NotLast)),
+    (Pass(0, PassCall::Get { slot: 0, n: 1 }), Done),
+    (Pass(0, PassCall::Put { slot: 1, n: 1 }), Put(NotLast)),
+    (Control(ControlCall::MarkDead), ToClose(Ok(2))),
+    (Control(ControlCall::CloseNext), Delta(1_048_576)),
+    (Control(ControlCall::CloseNext), Delta(-1_048_576)),
+];
+
+/// After 16 pairs there is room for 32 more, and of 17 the last would leave the limit of the deltas, so it goes to the
+/// shared word.
+#[test]
+fn counts_to_the_limit_and_past_it(rt: HostRuntime) -> Result<(), Fail> {
+    for (pairs, rest) in [(16, TO_THE_LIMIT), (17, PAST_THE_LIMIT)] {
+        let mut trial = Trial::<0>::new(rt.alloc(), 2, 1, Start::Slots, [])?;
+        let first = [(Pass(0, PassCall::TryGet { slot: 0 }), Tried(Given))];
+        assert_eq!(rt; trial.differs(&first), None);
+        for _ in 0..pairs {
+            assert_eq!(rt; trial.differs(&PAIR), None);
+        }
+        assert_eq!(rt; trial.differs(rest), None);
+    }
+    Ok(())
+}

@@ -1,8 +1,0 @@
-//! Worked rows by hand, limits, threads and the end.
-mod caller;
-mod ends;
-mod kills;
-mod revivals;
-mod slots;
-mod threads;
-mod trial;

@@ -1,0 +1,66 @@
+-- How gates and their handles come and go.
+use Rattle.std.specs.Prelude.{◌≡◌, ℕ, ◌+◌, ◌⊎◌, nat_eq, nat_lt, if◌then◌else◌, Option, Some, None, Result, Ok, Err}
+use Rattle.percpu_core.specs.Phases.{is_phase}
+use Rattle.percpu_core.specs.declared.phase.Phase.TheVariants.{Dead}
+use Rattle.percpu_core.specs.declared.start.Start.{Start}
+use Rattle.percpu_core.specs.declared.start.Start.TheVariants as starts
+use Rattle.percpu_gate.specs.declared.exit.ExitWhy.{ExitWhy}
+use Rattle.percpu_gate.specs.ControlCalls.{exit_refusal, exit_number}
+use Rattle.percpu_gate.specs.Exits.{Ended}
+use Rattle.percpu_gate_c.specs.declared.misuse.Misuse.{Misuse}
+use Rattle.percpu_gate_c.specs.declared.misuse.Misuse.TheVariants.{Closed, Open, Size}
+use Rattle.percpu_gate_c.specs.declared.life.Final.{Final}
+use Rattle.percpu_gate_c.specs.Opened.{PassOpened, ControlOpened}
+use Rattle.percpu_gate_c.specs.ControlCalls.{Next, Retires, size_misuse}
+
+-- how a gate starts, by its number
+abbrev pub start_named : ℕ → Start
+start_named n = if nat_eq n 0 then starts.Slots else (if nat_eq n 1 then starts.Atomic else starts.Dead)
+
+-- there are three of these
+abbrev pub new_misuse : ℕ → ℕ → ℕ → Option Misuse
+new_misuse start slots passes = if nat_lt 2 start then Some Size else size_misuse slots passes
+
+-- what giving the next pass to a handle leaves: it is to be closed
+abbrev pub Gives : ControlOpened → ControlOpened → Option PassOpened → Option PassOpened → Result (Unit {0}) Misuse → Type 0
+Gives old new (Some p) after answer = (answer ≡ Err Open) × (new ≡ old) × (after ≡ Some p)
+Gives old new None after (Ok r) = (p : PassOpened) × (after ≡ Some p) × Next old new (Ok p)
+Gives old new None after (Err why) = (after ≡ None) × Next old new (Err why)
+
+-- the same of a control handle, which may be closed
+abbrev pub Given : Option ControlOpened → Option ControlOpened → Option PassOpened → Option PassOpened → Result (Unit {0}) Misuse → Type 0
+Given None new before after answer = (answer ≡ Err Closed) × (new ≡ None) × (after ≡ before)
+Given (Some old) None before after answer = ⊥
+Given (Some old) (Some new) before after answer = Gives old new before after answer
+
+-- gates of one number are one gate
+abbrev pub NumbersTell : ControlOpened → Option PassOpened → Type 0
+NumbersTell c None = Unit {0}
+NumbersTell c (Some p) = c.number ≡ p.number → p.pass.gate ≡ c.control.gate
+
+abbrev pub NumbersTellOn : Option ControlOpened → Option PassOpened → Type 0
+NumbersTellOn None p = Unit {0}
+NumbersTellOn (Some c) p = NumbersTell c p
+
+-- what retiring leaves of the two handles
+abbrev pub Retired : Option ControlOpened → Option ControlOpened → Option PassOpened → Option PassOpened → Result (Unit {0}) Misuse → Type 0
+Retired None new before after answer = (answer ≡ Err Closed) × (new ≡ None) × (after ≡ before)
+Retired (Some old) None before after answer = ⊥
+Retired (Some old) (Some new) before after answer = Retires old new before after answer
+
+-- what is left of a gate that has ended, with no release lost
+pub record IsFinal (c : ControlOpened) (f : Final) : Type 0 where
+  pub dead : f.dead ≡ is_phase Dead c.control.view.standing.phase
+  pub kills : f.kills ≡ c.control.view.standing.kills
+  pub releases : f.releases ≡ c.control.view.releases
+  pub words : f.words ≡ c.control.view.words
+  pub nothing_lost : Ended c.control.gate c.control.view
+
+-- what ending a gate leaves: refused with everything as it was, or ended. (In use, which no way of using handles leads to, the control is gone all the same)
+abbrev pub ExitsOpen : Option ExitWhy → ControlOpened → Option ControlOpened → Final → Final → ℕ → Type 0
+ExitsOpen (Some why) c new there here result = (result ≡ 16 + exit_number why) × (new ≡ Some c) × (here ≡ there)
+ExitsOpen None c new there here result = (new ≡ None) × (((result ≡ 45) × (here ≡ there)) ⊎ ((result ≡ 0) × IsFinal c here))
+
+abbrev pub Exits : Option ControlOpened → Option ControlOpened → Final → Final → ℕ → Type 0
+Exits None new there here result = (result ≡ 32) × (new ≡ None) × (here ≡ there)
+Exits (Some c) new there here result = ExitsOpen (exit_refusal c.control.view.standing.phase c.control.view.passes) c new there here result

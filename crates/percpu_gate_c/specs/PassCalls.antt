@@ -1,0 +1,104 @@
+-- What C may do wrong with a pass, and what each of its calls leaves.
+use Rattle.std.specs.Prelude.{◌≡◌, ℕ, ◌+◌, ◌-◌, ◌%◌, ◌<◌, ◌≤◌, Bool, true, false, nat_le, nat_lt, nat_eq, if◌then◌else◌, Option, Some, None, ◌∷◌}
+use Rattle.percpu_core.specs.declared.limits.TheConstants.{HELD_LIMIT}
+use Rattle.percpu_core.specs.declared.pass_event.PassEvent.TheVariants as events
+use Rattle.percpu_core.specs.declared.reply.Reply.TheVariants.{Number}
+use Rattle.percpu_core.specs.PassLearns.{next_even}
+use Rattle.percpu_gate.specs.declared.tried.Put.{Put}
+use Rattle.percpu_gate.specs.declared.tried.Tried.{Tried}
+use Rattle.percpu_gate.specs.declared.tried.Tried.TheVariants.{Given}
+use Rattle.percpu_gate.specs.Seats.{PassStep, dead_at, zero_at}
+use Rattle.percpu_gate.specs.Calls.{is_refused, taken, after_put, TryLeaves, TryFinds, LiveTryFinds, GetLeaves, PassLook, LookLeaves, HasRead}
+use Rattle.percpu_gate_c.specs.declared.misuse.Misuse.{Misuse}
+use Rattle.percpu_gate_c.specs.declared.misuse.Misuse.TheVariants.{Slot, HeldFull, NotHeld, Amount, Word}
+use Rattle.percpu_gate_c.specs.declared.open_pass.TheConstants.{WORDS}
+use Rattle.percpu_gate_c.specs.Opened.{PassOpened}
+
+-- the references that a pass holds
+abbrev pub held_by : PassOpened → ℕ
+held_by p = p.pass.view.standing.held
+
+-- there is no such slot, or the first of these
+abbrev pub slot_misuse : ℕ → PassOpened → Option Misuse → Option Misuse
+slot_misuse slot p else_this = if nat_le p.pass.gate.slots slot then Some Slot else else_this
+
+-- a try needs room for one reference more
+abbrev pub take_misuse : ℕ → PassOpened → Option Misuse
+take_misuse slot p = slot_misuse slot p (if nat_le HELD_LIMIT (held_by p) then Some HeldFull else None)
+
+-- `get` needs a reference that is held, and room for n more
+abbrev pub get_misuse : ℕ → ℕ → PassOpened → Option Misuse
+get_misuse slot n p = slot_misuse slot p (if nat_eq (held_by p) 0 then Some NotHeld else (if nat_eq n 0 then Some Amount else (if nat_lt HELD_LIMIT (held_by p + n) then Some HeldFull else None)))
+
+-- `put` drops what is held
+abbrev pub put_misuse : ℕ → ℕ → PassOpened → Option Misuse
+put_misuse slot n p = slot_misuse slot p (if nat_eq n 0 then Some Amount else (if nat_lt (held_by p) n then Some NotHeld else None))
+
+-- a guarded word is read by who holds a reference
+abbrev pub word_misuse : ℕ → PassOpened → Option Misuse
+word_misuse k p = if nat_eq (held_by p) 0 then Some NotHeld else (if nat_le WORDS k then Some Word else None)
+
+-- nothing is wrong with an open handle
+abbrev pub no_misuse : {S : Type 0} → S → Option Misuse
+no_misuse s = None
+
+-- the pass stays one of its gate
+pub record SameGate (old new : PassOpened) : Type 0 where
+  pub number : new.number ≡ old.number
+  pub gate : new.pass.gate ≡ old.pass.gate
+
+-- what `try_get` leaves
+pub record TryGot (old new : PassOpened) (r : Tried) : Type 0 where
+  pub same : SameGate old new
+  pub leaves : TryLeaves old.pass.view new.pass.view r
+  pub finds : TryFinds old.pass.gate old.pass.view r
+  pub again : 0 < held_by old → r ≡ Given
+
+-- what `try_get_live` leaves
+pub record LiveTryGot (slot : ℕ) (old new : PassOpened) (r : Tried) : Type 0 where
+  pub same : SameGate old new
+  pub leaves : TryLeaves old.pass.view new.pass.view r
+  pub finds : LiveTryFinds old.pass.gate slot old.pass.view r
+  pub floor : new.pass.view.floor ≡ (if is_refused r then old.pass.view.floor else next_even old.pass.view.floor)
+  pub live : new.pass.view.live_given ≡ old.pass.view.live_given + taken r
+  -- once the odd front of a kill was seen, what is given belongs to a later life
+  pub later : is_refused r ≡ false → old.pass.view.seen_front % 2 ≡ 1 → old.pass.view.seen_front + 1 ≤ new.pass.view.floor
+
+-- what `get` leaves
+pub record Got (n : ℕ) (old new : PassOpened) (r : Unit {0}) : Type 0 where
+  pub same : SameGate old new
+  pub leaves : GetLeaves old.pass.view new.pass.view n
+
+-- what `put` leaves
+pub record HasPut (n : ℕ) (old new : PassOpened) (r : Put) : Type 0 where
+  pub same : SameGate old new
+  pub view : new.pass.view ≡ after_put r (held_by old - n) old.pass.view
+
+-- what reading the front leaves
+pub record ReadFront (old new : PassOpened) (front : ℕ) : Type 0 where
+  pub same : SameGate old new
+  pub step : PassStep old.pass.gate events.LoadFront old.pass.view new.pass.view (Number front)
+  pub view : new.pass.view ≡ record old.pass.view { seen_front = front; floor = front }
+  pub floor : old.pass.view.floor ≤ front
+  pub greatest : old.pass.view.seen_front ≤ front
+
+-- what a look for the mark of a kill leaves
+pub record LookedForDead (old new : PassOpened) (found : Bool) : Type 0 where
+  pub same : SameGate old new
+  pub step : (look : PassLook old.pass.gate old.pass.view new.pass.view) × (found ≡ dead_at look.moment)
+  pub leaves : LookLeaves old.pass.view new.pass.view
+
+-- what a look for zero leaves
+pub record LookedForZero (old new : PassOpened) (found : Bool) : Type 0 where
+  pub same : SameGate old new
+  pub step : (look : PassLook old.pass.gate old.pass.view new.pass.view) × (found ≡ zero_at look.moment)
+  pub leaves : LookLeaves old.pass.view new.pass.view
+  pub ground : found ≡ true → held_by new ≡ 0
+
+-- what reading the guarded word k leaves
+pub record ReadWord (k : ℕ) (old new : PassOpened) (value : ℕ) : Type 0 where
+  pub same : SameGate old new
+  pub step : PassStep old.pass.gate (events.LoadWord k) old.pass.view new.pass.view (Number value)
+  pub view : new.pass.view ≡ record old.pass.view { read = record { word = k; value = value } ∷ old.pass.view.read }
+  -- it is what the pass has read before, if it holds a reference since then
+  pub again : (v : ℕ) → HasRead k v old.pass.view.read → value ≡ v

@@ -1,0 +1,71 @@
+//! The control, to C.
+ghost use Rattle.std.specs.Prelude.{◌≡◌, Some, None, is_some, IsSome, IfOk, IfErr};
+ghost use Rattle.percpu_gate_c.specs.declared.misuse.Misuse.TheVariants.{Open};
+ghost use Rattle.percpu_gate_c.specs.ControlHolding.{opened};
+
+use crate::control_held::ControlHeld;
+use crate::misuse::Misuse;
+use crate::open_control::OpenControl;
+use std::alloc::Global;
+use std::mem;
+
+/// The control handle: to C a `bool` and a pointer, all zero where it is closed.
+#[derive(Drop)]
+#[repr(C)]
+pub struct ControlHandle {
+    is_open: bool,
+    held: ControlHeld,
+    alloc: Global,
+    ghost told: { is_open ≡ is_some held.control },
+}
+
+impl ControlHandle {
+    /// A closed handle. (C makes its own, all zero.)
+    #[cfg(test)]
+    pub fn new(alloc: Global) -> ControlHandle
+        ensures { result.held.control ≡ None }
+    {
+        ControlHandle {
+            is_open: false,
+            held: ControlHeld::nothing(alloc),
+            alloc,
+        }
+    }
+
+    /// The box of an open handle, which is left closed.
+    pub fn take(&mut self) -> Option<Box<OpenControl>>
+        ensures control { opened result ≡ self.old.held.control }
+        ensures closed { self.new.held.control ≡ None }
+    {
+        if !self.is_open {
+            return None;
+        }
+        self.is_open = false;
+        let nothing = ControlHeld::nothing(self.alloc);
+        Some(mem::replace(&mut self.held, nothing).into_box())
+    }
+
+    /// Its allocator, where it is closed. Refuses Open.
+    pub fn closed(&self) -> Result<Global, Misuse>
+        ensures closed { IfOk result (λ _. self.now.held.control ≡ None) }
+        ensures open { IfErr result (λ why. (why ≡ Open) × IsSome self.now.held.control) }
+    {
+        if self.is_open {
+            Err(Misuse::Open)
+        } else {
+            Ok(self.alloc)
+        }
+    }
+
+    /// Opens a closed handle.
+    pub fn put_back(&mut self, control: Box<OpenControl>)
+        requires closed { self.old.held.control ≡ None }
+        ensures { self.new.held.control ≡ Some control.value }
+    {
+        *self = ControlHandle {
+            is_open: true,
+            held: ControlHeld::of(control),
+            alloc: self.alloc,
+        };
+    }
+}

@@ -1,0 +1,171 @@
+//! How gates and their handles come and go.
+ghost use Rattle.std.specs.Prelude.{◌≡◌, None, Result};
+ghost use Rattle.percpu_gate_c.specs.declared.misuse.Misuse.{Misuse};
+ghost use Rattle.percpu_gate_c.specs.Numbers.{number_of};
+ghost use Rattle.percpu_gate_c.specs.ControlCalls.{Made, NewControl, Retires};
+ghost use Rattle.percpu_gate_c.specs.Life.{Exits, Given, Gives, NumbersTell, NumbersTellOn, Retired, new_misuse, start_named};
+
+use crate::control_handle::ControlHandle;
+use crate::misuse::Misuse;
+use crate::number::of_unit;
+use crate::open_control::OpenControl;
+use crate::open_pass::WORDS;
+use crate::pass_handle::PassHandle;
+use percpu_gate::{ExitWhy, Start};
+
+/// What is left of a gate that has ended.
+#[derive(Drop)]
+#[repr(C)]
+pub struct Final {
+    pub dead: bool,
+    pub kills: u64,
+    pub releases: u64,
+    pub words: [u64; WORDS],
+}
+
+/// How a gate starts, by its number.
+fn start_of(start: u32) -> Start
+    ensures { result ≡ start_named start }
+{
+    match start {
+        0 => Start::Slots,
+        1 => Start::Atomic,
+        _ => Start::Dead,
+    }
+}
+
+/// The control of a new gate, for a closed handle. Refuses Open, Size, Memory.
+fn make(
+    control: &mut ControlHandle,
+    number: u64,
+    slots: u32,
+    passes: u32,
+    start: u32,
+    words: &[u64; WORDS],
+) -> Result<(), Misuse>
+    ensures { Made (new_misuse start slots passes) (NewControl number slots passes (start_named start) words.now) control.old.held.control control.new.held.control result }
+{
+    let alloc = control.closed()?;
+    if start > 2 {
+        return Err(Misuse::Size);
+    }
+    let open = OpenControl::new(alloc, number, slots, passes, start_of(start), words)?;
+    match Box::new(alloc, open) {
+        Ok(open) => {
+            control.put_back(open);
+            Ok(())
+        }
+        Err(_) => Err(Misuse::Memory),
+    }
+}
+
+/// A gate of so many slots (1 to 64) and passes (1 to 64) with eight guarded words, for a closed control handle.
+/// It starts with its slots open (0), with them closed (1), or dead and at zero (2). Refuses Open, Size, Memory.
+/// Linux: `percpu_ref_init` (lib/percpu-refcount.c).
+#[unsafe(no_mangle)]
+pub extern "C" fn percpu_gate_new_numbered(
+    control: &mut ControlHandle,
+    number: u64,
+    slots: u32,
+    passes: u32,
+    start: u32,
+    words: &[u64; WORDS],
+) -> u32
+    ensures { (answer : Result (Unit {0}) Misuse) × (result ≡ number_of (λ _. 0) answer)
+        × Made (new_misuse start slots passes) (NewControl number slots passes (start_named start) words.now) control.old.held.control control.new.held.control answer }
+{
+    of_unit(make(control, number, slots, passes, start, words))
+}
+
+/// The next pass of this control, for a closed handle.
+fn give(chosen: &mut OpenControl, pass: &mut PassHandle) -> Result<(), Misuse>
+    ensures { Gives chosen.old chosen.new pass.old.held.pass pass.new.held.pass result }
+{
+    let alloc = pass.closed()?;
+    let given = chosen.next_pass(alloc)?;
+    pass.put_back(given);
+    Ok(())
+}
+
+/// The next pass of the gate, for a closed pass handle. Refuses Closed, Open, NoPass, Memory.
+#[tactic(auto, using(crate::proofs::Closed::closed_given))]
+#[unsafe(no_mangle)]
+pub extern "C" fn percpu_gate_next_pass(control: &mut ControlHandle, pass: &mut PassHandle) -> u32
+    ensures { (answer : Result (Unit {0}) Misuse) × (result ≡ number_of (λ _. 0) answer) × Given control.old.held.control control.new.held.control pass.old.held.pass pass.new.held.pass answer }
+{
+    let Some(mut open) = control.take() else {
+        return of_unit(Err(Misuse::Closed));
+    };
+    let answer = give(&mut open, pass);
+    control.put_back(open);
+    of_unit(answer)
+}
+
+/// Frees what a pass handle has, and closes it. Its gate counts the pass as out for ever, if it wasn't retired.
+#[unsafe(no_mangle)]
+pub extern "C" fn percpu_gate_free_pass(pass: &mut PassHandle)
+    ensures { pass.new.held.pass ≡ None }
+{
+    drop(pass.take());
+}
+
+/// Frees what a control handle has, and closes it.
+#[unsafe(no_mangle)]
+pub extern "C" fn percpu_gate_free_control(control: &mut ControlHandle)
+    ensures { control.new.held.control ≡ None }
+{
+    drop(control.take());
+}
+
+/// The pass of a handle is taken in by the control, unless that is refused.
+fn retire(chosen: &mut OpenControl, pass: &mut PassHandle) -> Result<(), Misuse>
+    requires numbers { NumbersTell chosen.old pass.old.held.pass }
+    ensures { Retires chosen.old chosen.new pass.old.held.pass pass.new.held.pass result }
+{
+    let Some(given) = pass.take() else {
+        return Err(Misuse::Closed);
+    };
+    if let Err(why) = chosen.refuse_retire(&given) {
+        pass.put_back(given);
+        return Err(why);
+    }
+    chosen.retire(Box::into_inner(given));
+    Ok(())
+}
+
+/// Ends a pass that holds nothing. Refuses Closed, OtherGate, StillHeld.
+#[tactic(auto, using(crate::proofs::Closed::closed_retired))]
+#[unsafe(no_mangle)]
+pub extern "C" fn percpu_gate_retire(control: &mut ControlHandle, pass: &mut PassHandle) -> u32
+    requires numbers { NumbersTellOn control.old.held.control pass.old.held.pass }
+    ensures { (answer : Result (Unit {0}) Misuse) × (result ≡ number_of (λ _. 0) answer) × Retired control.old.held.control control.new.held.control pass.old.held.pass pass.new.held.pass answer }
+{
+    let Some(mut open) = control.take() else {
+        return of_unit(Err(Misuse::Closed));
+    };
+    let answer = retire(&mut open, pass);
+    control.put_back(open);
+    of_unit(answer)
+}
+
+/// Ends a gate whose passes are all retired, and closes the handle. Refuses Closed; 20 in the middle of a kill, 22
+/// where passes are out. Linux: `percpu_ref_exit` (lib/percpu-refcount.c).
+#[unsafe(no_mangle)]
+pub extern "C" fn percpu_gate_exit(control: &mut ControlHandle, last: &mut Final) -> u32
+    ensures { Exits control.old.held.control control.new.held.control last.old last.new result }
+{
+    let Some(open) = control.take() else {
+        return Misuse::Closed.number();
+    };
+    if let Some(why) = open.refuse_exit() {
+        control.put_back(open);
+        return 16 + u32::from(why.number());
+    }
+    match Box::into_inner(open).end() {
+        Some(ended) => {
+            *last = ended;
+            0
+        }
+        None => Misuse::InUse.number(),
+    }
+}

@@ -1,0 +1,319 @@
+//! What an open control handle leads to.
+ghost use Rattle.std.specs.Prelude.{◌≡◌, None, All, IfSome};
+ghost use Rattle.percpu_gate_c.specs.Life.{IsFinal};
+ghost use Rattle.percpu_gate.specs.ControlCalls.{exit_refusal};
+ghost use Rattle.percpu_gate.specs.Rule.{after_retire};
+ghost use Rattle.percpu_gate.specs.Seats.{fresh_pass};
+ghost use Rattle.percpu_gate.specs.declared.mode.Mode.TheVariants as modes;
+ghost use Rattle.percpu_gate_c.specs.Ran.{Ran, misuse_of};
+ghost use Rattle.percpu_gate_c.specs.ControlCalls.{WrapsLast, Makes, NewControl, size_misuse, Next, value_of, Killed, SawZero, Reinited, Resurrected, Switched, StoredWord, store_misuse, Told, ToldWords, retire_misuse, knowing};
+ghost use Rattle.percpu_gate_c.specs.KillSteps.{BegunKill, ClosedSlot, close_misuse, CollectedSlots, collect_misuse, ConfirmedKill, confirm_misuse, DroppedBase, drop_misuse, TellsPhase};
+
+use crate::life::Final;
+use crate::misuse::Misuse;
+use crate::open_pass::{OpenPass, WORDS};
+use percpu_gate::{
+    Control, ControlFault, ExitWhy, Gate, PASS_LIMIT, Pass, Phase, Put, Revived, SLOT_LIMIT, Start,
+};
+use std::alloc::Global;
+use std::marker::Model;
+use std::sync::Arc;
+
+/// The control with its gate, the gate's number, the passes that no handle has had yet, and how many aren't
+/// retired.
+#[derive(Drop)]
+#[repr(C)]
+pub struct OpenControl {
+    before: [u64; 16],
+    gate: Arc<Gate<WORDS>>,
+    number: u64,
+    waiting: Vec<Pass<WORDS>>,
+    spare: Option<OpenPass>,
+    passes: u32,
+    control: Control<WORDS>,
+    after: [u64; 16],
+}
+
+impl Model for OpenControl {
+    ghost use Rattle.std.specs.Prelude.{◌≡◌, ◌+◌, All, IfSome, length, option_to_list};
+    ghost use Rattle.std.specs.Arc.{arc_value};
+    ghost use Rattle.percpu_gate.specs.Seats.{fresh_pass};
+    ghost use Rattle.percpu_gate_c.specs.Opened.{ControlOpened};
+
+    ghost Value = { ControlOpened };
+
+    ghost view = { λ c. record { number = c.number; waiting = length c.waiting.items + length (option_to_list c.spare); control = c.control } };
+
+    ghost invariant = { λ c. (c.control.gate ≡ arc_value c.gate) × (c.control.view.passes ≡ c.passes)
+        × All (λ p. p ≡ fresh_pass (arc_value c.gate)) c.waiting.items
+        × IfSome c.spare (λ p. p ≡ record { number = c.number; pass = fresh_pass (arc_value c.gate) }) };
+}
+
+/// The last of these passes, with its gate. Refuses Memory, NoPass.
+fn wrap_last(
+    gate: &Arc<Gate<WORDS>>,
+    number: u64,
+    waiting: &mut Vec<Pass<WORDS>>,
+) -> Result<OpenPass, Misuse>
+    requires fresh { All (λ p. p ≡ fresh_pass gate.now.value) waiting.old.items }
+    ensures { WrapsLast number gate.now.value waiting.old.items waiting.new.items result }
+{
+    let Ok(gate) = Arc::try_clone(gate) else {
+        return Err(Misuse::Memory);
+    };
+    match waiting.pop() {
+        Some(pass) => Ok(OpenPass::new(gate, number, pass)),
+        None => Err(Misuse::NoPass),
+    }
+}
+
+impl OpenControl {
+    /// The control of a new gate. Refuses Size, Memory.
+    pub fn new(
+        alloc: Global,
+        number: u64,
+        slots: u32,
+        passes: u32,
+        start: Start,
+        words: &[u64; WORDS],
+    ) -> Result<OpenControl, Misuse>
+        ensures { Makes (size_misuse slots passes) (NewControl number slots passes start words.now) result }
+    {
+        if slots == 0 || slots > SLOT_LIMIT || passes == 0 || passes > PASS_LIMIT {
+            return Err(Misuse::Size);
+        }
+        let Ok((gate, control, waiting)) = Gate::new(alloc, slots, passes, start, *words) else {
+            return Err(Misuse::Memory);
+        };
+        let Ok(gate) = Arc::new(alloc, gate) else {
+            return Err(Misuse::Memory);
+        };
+        Ok(OpenControl {
+            before: [0; 16],
+            gate,
+            number,
+            waiting,
+            spare: None,
+            passes,
+            control,
+            after: [0; 16],
+        })
+    }
+
+    /// The next pass that waits. Refuses NoPass, Memory.
+    pub fn next_pass(&mut self, alloc: Global) -> Result<Box<OpenPass>, Misuse>
+        ensures { Next self.old self.new (value_of result) }
+    {
+        let open = match self.spare.take() {
+            Some(open) => open,
+            None => wrap_last(&self.gate, self.number, &mut self.waiting)?,
+        };
+        match Box::new(alloc, open) {
+            Ok(open) => Ok(open),
+            Err(back) => {
+                self.spare = Some(back.value);
+                Err(Misuse::Memory)
+            }
+        }
+    }
+
+    /// Kills the gate.
+    pub fn kill(&mut self) -> Result<Result<Put, ControlFault>, Misuse>
+        ensures { Ran None Killed self.old self.new result }
+    {
+        Ok(self.control.kill(&self.gate))
+    }
+
+    /// Begins a kill. The number of slots that are to be closed.
+    pub fn mark_dead(&mut self) -> Result<Result<u32, ControlFault>, Misuse>
+        ensures { Ran None BegunKill self.old self.new result }
+    {
+        Ok(self.control.mark_dead(&self.gate))
+    }
+
+    /// Closes the next slot of a kill. Its delta. Refuses Step.
+    pub fn close_next(&mut self) -> Result<i64, Misuse>
+        ensures { Ran (close_misuse self.old) ClosedSlot self.old self.new result }
+    {
+        match self.control.phase() {
+            Phase::Closing(closed) if closed < self.gate.slots() => {
+                Ok(self.control.close_next(&self.gate))
+            }
+            _ => Err(Misuse::Step),
+        }
+    }
+
+    /// Collects the slots that a kill has closed. Refuses Step.
+    pub fn collect(&mut self) -> Result<(), Misuse>
+        ensures { Ran (collect_misuse self.old) CollectedSlots self.old self.new result }
+    {
+        match self.control.phase() {
+            Phase::Closing(closed) if closed == self.gate.slots() => {
+                self.control.collect(&self.gate);
+                Ok(())
+            }
+            _ => Err(Misuse::Step),
+        }
+    }
+
+    /// Confirms a kill. Its front. Refuses Step.
+    pub fn confirm(&mut self) -> Result<u64, Misuse>
+        ensures { Ran (confirm_misuse self.old) ConfirmedKill self.old self.new result }
+    {
+        match self.control.phase() {
+            Phase::Collected => Ok(self.control.confirm(&self.gate)),
+            _ => Err(Misuse::Step),
+        }
+    }
+
+    /// Drops the initial reference, which ends a kill. Refuses Step.
+    pub fn drop_base(&mut self) -> Result<Put, Misuse>
+        ensures { Ran (drop_misuse self.old) DroppedBase self.old self.new result }
+    {
+        match self.control.phase() {
+            Phase::Confirmed => Ok(self.control.drop_base(&self.gate)),
+            _ => Err(Misuse::Step),
+        }
+    }
+
+    /// Where the control stands.
+    pub fn phase(&mut self) -> Result<Phase, Misuse>
+        ensures { Ran None TellsPhase self.old self.new result }
+    {
+        Ok(self.control.phase())
+    }
+
+    /// Whether the count has reached zero.
+    pub fn is_zero(&mut self) -> Result<bool, Misuse>
+        ensures { Ran None SawZero self.old self.new result }
+    {
+        Ok(self.control.is_zero(&self.gate))
+    }
+
+    /// Revives a gate at zero.
+    pub fn reinit(&mut self) -> Result<Result<(), ControlFault>, Misuse>
+        ensures { Ran None Reinited self.old self.new result }
+    {
+        Ok(self.control.reinit(&self.gate))
+    }
+
+    /// Revives a dead gate.
+    pub fn resurrect(&mut self) -> Result<Result<Revived, ControlFault>, Misuse>
+        ensures { Ran None Resurrected self.old self.new result }
+    {
+        Ok(self.control.resurrect(&self.gate))
+    }
+
+    /// Counts on the shared word alone from now on.
+    pub fn switch_to_atomic(&mut self) -> Result<Result<(), ControlFault>, Misuse>
+        ensures { Ran None (Switched modes.Atomic) self.old self.new result }
+    {
+        Ok(self.control.switch_to_atomic(&self.gate))
+    }
+
+    /// Counts on slots from now on.
+    pub fn switch_to_slots(&mut self) -> Result<Result<(), ControlFault>, Misuse>
+        ensures { Ran None (Switched modes.Slots) self.old self.new result }
+    {
+        Ok(self.control.switch_to_slots(&self.gate))
+    }
+
+    /// Stores a guarded word. Refuses Word.
+    pub fn store_word(&mut self, k: u32, v: u64) -> Result<Result<(), ControlFault>, Misuse>
+        ensures { Ran (store_misuse k self.old) (StoredWord k v) self.old self.new result }
+    {
+        if k as usize >= WORDS {
+            return Err(Misuse::Word);
+        }
+        Ok(self.control.store_word(&self.gate, k, v))
+    }
+
+    /// The kills so far.
+    pub fn kills(&mut self) -> Result<u64, Misuse>
+        ensures { Ran None (Told (λ c. c.standing.kills)) self.old self.new result }
+    {
+        Ok(self.control.kills())
+    }
+
+    /// The releases of the control and of retired passes.
+    pub fn releases(&mut self) -> Result<u64, Misuse>
+        ensures { Ran None (Told (λ c. c.releases)) self.old self.new result }
+    {
+        Ok(self.control.releases())
+    }
+
+    /// The guarded words.
+    pub fn words(&mut self) -> Result<[u64; WORDS], Misuse>
+        ensures { Ran None ToldWords self.old self.new result }
+    {
+        Ok(self.control.words())
+    }
+
+    /// Why this pass may not be retired. Refuses OtherGate, StillHeld.
+    pub fn refuse_retire(&self, pass: &OpenPass) -> Result<(), Misuse>
+        ensures { misuse_of result ≡ retire_misuse self.now pass.now }
+    {
+        if self.number != pass.number() {
+            Err(Misuse::OtherGate)
+        } else if pass.held() != 0 {
+            Err(Misuse::StillHeld)
+        } else {
+            Ok(())
+        }
+    }
+
+    /// Ends a pass.
+    pub fn retire(&mut self, pass: OpenPass)
+        requires own { pass.pass.gate ≡ self.old.control.gate }
+        requires none { pass.pass.view.standing.held ≡ 0 }
+        ensures { self.new ≡ knowing self.old (after_retire pass.pass.view self.old.control.view) }
+    {
+        self.control.retire(&self.gate, pass.into_pass());
+        if self.passes > 0 {
+            self.passes -= 1;
+        }
+    }
+
+    /// Why the gate may not end: 20, or 22.
+    pub fn refuse_exit(&self) -> Option<ExitWhy>
+        ensures { result ≡ exit_refusal self.now.control.view.standing.phase self.now.control.view.passes }
+    {
+        if self.control.phase().is_mid_switch() {
+            Some(ExitWhy::MidSwitch)
+        } else if self.passes > 0 {
+            Some(ExitWhy::PassesOut(self.passes))
+        } else {
+            None
+        }
+    }
+
+    /// Ends the gate. Nothing where somebody has a share of it, which no way of using handles leads to.
+    pub fn end(self) -> Option<Final>
+        requires retired { exit_refusal self.control.view.standing.phase self.control.view.passes ≡ None }
+        ensures { IfSome result (λ f. IsFinal self f) }
+    {
+        let Self {
+            before: _,
+            gate,
+            number: _,
+            waiting: _,
+            spare: _,
+            passes: _,
+            control,
+            after: _,
+        } = self;
+        let Ok(gate) = Arc::try_unwrap(gate) else {
+            return None;
+        };
+        let Ok(ended) = gate.exit(control) else {
+            return None;
+        };
+        let words = ended.words;
+        Some(Final {
+            dead: ended.dead,
+            kills: ended.kills,
+            releases: ended.releases,
+            words,
+        })
+    }
+}

@@ -1,0 +1,25 @@
+-- The pieces where a physical block is one sector: each but the last is as long as the limits allow.
+use Rattle.std.specs.Prelude.{◌≡◌, ℕ, ◌+◌, ◌<◌, List, [], ◌∷◌, sum}
+use Rattle.std.specs.List.{All}
+use Rattle.queue_limits.specs.Bounds.{Bounds}
+use Rattle.queue_limits.specs.Pieces.{IsWithinReach}
+
+-- P holds of each piece, by its first sector and its length, where the first piece begins at `start`
+abbrev pub EachLength : (ℕ → ℕ → Type 0) → ℕ → List ℕ → Type 0
+EachLength P start [] = Unit {0}
+EachLength P start (length ∷ lengths) = P start length × EachLength P (start + length) lengths
+
+-- the same of each piece but the last
+abbrev pub EachButLast : (ℕ → ℕ → Type 0) → ℕ → List ℕ → Type 0
+EachButLast P start [] = Unit {0}
+EachButLast P start (length ∷ []) = Unit {0}
+EachButLast P start (length ∷ next ∷ lengths) = P start length × EachButLast P (start + length) (next ∷ lengths)
+
+-- these are the lengths of the longest pieces that the `count` sectors from `start` on may be cut into
+pub record IsLongestSplit (bounds : Bounds) (start count : ℕ) (lengths : List ℕ) : Type 0 where
+  pub joined : sum lengths ≡ count
+  pub non_empty : All (λ length. 0 < length) lengths
+  -- none is longer than the limit, and none has a multiple of the chunk strictly inside
+  pub allowed : EachLength (IsWithinReach bounds) start lengths
+  -- none but the last could be one sector longer
+  pub longest : EachButLast (λ at length. ¬ (IsWithinReach bounds at (length + 1))) start lengths

@@ -1,0 +1,6 @@
+mod by_hand;
+mod caller;
+mod fixture;
+mod modes;
+mod rising;
+mod waking;

@@ -1,0 +1,2 @@
+//! What threads hand to one another in a run.
+mod queues;

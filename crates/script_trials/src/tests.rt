@@ -1,0 +1,3 @@
+//! The sectors of a disk, and the words of a text.
+mod disk;
+mod text;

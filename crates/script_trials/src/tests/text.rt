@@ -1,0 +1,76 @@
+//! Words and numbers by hand, and the texts of faults.
+use line_text::{LineFault, Overlap, ParseFault, ScriptFault, Why, hex_bytes};
+use std::process::Abort;
+use std::test::Fail;
+
+mod numbers;
+
+// The display of each reason and its number.
+#[test]
+fn reasons_have_numbers_and_texts(rt: HostRuntime) -> Result<(), Fail> {
+    let texts = [
+        (Why::NotUtf8, 1, "not utf-8"),
+        (Why::NoVersion, 2, "no version"),
+        (Why::NoDisk, 3, "no disk"),
+        (Why::UnknownWord, 4, "unknown word"),
+        (Why::MissingWord, 5, "missing word"),
+        (Why::ExtraWord, 6, "extra word"),
+        (Why::BadNumber, 7, "bad number"),
+        (Why::OutOfRange, 8, "out of range"),
+        (Why::BadHex, 9, "bad hex"),
+        (Why::TooLong, 10, "too long"),
+        (Why::NoWorld, 11, "no world"),
+    ];
+    for (why, number, text) in texts {
+        assert_eq!(rt; why.number(), number);
+        assert_eq!(rt; why.to_string(rt.alloc())?.as_str(), text);
+    }
+    Ok(())
+}
+
+#[test]
+fn faults_have_texts(rt: HostRuntime) -> Result<(), Fail> {
+    let alloc = rt.alloc();
+    let parse = ParseFault {
+        line: 3,
+        why: Why::BadHex,
+    };
+    let pair = Overlap {
+        line: 6,
+        earlier: 5,
+    };
+    let texts = [
+        (ScriptFault::Memory, "memory"),
+        (ScriptFault::Parse(parse), "line 3: bad hex"),
+        (ScriptFault::Overlap(pair), "line 6: overlaps line 5"),
+    ];
+    for (fault, text) in texts {
+        assert_eq!(rt; fault.to_string(alloc)?.as_str(), text);
+    }
+    assert_eq!(rt; LineFault::Memory.to_string(alloc)?.as_str(), "memory");
+    assert_eq!(rt;
+        LineFault::Refused(Why::BadHex).to_string(alloc)?.as_str(),
+        "bad hex"
+    );
+    Ok(())
+}
+
+#[test]
+fn bytes_of_words(rt: HostRuntime) -> Result<(), Fail> {
+    let rows: [(&[u8], Result<&[u8], Why>); 6] = [
+        (b"aB0f", Ok(b"\xab\x0f")),
+        (b"616263", Ok(b"abc")),
+        (b"61626364", Err(Why::BadHex)),
+        (b"", Err(Why::BadHex)),
+        (b"6", Err(Why::BadHex)),
+        (b"6g", Err(Why::BadHex)),
+    ];
+    for (word, wanted) in rows {
+        match (hex_bytes(rt.alloc(), word, 3), wanted) {
+            (Ok(bytes), Ok(wanted)) => assert!(rt; bytes.as_slice() == wanted, "{word:?}"),
+            (Err(fault), Err(why)) => assert_eq!(rt; fault, LineFault::Refused(why)),
+            _ => assert!(rt; false, "{word:?}"),
+        }
+    }
+    Ok(())
+}

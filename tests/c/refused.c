@@ -1,0 +1,81 @@
+/* Each allocation of a whole life is refused in turn: a number is answered, nothing is lost and nothing leaks. Then
+ * the misuses that take two gates. (Linked with --wrap=malloc, so that this malloc refuses.) */
+#include "percpu_gate.h"
+
+#include <stdio.h>
+#include <stdlib.h>
+
+void *__real_malloc(size_t size);
+static long allowed = -1; /* none refused */
+
+void *__wrap_malloc(size_t size)
+{
+    if (allowed == 0)
+        return NULL;
+    if (allowed > 0)
+        allowed--;
+    return __real_malloc(size);
+}
+
+static const uint64_t words[8] = {3};
+
+/* How many allocations a life takes before one is refused, or -1 where none was. */
+static long life(long allow)
+{
+    percpu_gate_control control = {0};
+    percpu_gate_pass pass[2] = {{0}, {0}};
+    percpu_gate_final last;
+    allowed = allow;
+    uint32_t answer = percpu_gate_new(&control, 64, 2, PERCPU_GATE_SLOTS, words);
+    if (answer == PERCPU_GATE_NO_MEMORY) {
+        allowed = -1;
+        return control.is_open ? -2 : allow;
+    }
+    long refused = -1;
+    for (int i = 0; i < 2; i++)
+        if (percpu_gate_next_pass(&control, &pass[i]) == PERCPU_GATE_NO_MEMORY) {
+            refused = allow;
+            allowed = -1; /* the pass waits still */
+            if (percpu_gate_exit(&control, &last) != PERCPU_GATE_PASSES_OUT || percpu_gate_next_pass(&control, &pass[i]))
+                return -2;
+        }
+    allowed = -1;
+    if (percpu_gate_next_pass(&control, &(percpu_gate_pass){0}) != PERCPU_GATE_NO_PASS)
+        return -2;
+    for (int i = 0; i < 2; i++)
+        if (percpu_gate_retire(&control, &pass[i]))
+            return -2;
+    return percpu_gate_exit(&control, &last) || last.words[0] != 3 ? -2 : refused;
+}
+
+static int two_gates(void)
+{
+    percpu_gate_control a = {0}, b = {0};
+    percpu_gate_pass pass = {0};
+    percpu_gate_final last;
+    if (percpu_gate_new(&a, 1, 1, PERCPU_GATE_ATOMIC, words) || percpu_gate_new(&b, 1, 1, PERCPU_GATE_DEAD, words) ||
+        percpu_gate_next_pass(&a, &pass) || percpu_gate_try_get(&pass, 0))
+        return 1;
+    if (percpu_gate_retire(&b, &pass) != PERCPU_GATE_OTHER_GATE || percpu_gate_retire(&a, &pass) != PERCPU_GATE_STILL_HELD)
+        return 2;
+    if (percpu_gate_put(&pass, 0, 1) || percpu_gate_retire(&a, &pass) || percpu_gate_retire(&a, &pass) != PERCPU_GATE_CLOSED)
+        return 3;
+    if (percpu_gate_exit(&a, &last) || percpu_gate_next_pass(&b, &pass))
+        return 4;
+    percpu_gate_free_pass(&pass);
+    if (percpu_gate_exit(&b, &last) != PERCPU_GATE_PASSES_OUT || !b.is_open)
+        return 5;
+    percpu_gate_free_control(&b);
+    return percpu_gate_exit(&b, &last) != PERCPU_GATE_CLOSED;
+}
+
+int main(void)
+{
+    long refused = 0, at;
+    for (long allow = 0; (at = life(allow)) != -1; allow++, refused++)
+        if (at != allow)
+            return 1;
+    if (refused < 3)
+        return 2;
+    return two_gates();
+}
