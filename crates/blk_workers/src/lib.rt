@@ -25,6 +25,7 @@ mod config;
 mod desk;
 mod fault;
 mod following;
+mod handing;
 mod job;
 mod laws;
 mod lines;
@@ -34,6 +35,7 @@ mod replies;
 mod running;
 mod stall;
 mod submitter;
+mod team;
 #[cfg(test)]
 mod tests;
 mod worker;

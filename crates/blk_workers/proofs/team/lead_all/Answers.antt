@@ -1,16 +1,16 @@
 use Rattle.std.proofs.Common.{◌≡◌, ◌∙◌, ap, ◌+◌, arith, length}
 use Rattle.run_queues.specs.Parts.{SourceFacts}
-use Rattle.blk_workers.proofs.running.fn.with_workers.scope.Goals as goal
+use Rattle.blk_workers.proofs.team.lead_all.Goals as goal
 
 pub gather-requires : goal.gather-requires
 gather-requires g c =
     let led = c.in_ok-submitter.ensures.source in
-    let all : length c.loop-worker.started.items ≡ c.captures.workers = omega (arith, c.loop-worker.invariant.0, c.loop-worker.invariant.2, c.len.ensures, c.if-len-workers.false) in
-    let started : length c.lead.new.started.items ≡ c.captures.workers = ap length c.in_ok-submitter.ensures.started ∙ all in
+    let all : length c.args.started.items ≡ c.args.workers = omega (arith, c.requires.started, c.len.ensures, c.if-len-workers.false) in
+    let started : length c.lead.new.started.items ≡ c.args.workers = ap length c.in_ok-submitter.ensures.started ∙ all in
     record {
       line = c.requires.line;
       own = ap (λ (s : SourceFacts). s.queue) led ∙ c.requires.ends.none_pushed.own;
-      out = ap (λ (s : SourceFacts). s.parts + length c.lead.new.started.items) led ∙ ap (λ n. c.captures.ends.source.parts + n) started ∙ c.requires.ends.none_pushed.parts;
+      out = ap (λ (s : SourceFacts). s.parts + length c.lead.new.started.items) led ∙ ap (λ n. c.args.ends.source.parts + n) started ∙ c.requires.ends.none_pushed.parts;
       parts = omega (arith, ap (λ (s : SourceFacts). s.parts) led, c.requires.ends.none_pushed.parts, c.requires.some.1);
       some = omega (arith, started, c.requires.some.0);
       fresh = ap (λ (s : SourceFacts). s.lists) led ∙ c.requires.ends.none_pushed.no_lists;

@@ -1,6 +1,6 @@
 use Rattle.std.proofs.Common.{◌≡◌, ◌+◌, ◌<◌, true, length}
 use Rattle.run_queues.specs.Requests.{all_parts}
-use Rattle.blk_workers.proofs.running.gather.Given as goal
+use Rattle.blk_workers.proofs.team.gather.Given as goal
 
 abbrev pub invariant-loop-gathered : goal.invariant-loop-gathered
 invariant-loop-gathered g l =

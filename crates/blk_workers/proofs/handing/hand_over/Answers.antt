@@ -7,7 +7,7 @@ use Rattle.script_meaning.specs.Requests.{accepted_at, accepted_before}
 use Rattle.run_queues.specs.Parts.{CollectorFacts, DutyFacts, SourceFacts}
 use Rattle.blk_workers.specs.Requests.{IsDue}
 use Rattle.blk_workers.proofs.NextLines.{due_at, moved}
-use Rattle.blk_workers.proofs.submitter.hand_over.Goals as goal
+use Rattle.blk_workers.proofs.handing.hand_over.Goals as goal
 
 pub new-job-requires : goal.new-job-requires
 new-job-requires g c = record {

@@ -2,7 +2,7 @@ use Rattle.std.proofs.Common.{◌+◌}
 use Rattle.std.proofs.lemmas.List.Elements.{All-pop}
 use Rattle.script_meaning.specs.Requests.{accepted_in_all}
 use Rattle.blk_workers.specs.Progress.{IsNewDrawer}
-use Rattle.blk_workers.proofs.running.take_drawer.Goals as goal
+use Rattle.blk_workers.proofs.team.take_drawer.Goals as goal
 
 pub returns-clause-one : goal.returns-clause-one
 returns-clause-one g c = (All-pop (IsNewDrawer g.L.Line.id (accepted_in_all g.J.Run.script + 1)) c.args.drawers.now.items c.pop.new.self.items c.pop.result c.pop.ensures.items c.requires).1

@@ -1,5 +1,5 @@
 use Rattle.std.proofs.Common.{◌≡◌}
-use Rattle.blk_workers.proofs.running.end.Given as goal
+use Rattle.blk_workers.proofs.team.end.Given as goal
 
 abbrev pub invariant-loop-worker : goal.invariant-loop-worker
 invariant-loop-worker g l = l.source ≡ record l.initial.source { closed = l.source.closed }

@@ -1,6 +1,6 @@
 use Rattle.std.proofs.Common.{◌≡◌, ◌+◌, ◌-◌, All, length}
 use Rattle.blk_workers.specs.Progress.{IsNewDrawer}
-use Rattle.blk_workers.proofs.running.drawers.Given as goal
+use Rattle.blk_workers.proofs.team.drawers.Given as goal
 
 abbrev pub invariant-loop-worker : goal.invariant-loop-worker
 invariant-loop-worker g l =
