@@ -69,6 +69,23 @@ static int two_gates(void)
     return percpu_gate_exit(&b, &last) != PERCPU_GATE_CLOSED;
 }
 
+/* A handle that is freed and used again leads to another gate, though it lies where it lay. */
+static int one_place_twice(void)
+{
+    percpu_gate_control control = {0};
+    percpu_gate_pass old = {0}, pass = {0};
+    percpu_gate_final last;
+    if (percpu_gate_new(&control, 1, 1, PERCPU_GATE_SLOTS, words) || percpu_gate_next_pass(&control, &old))
+        return 1;
+    percpu_gate_free_control(&control);
+    if (percpu_gate_new(&control, 1, 1, PERCPU_GATE_SLOTS, words) || percpu_gate_next_pass(&control, &pass))
+        return 2;
+    if (percpu_gate_retire(&control, &old) != PERCPU_GATE_OTHER_GATE || percpu_gate_try_get(&old, 0))
+        return 3;
+    percpu_gate_free_pass(&old);
+    return percpu_gate_retire(&control, &pass) || percpu_gate_exit(&control, &last);
+}
+
 int main(void)
 {
     long refused = 0, at;
@@ -77,5 +94,5 @@ int main(void)
             return 1;
     if (refused < 3)
         return 2;
-    return two_gates();
+    return two_gates() || one_place_twice();
 }

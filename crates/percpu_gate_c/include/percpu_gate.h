@@ -15,8 +15,7 @@
  *    consistent atomic;
  *  - no call from a signal handler, or in the child of a fork of a process with threads;
  *  - malloc, realloc and free are of one allocator, which aligns to 16;
- *  - a control handle keeps its place while passes of its gate are open (its address is the gate's number: by it
- *    retire knows the passes of other gates);
+ *  - code that made a gate stays loaded while handles of the gate are open;
  *  - for speed: keep handles of different threads 128 bytes apart.
  */
 #ifndef PERCPU_GATE_H
@@ -42,8 +41,12 @@ typedef struct percpu_gate_final {
     uint64_t words[8];
 } percpu_gate_final;
 
+/* What tells a gate from others: the place of a counter, and what it drew. */
+typedef struct percpu_gate_number { uint64_t counter, drawn; } percpu_gate_number;
+
 static_assert(sizeof(percpu_gate_control) == 16, "a handle is two words");
 static_assert(sizeof(percpu_gate_pass) == 16, "a handle is two words");
+static_assert(sizeof(percpu_gate_number) == 16, "as the library has it");
 static_assert(sizeof(percpu_gate_final) == 88, "as the library has it");
 
 /* How a gate starts: counting on slots, on the shared word alone, or dead and at zero. */
@@ -92,15 +95,19 @@ static inline bool percpu_gate_is_refusal(uint32_t answer) { return answer >= 16
 
 /* ---- A gate comes and goes: whoever owns the control. ---- */
 
-/* See percpu_gate_new; number is the gate's own, other than that of each gate whose handles live at the same time. */
-uint32_t percpu_gate_new_numbered(percpu_gate_control *control, uint64_t number, uint32_t slots, uint32_t passes,
-                                  uint32_t start, const uint64_t words[8]);
+/* What percpu_gate_new calls, with a number that no other gate has: by it retire knows the passes of other gates. */
+uint32_t percpu_gate_new_numbered(percpu_gate_control *control, const percpu_gate_number *number, uint32_t slots,
+                                  uint32_t passes, uint32_t start, const uint64_t words[8]);
 
 /* Makes a gate, for a closed handle. OPEN, SIZE, NO_MEMORY. Linux: percpu_ref_init. */
 static inline uint32_t percpu_gate_new(percpu_gate_control *control, uint32_t slots, uint32_t passes, uint32_t start,
                                        const uint64_t words[8])
 {
-    return percpu_gate_new_numbered(control, (uint64_t)(uintptr_t)control, slots, passes, start, words);
+    static uint64_t counter; /* one for each file that includes this, so its place tells it from those of others */
+    percpu_gate_number number;
+    number.counter = (uint64_t)(uintptr_t)&counter;
+    number.drawn = __atomic_fetch_add(&counter, 1, __ATOMIC_RELAXED);
+    return percpu_gate_new_numbered(control, &number, slots, passes, start, words);
 }
 
 /* Gives the next pass to a closed handle. CLOSED, OPEN, NO_PASS, NO_MEMORY. */

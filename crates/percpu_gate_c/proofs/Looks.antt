@@ -4,10 +4,11 @@ use Rattle.percpu_core.specs.declared.pass_event.PassEvent.TheVariants as events
 use Rattle.percpu_core.specs.declared.reply.Reply.TheVariants.{Number}
 use Rattle.percpu_gate.specs.Seats.{GateFacts, PassFacts, PassStep, dead_at, zero_at}
 use Rattle.percpu_gate.specs.Calls.{PassLook, LookLeaves, HasRead}
+use Rattle.percpu_gate_c.specs.declared.gate_number.GateNumber.{GateNumber}
 use Rattle.percpu_gate_c.specs.Opened.{PassOpened}
 use Rattle.percpu_gate_c.specs.PassCalls.{LookedForDead, LookedForZero, ReadWord}
 
-module _ {gate : GateFacts} {number : ℕ} {old new : PassFacts} {before : PassOpened} (was : before ≡ record { number = number; pass = old }) (own : gate ≡ old.gate) (same : new.gate ≡ old.gate) where
+module _ {gate : GateFacts} {number : GateNumber} {old new : PassFacts} {before : PassOpened} (was : before ≡ record { number = number; pass = old }) (own : gate ≡ old.gate) (same : new.gate ≡ old.gate) where
   pub looked_dead : {found : Bool} → ((look : PassLook gate old.view new.view) × (found ≡ dead_at look.moment)) → LookLeaves old.view new.view
       → LookedForDead before (record { number = number; pass = new }) found
   looked_dead {found} step leaves =

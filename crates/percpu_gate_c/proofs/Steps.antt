@@ -3,10 +3,11 @@ use Rattle.std.proofs.Common.{◌≡◌, ℕ, ℤ, ap, sym, subst}
 use Rattle.percpu_core.specs.Phases.{next_slot}
 use Rattle.percpu_gate.specs.ControlCalls.{after_close}
 use Rattle.percpu_gate.specs.Seats.{GateFacts, ControlFacts, FindsDelta}
+use Rattle.percpu_gate_c.specs.declared.gate_number.GateNumber.{GateNumber}
 use Rattle.percpu_gate_c.specs.Opened.{ControlOpened}
 use Rattle.percpu_gate_c.specs.KillSteps.{ClosedSlot}
 
-pub closed_slot : {gate : GateFacts} {number waiting : ℕ} {old new : ControlFacts} {before : ControlOpened} {delta told : ℤ} → before ≡ record { number = number; waiting = waiting; control = old } → gate ≡ old.gate → told ≡ delta
+pub closed_slot : {gate : GateFacts} {number : GateNumber} {waiting : ℕ} {old new : ControlFacts} {before : ControlOpened} {delta told : ℤ} → before ≡ record { number = number; waiting = waiting; control = old } → gate ≡ old.gate → told ≡ delta
     → new ≡ record old { view = after_close delta old.view } → FindsDelta gate (next_slot old.view.standing.phase) old.view delta → ClosedSlot before (record { number = number; waiting = waiting; control = new }) told
 closed_slot {number = number} {waiting = waiting} {old = old} {new = new} {delta = delta} {told = told} was own tells view found =
     subst (λ (b : ControlOpened). ClosedSlot b (record { number = number; waiting = waiting; control = new }) told) (sym was)

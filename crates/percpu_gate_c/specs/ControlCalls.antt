@@ -10,8 +10,9 @@ use Rattle.percpu_gate.specs.declared.mode.Mode.{Mode}
 use Rattle.percpu_gate.specs.Seats.{GateFacts, PassFacts, FindsZero, fresh_pass, fresh_control}
 use Rattle.percpu_gate.specs.Rule.{after_retire}
 use Rattle.percpu_gate.specs.ControlCalls.{fault_of, kill_refusal, dead_refusal, switch_refusal, after_kill, after_revival, after_switch, after_store, live_phase, is_at_zero, LooksForZero}
-use Rattle.std.specs.Prelude.{◌||◌, List, All, length}
+use Rattle.std.specs.Prelude.{◌||◌, ◌&&◌, List, All, length}
 use Rattle.std.specs.Global.{Box}
+use Rattle.percpu_gate_c.specs.declared.gate_number.GateNumber.{GateNumber}
 use Rattle.percpu_gate_c.specs.declared.misuse.Misuse.{Misuse}
 use Rattle.percpu_gate_c.specs.declared.misuse.Misuse.TheVariants.{Closed, Open, Word, StillHeld, OtherGate, Size, NoPass, Memory}
 use Rattle.percpu_gate_c.specs.declared.open_pass.TheConstants.{WORDS}
@@ -75,7 +76,7 @@ abbrev pub size_misuse : ℕ → ℕ → Option Misuse
 size_misuse slots passes = if nat_eq slots 0 then Some Size else (if nat_lt SLOT_LIMIT slots then Some Size else (if nat_eq passes 0 then Some Size else (if nat_lt PASS_LIMIT passes then Some Size else None)))
 
 -- the control of a new gate, all of whose passes wait
-pub record NewControl (number slots passes : ℕ) (start : Start) (words : List ℕ) (c : ControlOpened) : Type 0 where
+pub record NewControl (number : GateNumber) (slots passes : ℕ) (start : Start) (words : List ℕ) (c : ControlOpened) : Type 0 where
   pub number_given : c.number ≡ number
   pub waiting : c.waiting ≡ passes
   pub control : c.control ≡ fresh_control c.control.gate passes words
@@ -97,7 +98,7 @@ Made None fresh None new (Ok r) = (c : ControlOpened) × (new ≡ Some c) × fre
 Made None fresh None new (Err why) = (why ≡ Memory) × (new ≡ None)
 
 -- what taking the last of these new passes leaves, and gives with the number of its gate
-abbrev pub WrapsLast : ℕ → GateFacts → List PassFacts → List PassFacts → Result PassOpened Misuse → Type 0
+abbrev pub WrapsLast : GateNumber → GateFacts → List PassFacts → List PassFacts → Result PassOpened Misuse → Type 0
 WrapsLast number gate old new (Ok p) = (p ≡ record { number = number; pass = fresh_pass gate }) × All (λ q. q ≡ fresh_pass gate) new × (length old ≡ length new + 1)
 WrapsLast number gate old new (Err NoPass) = (length old ≡ 0) × (new ≡ old)
 WrapsLast number gate old new (Err why) = (why ≡ Memory) × (new ≡ old)
@@ -115,7 +116,7 @@ value_of (Err why) = Err why
 
 -- a pass that is retired holds nothing, and is of the control's gate
 abbrev pub retire_misuse : ControlOpened → PassOpened → Option Misuse
-retire_misuse c p = if nat_eq c.number p.number then (if nat_eq p.pass.view.standing.held 0 then None else Some StillHeld) else Some OtherGate
+retire_misuse c p = if nat_eq c.number.counter p.number.counter && nat_eq c.number.drawn p.number.drawn then (if nat_eq p.pass.view.standing.held 0 then None else Some StillHeld) else Some OtherGate
 
 -- what retiring the pass of a handle leaves
 abbrev pub Retires : ControlOpened → ControlOpened → Option PassOpened → Option PassOpened → Result (Unit {0}) Misuse → Type 0

@@ -36,7 +36,7 @@ Given (Some old) (Some new) before after answer = Gives old new before after ans
 -- gates of one number are one gate
 abbrev pub NumbersTell : ControlOpened → Option PassOpened → Type 0
 NumbersTell c None = Unit {0}
-NumbersTell c (Some p) = c.number ≡ p.number → p.pass.gate ≡ c.control.gate
+NumbersTell c (Some p) = c.number.counter ≡ p.number.counter → c.number.drawn ≡ p.number.drawn → p.pass.gate ≡ c.control.gate
 
 abbrev pub NumbersTellOn : Option ControlOpened → Option PassOpened → Type 0
 NumbersTellOn None p = Unit {0}

@@ -4,6 +4,7 @@
 mod control_calls;
 mod control_handle;
 mod control_held;
+mod gate_number;
 mod kill_steps;
 mod life;
 mod loose;

@@ -6,6 +6,7 @@ ghost use Rattle.percpu_gate_c.specs.ControlCalls.{Made, NewControl, Retires};
 ghost use Rattle.percpu_gate_c.specs.Life.{Exits, Given, Gives, NumbersTell, NumbersTellOn, Retired, new_misuse, start_named};
 
 use crate::control_handle::ControlHandle;
+use crate::gate_number::GateNumber;
 use crate::misuse::Misuse;
 use crate::number::of_unit;
 use crate::open_control::OpenControl;
@@ -37,19 +38,19 @@ fn start_of(start: u32) -> Start
 /// The control of a new gate, for a closed handle. Refuses Open, Size, Memory.
 fn make(
     control: &mut ControlHandle,
-    number: u64,
+    number: &GateNumber,
     slots: u32,
     passes: u32,
     start: u32,
     words: &[u64; WORDS],
 ) -> Result<(), Misuse>
-    ensures { Made (new_misuse start slots passes) (NewControl number slots passes (start_named start) words.now) control.old.held.control control.new.held.control result }
+    ensures { Made (new_misuse start slots passes) (NewControl number.now slots passes (start_named start) words.now) control.old.held.control control.new.held.control result }
 {
     let alloc = control.closed()?;
     if start > 2 {
         return Err(Misuse::Size);
     }
-    let open = OpenControl::new(alloc, number, slots, passes, start_of(start), words)?;
+    let open = OpenControl::new(alloc, *number, slots, passes, start_of(start), words)?;
     match Box::new(alloc, open) {
         Ok(open) => {
             control.put_back(open);
@@ -65,14 +66,14 @@ fn make(
 #[unsafe(no_mangle)]
 pub extern "C" fn percpu_gate_new_numbered(
     control: &mut ControlHandle,
-    number: u64,
+    number: &GateNumber,
     slots: u32,
     passes: u32,
     start: u32,
     words: &[u64; WORDS],
 ) -> u32
     ensures { (answer : Result (Unit {0}) Misuse) × (result ≡ number_of (λ _. 0) answer)
-        × Made (new_misuse start slots passes) (NewControl number slots passes (start_named start) words.now) control.old.held.control control.new.held.control answer }
+        × Made (new_misuse start slots passes) (NewControl number.now slots passes (start_named start) words.now) control.old.held.control control.new.held.control answer }
 {
     of_unit(make(control, number, slots, passes, start, words))
 }

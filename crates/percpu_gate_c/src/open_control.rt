@@ -9,6 +9,7 @@ ghost use Rattle.percpu_gate_c.specs.Ran.{Ran, misuse_of};
 ghost use Rattle.percpu_gate_c.specs.ControlCalls.{WrapsLast, Makes, NewControl, size_misuse, Next, value_of, Killed, SawZero, Reinited, Resurrected, Switched, StoredWord, store_misuse, Told, ToldWords, retire_misuse, knowing};
 ghost use Rattle.percpu_gate_c.specs.KillSteps.{BegunKill, ClosedSlot, close_misuse, CollectedSlots, collect_misuse, ConfirmedKill, confirm_misuse, DroppedBase, drop_misuse, TellsPhase};
 
+use crate::gate_number::GateNumber;
 use crate::life::Final;
 use crate::misuse::Misuse;
 use crate::open_pass::{OpenPass, WORDS};
@@ -26,7 +27,7 @@ use std::sync::Arc;
 pub struct OpenControl {
     before: [u64; 16],
     gate: Arc<Gate<WORDS>>,
-    number: u64,
+    number: GateNumber,
     waiting: Vec<Pass<WORDS>>,
     spare: Option<OpenPass>,
     passes: u32,
@@ -52,7 +53,7 @@ impl Model for OpenControl {
 /// The last of these passes, with its gate. Refuses Memory, NoPass.
 fn wrap_last(
     gate: &Arc<Gate<WORDS>>,
-    number: u64,
+    number: GateNumber,
     waiting: &mut Vec<Pass<WORDS>>,
 ) -> Result<OpenPass, Misuse>
     requires fresh { All (λ p. p ≡ fresh_pass gate.now.value) waiting.old.items }
@@ -71,7 +72,7 @@ impl OpenControl {
     /// The control of a new gate. Refuses Size, Memory.
     pub fn new(
         alloc: Global,
-        number: u64,
+        number: GateNumber,
         slots: u32,
         passes: u32,
         start: Start,
@@ -253,7 +254,8 @@ impl OpenControl {
     pub fn refuse_retire(&self, pass: &OpenPass) -> Result<(), Misuse>
         ensures { misuse_of result ≡ retire_misuse self.now pass.now }
     {
-        if self.number != pass.number() {
+        let number = pass.number();
+        if self.number.counter != number.counter || self.number.drawn != number.drawn {
             Err(Misuse::OtherGate)
         } else if pass.held() != 0 {
             Err(Misuse::StillHeld)

@@ -3,6 +3,7 @@ ghost use Rattle.std.specs.Prelude.{◌≡◌, None};
 ghost use Rattle.percpu_gate_c.specs.Ran.{Ran, misuse_of};
 ghost use Rattle.percpu_gate_c.specs.PassCalls.{held_by, slot_misuse, take_misuse, get_misuse, put_misuse, word_misuse, TryGot, LiveTryGot, Got, HasPut, ReadFront, LookedForDead, LookedForZero, ReadWord};
 
+use crate::gate_number::GateNumber;
 use crate::misuse::Misuse;
 use percpu_gate::{Gate, HELD_LIMIT, Pass, Put, Tried};
 use std::marker::Model;
@@ -20,7 +21,7 @@ pub const WORDS: usize = 8;
 pub struct OpenPass {
     before: [u64; 8],
     gate: Arc<Gate<WORDS>>,
-    number: u64,
+    number: GateNumber,
     pass: Pass<WORDS>,
     after: [u64; 8],
 }
@@ -39,7 +40,7 @@ impl Model for OpenPass {
 
 impl OpenPass {
     /// A pass of this gate.
-    pub fn new(gate: Arc<Gate<WORDS>>, number: u64, pass: Pass<WORDS>) -> OpenPass
+    pub fn new(gate: Arc<Gate<WORDS>>, number: GateNumber, pass: Pass<WORDS>) -> OpenPass
         requires own { pass.gate ≡ gate.value }
         ensures { result ≡ record { number = number; pass = pass } }
     {
@@ -158,7 +159,7 @@ impl OpenPass {
     }
 
     /// The number of its gate.
-    pub fn number(&self) -> u64
+    pub fn number(&self) -> GateNumber
         ensures { result ≡ self.now.number }
     {
         self.number

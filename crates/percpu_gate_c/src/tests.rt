@@ -1,11 +1,14 @@
 //! A life through the exports, and each misuse. What the program does with C's threads, sanitizers and a failing
 //! `malloc` is tested by tests/c.
+mod ends;
+
 use crate::control_calls::{
     percpu_gate_control_is_zero, percpu_gate_kill, percpu_gate_kills, percpu_gate_reinit,
     percpu_gate_releases, percpu_gate_resurrect, percpu_gate_store_word,
     percpu_gate_switch_to_atomic, percpu_gate_switch_to_slots, percpu_gate_words,
 };
 use crate::control_handle::ControlHandle;
+use crate::gate_number::GateNumber;
 use crate::kill_steps::{
     percpu_gate_close_next, percpu_gate_collect, percpu_gate_confirm, percpu_gate_drop_base,
     percpu_gate_mark_dead, percpu_gate_phase,
@@ -25,6 +28,12 @@ use std::process::Abort;
 
 const WORDS: [u64; 8] = [7, 0, 0, 0, 0, 0, 0, 9];
 
+/// The number of a test's gate.
+const NUMBER: GateNumber = GateNumber {
+    counter: 1,
+    drawn: 1,
+};
+
 /// What a handle leads to may cross threads.
 fn crosses<T: Send>() {}
 
@@ -34,7 +43,7 @@ fn opened(rt: HostRuntime) -> (ControlHandle, PassHandle) {
     crosses::<OpenControl>();
     let mut control = ControlHandle::new(rt.alloc());
     let mut pass = PassHandle::new(rt.alloc());
-    percpu_gate_new_numbered(&mut control, 1, 2, 2, 0, &WORDS);
+    percpu_gate_new_numbered(&mut control, &NUMBER, 2, 2, 0, &WORDS);
     percpu_gate_next_pass(&mut control, &mut pass);
     (control, pass)
 }
@@ -105,7 +114,7 @@ fn misuse_of_a_control(rt: HostRuntime) {
         words: WORDS,
     };
     assert_eq!(rt;
-        percpu_gate_new_numbered(&mut control, 1, 2, 2, 0, &WORDS),
+        percpu_gate_new_numbered(&mut control, &NUMBER, 2, 2, 0, &WORDS),
         33
     );
     assert_eq!(rt; percpu_gate_next_pass(&mut control, &mut pass), 33);
@@ -118,11 +127,11 @@ fn misuse_of_a_control(rt: HostRuntime) {
     percpu_gate_free_control(&mut control);
     assert_eq!(rt; percpu_gate_exit(&mut control, &mut last), 32);
     assert_eq!(rt;
-        percpu_gate_new_numbered(&mut control, 1, 65, 2, 0, &WORDS),
+        percpu_gate_new_numbered(&mut control, &NUMBER, 65, 2, 0, &WORDS),
         42
     );
     assert_eq!(rt;
-        percpu_gate_new_numbered(&mut control, 1, 2, 2, 3, &WORDS),
+        percpu_gate_new_numbered(&mut control, &NUMBER, 2, 2, 3, &WORDS),
         42
     );
 }

@@ -1,0 +1,113 @@
+//! Passes that are retired, and gates that end. `percpu_gate_retire` asks that gates of one number are one gate, so the
+//! helpers say that it holds of the two handles still.
+ghost use Rattle.std.specs.Prelude.{◌≡◌, IfSome};
+ghost use Rattle.percpu_gate_c.specs.Life.{NumbersTellOn};
+
+use super::WORDS;
+use crate::control_calls::{percpu_gate_kill, percpu_gate_releases};
+use crate::control_handle::ControlHandle;
+use crate::gate_number::GateNumber;
+use crate::life::{
+    Final, percpu_gate_exit, percpu_gate_free_control, percpu_gate_free_pass,
+    percpu_gate_new_numbered, percpu_gate_next_pass, percpu_gate_retire,
+};
+use crate::pass_calls::{percpu_gate_put, percpu_gate_try_get_live};
+use crate::pass_handle::PassHandle;
+use std::alloc::Global;
+use std::process::Abort;
+
+/// What is there before a gate has ended.
+const NOT_YET: Final = Final {
+    dead: false,
+    kills: 9,
+    releases: 9,
+    words: [0; 8],
+};
+
+/// The handles of a new gate with two slots and one pass.
+fn of_one_gate<R: Abort>(rt: &R, alloc: Global, drawn: u64) -> (ControlHandle, PassHandle)
+    ensures one { NumbersTellOn result.0.held.control result.1.held.pass }
+    ensures control { IfSome result.0.held.control (λ c. c.number.drawn ≡ drawn) }
+    ensures pass { IfSome result.1.held.pass (λ p. p.number.drawn ≡ drawn) }
+{
+    let mut control = ControlHandle::new(alloc);
+    let mut pass = PassHandle::new(alloc);
+    let number = GateNumber { counter: 5, drawn };
+    let made = percpu_gate_new_numbered(&mut control, &number, 2, 1, 0, &WORDS);
+    assert!(*rt; made == 0);
+    let given = percpu_gate_next_pass(&mut control, &mut pass);
+    assert!(*rt; given == 0);
+    (control, pass)
+}
+
+fn take(control: &ControlHandle, pass: &mut PassHandle) -> u32
+    requires { NumbersTellOn control.now.held.control pass.old.held.pass }
+    ensures { NumbersTellOn control.now.held.control pass.new.held.pass }
+{
+    percpu_gate_try_get_live(pass, 1)
+}
+
+fn put(control: &ControlHandle, pass: &mut PassHandle) -> u32
+    requires { NumbersTellOn control.now.held.control pass.old.held.pass }
+    ensures { NumbersTellOn control.now.held.control pass.new.held.pass }
+{
+    percpu_gate_put(pass, 0, 1)
+}
+
+fn kill(control: &mut ControlHandle, pass: &PassHandle) -> u32
+    requires { NumbersTellOn control.old.held.control pass.now.held.pass }
+    ensures { NumbersTellOn control.new.held.control pass.now.held.pass }
+{
+    percpu_gate_kill(control)
+}
+
+fn exit(control: &mut ControlHandle, pass: &PassHandle, last: &mut Final) -> u32
+    requires { NumbersTellOn control.old.held.control pass.now.held.pass }
+    ensures { NumbersTellOn control.new.held.control pass.now.held.pass }
+{
+    percpu_gate_exit(control, last)
+}
+
+#[test]
+fn a_whole_life(rt: HostRuntime) {
+    let (mut control, mut pass) = of_one_gate(&rt, rt.alloc(), 1);
+    let mut last = NOT_YET;
+    let mut releases = 0;
+    assert_eq!(rt; take(&control, &mut pass), 0);
+    assert_eq!(rt; kill(&mut control, &pass), 0);
+    assert_eq!(rt; exit(&mut control, &pass, &mut last), 22);
+    assert_eq!(rt; last.kills, 9);
+    assert_eq!(rt; put(&control, &mut pass), 1);
+    assert_eq!(rt; percpu_gate_retire(&mut control, &mut pass), 0);
+    assert_eq!(rt; percpu_gate_put(&mut pass, 0, 1), 32);
+    assert_eq!(rt; percpu_gate_releases(&mut control, &mut releases), 0);
+    assert_eq!(rt; releases, 1);
+    assert_eq!(rt; percpu_gate_exit(&mut control, &mut last), 0);
+    assert_eq!(rt; (last.dead, last.kills, last.releases), (true, 1, 1));
+    assert_eq!(rt; last.words, WORDS);
+    assert_eq!(rt; percpu_gate_exit(&mut control, &mut last), 32);
+}
+
+#[test]
+fn a_pass_that_holds_is_not_retired(rt: HostRuntime) {
+    let (mut control, mut pass) = of_one_gate(&rt, rt.alloc(), 1);
+    assert_eq!(rt; take(&control, &mut pass), 0);
+    assert_eq!(rt; percpu_gate_retire(&mut control, &mut pass), 40);
+    assert_eq!(rt; percpu_gate_put(&mut pass, 0, 1), 0);
+    percpu_gate_free_pass(&mut pass);
+    percpu_gate_free_control(&mut control);
+}
+
+#[test]
+fn a_pass_of_another_gate(rt: HostRuntime) {
+    let (mut first, mut pass) = of_one_gate(&rt, rt.alloc(), 1);
+    let (mut second, mut other) = of_one_gate(&rt, rt.alloc(), 2);
+    assert_eq!(rt; percpu_gate_retire(&mut second, &mut pass), 41);
+    assert_eq!(rt; percpu_gate_try_get_live(&mut pass, 0), 0);
+    assert_eq!(rt; percpu_gate_kill(&mut second), 1);
+    assert_eq!(rt; percpu_gate_put(&mut pass, 0, 1), 0);
+    percpu_gate_free_pass(&mut pass);
+    percpu_gate_free_pass(&mut other);
+    percpu_gate_free_control(&mut first);
+    percpu_gate_free_control(&mut second);
+}

@@ -1,0 +1,171 @@
+/* Each call of the library, and each number that it may answer, but for want of memory (refused.c) and a gate that is
+ * worn out, which takes 2^40 kills. A call that is refused writes nothing. */
+#include "percpu_gate.h"
+
+#include <stdio.h>
+
+static int failures;
+
+static void is(const char *call, uint32_t answer, uint32_t want, int line)
+{
+    if (answer == want)
+        return;
+    fprintf(stderr, "line %d: %s answers %u, not %u\n", line, call, answer, want);
+    failures++;
+}
+
+#define IS(call, want) is(#call, call, PERCPU_GATE_##want, __LINE__)
+#define TELLS(value, want) is(#value, (uint32_t)(value), want, __LINE__)
+
+static const uint64_t words[8] = {3, 0, 0, 0, 0, 0, 0, 9};
+static percpu_gate_final last;
+static uint64_t told, all[8];
+static uint32_t slots;
+
+static void closed_handles(void)
+{
+    percpu_gate_control control = {0};
+    percpu_gate_pass pass = {0};
+    told = all[0] = slots = last.kills = 7;
+    IS(percpu_gate_try_get(&pass, 0), CLOSED);
+    IS(percpu_gate_try_get_live(&pass, 0), CLOSED);
+    IS(percpu_gate_get(&pass, 0, 1), CLOSED);
+    IS(percpu_gate_put(&pass, 0, 1), CLOSED);
+    IS(percpu_gate_is_dying(&pass), CLOSED);
+    IS(percpu_gate_is_zero(&pass), CLOSED);
+    IS(percpu_gate_front(&pass, &told), CLOSED);
+    IS(percpu_gate_word(&pass, 0, &told), CLOSED);
+    IS(percpu_gate_next_pass(&control, &pass), CLOSED);
+    IS(percpu_gate_retire(&control, &pass), CLOSED);
+    IS(percpu_gate_exit(&control, &last), CLOSED);
+    IS(percpu_gate_kill(&control), CLOSED);
+    IS(percpu_gate_mark_dead(&control, &slots), CLOSED);
+    IS(percpu_gate_close_next(&control), CLOSED);
+    IS(percpu_gate_collect(&control), CLOSED);
+    IS(percpu_gate_confirm(&control, &told), CLOSED);
+    IS(percpu_gate_drop_base(&control), CLOSED);
+    IS(percpu_gate_phase(&control), CLOSED);
+    IS(percpu_gate_control_is_zero(&control), CLOSED);
+    IS(percpu_gate_reinit(&control), CLOSED);
+    IS(percpu_gate_resurrect(&control), CLOSED);
+    IS(percpu_gate_switch_to_atomic(&control), CLOSED);
+    IS(percpu_gate_switch_to_slots(&control), CLOSED);
+    IS(percpu_gate_store_word(&control, 0, 1), CLOSED);
+    IS(percpu_gate_words(&control, all), CLOSED);
+    IS(percpu_gate_kills(&control, &told), CLOSED);
+    IS(percpu_gate_releases(&control, &told), CLOSED);
+    percpu_gate_free_pass(&pass);
+    percpu_gate_free_control(&control);
+    TELLS(told, 7);
+    TELLS(all[0], 7);
+    TELLS(slots, 7);
+    TELLS(last.kills, 7);
+}
+
+static void a_pass(percpu_gate_pass *pass)
+{
+    IS(percpu_gate_try_get(pass, 2), SLOT);
+    IS(percpu_gate_try_get_live(pass, 2), SLOT);
+    IS(percpu_gate_get(pass, 2, 1), SLOT);
+    IS(percpu_gate_put(pass, 2, 1), SLOT);
+    IS(percpu_gate_get(pass, 0, 1), NOT_HELD);
+    IS(percpu_gate_put(pass, 0, 1), NOT_HELD);
+    IS(percpu_gate_word(pass, 0, &told), NOT_HELD);
+    IS(percpu_gate_try_get_live(pass, 1), OK);
+    IS(percpu_gate_get(pass, 0, 0), AMOUNT);
+    IS(percpu_gate_put(pass, 0, 0), AMOUNT);
+    IS(percpu_gate_put(pass, 0, 2), NOT_HELD);
+    IS(percpu_gate_word(pass, 8, &told), WORD);
+    TELLS(told, 7);
+    IS(percpu_gate_word(pass, 7, &told), OK);
+    TELLS(told, 9);
+    IS(percpu_gate_get(pass, 0, 65535), HELD_FULL);
+    IS(percpu_gate_get(pass, 0, 65534), OK);
+    IS(percpu_gate_try_get(pass, 0), HELD_FULL);
+    IS(percpu_gate_try_get_live(pass, 0), HELD_FULL);
+    IS(percpu_gate_get(pass, 0, 1), HELD_FULL);
+    IS(percpu_gate_put(pass, 1, 65534), OK);
+    IS(percpu_gate_is_dying(pass), OK);
+    IS(percpu_gate_is_zero(pass), OK);
+}
+
+/* What the gate itself refuses: while it lives, in the middle of a kill, and dead with a reference held. */
+static void a_control(percpu_gate_control *control, percpu_gate_pass *pass)
+{
+    IS(percpu_gate_reinit(control), NOT_DEAD);
+    IS(percpu_gate_resurrect(control), NOT_DEAD);
+    IS(percpu_gate_store_word(control, 0, 1), NOT_DEAD);
+    IS(percpu_gate_store_word(control, 8, 1), WORD);
+    IS(percpu_gate_close_next(control), STEP);
+    IS(percpu_gate_collect(control), STEP);
+    IS(percpu_gate_confirm(control, &told), STEP);
+    IS(percpu_gate_drop_base(control), STEP);
+    for (uint32_t step = 0; step < 5; step++) {
+        if (step == 0)
+            IS(percpu_gate_mark_dead(control, &slots), OK);
+        else if (step <= slots)
+            IS(percpu_gate_close_next(control), OK);
+        else if (step == slots + 1)
+            IS(percpu_gate_collect(control), OK);
+        else
+            IS(percpu_gate_confirm(control, &told), OK);
+        IS(percpu_gate_kill(control), MID_SWITCH);
+        IS(percpu_gate_mark_dead(control, &slots), MID_SWITCH);
+        IS(percpu_gate_reinit(control), MID_SWITCH);
+        IS(percpu_gate_resurrect(control), MID_SWITCH);
+        IS(percpu_gate_switch_to_atomic(control), MID_SWITCH);
+        IS(percpu_gate_switch_to_slots(control), MID_SWITCH);
+        IS(percpu_gate_store_word(control, 0, 1), MID_SWITCH);
+        IS(percpu_gate_exit(control, &last), MID_SWITCH);
+        IS(percpu_gate_is_dying(pass), LAST); /* yes */
+        TELLS(slots, 2);
+        TELLS(last.kills, 7);
+    }
+    TELLS(told, 1);
+    TELLS(percpu_gate_phase(control), PERCPU_GATE_PHASE_CONFIRMED);
+    IS(percpu_gate_drop_base(control), OK);
+    IS(percpu_gate_kill(control), ALREADY_DEAD);
+    IS(percpu_gate_mark_dead(control, &slots), ALREADY_DEAD);
+    IS(percpu_gate_reinit(control), NOT_ZERO);
+    IS(percpu_gate_store_word(control, 0, 1), NOT_ZERO);
+    IS(percpu_gate_control_is_zero(control), OK);
+}
+
+int main(void)
+{
+    percpu_gate_control control = {0};
+    percpu_gate_pass pass = {0}, none = {0};
+    closed_handles();
+    IS(percpu_gate_new(&control, 0, 1, PERCPU_GATE_SLOTS, words), SIZE);
+    IS(percpu_gate_new(&control, 65, 1, PERCPU_GATE_SLOTS, words), SIZE);
+    IS(percpu_gate_new(&control, 1, 0, PERCPU_GATE_SLOTS, words), SIZE);
+    IS(percpu_gate_new(&control, 1, 65, PERCPU_GATE_SLOTS, words), SIZE);
+    IS(percpu_gate_new(&control, 1, 1, 3, words), SIZE);
+    IS(percpu_gate_new(&control, 2, 1, PERCPU_GATE_SLOTS, words), OK);
+    IS(percpu_gate_new(&control, 2, 1, PERCPU_GATE_SLOTS, words), OPEN);
+    IS(percpu_gate_exit(&control, &last), PASSES_OUT);
+    IS(percpu_gate_next_pass(&control, &pass), OK);
+    IS(percpu_gate_next_pass(&control, &pass), OPEN);
+    IS(percpu_gate_next_pass(&control, &none), NO_PASS);
+    a_pass(&pass);
+    a_control(&control, &pass);
+    IS(percpu_gate_retire(&control, &pass), STILL_HELD);
+    IS(percpu_gate_try_get_live(&pass, 0), REFUSED);
+    IS(percpu_gate_try_get(&pass, 0), OK);
+    IS(percpu_gate_put(&pass, 0, 2), LAST);
+    IS(percpu_gate_try_get(&pass, 0), REFUSED);
+    IS(percpu_gate_is_zero(&pass), LAST); /* yes */
+    IS(percpu_gate_store_word(&control, 0, 4), OK);
+    IS(percpu_gate_reinit(&control), OK);
+    IS(percpu_gate_front(&pass, &told), OK);
+    TELLS(told, 2);
+    IS(percpu_gate_words(&control, all), OK);
+    TELLS(all[0], 4);
+    IS(percpu_gate_kill(&control), LAST);
+    IS(percpu_gate_resurrect(&control), LAST); /* it had reached zero */
+    IS(percpu_gate_exit(&control, &last), PASSES_OUT);
+    IS(percpu_gate_retire(&control, &pass), OK);
+    IS(percpu_gate_exit(&control, &last), OK);
+    TELLS(last.kills, 2);
+    return failures != 0;
+}
