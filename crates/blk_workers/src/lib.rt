@@ -36,8 +36,6 @@ mod running;
 mod stall;
 mod submitter;
 mod team;
-#[cfg(test)]
-mod tests;
 mod worker;
 
 pub use config::{Config, MOST_SLOTS, MOST_TAGS, MOST_WORKERS};

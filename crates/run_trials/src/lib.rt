@@ -1,8 +1,8 @@
-//! The queues of a run tried out among threads: `tests/queues/caller.rt` and `workers.rt` show how a caller reasons, from
-//! the contracts of public calls alone.
+//! Runs, and the queues of a run, tried out among threads: `tests/queues/caller.rt` and `workers.rt` show how a caller
+//! reasons, from the contracts of public calls alone.
 //!
-//! There are tests here and nothing else. They use what `run_queues` gives to anybody, so they stand above it: a crate with
-//! tests is proved twice.
+//! There are tests here and nothing else. They use what `run_queues` and `blk_workers` give to anybody, so they stand
+//! above these: a crate with tests is proved twice.
 #![tactic(auto)]
 
 #[cfg(test)]

@@ -1,2 +1,3 @@
-//! What threads hand to one another in a run.
+//! What threads hand to one another in a run, and runs.
 mod queues;
+mod runs;

@@ -1,6 +1,6 @@
 //! What no clause says of a run: that its threads work at the same time, and that it drains through the queue.
-use crate::{Config, NoStall, Point, Ran, Stall, run};
 use blk_script::{check, parse, render_disk, run_alone};
+use blk_workers::{Config, NoStall, Point, Ran, Stall, run};
 use std::alloc::Global;
 use std::fmt::Write;
 use std::process::Abort;
