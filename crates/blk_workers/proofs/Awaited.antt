@@ -44,9 +44,6 @@ pub same_but_collected : (first second third : CollectorFacts) (xs : List ℕ) �
 same_but_collected first second third xs once again =
     again ∙ ap (λ (k : CollectorFacts). record k { collected = xs }) once ∙ ap (λ (numbers : List ℕ). record first { collected = numbers }) (sym (ap (λ (k : CollectorFacts). k.collected) again))
 
-pub awaited_first : (script : Meant) (replies : List (Option (List ℕ))) (given : ℕ) (collected : List ℕ) → given ≡ 0 → AreAwaited script replies given collected
-awaited_first script replies given collected is = λ number position at less none. absurd (omega (arith, less, is))
-
 -- a completion is collected that brings no answer, and one that does
 pub awaited_fewer : (script : Meant) (replies : List (Option (List ℕ))) (given last : ℕ) (collected : List ℕ) → AreAwaited script replies given collected → AreAwaited script replies given (collected ++ last ∷ [])
 awaited_fewer script replies given last collected awaited = λ number position at less none. awaited number position at less (not_before number last collected none)

@@ -44,9 +44,6 @@ counts_request script i request is = before_step script i ∙ ap (λ o. accepted
 pub counts_line : (script : Meant) (i : ℕ) → accepted_at script i ≡ None → accepted_before script (i + 1) ≡ accepted_before script i
 counts_line script i is = let none : accepted_before script (i + 1) ≡ accepted_before script i + 0 = before_step script i ∙ ap (λ o. accepted_before script i + cond (is_some o) 1 0) is in omega (arith, none)
 
-pub counts_all : (script : Meant) → accepted_before script (length script.lines) ≡ accepted_in_all script
-counts_all script = ap (accepted_among (start_queue script)) (take-length script.lines)
-
 -- an accepted request's number is below the count of all
 pub number_below : (script : Meant) (number position : ℕ) → IsAcceptedAt script number position → number < accepted_in_all script
 number_below script number position at =

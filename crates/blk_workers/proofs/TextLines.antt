@@ -50,11 +50,6 @@ pub count_behind : (told : List (List ℕ)) (rest : List (Option (List ℕ))) �
 count_behind [] rest = refl
 count_behind (line ∷ told) rest = count_behind told rest
 
-pub told_stands : (told : List (List ℕ)) (rest : List (Option (List ℕ))) (p : ℕ) → p < length told → is_owed (map Some told ++ rest) p ≡ false
-told_stands [] rest p less = absurd (omega (arith, less))
-told_stands (line ∷ told) rest zero less = refl
-told_stands (line ∷ told) rest (suc p) less = told_stands told rest p (omega (arith, less))
-
 pub owed_behind : (told : List (List ℕ)) (rest : List (Option (List ℕ))) (p q : ℕ) → p ≡ length told + q → is_owed (map Some told ++ rest) p ≡ is_owed rest q
 owed_behind [] rest p q is = ap (is_owed rest) (omega (arith, is))
 owed_behind (line ∷ told) rest zero q is = absurd (omega (arith, is))
@@ -64,10 +59,6 @@ pub set_behind : (told : List (List ℕ)) (rest : List (Option (List ℕ))) (p q
 set_behind [] rest p q r is = ap (λ n. set rest n r) (omega (arith, is))
 set_behind (line ∷ told) rest zero q r is = absurd (omega (arith, is))
 set_behind (line ∷ told) rest (suc p) q r is = ap (λ rs. Some line ∷ rs) (set_behind told rest p q r (omega (arith, is)))
-
-pub told_one_more : (told : List (List ℕ)) (line : List ℕ) (rest : List (Option (List ℕ))) → map Some (told ++ line ∷ []) ++ rest ≡ map Some told ++ Some line ∷ rest
-told_one_more [] line rest = refl
-told_one_more (l ∷ told) line rest = ap (λ rs. Some l ∷ rs) (told_one_more told line rest)
 
 -- a reply that is owed stands behind the text
 pub owed_not_told : (told : List (List ℕ)) (rest : List (Option (List ℕ))) (p : ℕ) → is_owed (map Some told ++ rest) p ≡ true → length told ≤ p

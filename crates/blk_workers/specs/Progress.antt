@@ -63,13 +63,14 @@ pub record AreEndsOf (requests completions : TableId) (source : SourceFacts) (co
   pub pushes : source.queue ≡ requests
   pub collects : collector.queue ≡ completions
 
--- the right to push, of whose parts so many are with drawers, before the first request
+-- the right to push, of whose parts so many are with drawers, with room for their lists, before the first request
 pub record IsNewSource (line : TableId) (out : ℕ) (source : SourceFacts) : Type 0 where
   pub own : source.queue ≡ line
   pub parts : source.parts + out ≡ all_parts
   pub none_pushed : source.pushed ≡ 0
   pub not_ended : source.closed ≡ false
   pub no_lists : source.lists ≡ []
+  pub room : out ≤ source.room
 
 -- the ends of both queues before the first request
 pub record AreNewEnds (requests completions : TableId) (out : ℕ) (source : SourceFacts) (collector : CollectorFacts) : Type 0 where

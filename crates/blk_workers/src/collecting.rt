@@ -1,5 +1,5 @@
 //! How completions are collected, and free tags taken.
-ghost use Rattle.std.specs.Prelude.{◌≡◌, ℕ, ◌<◌, true, false, List, [], ◌∷◌, ◌++◌, Some, OnOk, length};
+ghost use Rattle.std.specs.Prelude.{◌≡◌, ℕ, ◌+◌, ◌<◌, true, List, [], ◌∷◌, ◌++◌, Some, OnOk, length};
 ghost use Rattle.blk_workers.specs.Desk.{AreAwaited, Stands, is_owed, owed_count};
 
 use crate::desk::Desk;
@@ -16,7 +16,7 @@ use std::sync::Wait;
 /// The slot on which the thread that submits enters.
 const OWN_SLOT: u32 = 0;
 
-// Takes the answer to a request, which is owed. `Memory` where the worker was refused it.
+// Takes the answer to a request, which is owed until then. `Memory` where the worker was refused it.
 fn take<J: Run>(script: &Script, desk: &mut Desk, done: Completion<J>) -> Result<(), RunFault>
     requires script { script.now ≡ J.script }
     requires stands { Stands script.now desk.old.replies desk.old.disk desk.old.span }
@@ -24,6 +24,7 @@ fn take<J: Run>(script: &Script, desk: &mut Desk, done: Completion<J>) -> Result
     ensures stands { Stands script.now desk.new.replies desk.new.disk desk.new.span }
     ensures lines { length desk.new.replies ≡ length desk.old.replies }
     ensures awaited { (given : ℕ) (collected : List ℕ) → AreAwaited script.now desk.old.replies given collected → AreAwaited script.now desk.new.replies given (collected ++ done.number ∷ []) }
+    ensures filled { OnOk result (owed_count desk.new.replies + 1 ≡ owed_count desk.old.replies) }
 {
     let (position, answer) = done.into_parts();
     let Some(answer) = answer else {

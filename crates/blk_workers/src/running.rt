@@ -74,6 +74,7 @@ fn run_in<
     requires start { IsAt J.script J.queue 0 submitter }
     requires completions { hall.now.completions.id ≡ C.id }
     requires ends { AreNewEnds hall.now.requests.id hall.now.completions.id 0 ends.source ends.collector }
+    requires room { config.workers ≤ ends.source.room }
     requires accepted { accepted ≡ accepted_in_all J.script }
     requires few_accepted { accepted < 2 ^ 32 }
     ensures run { IfOk result (λ ran. IsRun J.script ran.replies.items ran.disk) }
@@ -108,6 +109,7 @@ fn run_on<J: Run + Send + Sync, C: Line + Send + Sync, R: Threads + Wait + Sync,
     requires slots { J.queue.gate.slots ≡ config.slots }
     requires few { length script.now.lines < 2 ^ 32 }
     requires completions { completions.id ≡ C.id }
+    requires room { accepted ≤ completions.room }
     requires collector { (collector.queue ≡ completions.id) × (collector.given ≡ 0) }
     requires start { IsAt J.script J.queue 0 submitter }
     requires accepted { accepted ≡ accepted_in_all J.script }
@@ -141,6 +143,7 @@ fn run_as<J: Run + Send + Sync, R: Threads + Wait + Sync, S: Stall>(
     requires few { length script.now.lines < 2 ^ 32 }
     requires freezer { IsFollowing J.queue 0 parts.1 }
     requires mode { parts.1.mode ≡ mode_of (start_queue script.now).mode }
+    requires count { length parts.2.items ≡ config.tags }
     requires some { 0 < length parts.2.items }
     requires tags { All (λ t. (t.queue ≡ J.queue) × (t.entered ≡ false)) parts.2.items }
     ensures run { IfOk result (λ ran. IsRun J.script ran.replies.items ran.disk) }

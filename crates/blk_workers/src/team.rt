@@ -120,20 +120,22 @@ fn lead<J: Run, C: Line, L: Line, R: Threads + Wait, S: Stall>(
     }
 }
 
-// Waits for the workers, which were ended, and takes back their right to draw with what they drew.
+// Waits for the workers, which were ended, and takes back their right to draw with what they drew. There is room for
+// their lists, so each of them is waited for.
 fn gather<J: Run, C: Line, L: Line, R: Threads>(
     rt: &R,
     hall: &Hall<J, C>,
     source: &mut Source<Job<J, C>>,
     mut workers: Vec<JoinHandle<Back<J, C, L>>>,
-) -> Result<(), RunFault>
+)
     requires line { hall.now.requests.id ≡ L.id }
     requires own { source.old.queue ≡ hall.now.requests.id }
     requires out { source.old.parts + length workers.items ≡ all_parts }
     requires parts { 0 < source.old.parts }
     requires some { 0 < length workers.items }
     requires fresh { source.old.lists ≡ [] }
-    ensures back { OnOk result (AreBack hall.now.requests.id (length workers.items) source.new) }
+    requires room { length workers.items ≤ source.old.room }
+    ensures back { AreBack hall.now.requests.id (length workers.items) source.new }
     ensures pushed { source.new.pushed ≡ source.old.pushed }
 {
     for gathered in 0..workers.len() {
@@ -142,9 +144,9 @@ fn gather<J: Run, C: Line, L: Line, R: Threads>(
             break;
         };
         let back = worker.join(rt);
-        hall.requests.gather(source, back.into_drawer())?;
+        let gathered = hall.requests.gather(source, back.into_drawer());
+        prove!(gathered.is_ok());
     }
-    Ok(())
 }
 
 // Starts a worker for each of these rights to draw, on one slot after the other. They are fewer where the start of a
@@ -250,7 +252,7 @@ fn lead_all<J: Run, C: Line, L: Line, R: Threads + Wait, S: Stall>(
         mut source,
         collector: _,
     } = ends;
-    gather(rt, hall, &mut source, started)?;
+    gather(rt, hall, &mut source, started);
     Ok((submitter, source))
 }
 

@@ -33,6 +33,7 @@ fn free_tags<J: Run, R: Wait>(
 ) -> Result<SpareQueue<FreeTag<J>>, AllocError>
     requires some { 0 < length tags.items }
     requires tags { All (λ t. (t.queue ≡ J.queue) × (t.entered ≡ false)) tags.items }
+    ensures room { IfOk result (λ free. free ≡ length tags.items) }
 {
     let free = SpareQueue::new(alloc, tags.len())?;
     for tag in tags {
@@ -56,6 +57,7 @@ impl<J: Run, C: Line> Hall<J, C> {
         requires some { 0 < length tags.items }
         requires tags { All (λ t. (t.queue ≡ J.queue) × (t.entered ≡ false)) tags.items }
         ensures queue { IfOk result (λ h. h.0.queue ≡ queue) }
+        ensures rooms { IfOk result (λ h. (h.0.requests.room ≡ length tags.items) × (h.0.tags ≡ length tags.items)) }
         ensures completions { IfOk result (λ h. h.0.completions ≡ completions) }
         ensures source { IfOk result (λ h. h.1 ≡ record { queue = h.0.requests.id; parts = all_parts; pushed = 0; closed = false; drained = false; lists = []; room = workers }) }
     {

@@ -1,8 +1,9 @@
-use Rattle.std.proofs.Common.{sym, subst, ◌++◌, ◌∷◌, [], Some}
-use Rattle.blk_workers.specs.Desk.{AreAwaited}
+use Rattle.std.proofs.Common.{◌∙◌, sym, ap, subst, ◌+◌, ◌++◌, ◌∷◌, [], Some}
+use Rattle.blk_workers.specs.Desk.{AreAwaited, is_owed, owed_count}
 use Rattle.blk_workers.specs.Requests.{IsAcceptedAt}
 use Rattle.blk_workers.proofs.Awaited.{awaited_fewer, awaited_taken}
 use Rattle.blk_workers.proofs.NextLines.{moved}
+use Rattle.blk_workers.proofs.Places.{count_set}
 use Rattle.blk_workers.proofs.collecting.take.Goals as goal
 
 pub returns-in_default-clause-awaited : goal.returns-in_default-clause-awaited
@@ -16,3 +17,9 @@ returns-clause-awaited g c = λ given collected awaited.
     in
     subst (λ replies. AreAwaited c.args.script.now replies given (collected ++ c.args.done.number ∷ [])) (sym c.take.ensures.taken)
     (awaited_taken c.args.script.now c.args.desk.now.replies given c.args.done.number here (Some c.in-Some.answer.text.items) collected at awaited)
+
+pub returns-clause-filled : goal.returns-clause-filled
+returns-clause-filled g c =
+    let replies = c.args.desk.now.replies in
+    let here = c.into_parts-position.result.0 in
+    ap (λ rs. owed_count rs + 1) c.take.ensures.taken ∙ count_set replies here c.in-Some.answer.text.items (ap (is_owed replies) c.into_parts-position.ensures.position ∙ c.requires.owed)

@@ -1,4 +1,4 @@
-use Rattle.std.proofs.Common.{◌≡◌, ◌+◌, ◌<◌, true, length}
+use Rattle.std.proofs.Common.{◌≡◌, ◌+◌, ◌<◌, ◌≤◌, true, length}
 use Rattle.run_queues.specs.Requests.{all_parts}
 use Rattle.blk_workers.proofs.team.gather.Given as goal
 
@@ -7,4 +7,5 @@ invariant-loop-gathered g l =
     (l.source.queue ≡ l.initial.source.queue) × (l.source.pushed ≡ l.initial.source.pushed)
     × (l.source.parts + length l.workers.items ≡ all_parts) × (0 < l.source.parts)
     × (length l.source.lists ≡ l.gathered) × (length l.workers.items + l.gathered ≡ length l.initial.workers.items)
+    × (length l.initial.workers.items ≤ l.source.room)
     × (0 < l.gathered → l.source.drained ≡ true)

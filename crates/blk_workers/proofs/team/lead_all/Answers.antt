@@ -14,4 +14,5 @@ gather-requires g c =
       parts = omega (arith, ap (λ (s : SourceFacts). s.parts) led, c.requires.ends.none_pushed.parts, c.requires.some.1);
       some = omega (arith, started, c.requires.some.0);
       fresh = ap (λ (s : SourceFacts). s.lists) led ∙ c.requires.ends.none_pushed.no_lists;
+      room = omega (arith, started, ap (λ (s : SourceFacts). s.room) led, c.requires.ends.none_pushed.room);
     }
