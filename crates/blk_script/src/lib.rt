@@ -4,15 +4,13 @@
 //! queue for something: to read or write a range of sectors, to freeze or thaw, to set a limit, to tell its
 //! counts. [`parse`] gives the [`Script`] that a text means, or the first fault of the text. [`check`] tells
 //! whether two requests that may be under way together touch one sector, [`drains`] before which requests of
-//! version 2 the queue drains for that, and [`run_alone`] what the script writes on one thread. What a caller needs of `line_text`, `script_meaning` and `script_overlap` stands here
-//! too.
+//! version 2 the queue drains for that, and [`run_alone`] what the script writes on one thread. What a caller needs
+//! of `line_text`, `script_meaning` and `script_overlap` stands here too.
 #![tactic(auto)]
 
 mod grammar;
 mod laws;
 mod machine;
-#[cfg(test)]
-mod overlap_tests;
 mod parser;
 mod rendering;
 mod run;
@@ -26,6 +24,3 @@ pub use script_meaning::{
     ByteRuns, Line, Mode, Pattern, PieceLengths, Reply, Script, Stat, Version, What,
 };
 pub use script_overlap::{check, drains, one_first_overlap, one_list_of_ordered_requests};
-
-#[cfg(test)]
-mod tests;

@@ -1,4 +1,4 @@
-//! What a script stands on tried out: examples by hand, and calls compared with plain loops over bytes.
+//! A script and what it stands on tried out: examples by hand, and calls compared with plain loops over bytes.
 //!
 //! There are tests here and nothing else. They use what the crates below give to anybody, so they stand above these: a
 //! crate with tests is proved twice.

@@ -31,27 +31,46 @@ fn plain_runs(alloc: Global, bytes: &[u8]) -> Result<Vec<(u8, u64)>, DiskFault> 
     Ok(runs)
 }
 
-#[test]
-fn disk_by_hand(rt: HostRuntime) -> Result<(), Fail> {
-    let alloc = rt.alloc();
+// How many sectors a disk of 4 shares of a range.
+fn count_shared(alloc: Global, start: u64, count: u32) -> Result<usize, DiskFault> {
     let disk = Disk::new(alloc, 4)?;
+    Ok(disk.share(alloc, start, count)?.len())
+}
+
+#[test]
+fn disk_by_hand(rt: HostRuntime) {
+    let rows = [
+        (0, 4, Ok(4)),
+        (3, 2, Err(DiskFault::PastEnd)),
+        (4, 0, Ok(0)),
+        (5, 0, Err(DiskFault::PastEnd)),
+        (u64::MAX, u32::MAX, Err(DiskFault::PastEnd)),
+    ];
+    for (start, count, shared) in rows {
+        assert_eq!(rt;
+            count_shared(rt.alloc(), start, count),
+            shared,
+            "{count} from {start}"
+        );
+    }
+}
+
+#[test]
+fn a_new_disk_by_hand(rt: HostRuntime) -> Result<(), Fail> {
+    let disk = Disk::new(rt.alloc(), 4)?;
     assert_eq!(rt; disk.len(), 4);
-    assert_eq!(rt; disk.share(alloc, 3, 2).err(), Some(DiskFault::PastEnd));
-    assert_eq!(rt; disk.share(alloc, 4, 0)?.len(), 0);
-    assert_eq!(rt; disk.share(alloc, 5, 0).err(), Some(DiskFault::PastEnd));
-    assert_eq!(rt;
-        disk.share(alloc, u64::MAX, u32::MAX).err(),
-        Some(DiskFault::PastEnd)
-    );
+    let first = disk.share(rt.alloc(), 0, 1)?;
+    let (one, all) = (runs(rt.alloc(), &first)?, disk.all_runs(rt.alloc())?);
+    assert!(rt; one.as_slice() == [(0, 512)].as_slice());
+    assert!(rt; all.as_slice() == [(0, 2048)].as_slice());
+    Ok(())
+}
 
-    let sectors = patterned(alloc, &[1, 2, 3], 2)?;
+#[test]
+fn a_second_sector_by_hand(rt: HostRuntime) -> Result<(), Fail> {
+    let sectors = patterned(rt.alloc(), &[1, 2, 3], 2)?;
     let second = sectors[1].bytes();
-    assert_eq!(rt; second.first(), Some(&3));
-    assert_eq!(rt; second.last(), Some(&1));
-
-    let new = disk.share(alloc, 0, 1)?;
-    assert_eq!(rt; runs(alloc, &new)?.as_slice(), [(0, 512)].as_slice());
-    assert_eq!(rt; disk.all_runs(alloc)?.as_slice(), [(0, 2048)].as_slice());
+    assert_eq!(rt; (second.first(), second.last()), (Some(&3), Some(&1)));
     Ok(())
 }
 
@@ -71,80 +90,87 @@ fn patterns_are_the_plain_ones(rt: HostRuntime) -> Result<(), Fail> {
         let bytes = joined(alloc, &sectors)?;
         assert_eq!(rt; bytes.len(), 130 * SECTOR_BYTES);
         for (place, byte) in bytes.iter().enumerate() {
-            assert_eq!(rt;
-                *byte,
-                pattern[place % length],
+            assert!(rt;
+                *byte == pattern[place % length],
                 "at {place} of length {length}"
             );
         }
         let counted = runs(alloc, &sectors)?;
         let plain = plain_runs(alloc, &bytes)?;
-        assert_eq!(rt; counted.as_slice(), plain.as_slice(), "length {length}");
+        assert!(rt; counted == plain, "length {length}");
     }
     Ok(())
 }
 
-#[test]
-fn a_pattern_of_one_byte_is_one_run(rt: HostRuntime) -> Result<(), Fail> {
-    let alloc = rt.alloc();
-    let sectors = patterned(alloc, &[97, 97], 130)?;
-    assert_eq!(rt;
-        runs(alloc, &sectors)?.as_slice(),
-        [(97, 66_560)].as_slice()
-    );
-    assert_eq!(rt; patterned(alloc, &[97], 0)?.len(), 0);
-    assert_eq!(rt; runs(alloc, &[])?.len(), 0);
-    Ok(())
-}
-
-#[test]
-fn runs_go_over_edges(rt: HostRuntime) -> Result<(), Fail> {
-    let alloc = rt.alloc();
-    // The bytes at places 511 and 512 are both 7.
-    let sectors = patterned(alloc, &[8, 7, 7], 2)?;
-    let counted = runs(alloc, &sectors)?;
-    let bytes = joined(alloc, &sectors)?;
-    assert_eq!(rt; counted.as_slice(), plain_runs(alloc, &bytes)?.as_slice());
-    assert_eq!(rt; counted.get(341), Some(&(7, 2)));
-    assert_eq!(rt; counted.len(), 683);
-
-    // A sector of many runs between sectors of one run, of the bytes that it begins and ends with.
-    let mut disk = Disk::new(alloc, 3)?;
-    disk.install(1, patterned(alloc, &[0, 0, 1, 0], 1)?);
-    let all = disk.all_runs(alloc)?;
-    assert_eq!(rt; all.first(), Some(&(0, 514)));
-    assert_eq!(rt; all.last(), Some(&(0, 513)));
-    assert_eq!(rt; all.len(), 257);
-    Ok(())
-}
-
-#[test]
-fn writes_go_where_asked(rt: HostRuntime) -> Result<(), Fail> {
-    let alloc = rt.alloc();
-    let mut disk = Disk::new(alloc, 4)?;
-    let before = disk.share(alloc, 0, 4)?;
-    disk.install(1, patterned(alloc, &[97], 2)?);
-    disk.install(4, patterned(alloc, &[98], 0)?);
-    let expected = [(0, 512), (97, 1024), (0, 512)];
-    assert_eq!(rt; disk.all_runs(alloc)?.as_slice(), expected.as_slice());
-    let part = disk.share(alloc, 2, 2)?;
-    assert_eq!(rt;
-        runs(alloc, &part)?.as_slice(),
-        [(97, 512), (0, 512)].as_slice()
-    );
-
-    // What was read before the write stays.
-    assert_eq!(rt; runs(alloc, &before)?.as_slice(), [(0, 2048)].as_slice());
-    let copy = part[0].clone()?;
-    assert_eq!(rt; copy.bytes(), part[0].bytes());
-    Ok(())
-}
-
-fn runs_of_pattern(alloc: Global, pattern: &[u8], count: u32) -> Result<usize, DiskFault>
+// The runs of so many sectors of a pattern.
+fn runs_of_pattern(alloc: Global, pattern: &[u8], count: u32) -> Result<Vec<(u8, u64)>, DiskFault>
     requires { (1 ≤ length pattern.now) × (length pattern.now ≤ MAX_PATTERN) }
 {
-    let sectors = patterned(alloc, pattern, count)?;
-    Ok(runs(alloc, &sectors)?.len())
+    runs(alloc, &patterned(alloc, pattern, count)?)
+}
+
+#[test]
+fn a_pattern_of_one_byte_is_one_run(rt: HostRuntime) -> Result<(), Fail> {
+    let counted = runs_of_pattern(rt.alloc(), &[97, 97], 130)?;
+    assert!(rt; counted.as_slice() == [(97, 66_560)].as_slice());
+    let none = runs_of_pattern(rt.alloc(), &[97], 0)?;
+    assert!(rt; none.is_empty());
+    Ok(())
+}
+
+// The bytes at places 511 and 512 are both 7.
+#[test]
+fn runs_go_over_edges(rt: HostRuntime) -> Result<(), Fail> {
+    let sectors = patterned(rt.alloc(), &[8, 7, 7], 2)?;
+    let plain = plain_runs(rt.alloc(), &joined(rt.alloc(), &sectors)?)?;
+    let counted = runs(rt.alloc(), &sectors)?;
+    assert!(rt; counted == plain);
+    assert_eq!(rt; (counted.len(), counted.get(341)), (683, Some(&(7, 2))));
+    Ok(())
+}
+
+// A sector of many runs between sectors of one run, of the bytes that it begins and ends with.
+#[test]
+fn runs_go_over_edges_of_a_disk(rt: HostRuntime) -> Result<(), Fail> {
+    let mut disk = Disk::new(rt.alloc(), 3)?;
+    disk.install(1, patterned(rt.alloc(), &[0, 0, 1, 0], 1)?);
+    let all = disk.all_runs(rt.alloc())?;
+    let told = (all.len(), all.first(), all.last());
+    assert_eq!(rt; told, (257, Some(&(0, 514)), Some(&(0, 513))));
+    Ok(())
+}
+
+// What was read before the write stays.
+#[test]
+fn writes_go_where_asked(rt: HostRuntime) -> Result<(), Fail> {
+    let mut disk = Disk::new(rt.alloc(), 4)?;
+    let before = disk.share(rt.alloc(), 0, 4)?;
+    disk.install(1, patterned(rt.alloc(), &[97], 2)?);
+    disk.install(4, patterned(rt.alloc(), &[98], 0)?);
+    let (old, new) = (runs(rt.alloc(), &before)?, disk.all_runs(rt.alloc())?);
+    assert!(rt; old.as_slice() == [(0, 2048)].as_slice());
+    assert!(rt; new.as_slice() == [(0, 512), (97, 1024), (0, 512)].as_slice());
+    Ok(())
+}
+
+#[test]
+fn a_part_of_a_disk(rt: HostRuntime) -> Result<(), Fail> {
+    let mut disk = Disk::new(rt.alloc(), 4)?;
+    disk.install(1, patterned(rt.alloc(), &[97], 2)?);
+    let part = disk.share(rt.alloc(), 2, 2)?;
+    let copy = part[0].clone()?;
+    assert!(rt; copy.bytes() == part[0].bytes());
+    let counted = runs(rt.alloc(), &part)?;
+    assert!(rt; counted.as_slice() == [(97, 512), (0, 512)].as_slice());
+    Ok(())
+}
+
+// Of a pattern with no two equal neighbours each byte is a run, and a whole disk of them isn't too many.
+#[test]
+fn as_many_runs_as_bytes(rt: HostRuntime) -> Result<(), Fail> {
+    let counted = runs_of_pattern(rt.alloc(), &SAMPLE, 4096)?;
+    assert_eq!(rt; counted.len(), 4096 * SECTOR_BYTES);
+    Ok(())
 }
 
 #[test]
@@ -157,8 +183,6 @@ fn the_largest_disk(rt: HostRuntime) -> Result<(), Fail> {
     );
     assert_eq!(rt; disk.share(alloc, 4095, 1)?.len(), 1);
     assert_eq!(rt; disk.share(alloc, 0, 4097).err(), Some(DiskFault::PastEnd));
-    // Of a pattern with no two equal neighbours each byte is a run, and a whole disk of them isn't too many.
-    assert_eq!(rt; runs_of_pattern(alloc, &SAMPLE, 4096)?, 4096 * SECTOR_BYTES);
     disk.install(0, patterned(alloc, &[255], 4096)?);
     assert_eq!(rt;
         disk.all_runs(alloc)?.as_slice(),
@@ -169,13 +193,14 @@ fn the_largest_disk(rt: HostRuntime) -> Result<(), Fail> {
 
 #[test]
 fn faults_have_numbers_and_texts(rt: HostRuntime) -> Result<(), Fail> {
-    let alloc = rt.alloc();
-    assert_eq!(rt; DiskFault::PastEnd.number(), 1);
-    assert_eq!(rt; DiskFault::Memory.number(), 2);
-    let past_end = DiskFault::PastEnd.to_string(alloc)?;
-    assert_eq!(rt; past_end.as_str(), "past the end of the disk");
-    let memory = DiskFault::Memory.to_string(alloc)?;
-    assert_eq!(rt; memory.as_str(), "out of memory");
+    let rows = [
+        (DiskFault::PastEnd, 1, "past the end of the disk"),
+        (DiskFault::Memory, 2, "out of memory"),
+    ];
+    for (fault, number, text) in rows {
+        let told = fault.to_string(rt.alloc())?;
+        assert!(rt; (fault.number(), told.as_str()) == (number, text), "{text}");
+    }
     Ok(())
 }
 

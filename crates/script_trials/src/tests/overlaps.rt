@@ -1,5 +1,5 @@
 //! Overlaps by hand: the lines expected are those that the format names.
-use crate::{ScriptFault, check, drains, parse};
+use blk_script::{ScriptFault, check, drains, parse};
 use std::alloc::Global;
 use std::test::Fail;
 
