@@ -28,7 +28,7 @@ use Rattle.percpu_core.specs.Phases.{is_live, is_dead_in, is_open_in, is_phase, 
 use Rattle.percpu_core.specs.LimitLaw.{fronts_due}
 use Rattle.percpu_core.proofs.Readings.{unhindered}
 use Rattle.percpu_gate.specs.Seats.{GateFacts, Moment, ControlStep, FindsDelta}
-use Rattle.percpu_gate.specs.ControlCalls.{standing, after_mark_dead, after_close, after_collect, in_phase, after_closing, phase_of_kill, HasSlotToClose, HasClosedAll, IsSumIn, HasRoom, IsBetweenCalls, gathered_from}
+use Rattle.percpu_gate.specs.ControlCalls.{standing, after_mark_dead, after_close, after_collect, in_phase, after_closing, phase_of_kill, HasSlotToClose, HasClosedAll, IsSumIn, HasRoom}
 use Rattle.percpu_gate.proofs.Known.{moment_known}
 use Rattle.percpu_gate.proofs.SlotSteps.{small_anywhere}
 
@@ -347,22 +347,3 @@ keeps_closing phase kills front slot slots sum d total old new stands room sum_i
 
     to_here : unsigned_abs sum ≤ most_delta * slot
     to_here = let most = sum_to_slot slots phase sum open_ sum_in in let here = at_slot in omega arith
-
--- what the control keeps once every slot is closed and collected
-pub record KeepsGathered (phase : Phase) (kills front : ℕ) (killing : Bool) : Type 0 where
-  pub phase_is : gathered_from phase ≡ (if killing then Collected else LiveAtomic)
-  pub between : IsBetweenCalls (gathered_from phase)
-  pub room : HasRoom (gathered_from phase) kills front
-  pub sum_in : IsSumIn (gathered_from phase) (pos 0)
-  pub killing_is : killing ≡ is_mid_switch (gathered_from phase)
-
-pub keeps_gathered : (slots : ℕ) (phase : Phase) (kills front : ℕ) (killing : Bool) → has_slot_to_close slots phase ≡ true → HasRoom phase kills front → killing ≡ is_mid_switch phase → KeepsGathered phase kills front killing
-keeps_gathered slots LiveSlots kills front killing turn room is = record { phase_is = λ j. if sym is j then Collected else LiveAtomic; between = tt; room = room; sum_in = refl; killing_is = is }
-keeps_gathered slots (Closing i) kills front killing turn room is = record { phase_is = λ j. if sym is j then Collected else LiveAtomic; between = tt; room = room; sum_in = refl; killing_is = is }
-keeps_gathered slots LiveAtomic kills front killing turn room is = cc
-keeps_gathered slots Collected kills front killing turn room is = cc
-keeps_gathered slots Confirmed kills front killing turn room is = cc
-keeps_gathered slots Dead kills front killing turn room is = cc
-keeps_gathered slots Reviving kills front killing turn room is = cc
-keeps_gathered slots Fronted kills front killing turn room is = cc
-keeps_gathered slots (Opening i) kills front killing turn room is = cc

@@ -74,10 +74,6 @@ after_close d c = record c { standing = record c.standing { phase = Closing (nex
 abbrev pub after_collect : ControlView → ControlView
 after_collect c = record c { standing = record c.standing { phase = if c.killing then Collected else LiveAtomic; uncollected = pos 0 } }
 
--- the phase once every slot is closed and collected, of a kill or of a switch to the shared word
-abbrev pub gathered_from : Phase → Phase
-gathered_from phase = if is_mid_switch phase then Collected else LiveAtomic
-
 -- what closing every slot and collecting them leaves
 abbrev pub after_gathering : ControlView → ControlView
 after_gathering c = record c { standing = standing (if c.killing then Collected else LiveAtomic) c.standing.kills }

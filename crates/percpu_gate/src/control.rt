@@ -1,11 +1,12 @@
 //! The control of a gate: what it is and tells, and its end. It kills the gate (`kill`), stores guarded words
 //! once nothing is held (`words`), and brings it back (`revival`).
-ghost use Rattle.std.specs.Prelude.{◌≡◌, ℕ, ◌≤◌, false};
+ghost use Rattle.std.specs.Prelude.{◌≡◌, ℕ, ◌≤◌, true, false};
 ghost use Rattle.percpu_core.specs.declared.limits.TheConstants.{PASS_LIMIT};
+ghost use Rattle.percpu_core.specs.Phases.{is_live};
 ghost use Rattle.percpu_core.specs.Starts.{opening};
 ghost use Rattle.percpu_core.specs.Snapshots.{first_control};
 ghost use Rattle.percpu_gate.specs.Rule.{after_retire};
-ghost use Rattle.percpu_gate.specs.Modes.{first_mode};
+ghost use Rattle.percpu_gate.specs.Modes.{first_mode, live_in};
 ghost use Rattle.percpu_gate.specs.ControlCalls.{IsBetweenCalls, exit_refusal};
 
 mod kill;
@@ -43,6 +44,7 @@ impl<const W: usize> Model for Control<W> {
     ghost use Rattle.percpu_core.specs.declared.limits.TheConstants.{KILL_LIMIT, PASS_LIMIT};
     ghost use Rattle.percpu_gate.specs.Seats.{ControlFacts};
     ghost use Rattle.percpu_core.specs.Phases.{is_mid_switch};
+    ghost use Rattle.percpu_gate.specs.Modes.{IsWanted};
     ghost use Rattle.percpu_gate.specs.ControlCalls.{standing, IsBetweenCalls, IsSumIn, HasRoom};
 
     ghost Value = { ControlFacts };
@@ -52,7 +54,8 @@ impl<const W: usize> Model for Control<W> {
     ghost invariant = { λ c. (c.seat.view.standing ≡ record (standing c.phase c.kills) { uncollected = c.uncollected }) × IsBetweenCalls c.phase × HasRoom c.phase c.kills c.front
         × (c.seat.view.front ≡ c.front) × (c.seat.view.releases ≡ c.releases) × (c.seat.view.words ≡ c.words) × (c.seat.view.passes ≡ c.passes)
         × IsSumIn c.phase c.uncollected × (c.seat.view.killing ≡ is_mid_switch c.phase)
-        × (c.passes ≤ PASS_LIMIT) × (c.releases + 2 * KILL_LIMIT * c.passes ≤ 2 * KILL_LIMIT * (PASS_LIMIT + 1)) };
+        × (c.passes ≤ PASS_LIMIT) × (c.releases + 2 * KILL_LIMIT * c.passes ≤ 2 * KILL_LIMIT * (PASS_LIMIT + 1))
+        × IsWanted c.wants c.phase };
 }
 
 impl<const W: usize> Control<W> {
@@ -92,10 +95,12 @@ impl<const W: usize> Control<W> {
         self.kills
     }
 
-    /// The mode in which a revival and a switch of a live gate end. Linux: `force_atomic` (lib/percpu-refcount.c).
+    /// The mode of a live gate, and the one in which a gate that is dead, or that a kill is under way on, comes
+    /// back. Linux: `force_atomic` (lib/percpu-refcount.c).
     #[inline]
     pub fn wants(&self) -> Mode
-        ensures { result ≡ self.now.wants }
+        ensures value { result ≡ self.now.wants }
+        ensures live { is_live self.now.view.standing.phase ≡ true → self.now.view.standing.phase ≡ live_in result }
     {
         self.wants
     }

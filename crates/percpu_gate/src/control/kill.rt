@@ -73,7 +73,8 @@ impl<const W: usize> Control<W> {
         let on_slots = self.phase == Phase::LiveSlots;
         self.begin(gate)?;
         if on_slots {
-            self.gather(gate);
+            self.seat.gather(&gate.table);
+            self.phase = Phase::Collected;
         }
         Ok(())
     }

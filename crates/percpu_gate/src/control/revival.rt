@@ -9,7 +9,6 @@ use crate::control_fault::ControlFault;
 use crate::gate::Gate;
 use crate::mode::Mode;
 use crate::revived::Revived;
-use percpu_core::Phase;
 
 impl<const W: usize> Control<W> {
     /// Revives a gate that has reached zero. Refuses MidSwitch, NotDead, NotZero. Linux: `percpu_ref_reinit`
@@ -51,10 +50,10 @@ impl<const W: usize> Control<W> {
     {
         self.front += 1;
         let at_zero = self.seat.revive(&gate.table, self.front);
-        self.phase = Phase::LiveAtomic;
         if self.wants == Mode::Slots {
-            self.open(gate);
+            self.seat.open_all(&gate.table);
         }
+        self.phase = self.wants.live_phase();
         at_zero
     }
 }

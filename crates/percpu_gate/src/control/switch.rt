@@ -1,12 +1,11 @@
 //! Switching a gate between its two modes, and the steps with which a kill leaves the slots.
-ghost use Rattle.std.specs.Prelude.{◌≡◌, ◌*◌, ◌<◌, ◌≤◌, IfOk, IfErr, true};
-ghost use Rattle.percpu_core.specs.ControlSteps.{has_slot_to_close};
+ghost use Rattle.std.specs.Prelude.{◌≡◌, IfOk, IfErr};
 ghost use Rattle.percpu_core.specs.Phases.{next_slot};
 ghost use Rattle.percpu_words.specs.SlotWord.{IsDelta};
 ghost use Rattle.percpu_core.specs.declared.phase.Phase.TheVariants as phases;
 ghost use Rattle.percpu_gate.specs.declared.mode.Mode.TheVariants as modes;
 ghost use Rattle.percpu_gate.specs.Seats.{FindsDelta};
-ghost use Rattle.percpu_gate.specs.ControlCalls.{fault_of, switch_refusal, HasSlotToClose, HasClosedAll, after_close, after_gathering, gathered_from, after_collect, after_switch, in_phase};
+ghost use Rattle.percpu_gate.specs.ControlCalls.{fault_of, switch_refusal, HasSlotToClose, HasClosedAll, after_close, after_collect, after_switch};
 
 use super::Control;
 use crate::control_fault::ControlFault;
@@ -52,40 +51,6 @@ impl<const W: usize> Control<W> {
         self.phase = Phase::Collected;
     }
 
-    /// Closes every slot and collects them: the middle of a kill, or a whole switch to the shared word.
-    pub(super) fn gather(&mut self, gate: &Gate<W>)
-        requires own { self.old.gate ≡ gate.now }
-        requires first { next_slot self.old.view.standing.phase ≡ 0 }
-        requires turn { 1 ≤ gate.now.slots → has_slot_to_close gate.now.slots self.old.view.standing.phase ≡ true }
-        ensures view { self.new ≡ record self.old { view = after_gathering self.old.view } }
-    {
-        self.phase = self.gathered_phase();
-        let sum = self.seat.close_all(&gate.table);
-        self.seat.collect_sum(&gate.table, sum);
-        self.uncollected = 0;
-    }
-
-    /// The phase once every slot is closed and collected.
-    fn gathered_phase(&self) -> Phase
-        ensures { result ≡ gathered_from self.now.view.standing.phase }
-    {
-        if self.phase.is_mid_switch() {
-            Phase::Collected
-        } else {
-            Phase::LiveAtomic
-        }
-    }
-
-    /// Adds the bias and opens every slot of a gate that counts on the shared word alone.
-    pub(super) fn open(&mut self, gate: &Gate<W>)
-        requires own { self.old.gate ≡ gate.now }
-        requires live { self.old.view.standing.phase ≡ phases.LiveAtomic }
-        ensures view { self.new ≡ record self.old { view = in_phase phases.LiveSlots self.old.view } }
-    {
-        self.seat.open_all(&gate.table);
-        self.phase = Phase::LiveSlots;
-    }
-
     /// Why a switch is refused now.
     fn refuse_mid_switch(&self) -> Result<(), ControlFault>
         ensures refused { fault_of result ≡ switch_refusal self.now.view.standing.phase }
@@ -107,7 +72,8 @@ impl<const W: usize> Control<W> {
     {
         self.refuse_mid_switch()?;
         if self.phase == Phase::LiveSlots {
-            self.gather(gate);
+            self.seat.gather(&gate.table);
+            self.phase = Phase::LiveAtomic;
         }
         self.wants = Mode::Atomic;
         Ok(())
@@ -123,7 +89,8 @@ impl<const W: usize> Control<W> {
     {
         self.refuse_mid_switch()?;
         if self.phase == Phase::LiveAtomic {
-            self.open(gate);
+            self.seat.open_all(&gate.table);
+            self.phase = Phase::LiveSlots;
         }
         self.wants = Mode::Slots;
         Ok(())

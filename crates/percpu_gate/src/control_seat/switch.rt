@@ -10,7 +10,7 @@ ghost use Rattle.percpu_core.specs.Machine.{IsEnabled};
 ghost use Rattle.percpu_core.specs.Phases.{next_slot};
 ghost use Rattle.percpu_core.specs.ControlSteps.{hinders_control, has_slot_to_close, has_closed_all};
 ghost use Rattle.percpu_gate.specs.Seats.{ControlStep, FindsDelta, facts_of};
-ghost use Rattle.percpu_gate.specs.ControlCalls.{after_close, after_closing, after_collect, in_phase};
+ghost use Rattle.percpu_gate.specs.ControlCalls.{standing, after_close, after_closing, after_collect, after_gathering, in_phase};
 ghost use Rattle.percpu_gate.specs.Rule.{sizes_at};
 
 use super::ControlSeat;
@@ -119,6 +119,18 @@ impl ControlSeat {
     {
         let less = (BIAS as i64 - sum) as u64;
         self.collect(gate, less);
+    }
+
+    /// Closes every slot and collects them: the middle of a kill, or a whole switch to the shared word.
+    pub(crate) fn gather(&mut self, gate: &GateTable)
+        requires own { self.old.gate ≡ facts_of gate.now }
+        requires first { next_slot self.old.view.standing.phase ≡ 0 }
+        requires turn { 1 ≤ gate.now.key.slots → has_slot_to_close gate.now.key.slots self.old.view.standing.phase ≡ true }
+        requires stands { self.old.view.standing ≡ standing self.old.view.standing.phase self.old.view.standing.kills }
+        ensures view { self.new ≡ record self.old { view = after_gathering self.old.view } }
+    {
+        let sum = self.close_all(gate);
+        self.collect_sum(gate, sum);
     }
 
     /// Adds the bias and opens every slot, from the first on.
