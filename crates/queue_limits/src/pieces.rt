@@ -61,7 +61,8 @@ impl Iterator for Pieces {
         Some(length)
     }
 
-    /// At least as many pieces as `max` asks for, and at most one for each sector that is left.
+    /// At most as many pieces as are left, and above 0 where any is; and the sectors that are left, since each piece
+    /// has one at least.
     fn size_hint(&self) -> (usize, Option<usize>)
         ensures lower { IsWithinCount result.0 (item_count (λ s. s) self.now) }
         ensures upper { IfSome result.1 (UpTo (item_count (λ s. s) self.now)) }

@@ -1,5 +1,7 @@
 -- What a list of commands to a device is.
-use Rattle.std.specs.Prelude.{◌≡◌, ℕ, ◌+◌, List, [], ◌∷◌, map}
+use Rattle.std.specs.Prelude.{◌≡◌, ℕ, ◌+◌, Option, Some, None, List, [], ◌∷◌, map}
+use Rattle.freeze_queue.specs.declared.tag.Enter.{Enter}
+use Rattle.freeze_queue.specs.declared.tag.Enter.TheVariants.{Entered, Again}
 use Rattle.uses.specs.declared.cutting.Command.{Command}
 
 -- how many sectors each moves
@@ -10,3 +12,8 @@ lengths commands = map (λ c. c.sectors) commands
 abbrev pub AreInARow : ℕ → List Command → Type 0
 AreInARow start [] = Unit {0}
 AreInARow start (c ∷ commands) = (c.first ≡ start) × AreInARow (start + c.sectors) commands
+
+-- what the attempt to enter was answered: there are commands where the tag entered, and none where the queue was frozen
+abbrev pub entering : {A : Type 0} → Option A → Enter
+entering (Some made) = Entered
+entering None = Again

@@ -2,8 +2,10 @@
 ghost use Rattle.std.specs.Prelude.{◌≡◌, ◌<◌, ◌^◌, false, IfOk, IfSome, OnOk, OnErr};
 ghost use Rattle.queue_limits.specs.Bounds.{Bounds, AreAllowed};
 ghost use Rattle.queue_limits.specs.Pieces.{IsSplit};
+ghost use Rattle.percpu_gate.specs.Calls.{LiveTryFinds};
+ghost use Rattle.freeze_queue.specs.Entering.{answered};
 ghost use Rattle.freeze_queue.specs.Queue.{fault_of, freeze_refusal};
-ghost use Rattle.uses.specs.Commands.{lengths};
+ghost use Rattle.uses.specs.Commands.{lengths, entering};
 
 use crate::cutting::{Command, commands};
 use freeze_queue::{BlockQueue, Enter, FreezeFault, Freezer, Tag};
@@ -27,10 +29,13 @@ pub fn submit(
     requires place { start < 2 ^ 32 }
     ensures own { tag.new.queue ≡ queue.now }
     ensures out { tag.new.entered ≡ false }
+    // None says that the attempt to enter found the queue frozen, commands that it found it live.
+    ensures finds { IfOk result (λ made. LiveTryFinds queue.now.gate slot tag.old.seat (answered (entering made))) }
     ensures split { IfOk result (λ made. IfSome made (λ made. (limits : Bounds) × AreAllowed limits × (limits.hardware ≡ queue.now.hardware) × IsSplit limits start count (lengths made.items))) }
 {
-    if queue.try_enter(tag, slot) == Enter::Again {
-        return Ok(None);
+    match queue.try_enter(tag, slot) {
+        Enter::Again => return Ok(None),
+        Enter::Entered => {}
     }
     let limits = queue.limits(tag);
     let made = commands(alloc, &limits, start, count);
