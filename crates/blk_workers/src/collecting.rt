@@ -34,13 +34,15 @@ fn take<J: Run>(script: &Script, desk: &mut Desk, done: Completion<J>) -> Result
     Ok(())
 }
 
-/// Collects the completions that are there now, as many as are owed at most.
+/// Collects the completions that are there now, as many as are owed at most, once so many are owed as make a batch. A
+/// look for each request would take the queue's lines from the workers each time.
 pub(crate) fn collect_some<J: Run, R: Wait>(
     rt: &R,
     completions: &CompletionQueue<Completion<J>>,
     collector: &mut Collector<Completion<J>>,
     script: &Script,
     desk: &mut Desk,
+    batch: usize,
 ) -> Result<(), RunFault>
     requires script { script.now ≡ J.script }
     requires own { collector.old.queue ≡ completions.now.id }
@@ -51,6 +53,9 @@ pub(crate) fn collect_some<J: Run, R: Wait>(
     ensures awaited { AreAwaited script.now desk.new.replies collector.new.given collector.new.collected }
     ensures collector { collector.new ≡ record collector.old { collected = collector.new.collected } }
 {
+    if desk.replies.owed() < batch {
+        return Ok(());
+    }
     for _ in 0..desk.replies.owed() {
         let Some(done) = completions.try_collect(rt, collector) else {
             break;
@@ -89,12 +94,16 @@ pub(crate) fn collect_all<J: Run, R: Wait>(
 }
 
 /// A tag that has entered the queue and was told these limits. One that is told others leaves, and enters again.
-pub(crate) fn entered<J: Run, C: Line, R: Wait>(rt: &R, hall: &Hall<J, C>, limits: Limits) -> Tag
+pub(crate) fn entered<J: Run, C: Line, R: Wait>(
+    rt: &R,
+    hall: &Hall<J, C>,
+    limits: Limits,
+) -> Box<Tag>
     requires queue { hall.now.queue ≡ J.queue }
     requires slot { 0 < J.queue.gate.slots }
-    ensures own { result.queue ≡ J.queue }
-    ensures entered { result.entered ≡ true }
-    ensures told { result.limits ≡ Some limits }
+    ensures own { result.value.queue ≡ J.queue }
+    ensures entered { result.value.entered ≡ true }
+    ensures told { result.value.limits ≡ Some limits }
 {
     let mut tag = hall.tags.take(rt).into_tag();
     for _ in rt.forever() {

@@ -22,7 +22,7 @@ use std::marker::{Model, PhantomData};
 pub(crate) struct Job<J: Run, C: Line> {
     duty: Duty<Completion<J>>,
     position: usize,
-    tag: Tag,
+    tag: Box<Tag>,
     found: Vec<Sector>,
     of: PhantomData<C>,
 }
@@ -32,9 +32,9 @@ impl<J: Run, C: Line> Model for Job<J, C> {
 
     ghost Value = { JobFacts };
 
-    ghost view = { λ j. record { duty = j.duty; position = j.position; tag = j.tag; found = j.found.items } };
+    ghost view = { λ j. record { duty = j.duty; position = j.position; tag = j.tag.value; found = j.found.items } };
 
-    ghost invariant = { λ j. IsJob J.script J.queue C.id (record { duty = j.duty; position = j.position; tag = j.tag; found = j.found.items }) };
+    ghost invariant = { λ j. IsJob J.script J.queue C.id (record { duty = j.duty; position = j.position; tag = j.tag.value; found = j.found.items }) };
 }
 
 impl<J: Run, C: Line> Numbered for Job<J, C> {
@@ -82,7 +82,7 @@ impl<J: Run> Numbered for Completion<J> {
 /// A tag that isn't entered, on its way back to whoever submits.
 #[derive(Drop)]
 pub(crate) struct FreeTag<J: Run> {
-    tag: Tag,
+    tag: Box<Tag>,
     of: PhantomData<J>,
 }
 
@@ -92,16 +92,16 @@ impl<J: Run> Model for FreeTag<J> {
 
     ghost Value = { TagFacts };
 
-    ghost view = { λ t. t.tag };
+    ghost view = { λ t. t.tag.value };
 
-    ghost invariant = { λ t. (t.tag.queue ≡ J.queue) × (t.tag.entered ≡ false) };
+    ghost invariant = { λ t. (t.tag.value.queue ≡ J.queue) × (t.tag.value.entered ≡ false) };
 }
 
 impl<J: Run> FreeTag<J> {
-    pub(crate) fn new(tag: Tag) -> FreeTag<J>
-        requires own { tag.queue ≡ J.queue }
-        requires out { tag.entered ≡ false }
-        ensures { result ≡ tag }
+    pub(crate) fn new(tag: Box<Tag>) -> FreeTag<J>
+        requires own { tag.value.queue ≡ J.queue }
+        requires out { tag.value.entered ≡ false }
+        ensures { result ≡ tag.value }
     {
         FreeTag {
             tag,
@@ -109,9 +109,9 @@ impl<J: Run> FreeTag<J> {
         }
     }
 
-    pub(crate) fn into_tag(self) -> Tag
-        ensures own { result.queue ≡ J.queue }
-        ensures out { result.entered ≡ false }
+    pub(crate) fn into_tag(self) -> Box<Tag>
+        ensures own { result.value.queue ≡ J.queue }
+        ensures out { result.value.entered ≡ false }
     {
         let FreeTag { tag, of: _ } = self;
         tag
@@ -152,10 +152,10 @@ impl<J: Run, C: Line> Job<J, C> {
     pub(crate) fn new(
         duty: Duty<Completion<J>>,
         position: usize,
-        tag: Tag,
+        tag: Box<Tag>,
         found: Vec<Sector>,
     ) -> Job<J, C>
-        requires { IsJob J.script J.queue C.id (record { duty = duty; position = position; tag = tag; found = found.items }) }
+        requires { IsJob J.script J.queue C.id (record { duty = duty; position = position; tag = tag.value; found = found.items }) }
         ensures { result.duty ≡ duty }
     {
         Job {
@@ -174,11 +174,11 @@ impl<J: Run, C: Line> Job<J, C> {
         alloc: Global,
         queue: &BlockQueue,
         script: &Script,
-    ) -> (Tag, Duty<Completion<J>>, Completion<J>)
+    ) -> (Box<Tag>, Duty<Completion<J>>, Completion<J>)
         requires queue { queue.now ≡ J.queue }
         requires script { script.now ≡ J.script }
-        ensures own { result.0.queue ≡ J.queue }
-        ensures entered { result.0.entered ≡ true }
+        ensures own { result.0.value.queue ≡ J.queue }
+        ensures entered { result.0.value.entered ≡ true }
         ensures request { IsAcceptedAt J.script self.duty.number self.position }
         ensures may_tell { result.1.queue ≡ C.id }
         ensures number { result.2.number ≡ result.1.number }

@@ -143,7 +143,14 @@ impl Submitter {
         ensures follows { IsFollowing J.queue (length self.old.desk.replies + 1) self.new.freezer }
         ensures mode { self.new.freezer.mode ≡ mode_of self.new.state.mode }
     {
-        collect_some(rt, &hall.completions, collector, script, &mut self.desk)?;
+        collect_some(
+            rt,
+            &hall.completions,
+            collector,
+            script,
+            &mut self.desk,
+            hall.tags.room() / 2,
+        )?;
         if !self.desk.must_wait(script, request) {
             return Ok(());
         }

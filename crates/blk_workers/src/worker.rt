@@ -37,7 +37,7 @@ fn free_tags<J: Run, R: Wait>(
 {
     let free = SpareQueue::new(alloc, tags.len())?;
     for tag in tags {
-        free.put(rt, FreeTag::new(tag));
+        free.put(rt, FreeTag::new(Box::new(alloc, tag)?));
     }
     Ok(free)
 }

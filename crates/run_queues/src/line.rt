@@ -5,15 +5,18 @@ ghost use Rattle.crossbeam_queue.specs.Passes.{view, IsSamePass, IsPassOf, ruled
 
 use crossbeam_queue::protocol::{Free, Lesson, Outcome, Protocol};
 use crossbeam_queue::{Pass, RuledArrayQueue};
-use crossbeam_utils::Backoff;
 use crossbeam_utils::sync::EventCount;
+use crossbeam_utils::{Backoff, CachePadded};
 use std::alloc::{AllocError, Global};
 use std::sync::Wait;
 use std::sync::atomic::{AtomicUsize, Ordering};
 use std::thread;
 
 /// How often a thread that finds nothing looks again before it sleeps.
-const LOOKS: u32 = 8;
+const LOOKS: u32 = 16;
+
+/// How many threads look at most. More of them would be in each other's way, and in that of whoever pushes.
+const LOOKERS: usize = 4;
 
 /// A queue under a rule, and those who sleep at it.
 ///
@@ -28,8 +31,10 @@ pub(crate) struct Line<T: Drop, V, P: Protocol<T, V>> {
     pub(crate) ring: RuledArrayQueue<T, V, P>,
     added: EventCount,
     taken: EventCount,
-    /// How many threads look for an item.
-    looking: AtomicUsize,
+    /// How many threads sleep, or are about to, because there was no item.
+    sleeping: AtomicUsize,
+    /// How many threads look for an item. It changes with each look, so it shares its lines with nothing else.
+    looking: CachePadded<AtomicUsize>,
 }
 
 impl<T: Drop, V, P: Protocol<T, V>> Line<T, V, P> {
@@ -44,7 +49,8 @@ impl<T: Drop, V, P: Protocol<T, V>> Line<T, V, P> {
             ring,
             added: EventCount::new(),
             taken: EventCount::new(),
-            looking: AtomicUsize::new(0),
+            sleeping: AtomicUsize::new(0),
+            looking: CachePadded::new(AtomicUsize::new(0)),
         };
         Ok((line, pass))
     }
@@ -121,7 +127,7 @@ impl<T: Drop, V, P: Protocol<T, V>> Line<T, V, P> {
         Some(item)
     }
 
-    // Looks some times for an item, and counts meanwhile as one who looks.
+    // Looks some times for an item, and counts meanwhile as one who looks; not at all where enough others look.
     fn look_as<M: Outcome<T, V> + Lesson<T, V>, R: Wait>(
         &self,
         rt: &R,
@@ -133,6 +139,9 @@ impl<T: Drop, V, P: Protocol<T, V>> Line<T, V, P> {
         ensures none { IfNone result (view pass.new ≡ view pass.old) }
         ensures rule { IfSome result (λ item. M.then (view pass.old) item (view pass.new)) }
     {
+        if self.looking.load(Ordering::SeqCst) >= LOOKERS {
+            return None;
+        }
         self.looking.fetch_add(1, Ordering::SeqCst);
         let item = self.find_as::<M, R>(rt, pass);
         self.looking.fetch_sub(1, Ordering::SeqCst);
@@ -142,7 +151,7 @@ impl<T: Drop, V, P: Protocol<T, V>> Line<T, V, P> {
         item
     }
 
-    // Tries to pop some times, and lets other threads run between.
+    // Tries to pop some times, ever less often, and lets other threads run between.
     fn find_as<M: Outcome<T, V> + Lesson<T, V>, R: Wait>(
         &self,
         rt: &R,
@@ -154,8 +163,10 @@ impl<T: Drop, V, P: Protocol<T, V>> Line<T, V, P> {
         ensures none { IfNone result (view pass.new ≡ view pass.old) }
         ensures rule { IfSome result (λ item. M.then (view pass.old) item (view pass.new)) }
     {
+        let backoff = Backoff::new();
         for _ in 0..LOOKS {
             thread::yield_now();
+            backoff.spin();
             if let Some(item) = self.ring.pop_as::<M, R>(rt, pass) {
                 return Some(item);
             }
@@ -170,10 +181,12 @@ impl<T: Drop, V, P: Protocol<T, V>> Line<T, V, P> {
         ensures queue { IsSamePass pass.old pass.new }
         ensures rule { M.then (view pass.old) result (view pass.new) }
     {
+        self.sleeping.fetch_add(1, Ordering::SeqCst);
         for _ in rt.forever() {
             let more = self.added.prepare_wait();
             if let Some(item) = self.ring.pop_as::<M, R>(rt, pass) {
                 drop(more);
+                self.sleeping.fetch_sub(1, Ordering::SeqCst);
                 self.pass_on(pass);
                 return item;
             }
@@ -182,20 +195,21 @@ impl<T: Drop, V, P: Protocol<T, V>> Line<T, V, P> {
         unreachable!()
     }
 
-    // After a pop: there is room, and what is left is for the next.
+    // After a pop: there is room, and what is left is for the next. The queue is looked at only for one who sleeps,
+    // since each look takes lines from whoever pushes.
     fn pass_on(&self, pass: &mut Pass<T, V>)
         requires { IsPassOf self.now.ring pass.old }
         ensures { IsSamePass pass.old pass.new × (view pass.new ≡ view pass.old) }
     {
         self.taken.notify_one();
-        if !self.ring.is_empty_as::<Free>(pass) {
+        if self.sleeping.load(Ordering::SeqCst) > 0 && !self.ring.is_empty_as::<Free>(pass) {
             self.wake();
         }
     }
 
-    // Wakes a sleeper, where no thread looks for what it would find.
+    // Wakes a sleeper, where there is one and no thread looks for what it would find.
     fn wake(&self) {
-        if self.looking.load(Ordering::SeqCst) == 0 {
+        if self.sleeping.load(Ordering::SeqCst) > 0 && self.looking.load(Ordering::SeqCst) == 0 {
             self.added.notify_one();
         }
     }

@@ -4,4 +4,4 @@ use Rattle.blk_workers.proofs.collecting.entered.Given as goal
 abbrev pub invariant-loop : goal.invariant-loop
 invariant-loop g l =
     (goal.iterator-loop g).can_next l.iterator' × (goal.iterator-loop g).is_finite l.iterator'
-    × (l.tag.queue ≡ g.J.Run.queue) × (l.tag.entered ≡ false)
+    × (l.tag.value.queue ≡ g.J.Run.queue) × (l.tag.value.entered ≡ false)
