@@ -96,21 +96,3 @@ impl<W: Write> Write for Counted<W> {
         self.inner.flush()
     }
 }
-
-#[cfg(test)]
-mod tests {
-    use super::*;
-
-    #[test]
-    fn stays_at_the_greatest_count(rt: HostRuntime) {
-        let mut none = [0u8; 0];
-        let mut writer = Counted {
-            inner: &mut none[..],
-            failures: u64::MAX - 1,
-        };
-        for _ in 0..3 {
-            assert_eq!(rt; writer.write(b"a").ok(), Some(0));
-            assert_eq!(rt; writer.failures(), u64::MAX);
-        }
-    }
-}

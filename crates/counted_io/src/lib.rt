@@ -9,8 +9,6 @@
 mod counted;
 mod input;
 mod output;
-#[cfg(test)]
-mod tests;
 
 pub use counted::Counted;
 pub use input::{InputFault, read_whole};

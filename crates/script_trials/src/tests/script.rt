@@ -1,5 +1,5 @@
 //! A script with lines of every kind, what the format says of odd input, and the texts of replies. The worked
-//! scripts are played by the program: crates/blkq/src/tests/scripts.rt.
+//! scripts are played by the program: crates/blkq_trials/src/tests/scripts.rt.
 use blk_script::{
     ByteRuns, Mode, ParseFault, PieceLengths, Reply, ScriptFault, Stat, What, Why, check, parse,
     render, render_disk, run_alone,

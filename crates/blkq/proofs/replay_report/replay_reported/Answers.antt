@@ -1,5 +1,0 @@
-use Rattle.blkq.proofs.Ending.{Contains-status_of}
-use Rattle.blkq.proofs.replay_report.replay_reported.Goals as goal
-
-pub returns-in-Err-clause-statuses : goal.returns-in-Err-clause-statuses
-returns-in-Err-clause-statuses g c = rw c.status.ensures (Contains-status_of c.in-Err.fault)

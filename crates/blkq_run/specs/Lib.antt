@@ -1,0 +1,4 @@
+-- Answer: what an input is answered. Faults: what a fault says, and its status. Requests: what the words after the program's name ask for.
+pub mod Answer
+pub mod Faults
+pub mod Requests

@@ -1,0 +1,130 @@
+//! The program, over any reader and writers.
+ghost use Rattle.std.specs.Prelude.{◌≡◌, ◌⊎◌, [], ◌∷◌, map, string_bytes, Contains, IsErr, IsOkAnd};
+ghost use Rattle.counted_io.specs.Reading.{IfKnown, TakesUpTo};
+ghost use Rattle.counted_io.specs.Writing.{Takes, TakesNothing, TakesPart};
+ghost use Rattle.blkq_run.specs.Answer.{IsAnsweredBy, IsRefusedBy};
+ghost use Rattle.blkq_run.specs.Faults.{status_of};
+ghost use Rattle.blkq_run.specs.Requests.{AsksReplay, AsksSomeRun, AsksSomething};
+ghost use Rattle.gate_replay.specs.Shown.{EndsSo, shown_by};
+
+use crate::arguments::{Task, requested};
+use crate::fault::Fault;
+use crate::replay_report::replay_reported;
+use crate::run::{MOST_READ, run_bytes};
+use blk_workers::{Config, NoStall};
+use counted_io::Counted;
+use gate_replay::Replayed;
+use std::alloc::Global;
+use std::io;
+use std::io::{ErrorKind, Read, Write};
+use std::sync::Wait;
+use std::thread::Threads;
+
+/// How the program is called.
+const USAGE: &str = "usage: blkq run [WORKERS SLOTS TAGS] or blkq replay";
+
+/// The status where the answer didn't go out, for any reason but the input.
+const NOT_RUN: u8 = 4;
+
+/// Runs the script that `reader` has, and tells the program's status, with a line to `errors` where it isn't 0.
+fn run_reported<R: Read, W: Write, E: Write>(
+    rt: &(impl Threads + Wait + Sync),
+    alloc: Global,
+    config: Config,
+    reader: &mut Counted<R>,
+    writer: &mut Counted<W>,
+    errors: &mut E,
+) -> u8
+    ensures statuses { Contains (0 ∷ 2 ∷ 3 ∷ 4 ∷ []) result }
+    ensures success { result ≡ 0 → IfKnown R.remaining reader.old (λ input. IsAnsweredBy input
+        (Takes W.contents writer.old writer.new)) }
+    ensures refused { (result ≡ 2) ⊎ (result ≡ 3) → IfKnown R.remaining reader.old
+        (λ input. IsRefusedBy input (λ fault. status_of fault ≡ result)) }
+    ensures untouched { (result ≡ 2) ⊎ (result ≡ 3) → TakesNothing W.contents writer.old writer.new }
+    ensures partly { result ≡ 4 → TakesNothing W.contents writer.old writer.new
+        ⊎ IfKnown R.remaining reader.old (λ input. IsAnsweredBy input (TakesPart W.contents writer.old writer.new)) }
+    ensures taken { TakesUpTo R.remaining reader.old reader.new MOST_READ }
+{
+    match run_bytes(rt, alloc, reader, writer, config, &NoStall) {
+        Ok(()) => 0,
+        Err(fault) => {
+            let _ = errors.writeln(fault);
+            fault.status()
+        }
+    }
+}
+
+/// Does what `args`, the words after the program's name, ask for, and tells the program's status: 0 where the
+/// answer to what `reader` has went out to `writer`. Any other status comes with a line to `errors`: 2 where
+/// the input is no script or no schedule, 3 where requests of a script overlap, and 4 where reading, writing,
+/// memory or the start of a thread was refused, or the words ask for nothing that there is. Only a replay that
+/// ends at a step that isn't enabled has status 3 without such a line: its answer went out, and says so. The
+/// words are looked at before anything is read. Where `errors` fails, the line is lost and the status stays.
+pub fn command<R: Read, W: Write, E: Write>(
+    rt: &(impl Threads + Wait + Sync),
+    alloc: Global,
+    args: &[String],
+    reader: &mut Counted<R>,
+    writer: &mut Counted<W>,
+    errors: &mut E,
+) -> u8
+    ensures statuses { Contains (0 ∷ 2 ∷ 3 ∷ 4 ∷ []) result }
+
+    // The script's answer is a text, and exactly that text was written.
+    ensures success { AsksSomeRun (map string_bytes args.now) → result ≡ 0 → IfKnown R.remaining reader.old (λ input. IsAnsweredBy input
+        (Takes W.contents writer.old writer.new)) }
+
+    // The script is refused for a fault of that status, and nothing was written.
+    ensures refused { AsksSomeRun (map string_bytes args.now) → (result ≡ 2) ⊎ (result ≡ 3) → IfKnown R.remaining reader.old
+        (λ input. IsRefusedBy input (λ fault. status_of fault ≡ result)) }
+    ensures untouched { AsksSomeRun (map string_bytes args.now) → (result ≡ 2) ⊎ (result ≡ 3)
+        → TakesNothing W.contents writer.old writer.new }
+
+    // Nothing of the script's answer went out, or its first bytes and not all.
+    ensures partly { AsksSomeRun (map string_bytes args.now) → result ≡ 4 → TakesNothing W.contents writer.old writer.new
+        ⊎ IfKnown R.remaining reader.old (λ input. IsAnsweredBy input (TakesPart W.contents writer.old writer.new)) }
+
+    // Exactly what the schedule's replay shows was written, and the status tells how it ends.
+    ensures whole { AsksReplay (map string_bytes args.now) → result ≡ 0 → IfKnown R.remaining reader.old (λ input. EndsSo input Replayed.Whole
+        (Takes W.contents writer.old writer.new)) }
+    ensures stuck { AsksReplay (map string_bytes args.now) → result ≡ 3 → IfKnown R.remaining reader.old (λ input. EndsSo input Replayed.Stuck
+        (Takes W.contents writer.old writer.new)) }
+
+    // The input is refused as a schedule, and nothing was written.
+    ensures no_schedule { AsksReplay (map string_bytes args.now) → result ≡ 2 → IfKnown R.remaining reader.old (λ input. IsErr (shown_by input)) }
+    ensures unshown { AsksReplay (map string_bytes args.now) → result ≡ 2
+        → TakesNothing W.contents writer.old writer.new }
+
+    // Nothing of what the replay shows went out, or its first bytes and not all.
+    ensures part_shown { AsksReplay (map string_bytes args.now) → result ≡ 4 → TakesNothing W.contents writer.old writer.new
+        ⊎ IfKnown R.remaining reader.old (λ input. IsOkAnd (shown_by input) (λ shown. TakesPart W.contents writer.old writer.new shown.text)) }
+
+    // Where the words ask for neither, nothing is read and nothing is written.
+    ensures usage { ¬ (AsksSomething (map string_bytes args.now)) → result ≡ 4 }
+    ensures unread { ¬ (AsksSomething (map string_bytes args.now)) → reader.new ≡ reader.old }
+    ensures unwritten { ¬ (AsksSomething (map string_bytes args.now)) → writer.new ≡ writer.old }
+
+    ensures taken { TakesUpTo R.remaining reader.old reader.new MOST_READ }
+{
+    match requested(args) {
+        Task::Run(config) => run_reported(rt, alloc, config, reader, writer, errors),
+        Task::Replay => replay_reported(alloc, reader, writer, errors),
+        Task::Usage => {
+            let _ = errors.writeln(USAGE);
+            NOT_RUN
+        }
+    }
+}
+
+/// Tells that the words after the program's name can't be had, and the program's status: for want of memory,
+/// or because one of them is no text, so that they ask for nothing that there is.
+pub fn refuse_words<E: Write>(errors: &mut E, why: &io::Error) -> u8
+    ensures { result ≡ 4 }
+{
+    let _ = if why.kind() == ErrorKind::OutOfMemory {
+        errors.writeln(Fault::Memory)
+    } else {
+        errors.writeln(USAGE)
+    };
+    NOT_RUN
+}

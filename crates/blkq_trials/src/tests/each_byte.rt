@@ -1,0 +1,113 @@
+//! A reader and a writer that fail behind each byte, an input that is cut behind each, and very many runs.
+use super::fakes::{Feed, KINDS, Sink};
+use blk_script::{check, parse, run_alone};
+use blk_workers::{Config, NoStall};
+use blkq_run::{Fault, run_bytes};
+use counted_io::Counted;
+use std::alloc::Global;
+use std::fs;
+use std::process::Abort;
+use std::rt::Files;
+use std::sync::Wait;
+use std::test::Fail;
+use std::thread::Threads;
+
+/// The row split_by_both.
+const SCRIPT: &[u8] =
+    b"blkq 1\ndisk 16 hw 8\nset max_sectors 4\nset chunk_sectors 8\nwrite 6 6 61\n";
+
+const ANSWER: &[u8] = b"3 ok\n4 ok\n5 ok 2+4\ndisk 00*3072,61*3072,00*2048\n";
+
+/// The row removed.
+const REMOVED: &[u8] =
+    b"blkq 1\ndisk 1 hw 4\nmode atomic\nwrite 0 1 0a0a\nread 1 1\nstat\nremove\nread 0 1\nthaw\nremove\n";
+
+/// A run of two workers, on two slots and with two tags, answers so, and writes exactly this.
+fn gives(
+    rt: &(impl Abort + Threads + Wait + AllocGlobal + Sync),
+    mut feed: Feed<'_>,
+    mut sink: Sink,
+    answer: Result<(), Fault>,
+    written: &[u8],
+) {
+    let config = Config::new(2, 2, 2).expect(rt, "a config");
+    let (mut reader, mut writer) = (Counted::new(&mut feed), Counted::new(&mut sink));
+    let alloc = rt.alloc();
+    let found = run_bytes(rt, alloc, &mut reader, &mut writer, config, &NoStall);
+    let is_right = found == answer && sink.taken.as_slice() == written;
+    assert!(rt; is_right, "{found:?} in place of {answer:?}");
+}
+
+/// Where the reader fails, also behind the last byte in place of ending, the answer is Read, and nothing is written.
+#[test]
+fn reader_fails_behind_each_byte(rt: HostRuntime) {
+    for failure in KINDS {
+        for k in 0..=SCRIPT.len() {
+            let mut feed = Feed::new(&SCRIPT[..k]);
+            (feed.most, feed.failure) = (1, Some(failure));
+            gives(&rt, feed, Sink::new(rt.alloc()), Err(Fault::Read), b"");
+        }
+    }
+}
+
+/// Where the writer takes one byte a write and then fails, or takes nothing, exactly the bytes before went out.
+#[test]
+fn writer_fails_behind_each_byte(rt: HostRuntime) {
+    for (k, _) in ANSWER.iter().enumerate() {
+        for failure in KINDS.map(Some).into_iter().chain([None]) {
+            let mut sink = Sink::new(rt.alloc());
+            (sink.most, sink.room, sink.failure) = (1, k, failure);
+            let fault = Fault::Write { written: k as u64 };
+            gives(&rt, Feed::new(SCRIPT), sink, Err(fault), &ANSWER[..k]);
+        }
+    }
+}
+
+/// What one thread answers that parses, checks and runs the script.
+fn alone(alloc: Global, input: &[u8]) -> Result<Vec<u8>, Fault> {
+    let script = parse(alloc, input)?;
+    check(alloc, &script)?;
+    Ok(run_alone(alloc, &script)?)
+}
+
+/// Cut behind any byte, a script is answered as one thread answers what is left of it.
+#[test]
+fn cut_behind_each_byte(rt: HostRuntime) {
+    for k in 0..=REMOVED.len() {
+        let cut = &REMOVED[..k];
+        let (feed, sink) = (Feed::new(cut), Sink::new(rt.alloc()));
+        match alone(rt.alloc(), cut) {
+            Ok(text) => gives(&rt, feed, sink, Ok(()), &text),
+            Err(fault) => gives(&rt, feed, sink, Err(fault), b""),
+        }
+    }
+}
+
+/// The pages of this process that are in memory.
+fn pages(rt: &(impl Files + AllocGlobal)) -> Result<u64, Fail> {
+    let told = fs::read_to_string(rt, "/proc/self/statm")?;
+    let number = told.split_whitespace().nth(1).ok_or("a second number")?;
+    Ok(number.parse().map_err(|_| "a number")?)
+}
+
+/// Runs so many times.
+fn run_again(rt: &(impl Abort + Threads + Wait + AllocGlobal + Sync), times: u32) {
+    for _ in 0..times {
+        gives(rt, Feed::new(SCRIPT), Sink::new(rt.alloc()), Ok(()), ANSWER);
+    }
+}
+
+/// After 10,000 more runs a process has as many pages in memory as before, but for fewer than 50 of 4,096 bytes: less
+/// than one block of 24 bytes for each run.
+#[test]
+fn many_runs_leave_nothing(rt: HostRuntime) -> Result<(), Fail> {
+    run_again(&rt, 1_000);
+    let before = pages(&rt)?;
+    run_again(&rt, 10_000);
+    let after = pages(&rt)?;
+    assert!(rt;
+        after.saturating_sub(before) < 50,
+        "{before} and then {after} pages"
+    );
+    Ok(())
+}
