@@ -1,68 +1,60 @@
-/* A device that is removed while two threads submit requests to it: whoever puts the last reference frees it. */
+/* A device that is removed while two threads submit requests to it: whoever is told of the last reference frees it. */
 #include "percpu_gate.h"
-
 #include <pthread.h>
 #include <stdatomic.h>
 #include <stdio.h>
 #include <stdlib.h>
 
-struct submitter {
+static struct submitter {
     _Alignas(128) percpu_gate_pass pass;
-    uint32_t slot;
-    long served;
-    int releases;
-};
+    atomic_long served;
+} submitters[2];
 
-static atomic_int *device; /* counts the requests that run on it */
-static atomic_int started;
+static atomic_ulong *device; /* counts the bytes that it was sent */
+static atomic_int freed;
+
+static void free_if_last(uint32_t answer)
+{
+    if (answer == PERCPU_GATE_LAST || answer == PERCPU_GATE_REFUSED_LAST) {
+        free(device);
+        atomic_fetch_add(&freed, 1);
+    }
+}
 
 static void *submit(void *of)
 {
     struct submitter *me = of;
-    for (;;) {
-        uint32_t answer = percpu_gate_try_get_live(&me->pass, me->slot);
-        if (answer != PERCPU_GATE_OK) { /* the device is going */
-            me->releases += answer == PERCPU_GATE_REFUSED_LAST;
-            return NULL;
-        }
-        atomic_fetch_add(device, 1); /* nobody frees it before our put */
-        atomic_fetch_sub(device, 1);
-        if (++me->served == 1000)
-            atomic_fetch_add(&started, 1);
-        me->releases += percpu_gate_put(&me->pass, me->slot, 1) == PERCPU_GATE_LAST;
+    uint32_t slot = (uint32_t)(me - submitters), answer; /* a slot of its own for each thread */
+    uint64_t size; /* a setting of the gate, which holds still while we hold a reference */
+    while ((answer = percpu_gate_try_get_live(&me->pass, slot)) == PERCPU_GATE_OK) {
+        if (percpu_gate_word(&me->pass, 0, &size) == PERCPU_GATE_OK)
+            atomic_fetch_add(device, size); /* nobody frees it before our put */
+        atomic_fetch_add(&me->served, 1);
+        free_if_last(percpu_gate_put(&me->pass, slot, 1));
     }
+    free_if_last(answer); /* the device is going */
+    return NULL;
 }
 
 int main(void)
 {
     static percpu_gate_control control;
-    static struct submitter submitters[2];
-    pthread_t threads[2];
     const uint64_t settings[8] = {512};
-    int releases = 0;
-
-    device = calloc(1, sizeof *device);
-    if (!device || percpu_gate_new(&control, 2, 2, PERCPU_GATE_SLOTS, settings))
+    pthread_t threads[2];
+    percpu_gate_final last;
+    if (!(device = calloc(1, sizeof *device)) || percpu_gate_new(&control, 2, 2, PERCPU_GATE_SLOTS, settings))
         return 1;
-    for (uint32_t i = 0; i < 2; i++) {
-        submitters[i].slot = i;
-        if (percpu_gate_next_pass(&control, &submitters[i].pass))
+    for (int i = 0; i < 2; i++) {
+        if (percpu_gate_next_pass(&control, &submitters[i].pass) || pthread_create(&threads[i], NULL, submit, &submitters[i]))
             return 1;
-        pthread_create(&threads[i], NULL, submit, &submitters[i]);
+        while (atomic_load(&submitters[i].served) < 1000) {}
     }
-    while (atomic_load(&started) < 2)
-        ;
-    releases += percpu_gate_kill(&control) == PERCPU_GATE_LAST;
+    free_if_last(percpu_gate_kill(&control)); /* from here on the device may be gone */
     for (int i = 0; i < 2; i++) {
         pthread_join(threads[i], NULL);
-        releases += submitters[i].releases;
         printf("pass %d retired: %u\n", i, percpu_gate_retire(&control, &submitters[i].pass));
     }
-    percpu_gate_final last;
-    printf("at zero: %u, released %d time(s)\n", percpu_gate_control_is_zero(&control), releases);
+    printf("at zero: %u, freed %d time(s)\n", percpu_gate_control_is_zero(&control), freed);
     printf("exit: %u\n", percpu_gate_exit(&control, &last));
-    printf("dead %d, kills %llu, releases %llu, word 0: %llu\n", last.dead, (unsigned long long)last.kills,
-           (unsigned long long)last.releases, (unsigned long long)last.words[0]);
-    free(device);
-    return 0;
+    printf("dead %d, kills %d, releases %d, word 0: %d\n", last.dead, (int)last.kills, (int)last.releases, (int)last.words[0]);
 }

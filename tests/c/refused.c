@@ -1,12 +1,14 @@
 /* Each allocation of a whole life is refused in turn: a number is answered, nothing is lost and nothing leaks. Then
- * the misuses that take two gates. (Linked with --wrap=malloc, so that this malloc refuses.) */
+ * the misuses that take two gates. (Linked with --wrap=malloc and free, so that this malloc refuses and both count.) */
 #include "percpu_gate.h"
 
 #include <stdio.h>
 #include <stdlib.h>
 
 void *__real_malloc(size_t size);
+void __real_free(void *at);
 static long allowed = -1; /* none refused */
+static long blocks;       /* that were had and not given back */
 
 void *__wrap_malloc(size_t size)
 {
@@ -14,7 +16,15 @@ void *__wrap_malloc(size_t size)
         return NULL;
     if (allowed > 0)
         allowed--;
-    return __real_malloc(size);
+    void *at = __real_malloc(size);
+    blocks += at != NULL;
+    return at;
+}
+
+void __wrap_free(void *at)
+{
+    blocks -= at != NULL;
+    __real_free(at);
 }
 
 static const uint64_t words[8] = {3};
@@ -94,5 +104,5 @@ int main(void)
             return 1;
     if (refused < 3)
         return 2;
-    return two_gates() || one_place_twice();
+    return two_gates() || one_place_twice() || blocks != 0;
 }

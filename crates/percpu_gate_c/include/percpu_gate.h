@@ -3,7 +3,9 @@
  *
  * A gate guards what may go away while requests run on it, as a device. Each request counts itself in (try_get_live)
  * and out (put). Who removes the device kills the gate: no new request is let in, and the last put of all answers
- * PERCPU_GATE_LAST: nobody is at the device any more. It is what Linux's percpu_ref is (lib/percpu-refcount.c).
+ * PERCPU_GATE_LAST: nobody is at the device any more, and whoever was told so frees it. One call is told so after a
+ * kill: a put, the kill itself (or its drop_base), or a try, by PERCPU_GATE_REFUSED_LAST. It is what Linux's percpu_ref
+ * is (lib/percpu-refcount.c).
  *
  * A gate has one control and 1 to 64 passes; each thread counts with a pass of its own, on a slot of its own. No call
  * waits, takes a lock or tries again; only new and next_pass allocate. Each answers a number: below 16 it is done,
@@ -13,7 +15,9 @@
  *  - set a handle to zero before its first call, and never copy one or write into it;
  *  - one call at a time on a handle; hand it to another thread by a lock, a thread's start or join, or a sequentially
  *    consistent atomic;
- *  - no call from a signal handler, or in the child of a fork of a process with threads;
+ *  - no pointer is null, and what a call writes to (a front, a word, ..) is no part of a handle, and of no other thread;
+ *  - no call from a signal handler, or in the child of a fork of a process with threads; and let each call return, with
+ *    no longjmp or cancellation out of it;
  *  - malloc, realloc and free are of one allocator, which aligns to 16;
  *  - code that made a gate stays loaded while handles of the gate are open;
  *  - for speed: keep handles of different threads 128 bytes apart.
@@ -88,7 +92,7 @@ enum {
     PERCPU_GATE_SIZE = 42,        /* 1 to 64 slots, 1 to 64 passes, a start from 0 to 2 */
     PERCPU_GATE_NO_PASS = 43,     /* every pass was given out */
     PERCPU_GATE_NO_MEMORY = 44,
-    PERCPU_GATE_IN_USE = 45       /* told by no way of using handles as above */
+    PERCPU_GATE_IN_USE = 45       /* exit found a share of the gate that no handle has: no way of using handles leads there */
 };
 
 static inline bool percpu_gate_is_refusal(uint32_t answer) { return answer >= 16; }
@@ -116,17 +120,19 @@ uint32_t percpu_gate_next_pass(percpu_gate_control *control, percpu_gate_pass *p
 /* Ends a pass that holds nothing, and closes its handle. CLOSED, OTHER_GATE, STILL_HELD. */
 uint32_t percpu_gate_retire(percpu_gate_control *control, percpu_gate_pass *pass);
 
-/* Ends a gate whose passes were all given out and retired. CLOSED, MID_SWITCH, PASSES_OUT. Linux: percpu_ref_exit. */
+/* Ends a gate whose passes were all given out and retired, writes what is left of it, and closes the handle. CLOSED,
+ * MID_SWITCH, PASSES_OUT; (IN_USE). Linux: percpu_ref_exit. */
 uint32_t percpu_gate_exit(percpu_gate_control *control, percpu_gate_final *last);
 
-/* Free what a handle has, and close it; a closed one stays so. The gate counts a freed pass as out for ever. */
+/* Free what a handle has, and close it; a closed one stays so. The gate counts a freed pass as out for ever. Passes work
+ * on after their control was freed: nobody can retire them any more, but free them. */
 void percpu_gate_free_pass(percpu_gate_pass *pass);
 void percpu_gate_free_control(percpu_gate_control *control);
 
 /* ---- A pass counts: the thread that has it, from any context but a signal handler. ---- */
 
-/* Takes a reference unless the gate has reached zero: OK, REFUSED, REFUSED_LAST. Given is surely who holds one.
- * CLOSED, SLOT, HELD_FULL. Linux: percpu_ref_tryget. */
+/* Takes a reference unless the gate has reached zero: OK, REFUSED, REFUSED_LAST. A pass that holds one always gets one
+ * more. CLOSED, SLOT, HELD_FULL. Linux: percpu_ref_tryget. */
 uint32_t percpu_gate_try_get(percpu_gate_pass *pass, uint32_t slot);
 
 /* Takes a reference unless the gate was killed: OK, REFUSED, REFUSED_LAST. CLOSED, SLOT, HELD_FULL.
@@ -192,7 +198,7 @@ uint32_t percpu_gate_control_is_zero(percpu_gate_control *control);
 /* Brings back a dead gate that has reached zero. CLOSED, NOT_DEAD, NOT_ZERO, MID_SWITCH. Linux: percpu_ref_reinit. */
 uint32_t percpu_gate_reinit(percpu_gate_control *control);
 
-/* Brings back a dead gate: 1 where it had reached zero, 0 where references are held still. CLOSED, NOT_DEAD,
+/* Brings back a dead gate: LAST (1) where it had reached zero, OK where references are held still. CLOSED, NOT_DEAD,
  * MID_SWITCH. Linux: percpu_ref_resurrect. */
 uint32_t percpu_gate_resurrect(percpu_gate_control *control);
 

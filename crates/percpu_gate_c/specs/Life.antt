@@ -56,10 +56,10 @@ pub record IsFinal (c : ControlOpened) (f : Final) : Type 0 where
   pub words : f.words ≡ c.control.view.words
   pub nothing_lost : Ended c.control.gate c.control.view
 
--- what ending a gate leaves: refused with everything as it was, or ended. (In use, which no way of using handles leads to, the control is gone all the same)
+-- what ending a gate leaves: refused with everything as it was, or ended. (Somebody else's share of the gate is answered 45, with everything as it was, but that the control is gone where it has no new box: 44. No way of using handles leads there)
 abbrev pub ExitsOpen : Option ExitWhy → ControlOpened → Option ControlOpened → Final → Final → ℕ → Type 0
 ExitsOpen (Some why) c new there here result = (result ≡ 16 + exit_number why) × (new ≡ Some c) × (here ≡ there)
-ExitsOpen None c new there here result = (new ≡ None) × (((result ≡ 45) × (here ≡ there)) ⊎ ((result ≡ 0) × IsFinal c here))
+ExitsOpen None c new there here result = ((new ≡ None) × (result ≡ 0) × IsFinal c here) ⊎ ((here ≡ there) × (((new ≡ Some c) × (result ≡ 45)) ⊎ ((new ≡ None) × (result ≡ 44))))
 
 abbrev pub Exits : Option ControlOpened → Option ControlOpened → Final → Final → ℕ → Type 0
 Exits None new there here result = (result ≡ 32) × (new ≡ None) × (here ≡ there)

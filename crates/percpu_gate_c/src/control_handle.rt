@@ -1,6 +1,6 @@
 //! The control, to C.
 ghost use Rattle.std.specs.Prelude.{◌≡◌, Some, None, is_some, IsSome, IfOk, IfErr};
-ghost use Rattle.percpu_gate_c.specs.declared.misuse.Misuse.TheVariants.{Open};
+ghost use Rattle.percpu_gate_c.specs.declared.misuse.Misuse.TheVariants.{Open, Memory};
 ghost use Rattle.percpu_gate_c.specs.ControlHolding.{opened};
 
 use crate::control_held::ControlHeld;
@@ -54,6 +54,21 @@ impl ControlHandle {
             Err(Misuse::Open)
         } else {
             Ok(self.alloc)
+        }
+    }
+
+    /// Opens a closed handle, in a new box. Refuses Memory.
+    pub fn open(&mut self, control: OpenControl) -> Result<(), Misuse>
+        requires closed { self.old.held.control ≡ None }
+        ensures open { IfOk result (λ _. self.new.held.control ≡ Some control) }
+        ensures memory { IfErr result (λ why. (why ≡ Memory) × (self.new.held.control ≡ None)) }
+    {
+        match Box::new(self.alloc, control) {
+            Ok(control) => {
+                self.put_back(control);
+                Ok(())
+            }
+            Err(_) => Err(Misuse::Memory),
         }
     }
 

@@ -12,7 +12,7 @@ use crate::number::of_unit;
 use crate::open_control::OpenControl;
 use crate::open_pass::WORDS;
 use crate::pass_handle::PassHandle;
-use percpu_gate::{ExitWhy, Start};
+use percpu_gate::Start;
 
 /// What is left of a gate that has ended.
 #[derive(Drop)]
@@ -51,13 +51,7 @@ fn make(
         return Err(Misuse::Size);
     }
     let open = OpenControl::new(alloc, *number, slots, passes, start_of(start), words)?;
-    match Box::new(alloc, open) {
-        Ok(open) => {
-            control.put_back(open);
-            Ok(())
-        }
-        Err(_) => Err(Misuse::Memory),
-    }
+    control.open(open)
 }
 
 /// A gate of so many slots (1 to 64) and passes (1 to 64) with eight guarded words, for a closed control handle.
@@ -150,7 +144,9 @@ pub extern "C" fn percpu_gate_retire(control: &mut ControlHandle, pass: &mut Pas
 }
 
 /// Ends a gate whose passes are all retired, and closes the handle. Refuses Closed; 20 in the middle of a kill, 22
-/// where passes are out. Linux: `percpu_ref_exit` (lib/percpu-refcount.c).
+/// where passes are out. Somebody else's share of the gate, which no way of using handles leads to, is answered InUse,
+/// with everything as it was, or Memory where the control has no new box: it is gone then. Linux: `percpu_ref_exit`
+/// (lib/percpu-refcount.c).
 #[unsafe(no_mangle)]
 pub extern "C" fn percpu_gate_exit(control: &mut ControlHandle, last: &mut Final) -> u32
     ensures { Exits control.old.held.control control.new.held.control last.old last.new result }
@@ -163,10 +159,13 @@ pub extern "C" fn percpu_gate_exit(control: &mut ControlHandle, last: &mut Final
         return 16 + u32::from(why.number());
     }
     match Box::into_inner(open).end() {
-        Some(ended) => {
+        Ok(ended) => {
             *last = ended;
             0
         }
-        None => Misuse::InUse.number(),
+        Err(back) => match control.open(back) {
+            Ok(()) => Misuse::InUse.number(),
+            Err(why) => why.number(),
+        },
     }
 }

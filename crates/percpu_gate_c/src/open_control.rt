@@ -1,5 +1,5 @@
 //! What an open control handle leads to.
-ghost use Rattle.std.specs.Prelude.{◌≡◌, None, All, IfSome};
+ghost use Rattle.std.specs.Prelude.{◌≡◌, None, All, MatchResult};
 ghost use Rattle.percpu_gate_c.specs.Life.{IsFinal};
 ghost use Rattle.percpu_gate.specs.ControlCalls.{exit_refusal};
 ghost use Rattle.percpu_gate.specs.Rule.{after_retire};
@@ -289,29 +289,41 @@ impl OpenControl {
         }
     }
 
-    /// Ends the gate. Nothing where somebody has a share of it, which no way of using handles leads to.
-    pub fn end(self) -> Option<Final>
+    /// Ends the gate. Itself where somebody has a share of the gate, which no way of using handles leads to.
+    pub fn end(self) -> Result<Final, OpenControl>
         requires retired { exit_refusal self.control.view.standing.phase self.control.view.passes ≡ None }
-        ensures { IfSome result (λ f. IsFinal self f) }
+        ensures { MatchResult result (λ f. IsFinal self f) (λ back. back ≡ self) }
     {
         let Self {
-            before: _,
+            before,
             gate,
-            number: _,
-            waiting: _,
-            spare: _,
-            passes: _,
+            number,
+            waiting,
+            spare,
+            passes,
             control,
-            after: _,
+            after,
         } = self;
-        let Ok(gate) = Arc::try_unwrap(gate) else {
-            return None;
+        let gate = match Arc::try_unwrap(gate) {
+            Ok(gate) => gate,
+            Err(gate) => {
+                return Err(OpenControl {
+                    before,
+                    gate,
+                    number,
+                    waiting,
+                    spare,
+                    passes,
+                    control,
+                    after,
+                });
+            }
         };
         let Ok(ended) = gate.exit(control) else {
-            return None;
+            unreachable!();
         };
         let words = ended.words;
-        Some(Final {
+        Ok(Final {
             dead: ended.dead,
             kills: ended.kills,
             releases: ended.releases,

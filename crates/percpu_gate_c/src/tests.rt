@@ -51,22 +51,22 @@ fn opened(rt: HostRuntime) -> (ControlHandle, PassHandle) {
 #[test]
 fn a_life(rt: HostRuntime) {
     let (mut control, mut pass) = opened(rt);
-    assert_eq!(rt; percpu_gate_try_get_live(&mut pass, 1), 0);
-    assert_eq!(rt; percpu_gate_get(&mut pass, 0, 2), 0);
-    assert_eq!(rt; percpu_gate_kill(&mut control), 0);
-    assert_eq!(rt; percpu_gate_kill(&mut control), 17);
-    assert_eq!(rt; percpu_gate_is_dying(&mut pass), 1);
-    assert_eq!(rt; percpu_gate_try_get_live(&mut pass, 1), 2);
-    assert_eq!(rt; percpu_gate_try_get(&mut pass, 1), 0);
-    assert_eq!(rt; percpu_gate_control_is_zero(&mut control), 0);
-    assert_eq!(rt; percpu_gate_put(&mut pass, 0, 4), 1);
-    assert_eq!(rt; percpu_gate_control_is_zero(&mut control), 1);
-    assert_eq!(rt; percpu_gate_is_zero(&mut pass), 1);
+    assert!(rt; percpu_gate_try_get_live(&mut pass, 1) == 0);
+    assert!(rt; percpu_gate_get(&mut pass, 0, 2) == 0);
+    assert!(rt; percpu_gate_kill(&mut control) == 0);
+    assert!(rt; percpu_gate_kill(&mut control) == 17);
+    assert!(rt; percpu_gate_is_dying(&mut pass) == 1);
+    assert!(rt; percpu_gate_try_get_live(&mut pass, 1) == 2);
+    assert!(rt; percpu_gate_try_get(&mut pass, 1) == 0);
+    assert!(rt; percpu_gate_control_is_zero(&mut control) == 0);
+    assert!(rt; percpu_gate_put(&mut pass, 0, 4) == 1);
+    assert!(rt; percpu_gate_control_is_zero(&mut control) == 1);
+    assert!(rt; percpu_gate_is_zero(&mut pass) == 1);
     let mut words = WORDS;
-    assert_eq!(rt; percpu_gate_store_word(&mut control, 7, 4), 0);
-    assert_eq!(rt; percpu_gate_words(&mut control, &mut words), 0);
-    assert_eq!(rt; words, [7, 0, 0, 0, 0, 0, 0, 4]);
-    assert_eq!(rt; percpu_gate_reinit(&mut control), 0);
+    assert!(rt; percpu_gate_store_word(&mut control, 7, 4) == 0);
+    assert!(rt; percpu_gate_words(&mut control, &mut words) == 0);
+    assert!(rt; words == [7, 0, 0, 0, 0, 0, 0, 4]);
+    assert!(rt; percpu_gate_reinit(&mut control) == 0);
     percpu_gate_free_pass(&mut pass);
     percpu_gate_free_control(&mut control);
 }
@@ -75,14 +75,14 @@ fn a_life(rt: HostRuntime) {
 fn guarded_words(rt: HostRuntime) {
     let (mut control, mut pass) = opened(rt);
     let mut word = 1;
-    assert_eq!(rt; percpu_gate_word(&mut pass, 7, &mut word), 36);
-    assert_eq!(rt; word, 1);
-    assert_eq!(rt; percpu_gate_try_get(&mut pass, 0), 0);
-    assert_eq!(rt; percpu_gate_word(&mut pass, 8, &mut word), 38);
-    assert_eq!(rt; percpu_gate_word(&mut pass, 7, &mut word), 0);
-    assert_eq!(rt; word, 9);
-    assert_eq!(rt; percpu_gate_store_word(&mut control, 8, 4), 38);
-    assert_eq!(rt; percpu_gate_store_word(&mut control, 7, 4), 18);
+    assert!(rt; percpu_gate_word(&mut pass, 7, &mut word) == 36);
+    assert!(rt; word == 1);
+    assert!(rt; percpu_gate_try_get(&mut pass, 0) == 0);
+    assert!(rt; percpu_gate_word(&mut pass, 8, &mut word) == 38);
+    assert!(rt; percpu_gate_word(&mut pass, 7, &mut word) == 0);
+    assert!(rt; word == 9);
+    assert!(rt; percpu_gate_store_word(&mut control, 8, 4) == 38);
+    assert!(rt; percpu_gate_store_word(&mut control, 7, 4) == 18);
     percpu_gate_free_pass(&mut pass);
     percpu_gate_free_control(&mut control);
 }
@@ -90,18 +90,18 @@ fn guarded_words(rt: HostRuntime) {
 #[test]
 fn misuse_of_a_pass(rt: HostRuntime) {
     let (mut control, mut pass) = opened(rt);
-    assert_eq!(rt; percpu_gate_try_get(&mut pass, 2), 34);
-    assert_eq!(rt; percpu_gate_get(&mut pass, 0, 1), 36);
-    assert_eq!(rt; percpu_gate_put(&mut pass, 0, 1), 36);
-    assert_eq!(rt; percpu_gate_try_get(&mut pass, 1), 0);
-    assert_eq!(rt; percpu_gate_get(&mut pass, 0, 65_535), 35);
-    assert_eq!(rt; percpu_gate_get(&mut pass, 0, 65_534), 0);
-    assert_eq!(rt; percpu_gate_try_get_live(&mut pass, 1), 35);
-    assert_eq!(rt; percpu_gate_put(&mut pass, 0, 0), 37);
+    assert!(rt; percpu_gate_try_get(&mut pass, 2) == 34);
+    assert!(rt; percpu_gate_get(&mut pass, 0, 1) == 36);
+    assert!(rt; percpu_gate_put(&mut pass, 0, 1) == 36);
+    assert!(rt; percpu_gate_try_get(&mut pass, 1) == 0);
+    assert!(rt; percpu_gate_get(&mut pass, 0, 65_535) == 35);
+    assert!(rt; percpu_gate_get(&mut pass, 0, 65_534) == 0);
+    assert!(rt; percpu_gate_try_get_live(&mut pass, 1) == 35);
+    assert!(rt; percpu_gate_put(&mut pass, 0, 0) == 37);
     percpu_gate_free_pass(&mut pass);
-    assert_eq!(rt; percpu_gate_try_get(&mut pass, 1), 32);
+    assert!(rt; percpu_gate_try_get(&mut pass, 1) == 32);
     percpu_gate_free_control(&mut control);
-    assert_eq!(rt; percpu_gate_kill(&mut control), 32);
+    assert!(rt; percpu_gate_kill(&mut control) == 32);
 }
 
 #[test]
@@ -113,59 +113,69 @@ fn misuse_of_a_control(rt: HostRuntime) {
         releases: 0,
         words: WORDS,
     };
-    assert_eq!(rt;
-        percpu_gate_new_numbered(&mut control, &NUMBER, 2, 2, 0, &WORDS),
-        33
-    );
-    assert_eq!(rt; percpu_gate_next_pass(&mut control, &mut pass), 33);
+    assert!(rt; percpu_gate_new_numbered(&mut control, &NUMBER, 2, 2, 0, &WORDS) == 33);
+    assert!(rt; percpu_gate_next_pass(&mut control, &mut pass) == 33);
     percpu_gate_free_pass(&mut pass);
-    assert_eq!(rt; percpu_gate_next_pass(&mut control, &mut pass), 0);
+    assert!(rt; percpu_gate_next_pass(&mut control, &mut pass) == 0);
     percpu_gate_free_pass(&mut pass);
-    assert_eq!(rt; percpu_gate_next_pass(&mut control, &mut pass), 43);
-    assert_eq!(rt; percpu_gate_exit(&mut control, &mut last), 22);
-    assert_eq!(rt; last.kills, 5);
+    assert!(rt; percpu_gate_next_pass(&mut control, &mut pass) == 43);
+    assert!(rt; percpu_gate_exit(&mut control, &mut last) == 22);
+    assert!(rt; last.kills == 5);
     percpu_gate_free_control(&mut control);
-    assert_eq!(rt; percpu_gate_exit(&mut control, &mut last), 32);
-    assert_eq!(rt;
-        percpu_gate_new_numbered(&mut control, &NUMBER, 65, 2, 0, &WORDS),
-        42
-    );
-    assert_eq!(rt;
-        percpu_gate_new_numbered(&mut control, &NUMBER, 2, 2, 3, &WORDS),
-        42
-    );
+    assert!(rt; percpu_gate_exit(&mut control, &mut last) == 32);
+    assert!(rt; percpu_gate_new_numbered(&mut control, &NUMBER, 65, 2, 0, &WORDS) == 42);
+    assert!(rt; percpu_gate_new_numbered(&mut control, &NUMBER, 2, 2, 3, &WORDS) == 42);
 }
 
 #[test]
 fn switches_and_revivals(rt: HostRuntime) {
     let (mut control, mut pass) = opened(rt);
     let mut told = 9;
-    assert_eq!(rt; percpu_gate_front(&mut pass, &mut told), 0);
-    assert_eq!(rt; told, 0);
-    assert_eq!(rt; percpu_gate_switch_to_atomic(&mut control), 0);
-    assert_eq!(rt; percpu_gate_phase(&mut control), 1);
-    assert_eq!(rt; percpu_gate_resurrect(&mut control), 18);
-    assert_eq!(rt; percpu_gate_try_get_live(&mut pass, 0), 0);
-    assert_eq!(rt; percpu_gate_kill(&mut control), 0);
-    assert_eq!(rt; percpu_gate_switch_to_slots(&mut control), 0);
-    assert_eq!(rt; percpu_gate_phase(&mut control), 5);
-    assert_eq!(rt; percpu_gate_reinit(&mut control), 19);
-    assert_eq!(rt; percpu_gate_resurrect(&mut control), 0);
-    assert_eq!(rt; percpu_gate_phase(&mut control), 0);
-    assert_eq!(rt; percpu_gate_put(&mut pass, 1, 1), 0);
-    assert_eq!(rt; percpu_gate_front(&mut pass, &mut told), 0);
-    assert_eq!(rt; told, 2);
-    assert_eq!(rt; percpu_gate_releases(&mut control, &mut told), 0);
-    assert_eq!(rt; told, 0);
-    assert_eq!(rt; percpu_gate_kill(&mut control), 1);
-    assert_eq!(rt; percpu_gate_releases(&mut control, &mut told), 0);
-    assert_eq!(rt; told, 1);
-    assert_eq!(rt; percpu_gate_resurrect(&mut control), 1);
-    assert_eq!(rt; percpu_gate_kills(&mut control, &mut told), 0);
-    assert_eq!(rt; told, 2);
+    assert!(rt; percpu_gate_front(&mut pass, &mut told) == 0);
+    assert!(rt; told == 0);
+    assert!(rt; percpu_gate_switch_to_atomic(&mut control) == 0);
+    assert!(rt; percpu_gate_phase(&mut control) == 1);
+    assert!(rt; percpu_gate_resurrect(&mut control) == 18);
+    assert!(rt; percpu_gate_try_get_live(&mut pass, 0) == 0);
+    assert!(rt; percpu_gate_kill(&mut control) == 0);
+    assert!(rt; percpu_gate_switch_to_slots(&mut control) == 0);
+    assert!(rt; percpu_gate_phase(&mut control) == 5);
+    assert!(rt; percpu_gate_reinit(&mut control) == 19);
+    assert!(rt; percpu_gate_resurrect(&mut control) == 0);
+    assert!(rt; percpu_gate_phase(&mut control) == 0);
+    assert!(rt; percpu_gate_put(&mut pass, 1, 1) == 0);
+    assert!(rt; percpu_gate_front(&mut pass, &mut told) == 0);
+    assert!(rt; told == 2);
+    assert!(rt; percpu_gate_releases(&mut control, &mut told) == 0);
+    assert!(rt; told == 0);
+    assert!(rt; percpu_gate_kill(&mut control) == 1);
+    assert!(rt; percpu_gate_releases(&mut control, &mut told) == 0);
+    assert!(rt; told == 1);
+    assert!(rt; percpu_gate_resurrect(&mut control) == 1);
+    assert!(rt; percpu_gate_kills(&mut control, &mut told) == 0);
+    assert!(rt; told == 2);
     percpu_gate_free_control(&mut control);
-    assert_eq!(rt; percpu_gate_kills(&mut control, &mut told), 32);
-    assert_eq!(rt; told, 2);
+    assert!(rt; percpu_gate_kills(&mut control, &mut told) == 32);
+    assert!(rt; told == 2);
+    percpu_gate_free_pass(&mut pass);
+}
+
+/// What was counted on each slot, which C isn't told.
+#[test]
+fn counts_on_the_slot_asked_for(rt: HostRuntime) {
+    let (mut control, mut pass) = opened(rt);
+    assert!(rt; percpu_gate_try_get(&mut pass, 1) == 0);
+    assert!(rt; percpu_gate_try_get_live(&mut pass, 0) == 0);
+    assert!(rt; percpu_gate_get(&mut pass, 1, 4) == 0);
+    assert!(rt; percpu_gate_put(&mut pass, 0, 2) == 0);
+    match control.take() {
+        Some(mut open) => {
+            assert!(rt; matches!(open.mark_dead(), Ok(Ok(2))));
+            assert!(rt; matches!(open.close_next(), Ok(-1)));
+            assert!(rt; matches!(open.close_next(), Ok(5)));
+        }
+        None => assert!(rt; false),
+    }
     percpu_gate_free_pass(&mut pass);
 }
 
@@ -174,25 +184,25 @@ fn a_kill_step_by_step(rt: HostRuntime) {
     let (mut control, mut pass) = opened(rt);
     let mut slots = 7;
     let mut front = 8;
-    assert_eq!(rt; percpu_gate_phase(&mut control), 0);
-    assert_eq!(rt; percpu_gate_close_next(&mut control), 39);
-    assert_eq!(rt; percpu_gate_mark_dead(&mut control, &mut slots), 0);
-    assert_eq!(rt; slots, 2);
-    assert_eq!(rt; percpu_gate_kill(&mut control), 20);
-    assert_eq!(rt; percpu_gate_close_next(&mut control), 0);
-    assert_eq!(rt; percpu_gate_collect(&mut control), 39);
-    assert_eq!(rt; percpu_gate_close_next(&mut control), 0);
-    assert_eq!(rt; percpu_gate_close_next(&mut control), 39);
-    assert_eq!(rt; percpu_gate_confirm(&mut control, &mut front), 39);
-    assert_eq!(rt; front, 8);
-    assert_eq!(rt; percpu_gate_collect(&mut control), 0);
-    assert_eq!(rt; percpu_gate_drop_base(&mut control), 39);
-    assert_eq!(rt; percpu_gate_confirm(&mut control, &mut front), 0);
-    assert_eq!(rt; front, 1);
-    assert_eq!(rt; percpu_gate_phase(&mut control), 4);
-    assert_eq!(rt; percpu_gate_drop_base(&mut control), 1);
-    assert_eq!(rt; percpu_gate_mark_dead(&mut control, &mut slots), 17);
+    assert!(rt; percpu_gate_phase(&mut control) == 0);
+    assert!(rt; percpu_gate_close_next(&mut control) == 39);
+    assert!(rt; percpu_gate_mark_dead(&mut control, &mut slots) == 0);
+    assert!(rt; slots == 2);
+    assert!(rt; percpu_gate_kill(&mut control) == 20);
+    assert!(rt; percpu_gate_close_next(&mut control) == 0);
+    assert!(rt; percpu_gate_collect(&mut control) == 39);
+    assert!(rt; percpu_gate_close_next(&mut control) == 0);
+    assert!(rt; percpu_gate_close_next(&mut control) == 39);
+    assert!(rt; percpu_gate_confirm(&mut control, &mut front) == 39);
+    assert!(rt; front == 8);
+    assert!(rt; percpu_gate_collect(&mut control) == 0);
+    assert!(rt; percpu_gate_drop_base(&mut control) == 39);
+    assert!(rt; percpu_gate_confirm(&mut control, &mut front) == 0);
+    assert!(rt; front == 1);
+    assert!(rt; percpu_gate_phase(&mut control) == 4);
+    assert!(rt; percpu_gate_drop_base(&mut control) == 1);
+    assert!(rt; percpu_gate_mark_dead(&mut control, &mut slots) == 17);
     percpu_gate_free_pass(&mut pass);
     percpu_gate_free_control(&mut control);
-    assert_eq!(rt; percpu_gate_phase(&mut control), 32);
+    assert!(rt; percpu_gate_phase(&mut control) == 32);
 }

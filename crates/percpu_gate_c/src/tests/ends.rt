@@ -73,27 +73,27 @@ fn a_whole_life(rt: HostRuntime) {
     let (mut control, mut pass) = of_one_gate(&rt, rt.alloc(), 1);
     let mut last = NOT_YET;
     let mut releases = 0;
-    assert_eq!(rt; take(&control, &mut pass), 0);
-    assert_eq!(rt; kill(&mut control, &pass), 0);
-    assert_eq!(rt; exit(&mut control, &pass, &mut last), 22);
-    assert_eq!(rt; last.kills, 9);
-    assert_eq!(rt; put(&control, &mut pass), 1);
-    assert_eq!(rt; percpu_gate_retire(&mut control, &mut pass), 0);
-    assert_eq!(rt; percpu_gate_put(&mut pass, 0, 1), 32);
-    assert_eq!(rt; percpu_gate_releases(&mut control, &mut releases), 0);
-    assert_eq!(rt; releases, 1);
-    assert_eq!(rt; percpu_gate_exit(&mut control, &mut last), 0);
-    assert_eq!(rt; (last.dead, last.kills, last.releases), (true, 1, 1));
-    assert_eq!(rt; last.words, WORDS);
-    assert_eq!(rt; percpu_gate_exit(&mut control, &mut last), 32);
+    assert!(rt; take(&control, &mut pass) == 0);
+    assert!(rt; kill(&mut control, &pass) == 0);
+    assert!(rt; exit(&mut control, &pass, &mut last) == 22);
+    assert!(rt; last.kills == 9);
+    assert!(rt; put(&control, &mut pass) == 1);
+    assert!(rt; percpu_gate_retire(&mut control, &mut pass) == 0);
+    assert!(rt; percpu_gate_put(&mut pass, 0, 1) == 32);
+    assert!(rt; percpu_gate_releases(&mut control, &mut releases) == 0);
+    assert!(rt; releases == 1);
+    assert!(rt; percpu_gate_exit(&mut control, &mut last) == 0);
+    assert!(rt; (last.dead, last.kills, last.releases) == (true, 1, 1));
+    assert!(rt; last.words == WORDS);
+    assert!(rt; percpu_gate_exit(&mut control, &mut last) == 32);
 }
 
 #[test]
 fn a_pass_that_holds_is_not_retired(rt: HostRuntime) {
     let (mut control, mut pass) = of_one_gate(&rt, rt.alloc(), 1);
-    assert_eq!(rt; take(&control, &mut pass), 0);
-    assert_eq!(rt; percpu_gate_retire(&mut control, &mut pass), 40);
-    assert_eq!(rt; percpu_gate_put(&mut pass, 0, 1), 0);
+    assert!(rt; take(&control, &mut pass) == 0);
+    assert!(rt; percpu_gate_retire(&mut control, &mut pass) == 40);
+    assert!(rt; percpu_gate_put(&mut pass, 0, 1) == 0);
     percpu_gate_free_pass(&mut pass);
     percpu_gate_free_control(&mut control);
 }
@@ -102,10 +102,10 @@ fn a_pass_that_holds_is_not_retired(rt: HostRuntime) {
 fn a_pass_of_another_gate(rt: HostRuntime) {
     let (mut first, mut pass) = of_one_gate(&rt, rt.alloc(), 1);
     let (mut second, mut other) = of_one_gate(&rt, rt.alloc(), 2);
-    assert_eq!(rt; percpu_gate_retire(&mut second, &mut pass), 41);
-    assert_eq!(rt; percpu_gate_try_get_live(&mut pass, 0), 0);
-    assert_eq!(rt; percpu_gate_kill(&mut second), 1);
-    assert_eq!(rt; percpu_gate_put(&mut pass, 0, 1), 0);
+    assert!(rt; percpu_gate_retire(&mut second, &mut pass) == 41);
+    assert!(rt; percpu_gate_try_get_live(&mut pass, 0) == 0);
+    assert!(rt; percpu_gate_kill(&mut second) == 1);
+    assert!(rt; percpu_gate_put(&mut pass, 0, 1) == 0);
     percpu_gate_free_pass(&mut pass);
     percpu_gate_free_pass(&mut other);
     percpu_gate_free_control(&mut first);
