@@ -5,11 +5,10 @@
 #include <stdio.h>
 #include <stdlib.h>
 
-static struct submitter {
+static struct worker {
     _Alignas(128) percpu_gate_pass pass;
     atomic_long served;
-} submitters[2];
-
+} workers[2];
 static atomic_ulong *device; /* counts the bytes that it was sent */
 static atomic_int freed;
 
@@ -23,8 +22,8 @@ static void free_if_last(uint32_t answer)
 
 static void *submit(void *of)
 {
-    struct submitter *me = of;
-    uint32_t slot = (uint32_t)(me - submitters), answer; /* a slot of its own for each thread */
+    struct worker *me = of;
+    uint32_t slot = (uint32_t)(me - workers), answer; /* a slot of its own for each thread */
     uint64_t size; /* a setting of the gate, which holds still while we hold a reference */
     while ((answer = percpu_gate_try_get_live(&me->pass, slot)) == PERCPU_GATE_OK) {
         if (percpu_gate_word(&me->pass, 0, &size) == PERCPU_GATE_OK)
@@ -45,16 +44,17 @@ int main(void)
     if (!(device = calloc(1, sizeof *device)) || percpu_gate_new(&control, 2, 2, PERCPU_GATE_SLOTS, settings))
         return 1;
     for (int i = 0; i < 2; i++) {
-        if (percpu_gate_next_pass(&control, &submitters[i].pass) || pthread_create(&threads[i], NULL, submit, &submitters[i]))
+        if (percpu_gate_next_pass(&control, &workers[i].pass) || pthread_create(&threads[i], NULL, submit, &workers[i]))
             return 1;
-        while (atomic_load(&submitters[i].served) < 1000) {}
+        while (atomic_load(&workers[i].served) < 1000) {}
     }
     free_if_last(percpu_gate_kill(&control)); /* from here on the device may be gone */
     for (int i = 0; i < 2; i++) {
         pthread_join(threads[i], NULL);
-        printf("pass %d retired: %u\n", i, percpu_gate_retire(&control, &submitters[i].pass));
+        printf("pass %d retired: %u\n", i, percpu_gate_retire(&control, &workers[i].pass));
     }
     printf("at zero: %u, freed %d time(s)\n", percpu_gate_control_is_zero(&control), freed);
     printf("exit: %u\n", percpu_gate_exit(&control, &last));
-    printf("dead %d, kills %d, releases %d, word 0: %d\n", last.dead, (int)last.kills, (int)last.releases, (int)last.words[0]);
+    printf("dead %d, kills %d, releases %d, word 0: %d\n", last.dead, (int)last.kills, (int)last.releases,
+           (int)last.words[0]);
 }

@@ -15,7 +15,7 @@
  *  - set a handle to zero before its first call, and never copy one or write into it;
  *  - one call at a time on a handle; hand it to another thread by a lock, a thread's start or join, or a sequentially
  *    consistent atomic;
- *  - no pointer is null, and what a call writes to (a front, a word, ..) is no part of a handle, and of no other thread;
+ *  - no pointer is null, and what a call writes to (a front, a word, ..) is no handle's, and no other thread's;
  *  - no call from a signal handler, or in the child of a fork of a process with threads; and let each call return, with
  *    no longjmp or cancellation out of it;
  *  - malloc, realloc and free are of one allocator, which aligns to 16;
@@ -92,7 +92,7 @@ enum {
     PERCPU_GATE_SIZE = 42,        /* 1 to 64 slots, 1 to 64 passes, a start from 0 to 2 */
     PERCPU_GATE_NO_PASS = 43,     /* every pass was given out */
     PERCPU_GATE_NO_MEMORY = 44,
-    PERCPU_GATE_IN_USE = 45       /* exit found a share of the gate that no handle has: no way of using handles leads there */
+    PERCPU_GATE_IN_USE = 45       /* exit found another share of the gate: no use of handles leads there */
 };
 
 static inline bool percpu_gate_is_refusal(uint32_t answer) { return answer >= 16; }
@@ -124,8 +124,8 @@ uint32_t percpu_gate_retire(percpu_gate_control *control, percpu_gate_pass *pass
  * MID_SWITCH, PASSES_OUT; (IN_USE). Linux: percpu_ref_exit. */
 uint32_t percpu_gate_exit(percpu_gate_control *control, percpu_gate_final *last);
 
-/* Free what a handle has, and close it; a closed one stays so. The gate counts a freed pass as out for ever. Passes work
- * on after their control was freed: nobody can retire them any more, but free them. */
+/* Free what a handle has, and close it; a closed one stays so. The gate counts a freed pass as out for ever. Passes
+ * whose control was freed count on; they can only be freed. */
 void percpu_gate_free_pass(percpu_gate_pass *pass);
 void percpu_gate_free_control(percpu_gate_control *control);
 
