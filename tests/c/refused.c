@@ -1,5 +1,6 @@
 /* Each allocation of a whole life is refused in turn: a number is answered, nothing is lost and nothing leaks. Then
- * the misuses that take two gates. (Linked with --wrap=malloc and free, so that this malloc refuses and both count.) */
+ * the misuses that take two gates. (Linked with other_file.c, and with --wrap=malloc and free, so that this malloc
+ * refuses and both count.) */
 #include "percpu_gate.h"
 
 #include <stdio.h>
@@ -96,8 +97,26 @@ static int one_place_twice(void)
     return percpu_gate_retire(&control, &pass) || percpu_gate_exit(&control, &last);
 }
 
+uint32_t make_elsewhere(percpu_gate_control *control, const uint64_t words[8]);
+
+/* The first gates of two files, whose counters have drawn as much. */
+static int two_files(void)
+{
+    percpu_gate_control here = {0}, there = {0};
+    percpu_gate_pass pass = {0};
+    percpu_gate_final last;
+    if (percpu_gate_new(&here, 1, 1, PERCPU_GATE_SLOTS, words) || make_elsewhere(&there, words))
+        return 1;
+    if (percpu_gate_next_pass(&there, &pass) || percpu_gate_retire(&here, &pass) != PERCPU_GATE_OTHER_GATE)
+        return 2;
+    percpu_gate_free_control(&here);
+    return percpu_gate_retire(&there, &pass) || percpu_gate_exit(&there, &last);
+}
+
 int main(void)
 {
+    if (two_files())
+        return 3;
     long refused = 0, at;
     for (long allow = 0; (at = life(allow)) != -1; allow++, refused++)
         if (at != allow)
