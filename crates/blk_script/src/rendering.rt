@@ -114,13 +114,16 @@ pub(crate) fn push_line(out: &mut Vec<u8>, number: u32, reply: &Reply) -> Result
     push_text(out, "\n")
 }
 
+/// Room for the line of most replies, in bytes: it is taken once, and the line doesn't grow out of smaller rooms.
+const USUAL_LINE: usize = 24;
+
 /// The line of a reply to the script's line of this number, its line feed included. `Memory` is the only
 /// refusal.
 pub fn render(alloc: Global, number: u32, reply: &Reply) -> Result<Vec<u8>, ScriptFault>
     ensures line { IfOk result (λ line. line.items ≡ reply_line (number, reply.now)) }
     ensures fault { IfErr result (λ fault. fault ≡ ScriptFault.Memory) }
 {
-    let mut line = Vec::new(alloc);
+    let mut line = Vec::with_capacity(alloc, USUAL_LINE)?;
     push_line(&mut line, number, reply)?;
     Ok(line)
 }
