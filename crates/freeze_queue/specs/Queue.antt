@@ -1,8 +1,9 @@
 -- A queue that can be frozen: what its parts know, and what each call leaves. Beside each thing stands what it is in
 -- Linux (block/blk-core.c, block/blk-mq.c, block/blk-settings.c).
-use Rattle.std.specs.Prelude.{◌≡◌, ℕ, ◌+◌, ◌-◌, ◌^◌, ◌≤◌, ◌==◌, ◌&&◌, nat_le, nat_lt, Bool, true, false, if◌then◌else◌, Option, Some, None, Result, Ok, Err}
+use Rattle.std.specs.Prelude.{◌≡◌, ℕ, ◌+◌, ◌-◌, ◌≤◌, ◌==◌, ◌&&◌, nat_le, nat_lt, Bool, true, false, if◌then◌else◌, Option, Some, None, Result, Ok, Err}
 use Rattle.queue_limits.specs.Bounds.{Bounds, AreAllowed, IsHardwareLimit}
 use Rattle.queue_limits.specs.Words.{to_words}
+use Rattle.percpu_core.specs.declared.limits.TheConstants.{KILL_LIMIT, SLOT_LIMIT}
 use Rattle.percpu_core.specs.declared.phase.Phase.TheVariants.{Dead}
 use Rattle.percpu_core.specs.declared.start.Start.TheVariants.{Atomic}
 use Rattle.percpu_core.specs.declared.view.PassView.{PassView}
@@ -16,6 +17,7 @@ use Rattle.percpu_gate.specs.Seats.{GateFacts, fresh_control}
 use Rattle.percpu_gate.specs.Calls.{released, after_put}
 use Rattle.percpu_gate.specs.ControlCalls.{standing, after_kill, after_revival, after_switch}
 use Rattle.percpu_gate.specs.Modes.{live_in}
+use Rattle.freeze_queue.specs.declared.freezer.TheConstants.{MOST_DEPTH}
 use Rattle.freeze_queue.specs.declared.limit_words.TheConstants.{LIMIT_WORDS}
 use Rattle.freeze_queue.specs.declared.fault.FreezeFault.{FreezeFault}
 use Rattle.freeze_queue.specs.declared.fault.FreezeFault.TheVariants.{DepthFull, NotFrozen, NotDrained, TagsOut, WornOut}
@@ -60,15 +62,9 @@ pub record FreezerFacts : Type 0 where
   -- what its seat at the gate knows
   pub seat : ControlView
 
-abbrev pub most_depth : ℕ
-most_depth = 1000
-
-abbrev pub most_kills : ℕ
-most_kills = 2 ^ 40
-
 -- what holds of every queue
 pub record IsQueue (q : QueueFacts) : Type 0 where
-  pub slots : (1 ≤ q.gate.slots) × (q.gate.slots ≤ 64)
+  pub slots : (1 ≤ q.gate.slots) × (q.gate.slots ≤ SLOT_LIMIT)
   pub hardware : IsHardwareLimit q.hardware
   -- its gate started live, and has a guarded word for each word of the limits
   pub start : q.gate.start ≡ Atomic
@@ -82,7 +78,7 @@ pub record IsFreezer (f : FreezerFacts) : Type 0 where
   pub phase : f.seat.standing.phase ≡ (if f.depth == 0 then live_in f.mode else Dead)
   -- so a drained queue is a frozen one
   pub drained : f.depth ≡ 0 → f.drained ≡ false
-  pub depth : f.depth ≤ most_depth
+  pub depth : f.depth ≤ MOST_DEPTH
   pub allowed : AreAllowed f.limits
   -- the guarded words spell the limits, as far as its seat knows, and drained is what that knows of zero
   pub words : f.seat.words ≡ to_words f.limits
@@ -141,8 +137,8 @@ after_return t f = if nat_lt 0 f.tags then record f { tags = f.tags - 1; release
 -- why a freeze is refused
 abbrev pub freeze_refusal : FreezerFacts → Option FreezeFault
 freeze_refusal f =
-    if nat_le most_depth f.depth then Some DepthFull
-    else if f.depth == 0 && nat_le most_kills f.kills then Some WornOut
+    if nat_le MOST_DEPTH f.depth then Some DepthFull
+    else if f.depth == 0 && nat_le KILL_LIMIT f.kills then Some WornOut
     else None
 
 -- why a thaw is refused
@@ -153,7 +149,7 @@ thaw_refusal f = if f.depth == 0 then Some NotFrozen else None
 abbrev pub remove_refusal : FreezerFacts → ℕ → Option FreezeFault
 remove_refusal f tags =
     if nat_le 1 (f.tags - tags) then Some (TagsOut (f.tags - tags))
-    else if f.depth == 0 && nat_le most_kills f.kills then Some WornOut
+    else if f.depth == 0 && nat_le KILL_LIMIT f.kills then Some WornOut
     else None
 
 -- the refusal of a result, if it is one

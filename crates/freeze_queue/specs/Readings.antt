@@ -11,8 +11,9 @@ use Rattle.percpu_gate.specs.Modes.{live_in}
 use Rattle.percpu_gate.specs.Seats.{PassFacts, ControlFacts}
 use Rattle.queue_limits.specs.Bounds.{Bounds, AreAllowed}
 use Rattle.queue_limits.specs.Words.{from_words, to_words}
+use Rattle.freeze_queue.specs.declared.freezer.TheConstants.{MOST_DEPTH}
 use Rattle.freeze_queue.specs.declared.limit_words.TheConstants.{LIMIT_WORDS}
-use Rattle.freeze_queue.specs.Queue.{TagFacts, FreezerFacts, most_depth}
+use Rattle.freeze_queue.specs.Queue.{TagFacts, FreezerFacts}
 
 -- the guarded words that hold the limits, by their numbers
 abbrev pub limit_words : List ℕ
@@ -78,7 +79,7 @@ freezer_facts control depth limits = record {
 pub record Keeps (c : ControlView) (mode : Mode) (depth : ℕ) (limits : Bounds) (tags : ℕ) : Type 0 where
   pub phase : c.standing.phase ≡ (if depth == 0 then live_in mode else Dead)
   pub drained : depth ≡ 0 → c.knows_zero ≡ false
-  pub most : depth ≤ most_depth
+  pub most : depth ≤ MOST_DEPTH
   pub words : c.words ≡ to_words limits
   pub allowed : AreAllowed limits
   pub out : c.passes ≡ tags

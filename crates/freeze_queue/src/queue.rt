@@ -1,5 +1,6 @@
 //! The queue: what tags enter and leave.
 ghost use Rattle.std.specs.Prelude.{◌≡◌, ℕ, ◌+◌, ◌<◌, ◌≤◌, true, false, All, vec_len, replicate, Some, IfSome, IfOk};
+ghost use Rattle.percpu_core.specs.declared.limits.TheConstants.{SLOT_LIMIT};
 ghost use Rattle.percpu_gate.specs.Seats.{fresh_pass};
 ghost use Rattle.queue_limits.specs.Bounds.{Bounds};
 ghost use Rattle.freeze_queue.specs.declared.tag.Enter.TheVariants.{Entered, Again};
@@ -71,7 +72,7 @@ impl BlockQueue {
     /// A live queue of these limits that counts on its slots (1 to 64), with so many tags (1 to 63), none of them
     /// entered, and its freezer. Memory where a growth was refused. Linux: `blk_mq_alloc_queue` (block/blk-mq.c).
     pub fn new(alloc: Global, limits: Limits, slots: u32, tags: u32) -> Result<NewQueue, Memory>
-        requires slots { (1 ≤ slots) × (slots ≤ 64) }
+        requires slots { (1 ≤ slots) × (slots ≤ SLOT_LIMIT) }
         requires tags { (1 ≤ tags) × (tags ≤ MOST_TAGS) }
         ensures queue { IfOk result (λ q. (q.0.gate.slots ≡ slots) × (q.0.hardware ≡ limits.hardware)) }
         ensures freezer { IfOk result (λ q. q.1 ≡ first_freezer q.0 limits tags) }
