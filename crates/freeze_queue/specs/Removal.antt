@@ -16,12 +16,12 @@ abbrev pub why_of : {A : Type 0} → Result A RemoveFault → Option FreezeFault
 why_of (Ok x) = None
 why_of (Err f) = Some f.why
 
--- the last moment of a queue's gate: every tag had left, its count had reached zero, and the freezer's seat knew then what is left
+-- the end of a queue's gate: there was a moment at which the freezer's seat knew what is left, and at every such moment the count had reached zero
 pub record AtTheEnd (gate : GateFacts) (left : Final LIMIT_WORDS) : Type 0 where
   pub seat : ControlView
   pub told : (left.kills ≡ seat.standing.kills) × (left.releases ≡ seat.releases) × (left.words ≡ seat.words)
   pub last : Moment gate (OfControl seat)
-  pub at_zero : zero_at last ≡ true
+  pub at_zero : (m : Moment gate (OfControl seat)) → zero_at m ≡ true
 
 -- so many kills: a queue that isn't frozen is frozen for the last time
 abbrev pub kills_after : FreezerFacts → ℕ

@@ -16,6 +16,7 @@ use Rattle.percpu_core.specs.Views.{count, to_undo, to_mark, over_passes, passes
 use Rattle.percpu_core.specs.Laws.{Laws, Lawful}
 use Rattle.percpu_core.specs.SeatLaws.{Sees}
 use Rattle.percpu_core.specs.ReleaseLaw.{Origin}
+use Rattle.percpu_core.specs.Starts.{starts_dead}
 use Rattle.percpu_core.proofs.SeatSteps.{same_control}
 use Rattle.percpu_core.proofs.Counting.{value-unbiased}
 use Rattle.percpu_core.proofs.Passes.{EachPass-at}
@@ -124,8 +125,8 @@ none_out x n ends = no_more n (none_by (is_mid_switch x) (nat_le 1 n) n ends)
 
 pub ended : (g : GateFacts) (c : ControlView) (m : Moment g (OfControl c)) → c.standing.to_mark ≡ false → IsBetweenCalls c.standing.phase → exit_refusal c.standing.phase c.passes ≡ None → Ended g c
 ended g c m marked between refusal =
-    let k = of_moment _ m.cells m.views m.seat c m.lawful m.sees refl marked between refusal (none_out c.standing.phase c.passes refusal) in
-    record { last = m; at_zero = k.at_zero; releases = k.releases; at_most = k.at_most; found_dead = k.found_dead; found_zero = k.found_zero }
+    let knows : (m : Moment g (OfControl c)) → Knows (starts_dead g.start) m.cells c = λ m. of_moment _ m.cells m.views m.seat c m.lawful m.sees refl marked between refusal (none_out c.standing.phase c.passes refusal) in
+    let k = knows m in record { last = m; at_zero = λ m. (knows m).at_zero; releases = k.releases; at_most = k.at_most; found_dead = k.found_dead; found_zero = k.found_zero }
 
 -- the last state of a table, seen by the control's seat, is a moment of its gate
 pub last_moment : (k : GateKey) (id : ℕ) (me : Me (Unit {0}) SeatView) (c : ControlView) → me ≡ (record me.0 { view = OfControl c }, []) → (s : State (Unit {0}) SeatView)

@@ -15,11 +15,12 @@ abbrev pub why_of : {A : Type 0} {W : ℕ} → Result A (ExitFault W) → Option
 why_of (Ok x) = None
 why_of (Err f) = Some f.why
 
--- what the control knows of a gate that has ended: the last moment of the gate, of which all laws hold and after which there is no step
+-- what the control knows of a gate that has ended
 pub record Ended (g : GateFacts) (c : ControlView) : Type 0 where
+  -- a moment of the gate, of which all laws hold: its words and views as they were when it ended
   pub last : Moment g (OfControl c)
-  -- a dead gate had ZERO set: everything was put, and its release was won
-  pub at_zero : zero_at last ≡ is_phase Dead c.standing.phase
+  -- at this one, and at every other at which the control knew so much, a dead gate had ZERO set: everything was put, and its release was won
+  pub at_zero : (m : Moment g (OfControl c)) → zero_at m ≡ is_phase Dead c.standing.phase
   -- releases + (1 if it started dead) = zeros cleared + (1 if it is dead), and they are no more than the kills
   pub releases : c.releases + count (starts_dead g.start) ≡ c.zeros_cleared + count (is_phase Dead c.standing.phase)
   pub at_most : c.releases ≤ c.standing.kills

@@ -13,4 +13,4 @@ returns-clause-drained c =
     let left = c.in-Ok.ensures.ended in
     let dead = c.into_control.ensures.dead (ap (λ (f : FreezerFacts). f.live) c.loop-tag.invariant.0 ∙ c.requires.frozen) in
     subst (λ (g : GateFacts). AtTheEnd g c.in-Ok.left) c.into_gate.ensures.own
-    (record { seat = c.into_control.result.view; told = (left.1, left.2, left.3); last = ended.last; at_zero = ended.at_zero ∙ ap (λ (p : Phase). is_phase Dead p) dead })
+    (record { seat = c.into_control.result.view; told = (left.1, left.2, left.3); last = ended.last; at_zero = λ m. ended.at_zero m ∙ ap (λ (p : Phase). is_phase Dead p) dead })
