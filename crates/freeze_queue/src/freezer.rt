@@ -1,5 +1,5 @@
 //! The freezer: it freezes a queue, sets its limits and thaws it.
-ghost use Rattle.std.specs.Prelude.{◌≡◌, ℕ, ◌+◌, ◌<◌, ◌≤◌, Bool, true, false, IfOk, OnOk, OnErr};
+ghost use Rattle.std.specs.Prelude.{◌≡◌, ◌+◌, ◌<◌, ◌≤◌, Bool, true, false, IfOk, OnOk, OnErr};
 ghost use Rattle.percpu_gate.specs.Seats.{fresh_control};
 ghost use Rattle.percpu_gate.specs.ControlCalls.{after_switch};
 ghost use Rattle.percpu_gate.specs.declared.mode.Mode.TheVariants.{Slots};

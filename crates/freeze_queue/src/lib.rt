@@ -35,6 +35,7 @@ pub use laws::{drained_is_empty, in_force_are_set, limits_hold_still, tags_read_
 pub use limit_words::LIMIT_WORDS;
 pub use percpu_gate::{Final, Memory, Mode, Put};
 pub use queue::{BlockQueue, MOST_TAGS, NewQueue};
+pub use queue_limits::{LimitFault, Limits};
 pub use remove::RemoveFault;
 pub use shared::{Pair, SharedFreezer};
 pub use tag::{Enter, Tag};

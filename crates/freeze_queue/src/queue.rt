@@ -1,8 +1,7 @@
 //! The queue: what tags enter and leave.
-ghost use Rattle.std.specs.Prelude.{◌≡◌, ℕ, ◌+◌, ◌<◌, ◌≤◌, true, false, All, vec_len, replicate, Some, IfSome, IfOk};
+ghost use Rattle.std.specs.Prelude.{◌≡◌, ◌+◌, ◌<◌, ◌≤◌, true, false, All, vec_len, replicate, Some, IfSome, IfOk};
 ghost use Rattle.percpu_core.specs.declared.limits.TheConstants.{SLOT_LIMIT};
 ghost use Rattle.percpu_gate.specs.Seats.{fresh_pass};
-ghost use Rattle.queue_limits.specs.Bounds.{Bounds};
 ghost use Rattle.freeze_queue.specs.declared.tag.Enter.TheVariants.{Entered, Again};
 ghost use Rattle.freeze_queue.specs.Queue.{IsQueue, first_tag, first_freezer, after_entering, after_refusal, after_leaving};
 ghost use Rattle.percpu_gate.specs.Calls.{taken, LiveTryFinds};

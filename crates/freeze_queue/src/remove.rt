@@ -1,5 +1,5 @@
 //! The removal of a queue.
-ghost use Rattle.std.specs.Prelude.{◌≡◌, ◌≤◌, ◌+◌, ℕ, All, vec_len, length, sum_by, true, false, IfOk, IfErr, OnOk, OnErr};
+ghost use Rattle.std.specs.Prelude.{◌≡◌, ◌≤◌, ◌+◌, All, vec_len, length, sum_by, true, false, IfOk, IfErr, OnOk, OnErr};
 ghost use Rattle.queue_limits.specs.Words.{to_words};
 ghost use Rattle.freeze_queue.specs.Queue.{fault_of, remove_refusal};
 ghost use Rattle.freeze_queue.specs.Removal.{why_of, AtTheEnd, IsFrozenToEnd, kills_after, ReleasesAdd};
