@@ -103,7 +103,8 @@ static inline bool percpu_gate_is_refusal(uint32_t answer) { return answer >= 16
 uint32_t percpu_gate_new_numbered(percpu_gate_control *control, const percpu_gate_number *number, uint32_t slots,
                                   uint32_t passes, uint32_t start, const uint64_t words[8]);
 
-/* Makes a gate, for a closed handle. OPEN, SIZE, NO_MEMORY. Linux: percpu_ref_init. */
+/* Makes a gate of 1 to 64 slots and 1 to 64 passes with these guarded words, for a closed handle. OPEN, SIZE, NO_MEMORY.
+ * Linux: percpu_ref_init. */
 static inline uint32_t percpu_gate_new(percpu_gate_control *control, uint32_t slots, uint32_t passes, uint32_t start,
                                        const uint64_t words[8])
 {
@@ -169,8 +170,9 @@ uint32_t percpu_gate_kill(percpu_gate_control *control);
  * the last the gate answers MID_SWITCH to kill, revivals, switches, store_word and exit. A step out of its turn
  * answers STEP. Linux: percpu_ref_kill_and_confirm is all of them. */
 
-/* Begins a kill, so that try_get_live is refused, and writes how many slots are now to be closed: 0 where counts are on
- * the shared word already. CLOSED, ALREADY_DEAD, MID_SWITCH, WORN_OUT. Linux: the setting of __PERCPU_REF_DEAD. */
+/* Begins a kill, and writes how many slots are now to be closed: 0 where counts are on the shared word already. From
+ * now on try_get_live is refused on the shared word, and on a slot once it is closed. CLOSED, ALREADY_DEAD, MID_SWITCH,
+ * WORN_OUT. Linux: the setting of __PERCPU_REF_DEAD. */
 uint32_t percpu_gate_mark_dead(percpu_gate_control *control, uint32_t *slots);
 
 /* Closes the next slot: counts on it go to the shared word from now on. CLOSED, STEP.
