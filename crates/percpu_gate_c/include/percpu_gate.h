@@ -103,8 +103,8 @@ static inline bool percpu_gate_is_refusal(uint32_t answer) { return answer >= 16
 uint32_t percpu_gate_new_numbered(percpu_gate_control *control, const percpu_gate_number *number, uint32_t slots,
                                   uint32_t passes, uint32_t start, const uint64_t words[8]);
 
-/* Makes a gate of 1 to 64 slots and 1 to 64 passes with these guarded words, for a closed handle. OPEN, SIZE, NO_MEMORY.
- * Linux: percpu_ref_init. */
+/* Makes a gate of 1 to 64 slots and 1 to 64 passes with these guarded words, for a closed handle. OPEN, SIZE,
+ * NO_MEMORY. Linux: percpu_ref_init. */
 static inline uint32_t percpu_gate_new(percpu_gate_control *control, uint32_t slots, uint32_t passes, uint32_t start,
                                        const uint64_t words[8])
 {
