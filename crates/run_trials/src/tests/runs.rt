@@ -4,8 +4,8 @@ use blk_workers::{Config, NoStall, Point, Ran, Stall, run};
 use std::alloc::Global;
 use std::fmt::Write;
 use std::process::Abort;
+use std::sync::Wait;
 use std::sync::atomic::{AtomicBool, AtomicU32, Ordering};
-use std::sync::{Barrier, Wait};
 use std::test::Fail;
 use std::thread::Threads;
 use std::{hint, thread};
@@ -57,33 +57,43 @@ fn mixed_lines(rt: HostRuntime) -> Result<(), Fail> {
     Ok(())
 }
 
-/// Holds each of the first two requests, once drawn, until both are.
+/// Holds each of the first two requests, once drawn, until both are, for 10,000,000 turns at most, and notes one that
+/// was held so long.
 #[derive(Drop)]
-struct Meets<'a, R: Wait> {
-    rt: &'a R,
-    both: Barrier,
+struct Meets {
+    drawn: AtomicU32,
+    alone: AtomicBool,
 }
 
-impl<R: Wait + Sync> Stall for Meets<'_, R> {
+impl Stall for Meets {
     fn at(&self, number: u32, point: Point) {
-        if point == Point::Drawn && number < 2 {
-            self.both.wait(self.rt);
+        if point != Point::Drawn || number >= 2 {
+            return;
         }
+        self.drawn.fetch_add(1, Ordering::SeqCst);
+        for _ in 0..10_000_000 {
+            if self.drawn.load(Ordering::SeqCst) == 2 {
+                return;
+            }
+            thread::yield_now();
+        }
+        self.alone.store(true, Ordering::SeqCst);
     }
 }
 
-// It never ends where one worker alone draws.
+// Where one worker alone draws, it is held for all its turns.
 #[test]
 fn two_at_once(rt: HostRuntime) -> Result<(), Fail> {
     let meets = Meets {
-        rt: &rt,
-        both: Barrier::new(2),
+        drawn: AtomicU32::new(0),
+        alone: AtomicBool::new(false),
     };
     assert!(rt; agrees(&rt, TWO, 2, 2, &meets)?);
+    assert!(rt; !meets.alone.load(Ordering::SeqCst));
     Ok(())
 }
 
-/// Holds a request at a point for 1,000,000 turns, and notes a drain that comes before.
+/// Holds a request at a point for 1,000,000 turns, yields at one of 1,000, and notes a drain that comes before.
 #[derive(Drop)]
 struct Holds {
     number: u32,
@@ -95,7 +105,10 @@ struct Holds {
 impl Stall for Holds {
     fn at(&self, number: u32, point: Point) {
         if point == self.point && number == self.number {
-            for _ in 0..1_000_000 {
+            for turn in 0..1_000_000u32 {
+                if turn % 1_000 == 0 {
+                    thread::yield_now();
+                }
                 hint::spin_loop();
             }
             self.passed.store(true, Ordering::SeqCst);
@@ -132,12 +145,18 @@ fn freeze_waits(rt: HostRuntime) -> Result<(), Fail> {
 // Each drain, the end's too, goes through the queue: a completion that is queued isn't enough.
 #[test]
 fn every_drain_waits_for_the_tag(rt: HostRuntime) -> Result<(), Fail> {
-    for last in ["freeze\n", "set max_sectors 1\n", "stat\n", "remove\n", ""] {
-        let mut text = String::from_str(
-            rt.alloc(),
-            "blkq 1\ndisk 8 hw 8\nwrite 0 2 01\nwrite 4 2 02\n",
+    for (version, last) in [
+        (1, "freeze\n"),
+        (1, "set max_sectors 1\n"),
+        (1, "set chunk_sectors 2\n"),
+        (2, "set physical_sectors 2\n"),
+        (1, "stat\n"),
+        (1, "remove\n"),
+        (1, ""),
+    ] {
+        let text = format!(in rt.alloc();
+            "blkq {version}\ndisk 8 hw 8\nwrite 0 2 01\nwrite 4 2 02\n{last}"
         )?;
-        text.push_str(last)?;
         assert!(rt;
             drains_after(&rt, text.as_bytes(), 0, Point::Answered)?,
             "{last}"
@@ -155,16 +174,18 @@ fn ordered_requests_wait(rt: HostRuntime) -> Result<(), Fail> {
     Ok(())
 }
 
-/// Notes after how many requests the last drain came before the end.
+/// Notes after how many requests each drain came: a digit for each.
 #[derive(Drop)]
 struct Counts {
     drains: AtomicU32,
 }
 
 impl Stall for Counts {
-    fn at(&self, _number: u32, point: Point) {
+    fn at(&self, number: u32, point: Point) {
         if point == Point::Drained {
-            self.drains.fetch_add(1, Ordering::SeqCst);
+            let before = self.drains.load(Ordering::SeqCst);
+            let after = before.wrapping_mul(10).wrapping_add(number);
+            self.drains.store(after, Ordering::SeqCst);
         }
     }
 }
@@ -175,10 +196,10 @@ fn as_many_drains_as_are_ordered(rt: HostRuntime) -> Result<(), Fail> {
     for (text, drains) in [
         (
             b"blkq 2\ndisk 4 hw 4\nwrite 0 2 01\nwrite 1 2 02\nwrite 0 1 03\nread 1 1\n".as_slice(),
-            3,
+            134,
         ),
-        (ORDERED, 2),
-        (b"blkq 1\ndisk 4 hw 4\nread 0 4\nread 0 4\n", 1),
+        (ORDERED, 34),
+        (b"blkq 1\ndisk 4 hw 4\nread 0 4\nread 0 4\n", 2),
     ] {
         let counts = Counts {
             drains: AtomicU32::new(0),
