@@ -1,5 +1,5 @@
 //! A script's run on several threads.
-ghost use Rattle.std.specs.Prelude.{◌≡◌, ◌+◌, ◌<◌, ◌≤◌, ◌^◌, false, All, IfOk, is_some, length, map};
+ghost use Rattle.std.specs.Prelude.{◌≡◌, ◌+◌, ◌<◌, ◌≤◌, ◌==◌, ◌^◌, if◌then◌else◌, false, All, IfOk, is_some, length, map};
 ghost use Rattle.script_meaning.specs.Queue.{start_queue};
 ghost use Rattle.script_meaning.specs.Requests.{accepted_in_all};
 ghost use Rattle.script_meaning.specs.Taken.{accepted_in};
@@ -109,7 +109,7 @@ fn run_on<J: Run + Send + Sync, C: Line + Send + Sync, R: Threads + Wait + Sync,
     requires slots { J.queue.gate.slots ≡ config.slots }
     requires few { length script.now.lines < 2 ^ 32 }
     requires completions { completions.id ≡ C.id }
-    requires room { accepted ≤ completions.room }
+    requires room { completions.room ≡ (if accepted == 0 then 1 else accepted) }
     requires collector { (collector.queue ≡ completions.id) × (collector.given ≡ 0) }
     requires start { IsAt J.script J.queue 0 submitter }
     requires accepted { accepted ≡ accepted_in_all J.script }
