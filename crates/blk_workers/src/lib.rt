@@ -5,12 +5,12 @@
 //! and with the sectors that a read finds. A worker reads the limits under the tag, cuts the pieces, makes the
 //! line of the reply and the sectors that a write leaves, queues both as the request's completion, leaves, and
 //! gives the tag back. Where a line drains, the queue is frozen until every tag has left, and all completions are
-//! collected; so it is at the end.
+//! collected; so it is at the end, and before a request that overlaps one since the last drain (`script_overlap::Span`).
 //!
 //! Answers come back in any order. The one thread that submits and collects owns the disk and the replies: for
 //! each answer that is owed it installs the sectors and keeps the line. So while requests are under way the disk
-//! is behind the one that a single thread would have; but where no requests overlap, each reads what a single
-//! thread reads, whichever writes of its span were installed before ([`reads_stand_in_a_span`]), and once no
+//! is behind the one that a single thread would have; but no two that are under way overlap, so each reads what a
+//! single thread reads, whichever writes of its span were installed before ([`reads_stand_in_a_span`]), and once no
 //! answer is owed the disk is the single thread's.
 //!
 //! What threads hand to one another is known by its type alone, so the types of requests, completions and free
