@@ -19,6 +19,8 @@
  *  - no call from a signal handler, or in the child of a fork of a process with threads; and let each call return, with
  *    no longjmp or cancellation out of it;
  *  - malloc, realloc and free are of one allocator, which aligns to 16;
+ *  - a handle stays where it is until each call on it has returned: who is told LAST frees what the gate guards, and not
+ *    the control beside it, since the call that kills may not have returned yet;
  *  - code that made a gate stays loaded while handles of the gate are open;
  *  - for speed: keep handles of different threads 128 bytes apart.
  */
