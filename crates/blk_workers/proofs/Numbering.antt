@@ -1,5 +1,5 @@
 -- The numbers of accepted requests, one line further, and how many numbers an increasing list can hold.
-use Rattle.std.proofs.Common.{zero, suc, ◌≡◌, ◌∙◌, ap, sym, ℕ, ◌+◌, ◌<◌, ◌≤◌, arith, true, cond, All, List, [], ◌∷◌, take, length, Some, None, is_some}
+use Rattle.std.proofs.Common.{zero, suc, ◌≡◌, ◌∙◌, ap, sym, ℕ, ◌+◌, ◌<◌, ◌≤◌, arith, Bool, true, false, cond, All, List, [], ◌∷◌, take, length, Some, None, is_some}
 use Rattle.std.proofs.Math.Seq.{take-length}
 use Rattle.run_queues.specs.Numbers.{AllAbove, IsIncreasing}
 use Rattle.script_meaning.specs.Queue.{Queue, start_queue}
@@ -31,6 +31,18 @@ among_grows q [] (suc e) (suc l) le = omega arith
 among_grows q (line ∷ lines) zero l le = omega arith
 among_grows q (line ∷ lines) (suc e) zero le = absurd (omega (arith, le))
 among_grows q (line ∷ lines) (suc e) (suc l) le = omega (arith, among_grows (queue_after q line.what) lines e l (omega (arith, le)))
+
+-- no more requests are accepted than there are lines
+at_most_one : (b : Bool) → cond b 1 0 ≤ 1
+at_most_one true = omega arith
+at_most_one false = omega arith
+
+few_among : (q : Queue) (lines : List Line) → accepted_among q lines ≤ length lines
+few_among q [] = omega arith
+few_among q (line ∷ lines) = omega (arith, at_most_one (is_some (accepted q line.what)), few_among (queue_after q line.what) lines)
+
+pub few_accepted : (script : Meant) → accepted_in_all script ≤ length script.lines
+few_accepted script = few_among (start_queue script) script.lines
 
 pub before_grows : (script : Meant) (e l : ℕ) → e ≤ l → accepted_before script e ≤ accepted_before script l
 before_grows script e l le = among_grows (start_queue script) script.lines e l le

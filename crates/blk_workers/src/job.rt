@@ -7,10 +7,11 @@ use crate::answer::{Answer, answered};
 use crate::naming::{Line, Run};
 use freeze_queue::{BlockQueue, Tag};
 use ram_disk::Sector;
-use run_queues::{Duty, Numbered};
+use run_queues::{CompletionQueue, Duty, Numbered, Told};
 use script_meaning::Script;
 use std::alloc::Global;
 use std::marker::{Model, PhantomData};
+use std::sync::Wait;
 
 /// A request on its way to a worker: the duty to tell its completion, the position of its line, and the tag that
 /// entered the queue for it, with the sectors that a read finds.
@@ -168,20 +169,12 @@ impl<J: Run, C: Line> Job<J, C> {
     }
 
     /// Does the request: reads the limits under its tag, cuts the pieces, and makes the line of its reply and the
-    /// sectors that a write leaves. Its tag is still entered, and its completion still to be told.
-    pub(crate) fn done(
-        self,
-        alloc: Global,
-        queue: &BlockQueue,
-        script: &Script,
-    ) -> (Box<Tag>, Duty<Completion<J>>, Completion<J>)
+    /// sectors that a write leaves.
+    pub(crate) fn done(self, alloc: Global, queue: &BlockQueue, script: &Script) -> Done<J, C>
         requires queue { queue.now ≡ J.queue }
         requires script { script.now ≡ J.script }
-        ensures own { result.0.value.queue ≡ J.queue }
-        ensures entered { result.0.value.entered ≡ true }
         ensures request { IsAcceptedAt J.script self.duty.number self.position }
-        ensures may_tell { result.1.queue ≡ C.id }
-        ensures number { result.2.number ≡ result.1.number }
+        ensures number { result ≡ self.duty.number }
     {
         let Job {
             duty,
@@ -192,7 +185,94 @@ impl<J: Run, C: Line> Job<J, C> {
         } = self;
         let limits = queue.limits(&mut tag);
         let answer = answered(alloc, script, position, limits, &found);
-        let number = duty.number();
-        (tag, duty, Completion::new(number, position, answer))
+        let completion = Completion::new(duty.number(), position, answer);
+        Done {
+            tag,
+            duty,
+            completion,
+            of: PhantomData,
+        }
+    }
+}
+
+/// A request that is done: its tag is still entered, and its completion still to be told. It is told first, since what
+/// it becomes by that is the one way to its tag.
+#[derive(Drop)]
+pub(crate) struct Done<J: Run, C: Line> {
+    tag: Box<Tag>,
+    duty: Duty<Completion<J>>,
+    completion: Completion<J>,
+    of: PhantomData<C>,
+}
+
+impl<J: Run, C: Line> Model for Done<J, C> {
+    ghost use Rattle.std.specs.Prelude.{◌≡◌, ℕ, true};
+
+    ghost Value = { ℕ };
+
+    ghost view = { λ d. d.duty.number };
+
+    ghost invariant = { λ d. (d.tag.value.queue ≡ J.queue) × (d.tag.value.entered ≡ true) × (d.duty.queue ≡ C.id) × (d.completion.number ≡ d.duty.number) };
+}
+
+impl<J: Run, C: Line> Done<J, C> {
+    /// Tells the completion.
+    pub(crate) fn tell<R: Wait>(
+        self,
+        rt: &R,
+        completions: &CompletionQueue<Completion<J>>,
+    ) -> Answered<J, C>
+        requires own { completions.now.id ≡ C.id }
+        ensures { result.number ≡ self }
+    {
+        let Done {
+            tag,
+            duty,
+            completion,
+            of: _,
+        } = self;
+        let told = completions.tell(rt, duty, completion);
+        Answered {
+            tag,
+            told,
+            of: PhantomData,
+        }
+    }
+}
+
+/// A request whose completion is told, and whose tag is still entered.
+#[derive(Drop)]
+pub(crate) struct Answered<J: Run, C: Line> {
+    tag: Box<Tag>,
+    told: Told<Completion<J>>,
+    of: PhantomData<C>,
+}
+
+impl<J: Run, C: Line> Model for Answered<J, C> {
+    ghost use Rattle.std.specs.Prelude.{◌≡◌, true};
+    ghost use Rattle.run_queues.specs.Parts.{DutyFacts};
+
+    ghost Value = { DutyFacts };
+
+    ghost view = { λ a. a.told };
+
+    ghost invariant = { λ a. (a.tag.value.queue ≡ J.queue) × (a.tag.value.entered ≡ true) × (a.told.queue ≡ C.id) };
+}
+
+impl<J: Run, C: Line> Answered<J, C> {
+    /// Leaves the queue on a slot, and shows that the completion was told.
+    pub(crate) fn leave(self, queue: &BlockQueue, slot: u32) -> (FreeTag<J>, Told<Completion<J>>)
+        requires queue { queue.now ≡ J.queue }
+        requires slot { slot < J.queue.gate.slots }
+        ensures own { result.1.queue ≡ C.id }
+        ensures number { result.1.number ≡ self.number }
+    {
+        let Answered {
+            mut tag,
+            told,
+            of: _,
+        } = self;
+        let _last = queue.leave(&mut tag, slot);
+        (FreeTag::new(tag), told)
     }
 }

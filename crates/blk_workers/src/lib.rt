@@ -35,6 +35,7 @@ mod replies;
 mod running;
 mod stall;
 mod submitter;
+mod tally;
 mod team;
 mod worker;
 

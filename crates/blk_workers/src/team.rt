@@ -177,6 +177,7 @@ fn start<
     requires completions { hall.now.completions.id ≡ C.id }
     requires drawers { All (IsNewDrawer L.id (accepted_in_all J.script + 1)) drawers.items }
     requires room { (length started.items ≡ 0) × (length drawers.items ≤ vec_capacity started) }
+    requires few { length script.now.lines < 2 ^ 32 }
     ensures few { length result.items ≤ length drawers.items }
 {
     let mut slot = 0;
@@ -193,6 +194,7 @@ fn start<
                 requires completions { hall.now.completions.id ≡ C.id }
                 requires line { hall.now.requests.id ≡ L.id }
                 requires drawer { IsNewDrawer L.id (accepted_in_all J.script + 1) drawer }
+                requires few { length script.now.lines < 2 ^ 32 }
             { work(rt, alloc, hall, script, stall, slot, drawer) },
         );
         let Ok(worker) = worker else {

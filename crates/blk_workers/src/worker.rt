@@ -1,5 +1,5 @@
 //! What the threads of a run share, and what a worker does.
-ghost use Rattle.std.specs.Prelude.{◌≡◌, ◌<◌, true, false, [], All, IfOk, length};
+ghost use Rattle.std.specs.Prelude.{◌≡◌, ◌<◌, ◌^◌, true, false, [], All, IfOk, length};
 ghost use Rattle.script_meaning.specs.Requests.{accepted_in_all};
 ghost use Rattle.run_queues.specs.Requests.{all_parts};
 ghost use Rattle.blk_workers.specs.Requests.{IsAcceptedAt};
@@ -8,8 +8,9 @@ use crate::fault::RunFault;
 use crate::job::{Completion, FreeTag, Job};
 use crate::naming::{Line, Run};
 use crate::stall::{Point, Stall};
+use crate::tally::Tally;
 use freeze_queue::{BlockQueue, Tag};
-use run_queues::{CompletionQueue, Drawer, Numbered, RequestQueue, Source, SpareQueue};
+use run_queues::{CompletionQueue, Drawer, Numbered, RequestQueue, Source, SpareQueue, Told};
 use script_meaning::Script;
 use std::alloc::{AllocError, Global};
 use std::marker::{Model, PhantomData};
@@ -72,31 +73,35 @@ impl<J: Run, C: Line> Hall<J, C> {
     }
 }
 
-/// What a worker hands back: the right to draw, once it has taken an end mark.
+/// What a worker hands back: the right to draw, once it has taken an end mark and told as many completions as it drew
+/// requests.
 #[derive(Drop)]
 pub(crate) struct Back<J: Run, C: Line, L: Line> {
     drawer: Drawer<Job<J, C>>,
+    tally: Tally<J, C>,
     of: PhantomData<L>,
 }
 
 impl<J: Run, C: Line, L: Line> Model for Back<J, C, L> {
-    ghost use Rattle.std.specs.Prelude.{◌≡◌, true};
+    ghost use Rattle.std.specs.Prelude.{◌≡◌, true, length};
     ghost use Rattle.run_queues.specs.Parts.{DrawerFacts};
 
     ghost Value = { DrawerFacts };
 
     ghost view = { λ b. b.drawer };
 
-    ghost invariant = { λ b. (b.drawer.queue ≡ L.id) × (b.drawer.drained ≡ true) };
+    ghost invariant = { λ b. (b.drawer.queue ≡ L.id) × (b.drawer.drained ≡ true) × (b.tally ≡ length b.drawer.drawn) };
 }
 
 impl<J: Run, C: Line, L: Line> Back<J, C, L> {
-    fn new(drawer: Drawer<Job<J, C>>) -> Back<J, C, L>
+    fn new(drawer: Drawer<Job<J, C>>, tally: Tally<J, C>) -> Back<J, C, L>
         requires own { drawer.queue ≡ L.id }
         requires drained { drawer.drained ≡ true }
+        requires told { tally ≡ length drawer.drawn }
     {
         Back {
             drawer,
+            tally,
             of: PhantomData,
         }
     }
@@ -106,7 +111,11 @@ impl<J: Run, C: Line, L: Line> Back<J, C, L> {
         ensures own { result.queue ≡ L.id }
         ensures drained { result.drained ≡ true }
     {
-        let Back { drawer, of: _ } = self;
+        let Back {
+            drawer,
+            tally: _,
+            of: _,
+        } = self;
         drawer
     }
 }
@@ -121,20 +130,22 @@ fn serve<J: Run, C: Line, R: Wait, S: Stall>(
     stall: &S,
     slot: u32,
     job: Job<J, C>,
-)
+) -> Told<Completion<J>>
     requires queue { hall.now.queue ≡ J.queue }
     requires completions { hall.now.completions.id ≡ C.id }
     requires slot { slot < J.queue.gate.slots }
     requires script { script.now ≡ J.script }
-    ensures { IsAcceptedAt J.script job.duty.number job.position }
+    ensures request { IsAcceptedAt J.script job.duty.number job.position }
+    ensures told { (result.queue ≡ C.id) × (result.number ≡ job.duty.number) }
 {
     let number = job.number();
     stall.at(number, Point::Drawn);
-    let (mut tag, duty, completion) = job.done(alloc, &hall.queue, script);
-    hall.completions.tell(rt, duty, completion);
+    let done = job.done(alloc, &hall.queue, script);
+    let answered = done.tell(rt, &hall.completions);
     stall.at(number, Point::Answered);
-    let _last = hall.queue.leave(&mut tag, slot);
-    hall.tags.put(rt, FreeTag::new(tag));
+    let (tag, told) = answered.leave(&hall.queue, slot);
+    hall.tags.put(rt, tag);
+    told
 }
 
 /// Does requests until it takes an end mark. There is room for the number of each request of the script, so no
@@ -156,15 +167,17 @@ pub(crate) fn work<J: Run, C: Line, L: Line, R: Wait, S: Stall>(
     requires own { drawer.queue ≡ L.id }
     requires fresh { drawer.drawn ≡ [] }
     requires room { accepted_in_all J.script < drawer.room }
+    requires few { length script.now.lines < 2 ^ 32 }
 {
+    let mut tally = Tally::new();
     for _ in rt.forever() {
         let Ok(drawn) = hall.requests.draw(rt, &mut drawer) else {
             unreachable!()
         };
         let Some(job) = drawn else {
-            return Back::new(drawer);
+            return Back::new(drawer, tally);
         };
-        serve(rt, alloc, hall, script, stall, slot, job);
+        tally.add(serve(rt, alloc, hall, script, stall, slot, job));
     }
     unreachable!()
 }

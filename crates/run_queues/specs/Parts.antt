@@ -48,7 +48,7 @@ pub record CollectorFacts : Type 0 where
   -- the numbers of those that were collected, in order
   pub collected : List ℕ
 
--- which completion it is the right to tell
+-- which completion it is the right to tell, and of one that was told, which it is
 pub record DutyFacts : Type 0 where
   pub queue : TableId
   pub number : ℕ

@@ -32,16 +32,16 @@ impl<T: Numbered> Protocol<T, Turn> for ToldOnce {
 }
 
 // A push of a completion.
-struct Told;
+struct Pushed;
 
-impl<T: Numbered> Outcome<T, Turn> for Told {
+impl<T: Numbered> Outcome<T, Turn> for Pushed {
     ghost use Rattle.std.specs.Prelude.{◌≡◌};
     ghost use Rattle.run_queues.specs.Completions.{no_turn};
 
     ghost then = { λ v completion w. w ≡ no_turn };
 }
 
-impl<T: Numbered> Lesson<T, Turn> for Told {
+impl<T: Numbered> Lesson<T, Turn> for Pushed {
     ghost use Rattle.std.specs.Prelude.{⊤};
 
     ghost fact = { λ v items. ⊤ };
@@ -139,6 +139,26 @@ impl<T: Numbered + Drop> Duty<T> {
     }
 }
 
+/// What is left of a duty once its completion is told. Only [`CompletionQueue::tell`] gives it, so whoever has it
+/// shows that the completion of its number was told.
+#[derive(Drop)]
+pub struct Told<T: Numbered + Drop> {
+    seat: Seat<T>,
+    number: u32,
+}
+
+impl<T: Numbered + Drop> Model for Told<T> {
+    ghost use Rattle.std.specs.Prelude.{◌≡◌};
+    ghost use Rattle.run_queues.specs.Completions.{no_turn};
+    ghost use Rattle.run_queues.specs.Parts.{DutyFacts, known};
+
+    ghost Value = { DutyFacts };
+
+    ghost view = { λ t. record { queue = t.seat.table_id; number = t.number } };
+
+    ghost invariant = { λ t. known t.seat ≡ no_turn };
+}
+
 impl<T: Numbered + Drop> CompletionQueue<T> {
     /// A queue with room for so many completions, and the right to collect them. All its memory is taken here.
     pub fn new(alloc: Global, room: usize) -> Result<(CompletionQueue<T>, Collector<T>), AllocError>
@@ -161,16 +181,15 @@ impl<T: Numbered + Drop> CompletionQueue<T> {
         Duty { seat, number }
     }
 
-    /// Tells a completion, which has the number of the duty, and waits while there is no room.
-    pub fn tell<R: Wait>(&self, rt: &R, duty: Duty<T>, completion: T)
+    /// Tells a completion, which has the number of the duty, and waits while there is no room. The duty is used up.
+    pub fn tell<R: Wait>(&self, rt: &R, duty: Duty<T>, completion: T) -> Told<T>
         requires own { duty.queue ≡ self.now.id }
         requires number { T.number completion ≡ duty.number }
+        ensures { result ≡ duty }
     {
-        let Duty {
-            mut seat,
-            number: _,
-        } = duty;
-        self.line.push_as::<Told, R>(rt, &mut seat, completion);
+        let Duty { mut seat, number } = duty;
+        self.line.push_as::<Pushed, R>(rt, &mut seat, completion);
+        Told { seat, number }
     }
 
     /// Takes the first completion, and waits while there is none. It is of a number for which the right to tell was

@@ -6,8 +6,9 @@
 //! back, `finish` gives the lists of what they drew: each increases, and together they have each request once.
 //!
 //! A [`CompletionQueue`] goes the other way: its [`Collector`] gives a [`Duty`] for each request, which goes with the
-//! request and is used up when its completion is told. So each is collected once at most. A [`SpareQueue`] holds what
-//! isn't in use; what is known of it is what its type keeps.
+//! request and is used up when its completion is told: what is left of it is [`Told`], by which a thread shows that it
+//! told. So each is collected once at most. A [`SpareQueue`] holds what isn't in use; what is known of it is what its type
+//! keeps.
 //!
 //! `specs/Requests.antt` and `specs/Completions.antt` have the rules, which hold at each moment and which each step
 //! keeps; `specs/Parts.antt` what those who take part know, and `specs/Numbers.antt` what draws are. The tests in
@@ -20,7 +21,7 @@ mod numbered;
 mod requests;
 mod spares;
 
-pub use completions::{Collector, CompletionQueue, Duty};
+pub use completions::{Collector, CompletionQueue, Duty, Told};
 pub use numbered::Numbered;
 pub use requests::{Drawer, RequestQueue, Source};
 pub use spares::SpareQueue;

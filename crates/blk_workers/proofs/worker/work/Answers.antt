@@ -1,9 +1,11 @@
-use Rattle.std.proofs.Common.{◌≡◌, ◌∙◌, sym, ap, ◌<◌, ◌∷◌, ◌++◌, [], All, arith, subst}
+use Rattle.std.proofs.Common.{◌≡◌, ◌∙◌, sym, ap, ◌<◌, ◌∷◌, ◌++◌, [], All, arith, length, subst}
+use Rattle.std.proofs.lemmas.List.{length-append}
 use Rattle.std.proofs.lemmas.List.Elements.{All-push}
 use Rattle.run_queues.specs.Numbers.{IsIncreasing}
 use Rattle.run_queues.specs.Parts.{DrawerFacts, after_draw}
 use Rattle.script_meaning.specs.Requests.{accepted_in_all}
-use Rattle.blk_workers.proofs.Numbering.{few_increasing, number_below}
+use Rattle.script_meaning.specs.Script.{Meant}
+use Rattle.blk_workers.proofs.Numbering.{few_accepted, few_increasing, number_below}
 use Rattle.blk_workers.proofs.worker.work.Goals as goal
 
 pub unreachable-requires : goal.unreachable-requires
@@ -17,10 +19,27 @@ loop-preserved g c =
     let bound = accepted_in_all g.J.Run.script in
     let job = c.in-Some-drawn.job in
     let drew = c.in-Ok.ensures.drawn ∙ ap (λ item. let d : DrawerFacts = after_draw (λ j. j.duty.number) item c.loop.drawer in record d { room = c.draw.new.drawer.room }) c.in-Some-drawn.is in
-    let less = number_below g.J.Run.script job.duty.number job.position c.serve.ensures in (
+    let longer : c.draw.new.drawer.drawn ≡ c.loop.drawer.drawn ++ job.duty.number ∷ [] = ap (λ (d : DrawerFacts). d.drawn) drew in
+    let less = number_below g.J.Run.script job.duty.number job.position c.serve.ensures.request in
+    let one_more = ap length longer ∙ length-append c.loop.drawer.drawn (job.duty.number ∷ []) in (
       tt,
       tt,
       ap (λ (d : DrawerFacts). d.queue) drew ∙ c.loop.invariant.2,
       omega (arith, c.loop.invariant.3, c.in-Ok.ensures.room),
-      subst (All (λ n. n < bound)) (sym (ap (λ (d : DrawerFacts). d.drawn) drew)) (All-push (λ n. n < bound) c.loop.drawer.drawn job.duty.number c.loop.invariant.4 less),
+      subst (All (λ n. n < bound)) (sym longer) (All-push (λ n. n < bound) c.loop.drawer.drawn job.duty.number c.loop.invariant.4 less),
+      omega (arith, c.add.ensures, c.loop.invariant.5, one_more),
     )
+
+pub add-requires-clause-room : goal.add-requires-clause-room
+add-requires-clause-room g c =
+    let script = g.J.Run.script in
+    let bound = accepted_in_all script in
+    let job = c.in-Some-drawn.job in
+    let drew = c.in-Ok.ensures.drawn ∙ ap (λ item. let d : DrawerFacts = after_draw (λ j. j.duty.number) item c.loop.drawer in record d { room = c.draw.new.drawer.room }) c.in-Some-drawn.is in
+    let longer : c.draw.new.drawer.drawn ≡ c.loop.drawer.drawn ++ job.duty.number ∷ [] = ap (λ (d : DrawerFacts). d.drawn) drew in
+    let less = number_below script job.duty.number job.position c.serve.ensures.request in
+    let below = subst (All (λ n. n < bound)) (sym longer) (All-push (λ n. n < bound) c.loop.drawer.drawn job.duty.number c.loop.invariant.4 less) in
+    let few = few_increasing bound c.draw.new.drawer.drawn c.draw.ensures.increasing below in
+    let one_more = ap length longer ∙ length-append c.loop.drawer.drawn (job.duty.number ∷ []) in
+    let lines = ap (λ (s : Meant). length s.lines) c.requires.script in
+    omega (arith, c.loop.invariant.5, one_more, few, few_accepted script, lines, c.requires.few)
