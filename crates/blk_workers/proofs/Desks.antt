@@ -1,5 +1,5 @@
 -- One step further of the thread that submits and collects.
-use Rattle.std.proofs.Common.{◌≡◌, ◌≢◌, ◌∙◌, refl, sym, ap, subst, ℕ, ◌+◌, ◌<◌, ◌≤◌, ◌⊎◌, inl, inr, arith, Bool, true, false, List, [], ◌∷◌, ◌++◌, length, get_or, set, Option, Some, None, is_none, is_some, length-append}
+use Rattle.std.proofs.Common.{◌≡◌, ◌∙◌, refl, sym, ap, subst, ℕ, ◌+◌, ◌<◌, ◌≤◌, ◌⊎◌, inl, inr, arith, true, false, List, [], ◌∷◌, ◌++◌, length, get_or, set, Option, Some, None, is_none, length-append}
 use Rattle.std.specs.Prelude.{Result, Ok, Err, OnOk}
 use Rattle.std.specs.List.{slice_get}
 use Rattle.std.specs.Option.{option_and_then}
@@ -7,8 +7,6 @@ use Rattle.ram_disk.specs.Disk.{sectors_read}
 use Rattle.std.proofs.lemmas.Bool.{cases_eq, cases_lt, false≢true}
 use Rattle.std.proofs.lemmas.List.{length-set}
 use Rattle.std.proofs.lemmas.Option.{slice_get_within, get_or_from_slice_get}
-use Rattle.ram_disk.specs.Writes.{sector_at}
-use Rattle.script_meaning.specs.Meaning.{State, disk_after, after}
 use Rattle.script_meaning.specs.Requests.{queue_at, state_at, accepted_at, drains_at}
 use Rattle.script_meaning.specs.Script.{Meant}
 use Rattle.script_meaning.specs.Taken.{outcome, accepted_in}
@@ -17,11 +15,11 @@ use Rattle.script_meaning.specs.declared.line.What.{What}
 use Rattle.script_meaning.specs.declared.line.What.TheVariants.{Write}
 use Rattle.script_meaning.specs.declared.request.Request.{Request}
 use Rattle.script_meaning.proofs.Disks.{state_disk, length-pattern_sectors}
-use Rattle.script_overlap.specs.Overlap.{HasSector, Clash}
+use Rattle.script_overlap.specs.Overlap.{Clash}
 use Rattle.script_overlap.specs.SpanOfRequests.{Marks, OfSectors, Takes}
 use Rattle.blk_workers.specs.Desk.{is_owed, owed_count, installed, IsUpTo, FitsAt, MayPass, Stands}
 use Rattle.blk_workers.specs.Requests.{IsRequestAt, IsReplyLine, IsAnswer, left_by}
-use Rattle.blk_workers.specs.Span.{AreInSpan, ClashesWithNone, Covers, IsAwaited, IsDiskBut}
+use Rattle.blk_workers.specs.Span.{AreInSpan, ClashesWithNone, IsDiskBut}
 use Rattle.blk_workers.proofs.Covering.{covers_fewer, covers_more}
 use Rattle.blk_workers.proofs.LineSteps.{IsWriteAt, accepted_drains, sector_stays, request_within, request_writes, write_fits, writes_of}
 use Rattle.blk_workers.proofs.Places.{none_counted, get_push_below, get_push_at, get_set_same, get_set_other, owed_below, owed_push, owed_at, owed_set_other, owed_set_same}

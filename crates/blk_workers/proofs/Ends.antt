@@ -1,11 +1,11 @@
 -- The replies of a run, once none is owed: the lines that a single thread writes.
-use Rattle.std.proofs.Common.{◌≡◌, ◌∙◌, refl, sym, ap, ℕ, zero, suc, ◌+◌, ◌-◌, ◌<◌, ◌≤◌, arith, Bool, true, false, List, [], ◌∷◌, ◌++◌, length, take, drop, get_or, ◌⊎◌, inl, inr, subst, Option, Some, None, is_none}
+use Rattle.std.proofs.Common.{◌≡◌, ◌∙◌, refl, sym, ap, ℕ, zero, suc, ◌+◌, ◌<◌, arith, false, List, [], ◌∷◌, ◌++◌, length, drop, inl, inr, subst, Option, Some, None}
 use Rattle.std.specs.List.{slice_get, flat_map}
 use Rattle.std.proofs.lemmas.Bool.{false≢true}
 use Rattle.std.proofs.lemmas.List.{drop_more}
 use Rattle.std.proofs.lemmas.Option.{slice_get_cases, slice_get_within, get_or_from_slice_get}
 use Rattle.blk_script.specs.Texts.{reply_line}
-use Rattle.script_meaning.specs.Meaning.{State, start_of, after, AreReplies, IsReply}
+use Rattle.script_meaning.specs.Meaning.{State, AreReplies, IsReply}
 use Rattle.script_meaning.specs.Requests.{state_at}
 use Rattle.script_meaning.specs.Script.{Meant}
 use Rattle.script_meaning.specs.declared.line.Line.{Line}

@@ -1,19 +1,18 @@
 -- What one line of a script does to the disk that a single thread has, sector by sector.
-use Rattle.std.proofs.Common.{◌≡◌, ◌∙◌, refl, sym, ap, subst, ℕ, zero, suc, ◌+◌, ◌-◌, ◌<◌, ◌≤◌, ◌⊎◌, inl, inr, arith, Bool, true, false, cond, nat_lt, is_some, List, [], ◌∷◌, length, take, get_or, Option, Some, None}
+use Rattle.std.proofs.Common.{◌≡◌, ◌∙◌, refl, sym, ap, subst, ℕ, ◌+◌, ◌≤◌, ◌⊎◌, inl, inr, arith, Bool, true, false, cond, is_some, List, [], ◌∷◌, length, take, Option, Some, None}
 use Rattle.std.specs.List.{slice_get}
 use Rattle.std.specs.Option.{option_and_then, option_map_or}
 use Rattle.std.proofs.lemmas.Bool.{false≢true}
 use Rattle.std.proofs.lemmas.Option.{slice_get_within, get_or_from_slice_get}
-use Rattle.std.proofs.lemmas.List.{length-map}
 use Rattle.ram_disk.specs.Disk.{sectors_written}
 use Rattle.ram_disk.specs.Pattern.{pattern_sectors}
-use Rattle.ram_disk.specs.Writes.{sector_at, IsWithin}
-use Rattle.ram_disk.proofs.SectorWrites.{written_others, written_inside}
+use Rattle.ram_disk.specs.Writes.{sector_at}
+use Rattle.ram_disk.proofs.SectorWrites.{written_others}
 use Rattle.script_meaning.specs.Meaning.{State, start_of, disk_after, after, after_lines}
 use Rattle.script_meaning.specs.Queue.{Queue}
 use Rattle.script_meaning.specs.Requests.{queue_at, state_at, accepted_at, drains_at}
 use Rattle.script_meaning.specs.Script.{Meant}
-use Rattle.script_meaning.specs.Taken.{outcome, accepted, accepted_in, drains, drains_in}
+use Rattle.script_meaning.specs.Taken.{outcome, accepted, accepted_in, drains_in}
 use Rattle.script_meaning.specs.declared.line.Line.{Line}
 use Rattle.script_meaning.specs.declared.line.What.{What}
 use Rattle.script_meaning.specs.declared.line.What.TheVariants.{Read, Write, Freeze, Thaw, SetMax, SetChunk, SetPhysical, SetMode, Stat, Remove}

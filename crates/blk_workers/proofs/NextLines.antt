@@ -10,7 +10,7 @@ use Rattle.script_meaning.specs.Meaning.{IsReplyTo, after_lines, start_of}
 use Rattle.script_meaning.specs.Queue.{Queue, counted, start_queue}
 use Rattle.script_meaning.specs.Requests.{queue_after_lines, queue_at, state_at, accepted_at, drains_at}
 use Rattle.script_meaning.specs.Script.{Meant}
-use Rattle.script_meaning.specs.Taken.{request_taken, limits_taken, taken_there, taken, queue_after, outcome, accepted, accepted_in, drains_in}
+use Rattle.script_meaning.specs.Taken.{request_taken, limits_taken, taken_there, queue_after, outcome, accepted, accepted_in, drains_in}
 use Rattle.script_meaning.specs.declared.line.Line.{Line}
 use Rattle.script_meaning.specs.declared.line.What.{What}
 use Rattle.script_meaning.specs.declared.line.What.TheVariants.{Read, Write, Freeze, Thaw, SetMax, SetChunk, SetPhysical, SetMode, Stat, Remove}
@@ -18,7 +18,7 @@ use Rattle.script_meaning.specs.declared.mode.Mode.{Mode}
 use Rattle.script_meaning.specs.declared.outcome.Outcome.{Outcome}
 use Rattle.script_meaning.specs.declared.outcome.Outcome.TheVariants.{Accepted, Drained, Replied}
 use Rattle.script_meaning.specs.declared.reply.Reply.{Reply}
-use Rattle.script_meaning.specs.declared.reply.Reply.TheVariants.{Done, Depth, NotFrozen, DepthFull, Again, PastEnd, Invalid, Removed, Gone}
+use Rattle.script_meaning.specs.declared.reply.Reply.TheVariants.{Depth, NotFrozen, DepthFull, Again, PastEnd, Invalid, Gone}
 use Rattle.script_meaning.specs.declared.request.Request.{Request}
 use Rattle.script_meaning.proofs.Cases.{IsOf}
 use Rattle.script_meaning.proofs.Disks.{state_queue}
@@ -28,7 +28,7 @@ use Rattle.script_overlap.specs.SpanOfRequests.{Marks}
 use Rattle.blk_workers.specs.Desk.{AreJoined, IsUpTo, Stands, joined, owed_count}
 use Rattle.blk_workers.specs.Progress.{IsQueueAt, IsRun, found_at}
 use Rattle.blk_script.specs.Texts.{reply_line}
-use Rattle.blk_workers.specs.Requests.{IsRequestAt, IsDue, IsReplyLine, found_by}
+use Rattle.blk_workers.specs.Requests.{IsDue, IsReplyLine, found_by}
 use Rattle.blk_workers.proofs.Desks.{all_there, request_line}
 use Rattle.blk_workers.proofs.Ends.{are_joined}
 

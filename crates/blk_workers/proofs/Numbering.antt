@@ -1,6 +1,5 @@
 -- The numbers of accepted requests, one line further, and how many numbers an increasing list can hold.
-use Rattle.std.proofs.Common.{zero, suc, ◌≡◌, ◌∙◌, ap, sym, ℕ, ◌+◌, ◌<◌, ◌≤◌, arith, Bool, true, false, cond, All, List, [], ◌∷◌, take, length, Some, None, is_some}
-use Rattle.std.proofs.Math.Seq.{take-length}
+use Rattle.std.proofs.Common.{zero, suc, ◌≡◌, ◌∙◌, ap, ℕ, ◌+◌, ◌<◌, ◌≤◌, arith, Bool, true, false, cond, All, List, [], ◌∷◌, take, length, Some, None, is_some}
 use Rattle.run_queues.specs.Numbers.{AllAbove, IsIncreasing}
 use Rattle.script_meaning.specs.Queue.{Queue, start_queue}
 use Rattle.script_meaning.specs.Requests.{accepted_at, accepted_among, accepted_before, accepted_in_all}

@@ -1,12 +1,11 @@
 -- What a request is answered, at its line.
-use Rattle.std.proofs.Common.{◌≡◌, ◌∙◌, refl, sym, ap, subst, ℕ, Bool, true, false, List, get_or, Option, Some, None, IfSome, is_some}
+use Rattle.std.proofs.Common.{◌≡◌, ◌∙◌, sym, ap, subst, ℕ, true, List, get_or, Option, Some, None, IfSome, is_some}
 use Rattle.std.specs.List.{slice_get}
 use Rattle.std.proofs.lemmas.Bool.{false≢true}
 use Rattle.std.proofs.lemmas.Option.{get_or_from_slice_get}
 use Rattle.queue_limits.specs.Bounds.{Bounds}
 use Rattle.script_meaning.specs.Meaning.{State, IsAnswered, IsReplyTo, IsReply}
-use Rattle.script_meaning.specs.Queue.{Queue}
-use Rattle.script_meaning.specs.Requests.{queue_at, state_at}
+use Rattle.script_meaning.specs.Requests.{state_at}
 use Rattle.script_meaning.specs.Script.{Meant}
 use Rattle.script_meaning.specs.Taken.{outcome, accepted, accepted_in}
 use Rattle.script_meaning.specs.declared.line.Line.{Line}

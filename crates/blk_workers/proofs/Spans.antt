@@ -1,21 +1,18 @@
 -- The disk of a run while requests are under way.
-use Rattle.std.proofs.Common.{◌≡◌, ◌∙◌, refl, sym, ap, subst, ℕ, zero, suc, ◌+◌, ◌-◌, ◌<◌, ◌≤◌, ◌⊎◌, inl, inr, arith, Bool, true, false, ◌||◌, List, [], length, Option, Some, None}
-use Rattle.std.specs.List.{slice_get}
-use Rattle.std.proofs.lemmas.Bool.{cases_lt}
+use Rattle.std.proofs.Common.{◌≡◌, ◌∙◌, refl, sym, ap, subst, ℕ, zero, suc, ◌+◌, ◌-◌, ◌<◌, ◌≤◌, ◌⊎◌, inl, inr, arith, Bool, true, false, ◌||◌, List, [], length, Some}
 use Rattle.std.proofs.lemmas.List.{ext_get_or}
 use Rattle.std.proofs.lemmas.Option.{slice_get_cases}
-use Rattle.ram_disk.specs.Disk.{sectors_read, sectors_written}
+use Rattle.ram_disk.specs.Disk.{sectors_written}
 use Rattle.ram_disk.specs.Pattern.{pattern_sectors}
 use Rattle.ram_disk.specs.Writes.{sector_at, IsWithin}
 use Rattle.ram_disk.proofs.SectorWrites.{read_same, written_others, written_inside, within_or_not, length-sectors_written}
-use Rattle.script_meaning.specs.Requests.{accepted_at, drains_at, state_at}
+use Rattle.script_meaning.specs.Requests.{accepted_at, state_at}
 use Rattle.script_meaning.specs.Script.{Meant}
-use Rattle.script_meaning.specs.declared.line.Line.{Line}
 use Rattle.script_meaning.specs.declared.request.Request.{Request}
 use Rattle.script_meaning.proofs.Disks.{length-pattern_sectors, state_disk}
 use Rattle.script_overlap.specs.Overlap.{HasSector, Clash}
 use Rattle.blk_workers.specs.Span.{AreInSpan, ClashesWithNone, IsAwaited, IsDiskBut, ReadsStandInASpan}
-use Rattle.blk_workers.proofs.LineSteps.{IsWriteAt, accepted_drains, sector_stays, write_request, write_fits, written_next}
+use Rattle.blk_workers.proofs.LineSteps.{IsWriteAt, sector_stays, write_request, write_fits, written_next}
 
 or_right : (a b : Bool) → a ≡ true → a || b ≡ true
 or_right true b is = refl

@@ -1,5 +1,5 @@
 -- What is due to a request of a script, and what it is answered: both are what the script's meaning has at the request's line.
-use Rattle.std.specs.Prelude.{◌≡◌, ℕ, true, List, [], Some, None, Option, IfSome, slice_get, is_some}
+use Rattle.std.specs.Prelude.{◌≡◌, ℕ, true, List, [], Some, slice_get, is_some}
 use Rattle.ram_disk.specs.Disk.{sectors_read}
 use Rattle.ram_disk.specs.Pattern.{pattern_sectors}
 use Rattle.queue_limits.specs.Bounds.{Bounds}

@@ -1,4 +1,4 @@
-use Rattle.std.proofs.Common.{refl, subst}
+use Rattle.std.proofs.Common.{subst}
 use Rattle.queue_limits.specs.Pieces.{IsSplit}
 use Rattle.ram_disk.specs.Runs.{IsRuns}
 use Rattle.ram_disk.specs.Sector.{bytes_of}

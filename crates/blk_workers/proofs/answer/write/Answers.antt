@@ -1,4 +1,4 @@
-use Rattle.std.proofs.Common.{refl, subst}
+use Rattle.std.proofs.Common.{subst}
 use Rattle.queue_limits.specs.Pieces.{IsSplit}
 use Rattle.script_meaning.specs.declared.reply.Reply.TheVariants.{Written}
 use Rattle.blk_workers.proofs.answer.write.Goals as goal

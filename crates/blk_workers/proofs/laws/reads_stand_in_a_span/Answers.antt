@@ -1,5 +1,4 @@
 use Rattle.blk_workers.proofs.Spans.{reads_stand}
-use Rattle.blk_workers.proofs.Desks.{settled, submitted, collected, all_there, first}
 use Rattle.blk_workers.proofs.laws.reads_stand_in_a_span.Goals as goal
 
 pub returns : goal.returns

@@ -1,4 +1,4 @@
-use Rattle.std.proofs.Common.{◌≡◌, ◌+◌, ◌-◌, All, length}
+use Rattle.std.proofs.Common.{◌≡◌, ◌-◌, All, length}
 use Rattle.blk_workers.specs.Progress.{IsNewDrawer}
 use Rattle.blk_workers.proofs.team.drawers.Given as goal
 

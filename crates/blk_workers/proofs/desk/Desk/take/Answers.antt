@@ -1,4 +1,4 @@
-use Rattle.std.proofs.Common.{◌∙◌, sym, ap, get_or}
+use Rattle.std.proofs.Common.{◌∙◌, ap, get_or}
 use Rattle.blk_workers.proofs.Desks.{fits_answer, stands_collected}
 use Rattle.blk_workers.proofs.desk.Desk.take.Goals as goal
 

@@ -1,6 +1,6 @@
 use Rattle.std.proofs.Common.{◌≡◌, ◌∙◌, sym, ap, subst, ◌+◌, arith, length, Some}
 use Rattle.script_meaning.specs.Queue.{Queue}
-use Rattle.script_meaning.specs.Requests.{accepted_at, accepted_before}
+use Rattle.script_meaning.specs.Requests.{accepted_at}
 use Rattle.script_meaning.specs.Script.{Meant}
 use Rattle.blk_workers.specs.Desk.{Stands}
 use Rattle.blk_workers.specs.Following.{mode_of}

@@ -1,5 +1,4 @@
 use Rattle.std.proofs.Common.{◌≡◌}
-use Rattle.script_meaning.specs.Requests.{accepted_before}
 use Rattle.blk_workers.specs.Progress.{AreEndsOf, AreHandedOver, IsAt}
 use Rattle.blk_workers.proofs.submitter.Submitter.submit_all.Given as goal
 
