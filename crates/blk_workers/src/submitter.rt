@@ -149,7 +149,7 @@ impl Submitter {
             collector,
             script,
             &mut self.desk,
-            hall.tags.room() / 2,
+            hall.tags.room(),
         )?;
         if !self.desk.must_wait(script, request) {
             return Ok(());
