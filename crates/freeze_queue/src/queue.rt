@@ -14,13 +14,13 @@ ghost use Rattle.percpu_gate.specs.declared.tried.Tried.TheVariants.{Given};
 use crate::freezer::Freezer;
 use crate::limit_words::LIMIT_WORDS;
 use crate::tag::{Enter, Tag};
-use crossbeam_utils::Backoff;
-use crossbeam_utils::sync::{EventCount, Parker, Unparker};
+use crossbeam_utils::sync::{Parker, Unparker};
 use percpu_gate::{Gate, Memory, Pass, Put, Start, Tried};
 use queue_limits::Limits;
 use std::alloc::{AllocError, Global};
 use std::marker::Model;
 use std::sync::Wait;
+use wait_queue::WaitQueue;
 
 /// The most tags of a queue.
 pub const MOST_TAGS: u32 = 63;
@@ -37,7 +37,7 @@ pub struct BlockQueue {
     /// Wakes the freezer once the queue is drained.
     drained: Unparker,
     /// Those who wait to enter.
-    thawed: EventCount,
+    thawed: WaitQueue,
 }
 
 impl Model for BlockQueue {
@@ -88,7 +88,7 @@ impl BlockQueue {
             gate,
             hardware,
             drained,
-            thawed: EventCount::new(),
+            thawed: WaitQueue::new(),
         };
         Ok((queue, Freezer::new(control, limits, tags, sleeper), made))
     }
@@ -114,7 +114,7 @@ impl BlockQueue {
 
     /// Wakes those who wait to enter.
     pub(crate) fn wake_submitters(&self) {
-        self.thawed.notify_all();
+        self.thawed.wake_all();
     }
 
     /// Enters unless the queue is frozen. Linux: `blk_queue_enter` with BLK_MQ_REQ_NOWAIT (block/blk-core.c).
@@ -149,21 +149,9 @@ impl BlockQueue {
         ensures counted { tag.new.seat.live_given ≡ tag.old.seat.live_given + 1 }
         ensures finds { (before : PassView) × (before.live_given ≡ tag.old.seat.live_given) × LiveTryFinds self.now.gate slot before Given }
     {
-        let backoff = Backoff::new();
-        for _ in rt.forever() {
-            // A wait is announced before the try, so that a thaw after it ends the wait. Before the backoff is
-            // completed nobody waits, so that entering a live queue writes nothing but the count.
-            let thaw = if backoff.is_completed() {
-                Some(self.thawed.prepare_wait())
-            } else {
-                None
-            };
+        for _ in self.thawed.tries(rt) {
             if self.try_enter(tag, slot) == Enter::Entered {
                 return;
-            }
-            match thaw {
-                Some(thaw) => thaw.wait(rt),
-                None => backoff.snooze(),
             }
         }
         unreachable!()
