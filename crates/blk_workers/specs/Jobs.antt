@@ -2,6 +2,7 @@
 use Rattle.std.specs.Prelude.{◌≡◌, ℕ, true, List, Some}
 use Rattle.queue_limits.specs.Bounds.{Bounds}
 use Rattle.script_meaning.specs.Script.{Meant}
+use Rattle.freeze_queue.specs.AtTheGate.{AreInForce}
 use Rattle.freeze_queue.specs.Queue.{QueueFacts, TagFacts}
 use Rattle.atomic_table.specs.Seated.{TableId}
 use Rattle.run_queues.specs.Parts.{DutyFacts}
@@ -23,6 +24,13 @@ pub record IsJob (script : Meant) (queue : QueueFacts) (completions : TableId) (
   pub told : job.tag.limits ≡ Some limits
   pub may_tell : job.duty.queue ≡ completions
   pub numbered : IsAcceptedAt script job.duty.number job.position
+  pub due : IsDue script job.position limits job.found
+
+-- A worker read the limits under the request's tag: at a moment of its call, at which the tag's seat knew what it did as the request was drawn, those in
+-- force were the ones due to it
+pub record IsReadUnderItsTag (script : Meant) (job : JobFacts) : Type 0 where
+  pub limits : Bounds
+  pub in_force : AreInForce job.tag.queue.gate job.tag.queue.hardware job.tag.seat limits
   pub due : IsDue script job.position limits job.found
 
 -- a request that a worker is done with: its number, and the position of its line

@@ -35,7 +35,7 @@ pub record IsCounted (script : Meant) (position accepted : ℕ) : Type 0 where
 -- completions weren't collected are owed
 pub record AreHandedOver (script : Meant) (position : ℕ) (replies : List (Option (List ℕ))) (source : SourceFacts) (collector : CollectorFacts) : Type 0 where
   pub requests : source.pushed ≡ accepted_before script position
-  pub not_ended : source.closed ≡ false
+  pub not_ended : source.marks ≡ 0
   pub duties : collector.given ≡ accepted_before script position
   pub awaited : AreAwaited script replies collector.given collector.collected
 
@@ -68,7 +68,7 @@ pub record IsNewSource (line : TableId) (out : ℕ) (source : SourceFacts) : Typ
   pub own : source.queue ≡ line
   pub parts : source.parts + out ≡ all_parts
   pub none_pushed : source.pushed ≡ 0
-  pub not_ended : source.closed ≡ false
+  pub not_ended : source.marks ≡ 0
   pub no_lists : source.lists ≡ []
   pub room : out ≤ source.room
 

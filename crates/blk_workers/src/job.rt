@@ -1,7 +1,7 @@
 //! What a worker is handed for a request, and what it hands back.
 ghost use Rattle.std.specs.Prelude.{◌≡◌, ◌<◌, true, false, IfSome};
 ghost use Rattle.blk_workers.specs.Requests.{IsAcceptedAt, IsAnswer};
-ghost use Rattle.blk_workers.specs.Jobs.{IsJob};
+ghost use Rattle.blk_workers.specs.Jobs.{IsJob, IsReadUnderItsTag};
 
 use crate::answer::{Answer, answered};
 use crate::naming::{Line, Run};
@@ -175,6 +175,7 @@ impl<J: Run, C: Line> Job<J, C> {
         requires script { script.now ≡ J.script }
         ensures request { IsAcceptedAt J.script self.duty.number self.position }
         ensures number { result ≡ self.duty.number }
+        ensures read { IsReadUnderItsTag J.script self }
     {
         let Job {
             duty,

@@ -9,7 +9,8 @@ pub enum Point {
     Drawn,
     /// A worker has queued the request's completion, and not left the queue yet.
     Answered,
-    /// The submitter has drained the queue.
+    /// The submitter has drained the queue. A line that finds it frozen, and so drained, tells nothing, and nor does
+    /// the end.
     Drained,
 }
 

@@ -325,7 +325,7 @@ impl Submitter {
         requires few { length script.now.lines < 2 ^ 32 }
         requires completions { hall.now.completions.id ≡ C.id }
         requires own { AreEndsOf hall.now.requests.id hall.now.completions.id ends.old.source ends.old.collector }
-        requires fresh { (ends.old.source.pushed ≡ 0) × (ends.old.source.closed ≡ false) × (ends.old.collector.given ≡ 0) }
+        requires fresh { (ends.old.source.pushed ≡ 0) × (ends.old.source.marks ≡ 0) × (ends.old.collector.given ≡ 0) }
         requires start { IsAt J.script J.queue 0 self.old }
         ensures stands { OnOk result (Stands J.script self.new.desk.replies self.new.desk.disk self.new.desk.span) }
         ensures lines { OnOk result (length self.new.desk.replies ≡ length J.script.lines) }

@@ -62,7 +62,7 @@ fn end<J: Run, C: Line, R: Wait>(
     started: usize,
 )
     requires own { source.old.queue ≡ hall.now.requests.id }
-    ensures source { source.new ≡ record source.old { closed = source.new.closed } }
+    ensures source { source.new ≡ record source.old { marks = source.old.marks + started } }
 {
     for _worker in 0..started {
         hall.requests.end(rt, source);
@@ -103,7 +103,7 @@ fn lead<J: Run, C: Line, L: Line, R: Threads + Wait, S: Stall>(
     requires ends { AreNewEnds hall.now.requests.id hall.now.completions.id workers ends.old.source ends.old.collector }
     requires start { IsAt J.script J.queue 0 submitter }
     ensures end { IfOk result (IsEnd J.script) }
-    ensures source { OnOk result (ends.new.source ≡ record ends.old.source { pushed = accepted_in_all J.script; closed = ends.new.source.closed }) }
+    ensures source { OnOk result (ends.new.source ≡ record ends.old.source { pushed = accepted_in_all J.script; marks = workers }) }
     ensures started { OnOk result (started.new.items ≡ started.old.items) }
 {
     let submitted = submitter.submit_all(rt, alloc, hall, script, stall, ends);

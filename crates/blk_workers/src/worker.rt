@@ -60,7 +60,7 @@ impl<J: Run, C: Line> Hall<J, C> {
         ensures queue { IfOk result (λ h. h.0.queue ≡ queue) }
         ensures rooms { IfOk result (λ h. (h.0.requests.room ≡ length tags.items) × (h.0.tags ≡ length tags.items)) }
         ensures completions { IfOk result (λ h. h.0.completions ≡ completions) }
-        ensures source { IfOk result (λ h. h.1 ≡ record { queue = h.0.requests.id; parts = all_parts; pushed = 0; closed = false; drained = false; lists = []; room = workers }) }
+        ensures source { IfOk result (λ h. h.1 ≡ record { queue = h.0.requests.id; parts = all_parts; pushed = 0; marks = 0; drained = false; lists = []; room = workers }) }
     {
         let (requests, source) = RequestQueue::new(alloc, tags.len(), workers as usize)?;
         let hall = Hall {

@@ -49,49 +49,52 @@ none_waits : (taken waiting : ℕ) → range_with_len taken waiting ≡ [] → w
 none_waits taken zero e = refl
 none_waits taken (suc waiting) e = no_number e
 
-ends_after_request : {T : Type 0} (number : T → ℕ) (items : List (Option T)) (request : T) → EndsLast number false items → EndsLast number false (items ++ Some request ∷ [])
+no_mark : {A : Type 0} {marks : ℕ} → 0 < marks → marks ≡ 0 → A
+no_mark above none = absurd (omega arith)
+
+ends_after_request : {T : Type 0} (number : T → ℕ) (items : List (Option T)) (request : T) → EndsLast number 0 items → EndsLast number 0 (items ++ Some request ∷ [])
 ends_after_request number [] request ends = tt
-ends_after_request number (None ∷ items) request ends = no_bit ends.0
+ends_after_request number (None ∷ items) request ends = no_mark ends.0 refl
 ends_after_request number (Some first ∷ items) request ends = ends_after_request number items request ends
 
-ends_after_end : {T : Type 0} (number : T → ℕ) (closed : Bool) (items : List (Option T)) → EndsLast number closed items → EndsLast number true (items ++ None ∷ [])
-ends_after_end number closed [] ends = (refl, refl)
-ends_after_end number closed (None ∷ items) ends = (refl, numbers_snoc number items None ∙ append-nil (numbers number items) ∙ ends.1)
-ends_after_end number closed (Some first ∷ items) ends = ends_after_end number closed items ends
+ends_after_end : {T : Type 0} (number : T → ℕ) (marks : ℕ) (items : List (Option T)) → EndsLast number marks items → EndsLast number (marks + 1) (items ++ None ∷ [])
+ends_after_end number marks [] ends = (omega arith, refl)
+ends_after_end number marks (None ∷ items) ends = (omega arith, numbers_snoc number items None ∙ append-nil (numbers number items) ∙ ends.1)
+ends_after_end number marks (Some first ∷ items) ends = ends_after_end number marks items ends
 
-only_ends : {T : Type 0} (number : T → ℕ) (items : List (Option T)) → numbers number items ≡ [] → EndsLast number true items
-only_ends number [] none = tt
-only_ends number (None ∷ items) none = (refl, none)
-only_ends number (Some first ∷ items) none = no_number none
+only_ends : {T : Type 0} (number : T → ℕ) (marks : ℕ) (items : List (Option T)) → 0 < marks → numbers number items ≡ [] → EndsLast number marks items
+only_ends number marks [] above none = tt
+only_ends number marks (None ∷ items) above none = (above, none)
+only_ends number marks (Some first ∷ items) above none = no_number none
 
 -- the first pass knows all
 pub begins : (T : Type 0) (number : T → ℕ) → IsInOrder {T = T} number [] (first_part ∷ [])
-begins T number = (0, 0, 0, false, refl, tt, (λ x. sym (one_below_none 0 x zero-le)), refl, first)
+begins T number = (0, 0, 0, 0, refl, tt, (λ x. sym (one_below_none 0 x zero-le)), refl, first)
   where
-    first : (port : ℕ) (v : Part) → get_elem? (first_part ∷ []) port ≡ some v → Fits 0 0 0 false port v
-    first zero v e = subst (Fits 0 0 0 false 0) (some-injective _ v e) (tt, (λ _. (refl, refl, refl)), (λ e. no_bit e), λ _. refl)
+    first : (port : ℕ) (v : Part) → get_elem? (first_part ∷ []) port ≡ some v → Fits 0 0 0 0 port v
+    first zero v e = subst (Fits 0 0 0 0 0) (some-injective _ v e) (tt, (λ _. (refl, refl, refl)), (λ e. no_bit e), λ _. refl)
     first (suc port) v e = absurd (some-ne-none v (sym e))
 
-pub pushes : {T : Type 0} (number : T → ℕ) (n port : ℕ) (v : Part) (request : T) → v.pushes ≡ true → v.closed ≡ false → number request ≡ v.pushed
+pub pushes : {T : Type 0} (number : T → ℕ) (n port : ℕ) (v : Part) (request : T) → v.pushes ≡ true → v.marks ≡ 0 → number request ≡ v.pushed
     → Pushes (IsInOrder number) n port v (Some request) (λ w. w ≡ after_push v)
 pushes number n port v request may fresh is items views room b at =
-    let source = b.0 in let taken = b.1 in let waiting = b.2 in let closed = b.3 in
+    let source = b.0 in let taken = b.1 in let waiting = b.2 in let marks = b.3 in
     let mine = b.8 port v at in
     let own = mine.1 may in
-    let is_open : closed ≡ false = sym own.2 ∙ fresh in (
+    let is_open : marks ≡ 0 = sym own.2 ∙ fresh in (
       after_push v,
       (
         source,
         taken,
         suc waiting,
-        false,
+        0,
         (numbers_snoc number items (Some request) ∙ ap (λ l. l ++ number request ∷ []) b.4 ∙ ap (λ k. range_with_len taken waiting ++ k ∷ []) (is ∙ own.1) ∙ range_snoc taken waiting),
-        ends_after_request number items request (subst (λ c. EndsLast number c items) is_open b.5),
+        ends_after_request number items request (subst (λ n. EndsLast number n items) is_open b.5),
         (λ x. let s = total_set (λ u. times x u.drawn) views port v (after_push v) at in let p = b.6 x in omega arith),
         (let s = total_set (λ u. u.parts) views port v (after_push v) at in let p = b.7 in omega arith),
-        each_set (Fits source taken waiting closed) (Fits source taken (suc waiting) false) views port (after_push v) b.8
-            (mine.0, (λ _. (own.0, (let p = own.1 in omega arith), fresh)), (λ d. no_bit (sym is_open ∙ (mine.2 d).0)), mine.3)
-            (λ j u other old. (old.0, (λ p. absurd (other ((old.1 p).0 ∙ sym own.0))), (λ d. no_bit (sym is_open ∙ (old.2 d).0)), old.3)),
+        each_set (Fits source taken waiting marks) (Fits source taken (suc waiting) 0) views port (after_push v) b.8
+            (mine.0, (λ _. (own.0, (let p = own.1 in omega arith), fresh)), (λ d. no_mark (mine.2 d).0 is_open), mine.3)
+            (λ j u other old. (old.0, (λ p. absurd (other ((old.1 p).0 ∙ sym own.0))), (λ d. no_mark (old.2 d).0 is_open), old.3)),
       ),
       refl,
     )
@@ -99,7 +102,7 @@ pushes number n port v request may fresh is items views room b at =
 -- an end mark has no number
 pub ends : {T : Type 0} (number : T → ℕ) (n port : ℕ) (v : Part) → v.pushes ≡ true → Pushes (IsInOrder {T = T} number) n port v None (λ w. w ≡ after_end v)
 ends number n port v may items views room b at =
-    let source = b.0 in let taken = b.1 in let waiting = b.2 in let closed = b.3 in
+    let source = b.0 in let taken = b.1 in let waiting = b.2 in let marks = b.3 in
     let mine = b.8 port v at in
     let own = mine.1 may in (
       after_end v,
@@ -107,14 +110,14 @@ ends number n port v may items views room b at =
         source,
         taken,
         waiting,
-        true,
+        marks + 1,
         (numbers_snoc number items None ∙ append-nil (numbers number items) ∙ b.4),
-        ends_after_end number closed items b.5,
+        ends_after_end number marks items b.5,
         (λ x. let s = total_set (λ u. times x u.drawn) views port v (after_end v) at in let p = b.6 x in omega arith),
         (let s = total_set (λ u. u.parts) views port v (after_end v) at in let p = b.7 in omega arith),
-        each_set (Fits source taken waiting closed) (Fits source taken waiting true) views port (after_end v) b.8
-            (mine.0, (λ _. (own.0, own.1, refl)), (λ d. (refl, (mine.2 d).1)), mine.3)
-            (λ j u other old. (old.0, (λ p. absurd (other ((old.1 p).0 ∙ sym own.0))), (λ d. (refl, (old.2 d).1)), old.3)),
+        each_set (Fits source taken waiting marks) (Fits source taken waiting (marks + 1)) views port (after_end v) b.8
+            (mine.0, (λ _. (own.0, own.1, ap (λ n. n + 1) own.2)), (λ d. (omega arith, (mine.2 d).1)), mine.3)
+            (λ j u other old. (old.0, (λ p. absurd (other ((old.1 p).0 ∙ sym own.0))), (λ d. (omega arith, (old.2 d).1)), old.3)),
       ),
       refl,
     )
@@ -125,13 +128,13 @@ drawn_below : (views : List Part) (port taken : ℕ) (v : Part) → get_elem? vi
 drawn_below views port taken v at once x here = let most = at_most_total (λ u. times x u.drawn) views port v at in let is = once x in below_of_one taken x (omega arith)
 
 -- the next number, by a pass that has a part
-draws_next : {T : Type 0} (number : T → ℕ) (port : ℕ) (v : Part) (request : T) (items : List (Option T)) (views : List Part) (source taken waiting : ℕ) (closed : Bool) → 0 < v.parts
-    → number request ∷ numbers number items ≡ range_with_len taken waiting → EndsLast number closed items
-    → ((x : ℕ) → total (λ u. times x u.drawn) views ≡ one_below taken x) → total (λ u. u.parts) views ≡ all_parts → Each (Fits source taken waiting closed) views
+draws_next : {T : Type 0} (number : T → ℕ) (port : ℕ) (v : Part) (request : T) (items : List (Option T)) (views : List Part) (source taken waiting marks : ℕ) → 0 < v.parts
+    → number request ∷ numbers number items ≡ range_with_len taken waiting → EndsLast number marks items
+    → ((x : ℕ) → total (λ u. times x u.drawn) views ≡ one_below taken x) → total (λ u. u.parts) views ≡ all_parts → Each (Fits source taken waiting marks) views
     → get_elem? views port ≡ some v
     → IsInOrder number items (set views port (after_pop number (Some request) v)) × IsIncreasing (v.drawn ++ number request ∷ [])
-draws_next number port v request items views source taken zero closed has line last once parts fits at = no_number line
-draws_next number port v request items views source taken (suc waiting) closed has line last once parts fits at =
+draws_next number port v request items views source taken zero marks has line last once parts fits at = no_number line
+draws_next number port v request items views source taken (suc waiting) marks has line last once parts fits at =
     let here : number request ≡ taken = head_is line in
     let mine = fits port v at in
     let w = after_pop number (Some request) v in
@@ -140,7 +143,7 @@ draws_next number port v request items views source taken (suc waiting) closed h
         source,
         taken + 1,
         waiting,
-        closed,
+        marks,
         tail_is line,
         last,
         (λ x.
@@ -151,7 +154,7 @@ draws_next number port v request items views source taken (suc waiting) closed h
             let p = once x in
             omega arith),
         (let s = total_set (λ u. u.parts) views port v w at in omega arith),
-        each_set (Fits source taken (suc waiting) closed) (Fits source (taken + 1) waiting closed) views port w fits
+        each_set (Fits source taken (suc waiting) marks) (Fits source (taken + 1) waiting marks) views port w fits
             (rising, (λ may. pushed_still (mine.1 may)), (λ d. absurd (some_wait (mine.2 d).1)), λ none. absurd (none_here v.parts has none))
             (λ j u other old. (old.0, (λ may. pushed_still (old.1 may)), (λ d. absurd (some_wait (old.2 d).1)), old.3)),
       ),
@@ -179,7 +182,7 @@ pops {T = T} number port v has None items views b at =
         b.2,
         b.3,
         b.4,
-        subst (λ c. EndsLast number c items) (sym b.5.0) (only_ends number items b.5.1),
+        only_ends number b.3 items b.5.0 b.5.1,
         (λ x. let s = total_set (λ u. times x u.drawn) views port v w at in let p = b.6 x in omega arith),
         (let s = total_set (λ u. u.parts) views port v w at in let p = b.7 in omega arith),
         each_set fits fits views port w b.8 (mine.0, mine.1, (λ d. (b.5.0, none_waits b.1 b.2 (sym b.4 ∙ b.5.1))), mine.3) (λ j u other old. old),

@@ -16,8 +16,8 @@ pub record SourceFacts : Type 0 where
   pub parts : ℕ
   -- the requests that were pushed
   pub pushed : ℕ
-  -- an end mark was pushed: no request may follow
-  pub closed : Bool
+  -- the end marks that were pushed: no request may follow one
+  pub marks : ℕ
   -- one of those who came back took an end mark
   pub drained : Bool
   -- the lists of those who drew, in the order in which they came back

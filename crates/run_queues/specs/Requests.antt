@@ -1,5 +1,5 @@
 -- The rule of the requests: they are pushed as 0, 1, 2 and so on, and each is drawn once, in that order. End marks stand behind them all.
-use Rattle.std.specs.Prelude.{◌≡◌, ℕ, ◌+◌, ◌-◌, Bool, true, false, ◌||◌, List, [], ◌∷◌, ◌++◌, Option, Some, None}
+use Rattle.std.specs.Prelude.{◌≡◌, ℕ, ◌+◌, ◌-◌, ◌<◌, true, false, ◌||◌, List, [], ◌∷◌, ◌++◌, Option, Some, None}
 use Rattle.std.specs.List.{range_with_len}
 use mathlib.Core.Option.{some}
 use lib.ListN.{get_elem?}
@@ -17,11 +17,11 @@ abbrev pub numbers : {T : Type 0} → (T → ℕ) → List (Option T) → List �
 numbers number [] = []
 numbers number (item ∷ items) = number_of number item ++ numbers number items
 
--- an end mark stands in a closed queue alone, and no request stands behind one
-abbrev pub EndsLast : {T : Type 0} → (T → ℕ) → Bool → List (Option T) → Type 0
-EndsLast number closed [] = Unit {0}
-EndsLast number closed (None ∷ items) = (closed ≡ true) × (numbers number items ≡ [])
-EndsLast number closed (Some request ∷ items) = EndsLast number closed items
+-- an end mark stands in a queue into which some were pushed, and no request stands behind one
+abbrev pub EndsLast : {T : Type 0} → (T → ℕ) → ℕ → List (Option T) → Type 0
+EndsLast number marks [] = Unit {0}
+EndsLast number marks (None ∷ items) = (0 < marks) × (numbers number items ≡ [])
+EndsLast number marks (Some request ∷ items) = EndsLast number marks items
 
 -- the parts of the first pass, which are all
 abbrev pub all_parts : ℕ
@@ -29,34 +29,34 @@ all_parts = 4294967296
 
 -- the first pass, which pushes
 abbrev pub first_part : Part
-first_part = record { parts = all_parts; pushes = true; pushed = 0; closed = false; drained = false; drawn = [] }
+first_part = record { parts = all_parts; pushes = true; pushed = 0; marks = 0; drained = false; drawn = [] }
 
--- A pass's list increases. The one pass that pushes knows how many it pushed, and whether it closed the queue. A pass that took an end mark knows
--- that the queue was closed, and no request waits. A pass with no part has drawn nothing.
-abbrev pub Fits : ℕ → ℕ → ℕ → Bool → ℕ → Part → Type 0
-Fits source taken waiting closed port v =
+-- A pass's list increases. The one pass that pushes knows how many requests it pushed, and how many end marks. A pass that took an end mark knows
+-- that some were pushed, and no request waits. A pass with no part has drawn nothing.
+abbrev pub Fits : ℕ → ℕ → ℕ → ℕ → ℕ → Part → Type 0
+Fits source taken waiting marks port v =
     IsIncreasing v.drawn
-    × (v.pushes ≡ true → (port ≡ source) × (v.pushed ≡ taken + waiting) × (v.closed ≡ closed))
-    × (v.drained ≡ true → (closed ≡ true) × (waiting ≡ 0))
+    × (v.pushes ≡ true → (port ≡ source) × (v.pushed ≡ taken + waiting) × (v.marks ≡ marks))
+    × (v.drained ≡ true → (0 < marks) × (waiting ≡ 0))
     × (v.parts ≡ 0 → v.drawn ≡ [])
 
 -- The queue holds the numbers from `taken` to the last pushed, in order, and then end marks. The passes' lists together hold those below `taken`,
 -- each once, and no other.
 abbrev pub IsInOrder : {T : Type 0} → (T → ℕ) → List (Option T) → List Part → Type 0
 IsInOrder number items views =
-    (source : ℕ) × (taken : ℕ) × (waiting : ℕ) × (closed : Bool)
+    (source : ℕ) × (taken : ℕ) × (waiting : ℕ) × (marks : ℕ)
     × (numbers number items ≡ range_with_len taken waiting)
-    × EndsLast number closed items
+    × EndsLast number marks items
     × ((x : ℕ) → total (λ v. times x v.drawn) views ≡ one_below taken x)
     × (total (λ v. v.parts) views ≡ all_parts)
-    × ((port : ℕ) (v : Part) → get_elem? views port ≡ some v → Fits source taken waiting closed port v)
+    × ((port : ℕ) (v : Part) → get_elem? views port ≡ some v → Fits source taken waiting marks port v)
 
 -- what a push of a request leaves of a pass's view, and what one of an end mark
 abbrev pub after_push : Part → Part
 after_push v = record v { pushed = v.pushed + 1 }
 
 abbrev pub after_end : Part → Part
-after_end v = record v { closed = true }
+after_end v = record v { marks = v.marks + 1 }
 
 -- what a pop leaves
 abbrev pub after_pop : {T : Type 0} → (T → ℕ) → Option T → Part → Part
@@ -68,14 +68,14 @@ abbrev pub after_split : Part → Part
 after_split v = record v { parts = v.parts - 1 }
 
 abbrev pub new_drawer : Part
-new_drawer = record { parts = 1; pushes = false; pushed = 0; closed = false; drained = false; drawn = [] }
+new_drawer = record { parts = 1; pushes = false; pushed = 0; marks = 0; drained = false; drawn = [] }
 
 -- two passes in one
 abbrev pub joined : Part → Part → Part
 joined v w = record v { parts = v.parts + w.parts; drained = v.drained || w.drained; drawn = merged v.drawn w.drawn }
 
 abbrev pub spent : Part
-spent = record { parts = 0; pushes = false; pushed = 0; closed = false; drained = false; drawn = [] }
+spent = record { parts = 0; pushes = false; pushed = 0; marks = 0; drained = false; drawn = [] }
 
 -- the pass has drawn what was pushed, each number once
 abbrev pub HasDrawnAll : Part → Type 0

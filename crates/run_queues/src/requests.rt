@@ -14,13 +14,12 @@ use std::marker::Model;
 use std::sync::Wait;
 
 /// What a pass of the queue knows: its parts of all that draw; whether it pushes, how many requests it pushed and
-/// whether it closed the queue by an end mark; whether it took an end mark, and the numbers that it drew. It stands
-/// in proofs alone.
+/// how many end marks; whether it took an end mark, and the numbers that it drew. It stands in proofs alone.
 pub struct Part {
     pub parts: u32,
     pub pushes: bool,
     pub pushed: u32,
-    pub closed: bool,
+    pub marks: u32,
     pub drained: bool,
     pub drawn: LinkedList<u32>,
 }
@@ -145,7 +144,7 @@ impl<T: Numbered + Drop> Model for Source<T> {
 
     ghost Value = { SourceFacts };
 
-    ghost view = { λ s. record { queue = s.seat.table_id; parts = (known s.seat).parts; pushed = (known s.seat).pushed; closed = (known s.seat).closed; drained = (known s.seat).drained; lists = map (λ list. list.items) s.lists.items; room = vec_capacity s.lists } };
+    ghost view = { λ s. record { queue = s.seat.table_id; parts = (known s.seat).parts; pushed = (known s.seat).pushed; marks = (known s.seat).marks; drained = (known s.seat).drained; lists = map (λ list. list.items) s.lists.items; room = vec_capacity s.lists } };
 
     ghost invariant = { λ s. (s.seat.me.1 ≡ []) × ((known s.seat).pushes ≡ true) × AreGathered (map (λ list. list.items) s.lists.items) (known s.seat).drawn };
 }
@@ -180,7 +179,7 @@ impl<T: Numbered + Drop> RequestQueue<T> {
     ) -> Result<(RequestQueue<T>, Source<T>), AllocError>
         requires { 0 < room }
         ensures queue { IfOk result (λ q. (q.0.room ≡ room) × (q.1.queue ≡ q.0.id)) }
-        ensures source { IfOk result (λ q. q.1 ≡ record { queue = q.0.id; parts = all_parts; pushed = 0; closed = false; drained = false; lists = []; room = drawers }) }
+        ensures source { IfOk result (λ q. q.1 ≡ record { queue = q.0.id; parts = all_parts; pushed = 0; marks = 0; drained = false; lists = []; room = drawers }) }
     {
         let lists = Vec::with_capacity(alloc, drawers)?;
         let (line, seat) = Line::new(alloc, room)?;
@@ -210,7 +209,7 @@ impl<T: Numbered + Drop> RequestQueue<T> {
     /// may follow an end mark.
     pub fn push<R: Wait>(&self, rt: &R, source: &mut Source<T>, request: T)
         requires own { source.old.queue ≡ self.now.id }
-        requires open { source.old.closed ≡ false }
+        requires open { source.old.marks ≡ 0 }
         requires number { T.number request ≡ source.old.pushed }
         ensures { source.new ≡ record source.old { pushed = source.old.pushed + 1 } }
     {
@@ -218,10 +217,10 @@ impl<T: Numbered + Drop> RequestQueue<T> {
             .push_as::<Pushed, R>(rt, &mut source.seat, Some(request));
     }
 
-    /// Pushes an end mark, and waits while there is no room: one call of `draw` then answers `None`.
+    /// Pushes one end mark, and waits while there is no room: one call of `draw` then answers `None`.
     pub fn end<R: Wait>(&self, rt: &R, source: &mut Source<T>)
         requires { source.old.queue ≡ self.now.id }
-        ensures { source.new ≡ record source.old { closed = true } }
+        ensures { source.new ≡ record source.old { marks = source.old.marks + 1 } }
     {
         self.line.push_as::<Ended, R>(rt, &mut source.seat, None);
     }

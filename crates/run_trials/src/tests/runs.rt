@@ -190,7 +190,8 @@ impl Stall for Counts {
     }
 }
 
-// Each ordered request drains the queue, and so does the end; of version 1 only the end does.
+// Each ordered request drains the queue, and so does the end; of version 1 only the end does. Under a freeze neither a line
+// that drains nor the end does: the queue is drained.
 #[test]
 fn as_many_drains_as_are_ordered(rt: HostRuntime) -> Result<(), Fail> {
     for (text, drains) in [
@@ -200,6 +201,7 @@ fn as_many_drains_as_are_ordered(rt: HostRuntime) -> Result<(), Fail> {
         ),
         (ORDERED, 34),
         (b"blkq 1\ndisk 4 hw 4\nread 0 4\nread 0 4\n", 2),
+        (b"blkq 1\ndisk 4 hw 4\nread 0 4\nfreeze\nset max_sectors 2\nstat\n", 1),
     ] {
         let counts = Counts {
             drains: AtomicU32::new(0),

@@ -36,7 +36,7 @@ returns-clause-handed_over g c =
     let given = c.duty-duty.ensures.collector in
     record {
       requests = ap (λ (s : SourceFacts). s.pushed) c.push.ensures ∙ ap (λ n. n + 1) handed.requests ∙ sym more;
-      not_ended = ap (λ (s : SourceFacts). s.closed) c.push.ensures ∙ handed.not_ended;
+      not_ended = ap (λ (s : SourceFacts). s.marks) c.push.ensures ∙ handed.not_ended;
       duties = ap (λ (k : CollectorFacts). k.given) given ∙ ap (λ n. n + 1) handed.duties ∙ sym more;
       awaited =
           subst (λ replies. AreAwaited script replies c.duty-duty.new.collector.given c.duty-duty.new.collector.collected) (sym c.in_ok-submit.ensures.owed)

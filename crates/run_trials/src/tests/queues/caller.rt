@@ -34,8 +34,8 @@ fn push_all<R: Wait>(
     count: u32,
 ) -> Source<Valued>
     requires queue { source.queue ≡ queue.now.id }
-    requires fresh { (source.pushed ≡ 0) × (source.closed ≡ false) }
-    ensures { result ≡ record source { pushed = count; closed = true } }
+    requires fresh { (source.pushed ≡ 0) × (source.marks ≡ 0) }
+    ensures { result ≡ record source { pushed = count; marks = 3 } }
 {
     for number in 0..count {
         let value = u64::from(number);
@@ -80,9 +80,9 @@ fn push_and_draw<R: Threads + Wait + Sync>(
     count: u32,
 ) -> (Drew, Source<Valued>)
     requires queue { (source.queue ≡ queue.now.id) × (drawer.queue ≡ queue.now.id) }
-    requires fresh { (source.pushed ≡ 0) × (source.closed ≡ false) }
+    requires fresh { (source.pushed ≡ 0) × (source.marks ≡ 0) }
     ensures drawer { IfOk result.0 (λ d. (d.queue ≡ queue.now.id) × (d.drained ≡ true)) }
-    ensures source { result.1 ≡ record source { pushed = count; closed = true } }
+    ensures source { result.1 ≡ record source { pushed = count; marks = 3 } }
 {
     thread::join(
         rt,
@@ -91,8 +91,8 @@ fn push_and_draw<R: Threads + Wait + Sync>(
             ensures { IfOk result (λ d. (d.queue ≡ queue.entry.now.id) × (d.drained ≡ true)) }
         { draw_all(rt, queue, drawer) },
         move || -> Source<Valued>
-            requires { (source.queue ≡ queue.now.id) × (source.pushed ≡ 0) × (source.closed ≡ false) }
-            ensures { result ≡ record source { pushed = count; closed = true } }
+            requires { (source.queue ≡ queue.now.id) × (source.pushed ≡ 0) × (source.marks ≡ 0) }
+            ensures { result ≡ record source { pushed = count; marks = 3 } }
         { push_all(rt, queue, source, count) },
     )
 }
@@ -121,9 +121,9 @@ fn drawn<R: Threads + Wait + Sync>(
         { two_draw(rt, queue, first, second) },
         move || -> (Drew, Source<Valued>)
             requires queue { IsSync R.row × (source.queue ≡ queue.now.id) × (third.queue ≡ queue.now.id) }
-            requires fresh { (source.pushed ≡ 0) × (source.closed ≡ false) }
+            requires fresh { (source.pushed ≡ 0) × (source.marks ≡ 0) }
             ensures drawer { IfOk result.0 (λ d. (d.queue ≡ queue.entry.now.id) × (d.drained ≡ true)) }
-            ensures source { result.1 ≡ record source { pushed = count; closed = true } }
+            ensures source { result.1 ≡ record source { pushed = count; marks = 3 } }
         { push_and_draw(rt, queue, source, third, count) },
     );
     queue.gather(&mut source, first?)?;

@@ -127,8 +127,8 @@ fn lead<N: Run, R: Wait>(
 ) -> Led<N>
     requires name { hall.now.completions.id ≡ N.table }
     requires queues { (source.queue ≡ hall.now.requests.id) × (collector.queue ≡ hall.now.completions.id) }
-    requires fresh { (source.pushed ≡ 0) × (source.closed ≡ false) × (collector.given ≡ 0) }
-    ensures { IfOk result (λ led. led.0 ≡ record source { pushed = count; closed = true }) }
+    requires fresh { (source.pushed ≡ 0) × (source.marks ≡ 0) × (collector.given ≡ 0) }
+    ensures { IfOk result (λ led. led.0 ≡ record source { pushed = count; marks = 2 }) }
 {
     for number in 0..count {
         let duty = hall.completions.duty(&mut collector, number);
@@ -152,9 +152,9 @@ fn lead_and_work<N: Run + Send + Sync, R: Threads + Wait + Sync>(
 ) -> (Drew<N>, Led<N>)
     requires name { hall.now.completions.id ≡ N.table }
     requires queues { (drawer.queue ≡ hall.now.requests.id) × (source.queue ≡ hall.now.requests.id) × (collector.queue ≡ hall.now.completions.id) }
-    requires fresh { (source.pushed ≡ 0) × (source.closed ≡ false) × (collector.given ≡ 0) }
+    requires fresh { (source.pushed ≡ 0) × (source.marks ≡ 0) × (collector.given ≡ 0) }
     ensures drawer { IfOk result.0 (λ d. (d.queue ≡ hall.now.requests.id) × (d.drained ≡ true)) }
-    ensures led { IfOk result.1 (λ led. led.0 ≡ record source { pushed = count; closed = true }) }
+    ensures led { IfOk result.1 (λ led. led.0 ≡ record source { pushed = count; marks = 2 }) }
 {
     thread::join(
         rt,
@@ -165,8 +165,8 @@ fn lead_and_work<N: Run + Send + Sync, R: Threads + Wait + Sync>(
         move || -> Led<N>
             requires name { hall.now.completions.id ≡ N.table }
             requires queues { (source.queue ≡ hall.now.requests.id) × (collector.queue ≡ hall.now.completions.id) }
-            requires fresh { (source.pushed ≡ 0) × (source.closed ≡ false) × (collector.given ≡ 0) }
-            ensures { IfOk result (λ led. led.0 ≡ record source { pushed = count; closed = true }) }
+            requires fresh { (source.pushed ≡ 0) × (source.marks ≡ 0) × (collector.given ≡ 0) }
+            ensures { IfOk result (λ led. led.0 ≡ record source { pushed = count; marks = 2 }) }
         { lead(rt, alloc, hall, source, collector, count) },
     )
 }
@@ -206,9 +206,9 @@ fn run_as<N: Run + Send + Sync, R: Threads + Wait + Sync>(
         move || -> (Drew<N>, Led<N>)
             requires name { hall.now.completions.id ≡ N.table }
             requires queues { IsSync R.row × (second.queue ≡ hall.now.requests.id) × (source.queue ≡ hall.now.requests.id) × (collector.queue ≡ hall.now.completions.id) }
-            requires fresh { (source.pushed ≡ 0) × (source.closed ≡ false) × (collector.given ≡ 0) }
+            requires fresh { (source.pushed ≡ 0) × (source.marks ≡ 0) × (collector.given ≡ 0) }
             ensures drawer { IfOk result.0 (λ d. (d.queue ≡ hall.entry.now.requests.id) × (d.drained ≡ true)) }
-            ensures led { IfOk result.1 (λ led. led.0 ≡ record source { pushed = count; closed = true }) }
+            ensures led { IfOk result.1 (λ led. led.0 ≡ record source { pushed = count; marks = 2 }) }
         { lead_and_work(rt, alloc, hall, second, source, collector, count) },
     );
     let (mut source, answers) = led?;

@@ -4,6 +4,6 @@ use Rattle.run_queues.proofs.requests.RequestQueue.push.Goals as goal
 
 pub push_as-requires-clause-rule : goal.push_as-requires-clause-rule
 push_as-requires-clause-rule g c = (
-  pushes _ _ _ _ _ c.source.invariant.1 (ap (λ s. s.closed) c.source.view_is ∙ c.requires.open) (c.requires.number ∙ sym (ap (λ s. s.pushed) c.source.view_is)),
+  pushes _ _ _ _ _ c.source.invariant.1 (ap (λ s. s.marks) c.source.view_is ∙ c.requires.open) (c.requires.number ∙ sym (ap (λ s. s.pushed) c.source.view_is)),
   λ items views b at. tt,
 )
