@@ -5,12 +5,12 @@ ghost use Rattle.crossbeam_queue.specs.Passes.{view, IsSamePass, IsPassOf, ruled
 
 use crossbeam_queue::protocol::{Free, Lesson, Outcome, Protocol};
 use crossbeam_queue::{Pass, RuledArrayQueue};
-use crossbeam_utils::sync::EventCount;
 use crossbeam_utils::{Backoff, CachePadded};
 use std::alloc::{AllocError, Global};
 use std::sync::Wait;
 use std::sync::atomic::{AtomicUsize, Ordering};
 use std::thread;
+use wait_queue::WaitQueue;
 
 /// How often a thread that finds nothing looks again before it sleeps.
 const LOOKS: u32 = 16;
@@ -29,8 +29,10 @@ const LOOKERS: usize = 4;
 #[derive(Drop)]
 pub(crate) struct Line<T: Drop, V, P: Protocol<T, V>> {
     pub(crate) ring: RuledArrayQueue<T, V, P>,
-    added: EventCount,
-    taken: EventCount,
+    /// Those who wait for an item.
+    added: WaitQueue,
+    /// Those who wait for room.
+    taken: WaitQueue,
     /// How many threads sleep, or are about to, because there was no item.
     sleeping: AtomicUsize,
     /// How many threads look for an item. It changes with each look, so it shares its lines with nothing else.
@@ -47,8 +49,8 @@ impl<T: Drop, V, P: Protocol<T, V>> Line<T, V, P> {
         let (ring, pass) = RuledArrayQueue::ruled(alloc, room)?;
         let line = Line {
             ring,
-            added: EventCount::new(),
-            taken: EventCount::new(),
+            added: WaitQueue::new(),
+            taken: WaitQueue::new(),
             sleeping: AtomicUsize::new(0),
             looking: CachePadded::new(AtomicUsize::new(0)),
         };
@@ -67,24 +69,14 @@ impl<T: Drop, V, P: Protocol<T, V>> Line<T, V, P> {
         ensures queue { IsSamePass pass.old pass.new }
         ensures rule { M.then (view pass.old) item (view pass.new) }
     {
-        let backoff = Backoff::new();
         let mut item = item;
-        for _ in rt.forever() {
-            let room = if backoff.is_completed() {
-                Some(self.taken.prepare_wait())
-            } else {
-                None
-            };
+        for _ in self.taken.tries(rt) {
             match self.ring.push_as::<M, R>(rt, pass, item) {
                 Ok(()) => {
                     self.wake();
                     return;
                 }
                 Err(back) => item = back,
-            }
-            match room {
-                Some(room) => room.wait(rt),
-                None => backoff.snooze(),
             }
         }
         unreachable!()
@@ -182,15 +174,23 @@ impl<T: Drop, V, P: Protocol<T, V>> Line<T, V, P> {
         ensures rule { M.then (view pass.old) result (view pass.new) }
     {
         self.sleeping.fetch_add(1, Ordering::SeqCst);
-        for _ in rt.forever() {
-            let more = self.added.prepare_wait();
+        let item = self.wait_as::<M, R>(rt, pass);
+        self.sleeping.fetch_sub(1, Ordering::SeqCst);
+        self.pass_on(pass);
+        item
+    }
+
+    // Takes the first item as one of those who wait for it.
+    fn wait_as<M: Outcome<T, V> + Lesson<T, V>, R: Wait>(&self, rt: &R, pass: &mut Pass<T, V>) -> T
+        requires queue { IsPassOf self.now.ring pass.old }
+        requires rule { Pops P.holds pass.old.id (view pass.old) (M.then (view pass.old)) × Learns P.holds pass.old.id (view pass.old) (M.fact (view pass.old)) }
+        ensures queue { IsSamePass pass.old pass.new }
+        ensures rule { M.then (view pass.old) result (view pass.new) }
+    {
+        for _ in self.added.announced_tries(rt) {
             if let Some(item) = self.ring.pop_as::<M, R>(rt, pass) {
-                drop(more);
-                self.sleeping.fetch_sub(1, Ordering::SeqCst);
-                self.pass_on(pass);
                 return item;
             }
-            more.wait(rt);
         }
         unreachable!()
     }
@@ -201,7 +201,7 @@ impl<T: Drop, V, P: Protocol<T, V>> Line<T, V, P> {
         requires { IsPassOf self.now.ring pass.old }
         ensures { IsSamePass pass.old pass.new × (view pass.new ≡ view pass.old) }
     {
-        self.taken.notify_one();
+        self.taken.wake_one();
         if self.sleeping.load(Ordering::SeqCst) > 0 && !self.ring.is_empty_as::<Free>(pass) {
             self.wake();
         }
@@ -210,7 +210,7 @@ impl<T: Drop, V, P: Protocol<T, V>> Line<T, V, P> {
     // Wakes a sleeper, where there is one and no thread looks for what it would find.
     fn wake(&self) {
         if self.sleeping.load(Ordering::SeqCst) > 0 && self.looking.load(Ordering::SeqCst) == 0 {
-            self.added.notify_one();
+            self.added.wake_one();
         }
     }
 }
