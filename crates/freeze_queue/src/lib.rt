@@ -20,6 +20,7 @@
 //! caller reasons. That a waiter wakes is promised nowhere: tests show it.
 #![tactic(auto)]
 
+mod dropped;
 mod fault;
 mod freezer;
 mod laws;
@@ -31,7 +32,9 @@ mod tag;
 
 pub use fault::FreezeFault;
 pub use freezer::{Freezer, MOST_DEPTH};
-pub use laws::{drained_is_empty, in_force_are_set, limits_hold_still, tags_read_what_is_set};
+pub use laws::{
+    drained_is_empty, in_force_are_set, limits_hold_still, sizes_in_numbers, tags_read_what_is_set,
+};
 pub use limit_words::LIMIT_WORDS;
 pub use percpu_gate::{Final, Memory, Mode, Put};
 pub use queue::{BlockQueue, MOST_TAGS, NewQueue};

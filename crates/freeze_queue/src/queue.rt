@@ -15,7 +15,7 @@ use crate::freezer::Freezer;
 use crate::limit_words::LIMIT_WORDS;
 use crate::tag::{Enter, Tag};
 use crossbeam_utils::sync::{Parker, Unparker};
-use percpu_gate::{Gate, Memory, Pass, Put, Start, Tried};
+use percpu_gate::{Gate, Memory, Pass, Put, Start};
 use queue_limits::Limits;
 use std::alloc::{AllocError, Global};
 use std::marker::Model;
@@ -104,14 +104,6 @@ impl BlockQueue {
         self.gate.slots()
     }
 
-    /// Wakes the freezer where a drop was the last.
-    #[inline]
-    fn wake_freezer(&self, put: Put) {
-        if put == Put::Last {
-            self.drained.unpark();
-        }
-    }
-
     /// Wakes those who wait to enter.
     pub(crate) fn wake_submitters(&self) {
         self.thawed.wake_all();
@@ -130,9 +122,9 @@ impl BlockQueue {
         ensures counted { tag.new.seat.live_given ≡ tag.old.seat.live_given + taken (answered result) }
     {
         match tag.take(&self.gate, slot) {
-            Tried::Given => Enter::Entered,
-            Tried::Refused(put) => {
-                self.wake_freezer(put);
+            Ok(()) => Enter::Entered,
+            Err(dropped) => {
+                let _put = dropped.wake(&self.drained);
                 Enter::Again
             }
         }
@@ -166,9 +158,7 @@ impl BlockQueue {
         requires entered { tag.old.entered ≡ true }
         ensures { tag.new ≡ after_leaving result tag.old }
     {
-        let put = tag.put(&self.gate, slot);
-        self.wake_freezer(put);
-        put
+        tag.put(&self.gate, slot).wake(&self.drained)
     }
 
     /// The limits in force, for an entered tag: the same at each call until it leaves, in whichever threads the

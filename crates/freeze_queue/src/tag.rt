@@ -1,16 +1,17 @@
 //! A tag: the right to have one request under way.
-ghost use Rattle.std.specs.Prelude.{◌≡◌, ◌+◌, ◌<◌, ◌≤◌, true, false, Some, None};
+ghost use Rattle.std.specs.Prelude.{◌≡◌, ◌+◌, ◌<◌, ◌≤◌, true, false, Some, None, OnOk, IfErr};
 ghost use Rattle.percpu_gate.specs.Seats.{fresh_pass};
 ghost use Rattle.queue_limits.specs.Bounds.{Bounds};
 ghost use Rattle.queue_limits.specs.Words.{from_words};
-ghost use Rattle.percpu_gate.specs.declared.tried.Tried.TheVariants.{Given, Refused};
 ghost use Rattle.freeze_queue.specs.Queue.{first_tag, after_entering, after_refusal, after_leaving};
 ghost use Rattle.percpu_gate.specs.Calls.{taken, LiveTryFinds};
 ghost use Rattle.freeze_queue.specs.AtTheGate.{AreInForce};
 ghost use Rattle.freeze_queue.specs.Readings.{IsTag};
+ghost use Rattle.freeze_queue.specs.Entering.{tried};
 
+use crate::dropped::Dropped;
 use crate::limit_words::{LIMIT_WORDS, load_words};
-use percpu_gate::{Gate, Pass, Put, Tried};
+use percpu_gate::{Gate, Pass, Tried};
 use std::marker::Model;
 
 /// What an attempt to enter answers.
@@ -66,27 +67,30 @@ impl Tag {
 
     /// Takes the one reference of a tag, unless the gate was killed.
     #[inline]
-    pub(crate) fn take(&mut self, gate: &Gate<LIMIT_WORDS>, slot: u32) -> Tried
+    pub(crate) fn take(&mut self, gate: &Gate<LIMIT_WORDS>, slot: u32) -> Result<(), Dropped>
         requires own { self.old.queue.gate ≡ gate.now }
         requires slot { slot < gate.now.slots }
         requires out { self.old.entered ≡ false }
-        ensures given { result ≡ Given → self.new ≡ after_entering self.new.seat self.old }
-        ensures refused { (r : Put) → result ≡ Refused r → (self.new ≡ after_refusal r self.new.seat self.old) × (self.new.seat.found_dead ≡ true) }
-        ensures finds { LiveTryFinds gate.now slot self.old.seat result }
-        ensures counted { self.new.seat.live_given ≡ self.old.seat.live_given + taken result }
+        ensures given { OnOk result (self.new ≡ after_entering self.new.seat self.old) }
+        ensures refused { IfErr result (λ d. (self.new ≡ after_refusal d.put self.new.seat self.old) × (self.new.seat.found_dead ≡ true)) }
+        ensures finds { LiveTryFinds gate.now slot self.old.seat (tried result) }
+        ensures counted { self.new.seat.live_given ≡ self.old.seat.live_given + taken (tried result) }
     {
-        self.pass.try_get_live(gate, slot)
+        match self.pass.try_get_live(gate, slot) {
+            Tried::Given => Ok(()),
+            Tried::Refused(put) => Err(Dropped::new(put)),
+        }
     }
 
     /// Drops it.
     #[inline]
-    pub(crate) fn put(&mut self, gate: &Gate<LIMIT_WORDS>, slot: u32) -> Put
+    pub(crate) fn put(&mut self, gate: &Gate<LIMIT_WORDS>, slot: u32) -> Dropped
         requires own { self.old.queue.gate ≡ gate.now }
         requires slot { slot < gate.now.slots }
         requires entered { self.old.entered ≡ true }
-        ensures { self.new ≡ after_leaving result self.old }
+        ensures { self.new ≡ after_leaving result.put self.old }
     {
-        self.pass.put(gate, slot, 1)
+        Dropped::new(self.pass.put(gate, slot, 1))
     }
 
     /// Loads the words that hold the limits.

@@ -1,7 +1,7 @@
 use Rattle.freeze_queue.proofs.queue.BlockQueue.try_enter.Goals as goal
 
-pub returns-in-Refused-clause-again : goal.returns-in-Refused-clause-again
-returns-in-Refused-clause-again c = λ e. let both = c.take.ensures.refused c.in-Refused.put c.in-Refused.is in (c.in-Refused.put, both.0, both.1)
+pub returns-in-Err-clause-again : goal.returns-in-Err-clause-again
+returns-in-Err-clause-again c = λ e. let both = c.in-Err.ensures.refused in (c.in-Err.dropped.put, both.0, both.1)
 
-pub returns-in-Refused-clause-finds : goal.returns-in-Refused-clause-finds
-returns-in-Refused-clause-finds c = rw (← c.self.view_is) (let f = c.in-Refused.ensures.finds in record { moment = f.moment; refused = f.refused; given = f.given; even = f.even })
+pub returns-in-Err-clause-finds : goal.returns-in-Err-clause-finds
+returns-in-Err-clause-finds c = rw (← c.self.view_is) (let f = c.in-Err.ensures.finds in record { moment = f.moment; refused = f.refused; given = f.given; even = f.even })
