@@ -15,7 +15,7 @@ use crate::pass_handle::PassHandle;
 use percpu_gate::Start;
 
 /// What is left of a gate that has ended.
-#[derive(Drop)]
+#[derive(Debug, Drop)]
 #[repr(C)]
 pub struct Final {
     pub dead: bool,

@@ -1,6 +1,7 @@
 //! A life through the exports, and each misuse. What the program does with C's threads, sanitizers and a failing
 //! `malloc` is tested by tests/c.
 mod ends;
+mod places;
 
 use crate::control_calls::{
     percpu_gate_control_is_zero, percpu_gate_kill, percpu_gate_kills, percpu_gate_reinit,
@@ -26,7 +27,7 @@ use crate::pass_calls::{
 use crate::pass_handle::PassHandle;
 use std::process::Abort;
 
-const WORDS: [u64; 8] = [7, 0, 0, 0, 0, 0, 0, 9];
+const WORDS: [u64; 8] = [7, 1, 2, 3, 4, 5, 6, 9];
 
 /// The number of a test's gate.
 const NUMBER: GateNumber = GateNumber {
@@ -65,7 +66,7 @@ fn a_life(rt: HostRuntime) {
     let mut words = WORDS;
     assert!(rt; percpu_gate_store_word(&mut control, 7, 4) == 0);
     assert!(rt; percpu_gate_words(&mut control, &mut words) == 0);
-    assert!(rt; words == [7, 0, 0, 0, 0, 0, 0, 4]);
+    assert!(rt; words == [7, 1, 2, 3, 4, 5, 6, 4]);
     assert!(rt; percpu_gate_reinit(&mut control) == 0);
     percpu_gate_free_pass(&mut pass);
     percpu_gate_free_control(&mut control);

@@ -4,7 +4,7 @@ ghost use Rattle.std.specs.Prelude.{◌≡◌, IfSome};
 ghost use Rattle.percpu_gate_c.specs.Life.{NumbersTellOn};
 
 use super::WORDS;
-use crate::control_calls::{percpu_gate_kill, percpu_gate_releases};
+use crate::control_calls::{percpu_gate_kill, percpu_gate_releases, percpu_gate_resurrect};
 use crate::control_handle::ControlHandle;
 use crate::gate_number::GateNumber;
 use crate::life::{
@@ -15,6 +15,7 @@ use crate::pass_calls::{percpu_gate_put, percpu_gate_try_get_live};
 use crate::pass_handle::PassHandle;
 use std::alloc::Global;
 use std::process::Abort;
+use std::test::Fail;
 
 /// What is there before a gate has ended.
 const NOT_YET: Final = Final {
@@ -61,6 +62,13 @@ fn kill(control: &mut ControlHandle, pass: &PassHandle) -> u32
     percpu_gate_kill(control)
 }
 
+fn resurrect(control: &mut ControlHandle, pass: &PassHandle) -> u32
+    requires { NumbersTellOn control.old.held.control pass.now.held.pass }
+    ensures { NumbersTellOn control.new.held.control pass.now.held.pass }
+{
+    percpu_gate_resurrect(control)
+}
+
 fn exit(control: &mut ControlHandle, pass: &PassHandle, last: &mut Final) -> u32
     requires { NumbersTellOn control.old.held.control pass.now.held.pass }
     ensures { NumbersTellOn control.new.held.control pass.now.held.pass }
@@ -86,6 +94,30 @@ fn a_whole_life(rt: HostRuntime) {
     assert!(rt; (last.dead, last.kills, last.releases) == (true, 1, 1));
     assert!(rt; last.words == WORDS);
     assert!(rt; percpu_gate_exit(&mut control, &mut last) == 32);
+}
+
+/// Three kills of which two reached zero: each field of what is left has a number of its own, and stands in its place.
+#[test]
+fn what_is_left(rt: HostRuntime) -> Result<(), Fail> {
+    let (mut control, mut pass) = of_one_gate(&rt, rt.alloc(), 1);
+    let mut last = NOT_YET;
+    assert!(rt; take(&control, &mut pass) == 0);
+    assert!(rt; kill(&mut control, &pass) == 0);
+    assert!(rt; resurrect(&mut control, &pass) == 0);
+    assert!(rt; put(&control, &mut pass) == 0);
+    assert!(rt; kill(&mut control, &pass) == 1);
+    assert!(rt; resurrect(&mut control, &pass) == 1);
+    assert!(rt; kill(&mut control, &pass) == 1);
+    assert!(rt; percpu_gate_retire(&mut control, &mut pass) == 0);
+    assert!(rt; percpu_gate_exit(&mut control, &mut last) == 0);
+    assert!(rt; last.dead);
+    assert!(rt; last.kills == 3);
+    assert!(rt; last.releases == 2);
+    assert!(rt; last.words == WORDS);
+    let told = format!(in rt.alloc(); "{last:?}")?;
+    let wanted = "Final { dead: true, kills: 3, releases: 2, words: [7, 1, 2, 3, 4, 5, 6, 9] }";
+    assert!(rt; told.as_str() == wanted);
+    Ok(())
 }
 
 #[test]
