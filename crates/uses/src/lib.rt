@@ -3,7 +3,8 @@
 //!
 //! [`commands`] cuts a request into the commands that a device takes. [`serve`] runs a request on a device that
 //! may be removed at any moment, [`remove`] removes it, and [`race`] has the two race, on two threads. [`submit`]
-//! runs a request in a queue whose limits another thread may change meanwhile, as [`change_limits`] does.
+//! cuts a request in a queue whose limits another thread may change meanwhile, as [`change_limits`] does; [`enter_under`] is
+//! for a request that needs certain limits: it compares what it is told, and leaves and enters again where that differs.
 #![tactic(auto)]
 
 mod cutting;
@@ -14,7 +15,7 @@ mod settings;
 pub use cutting::{Command, commands};
 pub use racing::{Raced, race};
 pub use removal::{Served, remove, serve};
-pub use settings::{change_limits, submit};
+pub use settings::{change_limits, enter_under, submit};
 
 #[cfg(test)]
 mod tests;

@@ -1,9 +1,9 @@
 //! A device that may be removed while requests run on it.
 ghost use Rattle.std.specs.Prelude.{◌≡◌, ◌+◌, ◌<◌, IfOk, OnErr};
 ghost use Rattle.percpu_core.specs.declared.phase.Phase.TheVariants.{Dead};
-ghost use Rattle.percpu_gate.specs.Calls.{holding, released};
+ghost use Rattle.percpu_gate.specs.Calls.{holding, released, taken, LiveTryFinds};
 ghost use Rattle.percpu_gate.specs.ControlCalls.{fault_of, kill_refusal};
-ghost use Rattle.uses.specs.Removal.{told};
+ghost use Rattle.uses.specs.Removal.{told, tried};
 
 use percpu_gate::{Control, ControlFault, Gate, Pass, Put, Tried};
 
@@ -24,6 +24,9 @@ pub fn serve(gate: &Gate<1>, pass: &mut Pass<1>, slot: u32) -> Served
     ensures own { pass.new.gate ≡ gate.now }
     ensures idle { pass.new.view.standing ≡ holding 0 }
     ensures told { pass.new.view.releases ≡ pass.old.view.releases + told result }
+    // A request that is done was let in by a step that a live gate gives, and one that isn't found the device removed.
+    ensures finds { LiveTryFinds gate.now slot pass.old.view (tried result) }
+    ensures counted { pass.new.view.live_given ≡ pass.old.view.live_given + taken (tried result) }
 {
     match pass.try_get_live(gate, slot) {
         Tried::Refused(put) => Served::Gone(put),

@@ -1,20 +1,24 @@
 //! The limits of a queue, changed while others submit to it.
-ghost use Rattle.std.specs.Prelude.{◌≡◌, ◌<◌, ◌^◌, false, IfOk, IfSome, OnOk, OnErr};
-ghost use Rattle.queue_limits.specs.Bounds.{Bounds, AreAllowed};
-ghost use Rattle.queue_limits.specs.Pieces.{IsSplit};
+ghost use Rattle.std.specs.Prelude.{◌≡◌, ◌<◌, ◌^◌, true, false, Some, IfOk, IfSome, OnOk, OnErr};
+ghost use Rattle.percpu_core.specs.declared.view.PassView.{PassView};
 ghost use Rattle.percpu_gate.specs.Calls.{LiveTryFinds};
 ghost use Rattle.freeze_queue.specs.Entering.{answered};
 ghost use Rattle.freeze_queue.specs.Queue.{fault_of, freeze_refusal};
-ghost use Rattle.uses.specs.Commands.{lengths, entering};
+ghost use Rattle.freeze_queue.specs.AtTheGate.{AreInForce};
+ghost use Rattle.freeze_queue.specs.Readings.{IsTag};
+ghost use Rattle.uses.specs.Commands.{lengths, entering, AreInARow};
+ghost use Rattle.uses.specs.Settings.{IsCutByLimits, IsChanged, is_made};
 
 use crate::cutting::{Command, commands};
 use freeze_queue::{BlockQueue, Enter, FreezeFault, Freezer, Tag};
 use queue_limits::Limits;
 use std::alloc::{AllocError, Global};
 use std::sync::Wait;
+use std::thread;
 
-/// The commands for a request that enters a queue: all of them under one setting, whatever a freezer does
-/// meanwhile. None where the queue is frozen. Linux: `blk_mq_submit_bio` (block/blk-mq.c).
+/// The commands for a request that enters a queue: all of them by the limits that its tag is told, which hold still until
+/// it leaves, whatever a freezer does meanwhile. Whoever ends the request leaves with the tag. None where the queue is frozen.
+/// Linux: `blk_mq_submit_bio` (block/blk-mq.c).
 pub fn submit(
     alloc: Global,
     queue: &BlockQueue,
@@ -28,22 +32,47 @@ pub fn submit(
     requires out { tag.old.entered ≡ false }
     requires place { start < 2 ^ 32 }
     ensures own { tag.new.queue ≡ queue.now }
-    ensures out { tag.new.entered ≡ false }
+    ensures entered { tag.new.entered ≡ is_made result }
     // None says that the attempt to enter found the queue frozen, commands that it found it live.
     ensures finds { IfOk result (λ made. LiveTryFinds queue.now.gate slot tag.old.seat (answered (entering made))) }
-    ensures split { IfOk result (λ made. IfSome made (λ made. (limits : Bounds) × AreAllowed limits × (limits.hardware ≡ queue.now.hardware) × IsSplit limits start count (lengths made.items))) }
+    ensures row { IfOk result (λ made. IfSome made (λ made. AreInARow start made.items)) }
+    ensures split { IfOk result (λ made. IfSome made (λ made. IsCutByLimits tag.new start count (lengths made.items))) }
 {
     match queue.try_enter(tag, slot) {
         Enter::Again => return Ok(None),
         Enter::Entered => {}
     }
     let limits = queue.limits(tag);
-    let made = commands(alloc, &limits, start, count);
-    // Here the device works on them. The limits are still those that they were cut by.
-    let still = queue.limits(tag);
-    prove!(still == limits);
-    queue.leave(tag, slot);
-    Ok(Some(made?))
+    match commands(alloc, &limits, start, count) {
+        Ok(made) => Ok(Some(made)),
+        Err(why) => {
+            queue.leave(tag, slot);
+            Err(why)
+        }
+    }
+}
+
+/// Enters, and waits until the limits in force are these. A tag that enters after a change of limits may find that the freezer
+/// has gone on: so what it is told is compared, and where it differs the tag leaves and enters again.
+pub fn enter_under<R: Wait>(rt: &R, queue: &BlockQueue, tag: &mut Tag, slot: u32, limits: &Limits)
+    requires own { tag.old.queue ≡ queue.now }
+    requires slot { slot < queue.now.gate.slots }
+    requires out { tag.old.entered ≡ false }
+    ensures own { tag.new.queue ≡ queue.now }
+    ensures entered { tag.new.entered ≡ true }
+    ensures told { tag.new.limits ≡ Some limits.now }
+    ensures kept { IsTag tag.new }
+    ensures in_force { (before : PassView) × AreInForce queue.now.gate queue.now.hardware before limits.now }
+{
+    for _ in rt.forever() {
+        queue.enter(rt, tag, slot);
+        if queue.limits(tag) == *limits {
+            return;
+        }
+        queue.leave(tag, slot);
+        thread::yield_now();
+    }
+    unreachable!()
 }
 
 /// Changes the limits of a queue that others submit to: it is frozen, drained, set and thawed.
@@ -59,12 +88,17 @@ pub fn change_limits<R: Wait>(
     ensures refused { fault_of result ≡ freeze_refusal freezer.old }
     ensures limits { OnOk result (freezer.new.limits ≡ limits) }
     ensures depth { freezer.new.depth ≡ freezer.old.depth }
+    ensures changed { OnOk result (IsChanged limits freezer.old freezer.new) }
     ensures unchanged { OnErr result (freezer.new ≡ freezer.old) }
 {
     freezer.freeze(rt, queue)?;
     // Drained: no request is under way, and none can enter.
-    let set = freezer.set(queue, limits);
-    let thawed = freezer.thaw(queue);
-    prove!(set.is_ok() && thawed.is_ok());
-    Ok(())
+    match freezer.set(queue, limits) {
+        Ok(()) => {}
+        Err(_) => unreachable!(),
+    }
+    match freezer.thaw(queue) {
+        Ok(_) => Ok(()),
+        Err(_) => unreachable!(),
+    }
 }

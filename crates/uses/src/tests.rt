@@ -1,7 +1,7 @@
 //! Each function once on its happy path.
-use crate::{Command, Served, change_limits, commands, race, remove, serve, submit};
+use crate::{Command, Served, change_limits, commands, enter_under, race, remove, serve, submit};
 use freeze_queue::BlockQueue;
-use percpu_gate::{Gate, Put, Start};
+use percpu_gate::{Gate, Put, Start, Tried};
 use queue_limits::Limits;
 use std::process::Abort;
 use std::test::Fail;
@@ -31,6 +31,18 @@ fn a_request_after_the_removal_is_refused(rt: HostRuntime) -> Result<(), Fail> {
     Ok(())
 }
 
+/// The device is being removed, and another request is still at it: the gate isn't at zero, and refuses all the same.
+#[test]
+fn a_request_beside_the_last_one_is_refused(rt: HostRuntime) -> Result<(), Fail> {
+    let (gate, mut control, mut passes) = Gate::new(rt.alloc(), 1, 2, Start::Atomic, [7])?;
+    let mut other = passes.pop().ok_or("a pass")?;
+    let mut pass = passes.pop().ok_or("another pass")?;
+    assert_eq!(rt; other.try_get_live(&gate, 0), Tried::Given);
+    assert_eq!(rt; remove(&gate, &mut control), Ok(Put::NotLast));
+    assert_eq!(rt; serve(&gate, &mut pass, 0), Served::Gone(Put::NotLast));
+    Ok(())
+}
+
 #[test]
 fn one_of_the_two_frees_the_device(rt: HostRuntime) -> Result<(), Fail> {
     let (gate, control, mut passes) = Gate::new(rt.alloc(), 1, 1, Start::Atomic, [7])?;
@@ -50,11 +62,12 @@ fn a_request_is_cut_by_the_limits_in_force(rt: HostRuntime) -> Result<(), Fail> 
     let mut tag = tags.pop().ok_or("a tag")?;
     let wide = submit(rt.alloc(), &queue, &mut tag, 0, 6, 6)?.ok_or("entered")?;
     assert_eq!(rt; wide.len(), 1);
-    assert_eq!(rt;
-        change_limits(&rt, &queue, &mut freezer, Limits::new(8, 4, 8)?),
-        Ok(())
-    );
-    let narrow = submit(rt.alloc(), &queue, &mut tag, 0, 6, 6)?.ok_or("entered")?;
-    assert_eq!(rt; narrow.len(), 2);
+    queue.leave(&mut tag, 0);
+    let narrow = Limits::new(8, 4, 8)?;
+    assert_eq!(rt; change_limits(&rt, &queue, &mut freezer, narrow), Ok(()));
+    enter_under(&rt, &queue, &mut tag, 0, &narrow);
+    queue.leave(&mut tag, 0);
+    let made = submit(rt.alloc(), &queue, &mut tag, 0, 6, 6)?.ok_or("entered")?;
+    assert_eq!(rt; made.len(), 2);
     Ok(())
 }
