@@ -1,14 +1,129 @@
--- The statuses that the program ends with.
-use Rattle.std.proofs.Common.{[], ◌∷◌, refl, lit<}
-use Rattle.std.specs.Prelude.{Contains}
-use Rattle.blkq_run.specs.Faults.{status_of}
+-- What the program's status tells, of each way in which a run or a replay ends.
+use Rattle.std.proofs.Common.{◌≡◌, ◌⊎◌, ℕ, List, Option, None, Some, IfSome, IfNone, OnSome, IsErr, IsOkAnd, Result, Ok, Err, lit<, refl, inl, inr, arith}
+use Rattle.line_text.specs.declared.fault.ParseFault.{ParseFault}
+use Rattle.counted_io.specs.Failures.{HasFailed}
+use Rattle.counted_io.specs.Reading.{IfKnown}
+use Rattle.counted_io.specs.Tally.{Tally}
+use Rattle.counted_io.specs.Writing.{Takes, TakesNothing, TakesPart}
+use Rattle.gate_replay.specs.Shown.{EndsSo, Shown, shown_by}
+use Rattle.gate_replay.specs.declared.replay.Replayed.TheVariants.{Whole, Stuck}
+use Rattle.blkq_run.specs.Answer.{IsAnswer, IsAnsweredBy}
+use Rattle.blkq_run.specs.Faults.{IsOfReplay, IsRefusal, refusal_of, status_of, written_of}
+use Rattle.blkq_run.specs.Statuses.{ShowsPart, TellsReplay, TellsRun, WritesPart}
 use Rattle.blkq_run.specs.declared.fault.Fault.{Fault}
 use Rattle.blkq_run.specs.declared.fault.Fault.TheVariants.{Memory, Thread, Read, Write, Parse, Overlap}
 
-pub Contains-status_of : (fault : Fault) → Contains (0 ∷ 2 ∷ 3 ∷ 4 ∷ []) (status_of fault)
-Contains-status_of Memory = (3, lit< tt, refl)
-Contains-status_of Thread = (3, lit< tt, refl)
-Contains-status_of Read = (3, lit< tt, refl)
-Contains-status_of (Write written) = (3, lit< tt, refl)
-Contains-status_of (Parse fault) = (1, lit< tt, refl)
-Contains-status_of (Overlap overlap) = (2, lit< tt, refl)
+-- what holds of an input that is known holds where each such fact gives another
+map_known : (known : Option (List ℕ)) (P Q : List ℕ → Type 0) → ((input : List ℕ) → P input → Q input) → IfSome known P → IfSome known Q
+map_known None P Q f p = tt
+map_known (Some input) P Q f p = f input p
+
+not_refused : (status : ℕ) → (status ≡ 0) ⊎ (status ≡ 4) → (status ≡ 2) ⊎ (status ≡ 3) → ⊥
+not_refused status (inl is) (inl other) = omega (arith, is, other)
+not_refused status (inl is) (inr other) = omega (arith, is, other)
+not_refused status (inr is) (inl other) = omega (arith, is, other)
+not_refused status (inr is) (inr other) = omega (arith, is, other)
+
+module _ {R W : Type 0} (left : R → Option (List ℕ)) (held : W → Option (List ℕ)) (reader : Tally R) (old new : Tally W) where
+  -- the status of a run that wrote its answer
+  pub run_that_ended : IfKnown left reader (λ input. IsAnsweredBy input (Takes held old new)) → TellsRun left held reader old new 0
+  run_that_ended written = record {
+    statuses = (0, lit< tt, refl);
+    success = λ is. written;
+    refused = λ is. absurd (not_refused 0 (inl refl) is);
+    untouched = λ is. absurd (not_refused 0 (inl refl) is);
+    partly = λ is. absurd (omega (arith, is));
+  }
+
+  short_run : TakesNothing held old new ⊎ (HasFailed old new × IfKnown left reader (λ input. IsAnsweredBy input (TakesPart held old new)))
+      → TellsRun left held reader old new 4
+  short_run short = record {
+    statuses = (3, lit< tt, refl);
+    success = λ is. absurd (omega (arith, is));
+    refused = λ is. absurd (not_refused 4 (inr refl) is);
+    untouched = λ is. absurd (not_refused 4 (inr refl) is);
+    partly = λ is. short;
+  }
+
+  -- the status of a run that ended with this fault
+  pub run_at_fault : (fault : Fault) → (IsRefusal fault → IfKnown left reader (λ input. IsAnswer input (Err fault)))
+      → IfSome (written_of fault) (WritesPart left held reader old new) → IfNone (written_of fault) (TakesNothing held old new)
+      → OnSome (written_of fault) (HasFailed old new) → TellsRun left held reader old new (status_of fault)
+  run_at_fault Memory refusal part none failed = short_run (inl none)
+  run_at_fault Thread refusal part none failed = short_run (inl none)
+  run_at_fault Read refusal part none failed = short_run (inl none)
+  run_at_fault (Write written) refusal part none failed =
+      short_run (inr (failed, map_known (left reader.inner) _ _ (λ input p. (p.0, p.1, (written, p.2.0, p.2.1))) part))
+  run_at_fault (Parse fault) refusal part none failed = record {
+    statuses = (1, lit< tt, refl);
+    success = λ is. absurd (omega (arith, is));
+    refused = λ is. map_known (left reader.inner) _ _ (λ input p. (Parse fault, p, refl)) (refusal tt);
+    untouched = λ is. none;
+    partly = λ is. absurd (omega (arith, is));
+  }
+  run_at_fault (Overlap pair) refusal part none failed = record {
+    statuses = (2, lit< tt, refl);
+    success = λ is. absurd (omega (arith, is));
+    refused = λ is. map_known (left reader.inner) _ _ (λ input p. (Overlap pair, p, refl)) (refusal tt);
+    untouched = λ is. none;
+    partly = λ is. absurd (omega (arith, is));
+  }
+
+  -- the status of a replay that wrote what it shows
+  pub whole_replay : IfKnown left reader (λ input. EndsSo input Whole (Takes held old new)) → TellsReplay left held reader old new 0
+  whole_replay written = record {
+    statuses = (0, lit< tt, refl);
+    whole = λ is. written;
+    stuck = λ is. absurd (omega (arith, is));
+    no_schedule = λ is. absurd (omega (arith, is));
+    untouched = λ is. absurd (omega (arith, is));
+    partly = λ is. absurd (omega (arith, is));
+  }
+
+  pub stuck_replay : IfKnown left reader (λ input. EndsSo input Stuck (Takes held old new)) → TellsReplay left held reader old new 3
+  stuck_replay written = record {
+    statuses = (2, lit< tt, refl);
+    whole = λ is. absurd (omega (arith, is));
+    stuck = λ is. written;
+    no_schedule = λ is. absurd (omega (arith, is));
+    untouched = λ is. absurd (omega (arith, is));
+    partly = λ is. absurd (omega (arith, is));
+  }
+
+  short_replay : TakesNothing held old new
+      ⊎ (HasFailed old new × IfKnown left reader (λ input. IsOkAnd (shown_by input) (λ shown. TakesPart held old new shown.text)))
+      → TellsReplay left held reader old new 4
+  short_replay short = record {
+    statuses = (3, lit< tt, refl);
+    whole = λ is. absurd (omega (arith, is));
+    stuck = λ is. absurd (omega (arith, is));
+    no_schedule = λ is. absurd (omega (arith, is));
+    untouched = λ is. absurd (omega (arith, is));
+    partly = λ is. short;
+  }
+
+  ok_and : (shown : Result Shown ParseFault) (P Q : Shown → Type 0) → ((s : Shown) → P s → Q s) → IsOkAnd shown P → IsOkAnd shown Q
+  ok_and (Ok s) P Q f p = f s p
+  ok_and (Err e) P Q f p = absurd p
+
+  refused_schedule : (shown : Result Shown ParseFault) (fault : ParseFault) → shown ≡ Err fault → IsErr shown
+  refused_schedule shown fault is = rw is refl
+
+  -- the status of a replay that ended with this fault
+  pub replay_at_fault : (fault : Fault) → IfSome (refusal_of fault) (λ refusal. IfKnown left reader (λ input. shown_by input ≡ Err refusal))
+      → IsOfReplay fault → IfSome (written_of fault) (ShowsPart left held reader old new) → IfNone (written_of fault) (TakesNothing held old new)
+      → OnSome (written_of fault) (HasFailed old new) → TellsReplay left held reader old new (status_of fault)
+  replay_at_fault Memory refusal kind part none failed = short_replay (inl none)
+  replay_at_fault Thread refusal kind part none failed = absurd kind
+  replay_at_fault Read refusal kind part none failed = short_replay (inl none)
+  replay_at_fault (Write written) refusal kind part none failed =
+      short_replay (inr (failed, map_known (left reader.inner) _ _ (λ input p. ok_and (shown_by input) _ _ (λ s q. (written, q.0, q.1)) p) part))
+  replay_at_fault (Parse fault) refusal kind part none failed = record {
+    statuses = (1, lit< tt, refl);
+    whole = λ is. absurd (omega (arith, is));
+    stuck = λ is. absurd (omega (arith, is));
+    no_schedule = λ is. map_known (left reader.inner) _ _ (λ input p. refused_schedule (shown_by input) fault p) refusal;
+    untouched = λ is. none;
+    partly = λ is. absurd (omega (arith, is));
+  }
+  replay_at_fault (Overlap pair) refusal kind part none failed = absurd kind

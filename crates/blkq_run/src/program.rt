@@ -1,11 +1,8 @@
 //! The program, over any reader and writers.
-ghost use Rattle.std.specs.Prelude.{◌≡◌, ◌⊎◌, [], ◌∷◌, map, string_bytes, Contains, IsErr, IsOkAnd};
-ghost use Rattle.counted_io.specs.Reading.{IfKnown, TakesUpTo};
-ghost use Rattle.counted_io.specs.Writing.{Takes, TakesNothing, TakesPart};
-ghost use Rattle.blkq_run.specs.Answer.{IsAnsweredBy, IsRefusedBy};
-ghost use Rattle.blkq_run.specs.Faults.{status_of};
+ghost use Rattle.std.specs.Prelude.{◌≡◌, [], ◌∷◌, map, string_bytes, Contains};
+ghost use Rattle.counted_io.specs.Reading.{TakesUpTo};
 ghost use Rattle.blkq_run.specs.Requests.{AsksReplay, AsksSomeRun, AsksSomething};
-ghost use Rattle.gate_replay.specs.Shown.{EndsSo, shown_by};
+ghost use Rattle.blkq_run.specs.Statuses.{TellsReplay, TellsRun};
 
 use crate::arguments::{Task, requested};
 use crate::fault::Fault;
@@ -13,7 +10,6 @@ use crate::replay_report::replay_reported;
 use crate::run::{MOST_READ, run_bytes};
 use blk_workers::{Config, NoStall};
 use counted_io::Counted;
-use gate_replay::Replayed;
 use std::alloc::Global;
 use std::io;
 use std::io::{ErrorKind, Read, Write};
@@ -35,14 +31,7 @@ fn run_reported<R: Read, W: Write, E: Write>(
     writer: &mut Counted<W>,
     errors: &mut E,
 ) -> u8
-    ensures statuses { Contains (0 ∷ 2 ∷ 3 ∷ 4 ∷ []) result }
-    ensures success { result ≡ 0 → IfKnown R.remaining reader.old (λ input. IsAnsweredBy input
-        (Takes W.contents writer.old writer.new)) }
-    ensures refused { (result ≡ 2) ⊎ (result ≡ 3) → IfKnown R.remaining reader.old
-        (λ input. IsRefusedBy input (λ fault. status_of fault ≡ result)) }
-    ensures untouched { (result ≡ 2) ⊎ (result ≡ 3) → TakesNothing W.contents writer.old writer.new }
-    ensures partly { result ≡ 4 → TakesNothing W.contents writer.old writer.new
-        ⊎ IfKnown R.remaining reader.old (λ input. IsAnsweredBy input (TakesPart W.contents writer.old writer.new)) }
+    ensures told { TellsRun R.remaining W.contents reader.old writer.old writer.new result }
     ensures taken { TakesUpTo R.remaining reader.old reader.new MOST_READ }
 {
     match run_bytes(rt, alloc, reader, writer, config, &NoStall) {
@@ -69,35 +58,10 @@ pub fn command<R: Read, W: Write, E: Write>(
     errors: &mut E,
 ) -> u8
     ensures statuses { Contains (0 ∷ 2 ∷ 3 ∷ 4 ∷ []) result }
-
-    // The script's answer is a text, and exactly that text was written.
-    ensures success { AsksSomeRun (map string_bytes args.now) → result ≡ 0 → IfKnown R.remaining reader.old (λ input. IsAnsweredBy input
-        (Takes W.contents writer.old writer.new)) }
-
-    // The script is refused for a fault of that status, and nothing was written.
-    ensures refused { AsksSomeRun (map string_bytes args.now) → (result ≡ 2) ⊎ (result ≡ 3) → IfKnown R.remaining reader.old
-        (λ input. IsRefusedBy input (λ fault. status_of fault ≡ result)) }
-    ensures untouched { AsksSomeRun (map string_bytes args.now) → (result ≡ 2) ⊎ (result ≡ 3)
-        → TakesNothing W.contents writer.old writer.new }
-
-    // Nothing of the script's answer went out, or its first bytes and not all.
-    ensures partly { AsksSomeRun (map string_bytes args.now) → result ≡ 4 → TakesNothing W.contents writer.old writer.new
-        ⊎ IfKnown R.remaining reader.old (λ input. IsAnsweredBy input (TakesPart W.contents writer.old writer.new)) }
-
-    // Exactly what the schedule's replay shows was written, and the status tells how it ends.
-    ensures whole { AsksReplay (map string_bytes args.now) → result ≡ 0 → IfKnown R.remaining reader.old (λ input. EndsSo input Replayed.Whole
-        (Takes W.contents writer.old writer.new)) }
-    ensures stuck { AsksReplay (map string_bytes args.now) → result ≡ 3 → IfKnown R.remaining reader.old (λ input. EndsSo input Replayed.Stuck
-        (Takes W.contents writer.old writer.new)) }
-
-    // The input is refused as a schedule, and nothing was written.
-    ensures no_schedule { AsksReplay (map string_bytes args.now) → result ≡ 2 → IfKnown R.remaining reader.old (λ input. IsErr (shown_by input)) }
-    ensures unshown { AsksReplay (map string_bytes args.now) → result ≡ 2
-        → TakesNothing W.contents writer.old writer.new }
-
-    // Nothing of what the replay shows went out, or its first bytes and not all.
-    ensures part_shown { AsksReplay (map string_bytes args.now) → result ≡ 4 → TakesNothing W.contents writer.old writer.new
-        ⊎ IfKnown R.remaining reader.old (λ input. IsOkAnd (shown_by input) (λ shown. TakesPart W.contents writer.old writer.new shown.text)) }
+    ensures run { AsksSomeRun (map string_bytes args.now)
+        → TellsRun R.remaining W.contents reader.old writer.old writer.new result }
+    ensures replay { AsksReplay (map string_bytes args.now)
+        → TellsReplay R.remaining W.contents reader.old writer.old writer.new result }
 
     // Where the words ask for neither, nothing is read and nothing is written.
     ensures usage { ¬ (AsksSomething (map string_bytes args.now)) → result ≡ 4 }

@@ -1,8 +1,6 @@
 //! A replay, told as a status.
-ghost use Rattle.std.specs.Prelude.{◌≡◌, ◌⊎◌, [], ◌∷◌, Contains, IsErr, IsOkAnd};
-ghost use Rattle.counted_io.specs.Reading.{IfKnown, TakesUpTo};
-ghost use Rattle.counted_io.specs.Writing.{Takes, TakesNothing, TakesPart};
-ghost use Rattle.gate_replay.specs.Shown.{EndsSo, shown_by};
+ghost use Rattle.counted_io.specs.Reading.{TakesUpTo};
+ghost use Rattle.blkq_run.specs.Statuses.{TellsReplay};
 
 use crate::replay_run::replay_bytes;
 use crate::run::MOST_READ;
@@ -22,15 +20,7 @@ pub(crate) fn replay_reported<R: Read, W: Write, E: Write>(
     writer: &mut Counted<W>,
     errors: &mut E,
 ) -> u8
-    ensures statuses { Contains (0 ∷ 2 ∷ 3 ∷ 4 ∷ []) result }
-    ensures whole { result ≡ 0 → IfKnown R.remaining reader.old (λ input. EndsSo input Replayed.Whole
-        (Takes W.contents writer.old writer.new)) }
-    ensures stuck { result ≡ 3 → IfKnown R.remaining reader.old (λ input. EndsSo input Replayed.Stuck
-        (Takes W.contents writer.old writer.new)) }
-    ensures refused { result ≡ 2 → IfKnown R.remaining reader.old (λ input. IsErr (shown_by input)) }
-    ensures untouched { result ≡ 2 → TakesNothing W.contents writer.old writer.new }
-    ensures partly { result ≡ 4 → TakesNothing W.contents writer.old writer.new
-        ⊎ IfKnown R.remaining reader.old (λ input. IsOkAnd (shown_by input) (λ shown. TakesPart W.contents writer.old writer.new shown.text)) }
+    ensures told { TellsReplay R.remaining W.contents reader.old writer.old writer.new result }
     ensures taken { TakesUpTo R.remaining reader.old reader.new MOST_READ }
 {
     match replay_bytes(alloc, reader, writer) {

@@ -1,5 +1,9 @@
-use Rattle.blkq_run.proofs.Ending.{Contains-status_of}
+use Rattle.blkq_run.proofs.Ending.{run_at_fault, run_that_ended}
 use Rattle.blkq_run.proofs.program.run_reported.Goals as goal
 
-pub returns-in-Err-clause-statuses : goal.returns-in-Err-clause-statuses
-returns-in-Err-clause-statuses g c = rw c.status.ensures (Contains-status_of c.in-Err.fault)
+pub returns-in-Ok-clause-told : goal.returns-in-Ok-clause-told
+returns-in-Ok-clause-told g c = run_that_ended _ _ _ _ _ c.in-Ok.ensures.ok
+
+pub returns-in-Err-clause-told : goal.returns-in-Err-clause-told
+returns-in-Err-clause-told g c = rw c.status.ensures (run_at_fault _ _ _ _ _ c.in-Err.fault c.in-Err.ensures.refused
+    c.in-Err.ensures.part c.in-Err.ensures.untouched c.in-Err.ensures.write)

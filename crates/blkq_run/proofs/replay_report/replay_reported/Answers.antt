@@ -1,5 +1,6 @@
-use Rattle.blkq_run.proofs.Ending.{Contains-status_of}
+use Rattle.blkq_run.proofs.Ending.{replay_at_fault, stuck_replay, whole_replay}
 use Rattle.blkq_run.proofs.replay_report.replay_reported.Goals as goal
 
-pub returns-in-Err-clause-statuses : goal.returns-in-Err-clause-statuses
-returns-in-Err-clause-statuses g c = rw c.status.ensures (Contains-status_of c.in-Err.fault)
+pub returns-in-Err-clause-told : goal.returns-in-Err-clause-told
+returns-in-Err-clause-told g c = rw c.status.ensures (replay_at_fault _ _ _ _ _ c.in-Err.fault c.in-Err.ensures.refused
+    c.in-Err.ensures.kinds c.in-Err.ensures.part c.in-Err.ensures.untouched c.in-Err.ensures.write)
