@@ -5,6 +5,7 @@ use Rattle.percpu_core.specs.declared.pass_event.PassEvent.TheVariants.{AddTry, 
 use Rattle.percpu_core.specs.declared.view.WordRead.{WordRead}
 use Rattle.percpu_core.specs.declared.view.PassView.{PassView}
 use Rattle.percpu_core.specs.Cells.{Cells, slot_at, is_open_with}
+use Rattle.percpu_core.specs.Views.{count}
 use Rattle.percpu_core.specs.PassSteps.{pass_reply, standing_after}
 use Rattle.percpu_core.specs.Machine.{won}
 
@@ -47,6 +48,18 @@ live_given_after AddLive cells p = if cells.shared.dead then p.live_given else p
 live_given_after (Take s d n) cells p = if is_open_with d (slot_at cells.slots s) then p.live_given + 1 else p.live_given
 live_given_after _ cells p = p.live_given
 
+-- a load of the shared word
+abbrev pub looks_after : PassEvent → PassView → ℕ
+looks_after LookShared p = p.looks + 1
+looks_after _ p = p.looks
+
+-- a step that looks for marks, and may have found this one: a load of the shared word, or the addition of a try
+abbrev pub times_after : PassEvent → Bool → ℕ → ℕ
+times_after AddTry found n = n + count found
+times_after AddLive found n = n + count found
+times_after LookShared found n = n + count found
+times_after _ found n = n
+
 abbrev pub pass_view_after : PassEvent → Cells → PassView → PassView
 pass_view_after e cells p = record {
   standing = standing_after e (pass_reply e cells) p.standing;
@@ -54,6 +67,9 @@ pass_view_after e cells p = record {
   seen_front = seen_front_after e cells p;
   floor = floor_after e cells p;
   live_given = live_given_after e cells p;
+  looks = looks_after e p;
+  found_dead_times = times_after e cells.shared.dead p.found_dead_times;
+  found_zero_times = times_after e cells.shared.zero p.found_zero_times;
   releases = p.releases + won (pass_reply e cells);
   found_dead = p.found_dead || (looks_for_marks e && cells.shared.dead);
   found_zero = p.found_zero || (looks_for_marks e && cells.shared.zero);

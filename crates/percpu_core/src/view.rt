@@ -21,6 +21,11 @@ pub struct PassView {
     /// Its steps that took references as a live gate gives them: additions that found DEAD clear, and exchanges of
     /// a slot that were won.
     pub live_given: u64,
+    /// Its loads of the shared word.
+    pub looks: u64,
+    /// Those of them that found DEAD set, and those that found ZERO; the additions of its tries that did count too.
+    pub found_dead_times: u64,
+    pub found_zero_times: u64,
     /// The releases that it has won.
     pub releases: u64,
     /// Whether it has found DEAD set, and whether ZERO.

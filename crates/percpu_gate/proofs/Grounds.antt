@@ -10,6 +10,7 @@ use Rattle.std.proofs.lemmas.Option.{get_or_from_slice_get}
 use Rattle.std.specs.Prelude.{slice_get, slice_index}
 use Rattle.percpu_core.specs.declared.view.WordRead.{WordRead}
 use Rattle.percpu_core.specs.GuardLaw.{AreNow}
+use Rattle.percpu_core.specs.Views.{count}
 use Rattle.percpu_gate.specs.Calls.{PassLook, HasRead}
 use Rattle.percpu_gate.specs.Seats.{GateFacts, PassStep, dead_at, zero_at}
 use Rattle.percpu_gate.proofs.Known.{moment_knows}
@@ -43,6 +44,9 @@ looked old new w none s = record {
   moment = s.moment;
   leaves = s.learned ∙ (λ j. record old {
     standing = record { held = held j; pending = sym none j };
+    looks = old.looks + 1;
+    found_dead_times = old.found_dead_times + count s.moment.cells.shared.dead;
+    found_zero_times = old.found_zero_times + count s.moment.cells.shared.zero;
     releases = won j;
     found_dead = old.found_dead || s.moment.cells.shared.dead;
     found_zero = old.found_zero || s.moment.cells.shared.zero;
@@ -63,6 +67,13 @@ looked_for_dead old new w is_dead none is s = (looked old new w none s, is ∙ a
 pub looked_for_zero : {g : GateFacts} (old new : PassView) (w : ℕ) (is_zero : Bool) → old.standing.pending ≡ Nothing → is_zero ≡ (parts w).zero → PassStep g events.LookShared old new (Shared w)
     → (look : PassLook g old new) × (is_zero ≡ zero_at look.moment)
 looked_for_zero old new w is_zero none is s = (looked old new w none s, is ∙ ap (λ (x : SharedWord). x.zero) (exact old new w s))
+
+-- and is counted
+pub dead_counted : {g : GateFacts} (old new : PassView) (w : ℕ) (is_dead : Bool) → is_dead ≡ (parts w).dead → PassStep g events.LookShared old new (Shared w) → new.found_dead_times ≡ old.found_dead_times + count is_dead
+dead_counted old new w is_dead is s = ap (λ (v : PassView). v.found_dead_times) s.learned ∙ ap (λ (b : Bool). old.found_dead_times + count b) (sym (is ∙ ap (λ (x : SharedWord). x.dead) (exact old new w s)))
+
+pub zero_counted : {g : GateFacts} (old new : PassView) (w : ℕ) (is_zero : Bool) → is_zero ≡ (parts w).zero → PassStep g events.LookShared old new (Shared w) → new.found_zero_times ≡ old.found_zero_times + count is_zero
+zero_counted old new w is_zero is s = ap (λ (v : PassView). v.found_zero_times) s.learned ∙ ap (λ (b : Bool). old.found_zero_times + count b) (sym (is ∙ ap (λ (x : SharedWord). x.zero) (exact old new w s)))
 
 -- a look leaves what is held
 pub step_keeps_standing : {g : GateFacts} (old new : PassView) (w : ℕ) → PassStep g events.LookShared old new (Shared w) → new.standing ≡ record { held = old.standing.held; pending = Nothing }

@@ -14,8 +14,12 @@ pub mod SlotSteps
 pub mod PassCalls
 -- what a look at a slot and an exchange leave
 pub mod SlotCounts
+-- whether a try found its mark, by a step of its own
+pub mod TryMeets
 -- what a try found and leaves
 pub mod Tries
+-- what the pass itself keeps of it
+pub mod TryEnds
 -- what a look, a front and a word show
 pub mod Grounds
 -- what the control's steps share, and those of a kill, of a revival, and on guarded words

@@ -13,11 +13,12 @@ use Rattle.percpu_core.specs.PassSteps.{standing_after}
 use Rattle.percpu_core.specs.PassLearns.{next_even}
 use Rattle.percpu_core.specs.Views.{count}
 use Rattle.percpu_gate.specs.declared.tried.Tried.{Tried}
-use Rattle.percpu_gate.specs.Calls.{released, is_refused, taken, to_take_back, after_try, TryLeaves, TryFinds, LiveTryFinds}
+use Rattle.percpu_gate.specs.Calls.{released, is_refused, taken, to_take_back, after_try, has_dead, has_zero, TryLeaves, TryFinds, LiveTryFinds}
 use Rattle.percpu_gate.specs.Counts.{SlotTake, TryAdds, TryCounts, LiveCounts}
 use Rattle.percpu_gate.specs.Seats.{GateFacts, PassStep, tried, dead_at, slot_open_at}
 use Rattle.percpu_gate.proofs.Known.{moment_knows}
 use Rattle.percpu_gate.proofs.SlotCounts.{moment_before}
+use Rattle.percpu_gate.proofs.TryMeets.{try_added, live_added, slot_meets, meets_after_loss}
 
 -- what the addition found, by whether the try is given
 tried_is : (b found : Bool) → tried b ≡ (if found then Refused else Given) → found ≡ not b
@@ -217,6 +218,7 @@ added_try old new b s = let zero = tried_is b s.moment.cells.shared.zero s.answe
   zero = zero;
   dead = λ refused. (moment_knows old s.moment).zero_is_dead (zero ∙ ap not refused);
   adds = adds_try old new b s;
+  meets = try_added old new b s zero;
   found = λ refused. (
     ap (λ (v : PassView). v.found_dead) s.learned ∙ or_found old.found_dead s.moment.cells.shared.dead ((moment_knows old s.moment).zero_is_dead (zero ∙ ap not refused)),
     ap (λ (v : PassView). v.found_zero) s.learned ∙ or_found old.found_zero s.moment.cells.shared.zero (zero ∙ ap not refused),
@@ -236,6 +238,7 @@ added_live slot old new b s = let dead = tried_is b s.moment.cells.shared.dead s
   given = λ given. ap (λ (d : Bool). not d || slot_open_at slot s.moment) (dead ∙ ap not given);
   even = λ given. (moment_knows old s.moment).even (dead ∙ ap not given);
   adds = adds_live old new b s;
+  meets = live_added old new b s dead;
   floor = λ given. live_floor old new b s ∙ ap (λ (x : Bool). if not x then old.floor else next_even old.floor) given;
   live_given = ap (λ (v : PassView). v.live_given) s.learned ∙ live_by b s.moment.cells.shared.dead old.live_given dead;
   found = λ refused. ap (λ (v : PassView). v.found_dead) s.learned ∙ or_found old.found_dead s.moment.cells.shared.dead (dead ∙ ap not refused);
@@ -256,7 +259,7 @@ adds_on_slot slot old new t = let is = t.won refl in record {
 }
 
 pub slot_try : {g : GateFacts} (slot : ℕ) (old new : PassView) → SlotTake g slot 1 old new true → TryCounts g old new true
-slot_try slot old new t = let seen = t.moment refl in record { moment = seen.moment; zero = seen.zero_clear; dead = λ refused. cc; adds = adds_on_slot slot old new t; found = λ refused. cc }
+slot_try slot old new t = let seen = t.moment refl in record { moment = seen.moment; zero = seen.zero_clear; dead = λ refused. cc; adds = adds_on_slot slot old new t; meets = slot_meets has_zero slot old new t; found = λ refused. cc }
 
 pub slot_live : {g : GateFacts} (slot : ℕ) (old new : PassView) → SlotTake g slot 1 old new true → LiveCounts g slot old new true
 slot_live slot old new t = let seen = t.moment refl in let is = t.won refl in record {
@@ -265,6 +268,7 @@ slot_live slot old new t = let seen = t.moment refl in let is = t.won refl in re
   given = λ given. or_found (not (dead_at seen.moment)) (slot_open_at slot seen.moment) seen.open_there;
   even = λ given. seen.even;
   adds = adds_on_slot slot old new t;
+  meets = slot_meets has_dead slot old new t;
   floor = λ given. ap (λ (v : PassView). v.floor) is;
   live_given = ap (λ (v : PassView). v.live_given) is;
   found = λ refused. cc;
@@ -302,6 +306,7 @@ try_after_loss g slot old mid new b lost t = let before = moment_before g old mi
   zero = ap (λ (cells : Cells). cells.shared.zero) before.1 ∙ t.zero;
   dead = λ refused. ap (λ (cells : Cells). cells.shared.dead) before.1 ∙ t.dead refused;
   adds = adds_after old mid new b (alike old mid (lost.not_won refl)) t.adds;
+  meets = meets_after_loss g has_zero old mid new (not b) (lost.not_won refl) t.meets;
   found = t.found;
 }
 
@@ -312,6 +317,7 @@ live_after_loss g slot old mid new b lost t = let before = moment_before g old m
   given = λ given. ap (λ (cells : Cells). not cells.shared.dead || is_open (slot_at cells.slots slot)) before.1 ∙ t.given given;
   even = λ given. ap (λ (cells : Cells). cells.front % 2) before.1 ∙ t.even given;
   adds = adds_after old mid new b same t.adds;
+  meets = meets_after_loss g has_dead old mid new (not b) (lost.not_won refl) t.meets;
   floor = λ given. t.floor given ∙ ap (λ (v : PassView). next_even v.floor) same.all;
   live_given = t.live_given ∙ ap (λ (v : PassView). v.live_given + count b) same.all;
   found = t.found;

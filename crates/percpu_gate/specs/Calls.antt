@@ -6,6 +6,8 @@ use Rattle.percpu_core.specs.declared.pass_standing.PassStanding.{PassStanding}
 use Rattle.percpu_core.specs.declared.view.WordRead.{WordRead}
 use Rattle.percpu_core.specs.declared.view.PassView.{PassView}
 use Rattle.percpu_core.specs.declared.view.View.TheVariants.{OfPass}
+use Rattle.percpu_core.specs.Cells.{Cells}
+use Rattle.percpu_core.specs.Views.{count}
 use Rattle.percpu_gate.specs.declared.tried.Put.{Put}
 use Rattle.percpu_gate.specs.declared.tried.Put.TheVariants.{Last, NotLast}
 use Rattle.percpu_gate.specs.declared.tried.Tried.{Tried}
@@ -72,18 +74,42 @@ pub record TryLeaves (old new : PassView) (r : Tried) : Type 0 where
   pub anew : old.standing.held ≡ 0 → new.read ≡ []
   pub found : StaysFound old new
 
--- what a try found, at a moment of its call: ZERO set where it is refused, and clear where it is given
+-- what a try found, at a moment: ZERO set where it is refused, and clear where it is given. What the pass counts (`TryMeets`) binds it to the call
 pub record TryFinds (g : GateFacts) (old : PassView) (r : Tried) : Type 0 where
   pub moment : Moment g (OfPass old)
   pub zero : zero_at moment ≡ is_refused r
   pub dead : is_refused r ≡ true → dead_at moment ≡ true
 
--- what a try for a live gate found, at a moment of its call: DEAD set where it is refused. Where it is given, DEAD clear or its slot open, at an even front
+-- what a try for a live gate found, at a moment, bound in the same way: DEAD set where it is refused. Where it is given, DEAD clear or its slot open, at an even front
 pub record LiveTryFinds (g : GateFacts) (slot : ℕ) (old : PassView) (r : Tried) : Type 0 where
   pub moment : Moment g (OfPass old)
   pub refused : is_refused r ≡ true → dead_at moment ≡ true
   pub given : is_refused r ≡ false → (not (dead_at moment) || slot_open_at slot moment) ≡ true
   pub even : is_refused r ≡ false → front_at moment % 2 ≡ 0
+
+-- no step of the call loaded the shared word, or found a mark at an addition
+pub record FindsNothing (old new : PassView) : Type 0 where
+  pub looks : new.looks ≡ old.looks
+  pub dead : new.found_dead_times ≡ old.found_dead_times
+  pub zero : new.found_zero_times ≡ old.found_zero_times
+
+-- one step of the call looked for marks, at this moment, and the pass counts those that it found. No load is counted, so it is an addition, made by this very call
+pub record OneAddition (g : GateFacts) (old new : PassView) : Type 0 where
+  pub moment : Moment g (OfPass old)
+  pub looks : new.looks ≡ old.looks
+  pub dead : new.found_dead_times ≡ old.found_dead_times + count (dead_at moment)
+  pub zero : new.found_zero_times ≡ old.found_zero_times + count (zero_at moment)
+
+-- whether the shared word has DEAD, or ZERO
+abbrev pub has_dead : Cells → Bool
+has_dead c = c.shared.dead
+
+abbrev pub has_zero : Cells → Bool
+has_zero c = c.shared.zero
+
+-- a try is refused exactly where its one addition found this mark; or its slot gave, and nothing was added
+abbrev pub TryMeets : GateFacts → (Cells → Bool) → PassView → PassView → Bool → Type 0
+TryMeets g mark old new refused = ((refused ≡ false) × FindsNothing old new) ⊎ ((addition : OneAddition g old new) × (mark addition.moment.cells ≡ refused))
 
 -- what a pass holds after `get`. A floor only rises, as does the count of what a live gate gave
 pub record GetLeaves (old new : PassView) (n : ℕ) : Type 0 where
@@ -91,11 +117,17 @@ pub record GetLeaves (old new : PassView) (n : ℕ) : Type 0 where
   pub floor : old.floor ≤ new.floor
   pub live_given : old.live_given ≤ new.live_given
 
--- what a look at the marks of a gate leaves: all but what it found, which stays found
+-- what a look at the marks of a gate leaves: all but what it found, which is counted and stays found
 abbrev pub after_look : Bool → Bool → PassView → PassView
-after_look dead zero p = record p { found_dead = p.found_dead || dead; found_zero = p.found_zero || zero }
+after_look dead zero p = record p {
+  looks = p.looks + 1;
+  found_dead_times = p.found_dead_times + count dead;
+  found_zero_times = p.found_zero_times + count zero;
+  found_dead = p.found_dead || dead;
+  found_zero = p.found_zero || zero;
+}
 
--- a look at the marks, at a moment of its call
+-- a look at the marks, at a moment of its call: a load more is counted, and what it found, so it is a step of this very call
 pub record PassLook (g : GateFacts) (old new : PassView) : Type 0 where
   pub moment : Moment g (OfPass old)
   pub leaves : new ≡ after_look (dead_at moment) (zero_at moment) old
@@ -107,6 +139,7 @@ pub record LookLeaves (old new : PassView) : Type 0 where
   pub seen_front : new.seen_front ≡ old.seen_front
   pub floor : new.floor ≡ old.floor
   pub live_given : new.live_given ≡ old.live_given
+  pub looks : new.looks ≡ old.looks + 1
   pub read : new.read ≡ old.read
   pub found : StaysFound old new
 

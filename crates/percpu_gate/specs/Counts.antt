@@ -4,7 +4,7 @@ use Rattle.percpu_core.specs.declared.view.PassView.{PassView}
 use Rattle.percpu_core.specs.declared.view.View.TheVariants.{OfPass}
 use Rattle.percpu_core.specs.PassLearns.{begun, next_even}
 use Rattle.percpu_core.specs.Views.{count}
-use Rattle.percpu_gate.specs.Calls.{holding, to_take_back, StaysFound}
+use Rattle.percpu_gate.specs.Calls.{holding, to_take_back, StaysFound, has_dead, has_zero, TryMeets}
 use Rattle.percpu_gate.specs.Seats.{GateFacts, Moment, dead_at, zero_at, front_at, slot_open_at}
 
 -- a moment at which the slot was open, so that ZERO was clear and the front even
@@ -42,6 +42,7 @@ pub record TryCounts (g : GateFacts) (old new : PassView) (is_given : Bool) : Ty
   pub zero : zero_at moment ≡ not is_given
   pub dead : is_given ≡ false → dead_at moment ≡ true
   pub adds : TryAdds old new is_given
+  pub meets : TryMeets g has_zero old new (not is_given)
   pub found : is_given ≡ false → (new.found_dead ≡ true) × (new.found_zero ≡ true)
 
 -- the count of a try for a live gate: where it isn't given it found DEAD set, and where it is given DEAD clear or its slot open
@@ -53,4 +54,5 @@ pub record LiveCounts (g : GateFacts) (slot : ℕ) (old new : PassView) (is_give
   pub adds : TryAdds old new is_given
   pub floor : is_given ≡ true → new.floor ≡ next_even old.floor
   pub live_given : new.live_given ≡ old.live_given + count is_given
+  pub meets : TryMeets g has_dead old new (not is_given)
   pub found : is_given ≡ false → new.found_dead ≡ true

@@ -17,7 +17,7 @@ why_of (Err f) = Some f.why
 
 -- what the control knows of a gate that has ended
 pub record Ended (g : GateFacts) (c : ControlView) : Type 0 where
-  -- a moment of the gate, of which all laws hold: its words and views as they were when it ended
+  -- a moment of which all laws hold, as the gate's words and views were when it ended. What binds it to this gate is what its control knows
   pub last : Moment g (OfControl c)
   -- at this one, and at every other at which the control knew so much, a dead gate had ZERO set: everything was put, and its release was won
   pub at_zero : (m : Moment g (OfControl c)) → zero_at m ≡ is_phase Dead c.standing.phase

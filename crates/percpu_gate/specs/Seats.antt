@@ -71,7 +71,8 @@ fresh_pass g = record { gate = g; view = first_pass }
 abbrev pub fresh_control : GateFacts → ℕ → List ℕ → ControlFacts
 fresh_control g passes words = record { gate = g; view = first_control (opening g.slots passes g.start 0 words); wants = first_mode g.start }
 
--- this gate between two steps, seen by a seat with this view
+-- A gate that was made as this one (its slots, start and number of guarded words), between two steps, seen by a seat with this view. It carries no identity:
+-- that it is a moment of this gate, and of this call, is bound by what the seat knows afterwards, as what it counts or has read
 abbrev pub Moment : GateFacts → View → Type 0
 Moment g v = MomentOf g.slots g.start g.words v
 
@@ -129,7 +130,7 @@ pub record FindsDelta (g : GateFacts) (slot : ℕ) (old : ControlView) (d : ℤ)
   pub moment : Moment g (OfControl old)
   pub found : slot_at moment.cells.slots slot ≡ Open d
 
--- the control found ZERO set, or not, at a moment of its gate
+-- the control found ZERO set, or not, at a moment. That it was its own gate's, what it knows of ZERO from then on binds
 pub record FindsZero (g : GateFacts) (old : ControlView) (zero : Bool) : Type 0 where
   pub moment : Moment g (OfControl old)
   pub found : zero_at moment ≡ zero

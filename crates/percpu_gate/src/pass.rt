@@ -4,10 +4,11 @@ ghost use Rattle.percpu_core.specs.declared.limits.TheConstants.{KILL_LIMIT};
 ghost use Rattle.percpu_core.specs.declared.pass_event.PassEvent.TheVariants as events;
 ghost use Rattle.percpu_core.specs.declared.reply.Reply.TheVariants.{Number};
 ghost use Rattle.percpu_core.specs.PassLearns.{next_even};
+ghost use Rattle.percpu_core.specs.Views.{count};
 ghost use Rattle.percpu_core.specs.Snapshots.{first_pass};
 ghost use Rattle.percpu_gate.specs.declared.tried.Tried.TheVariants.{Given};
 ghost use Rattle.percpu_gate.specs.Seats.{PassStep, dead_at, zero_at};
-ghost use Rattle.percpu_gate.specs.Calls.{holding, is_refused, taken, after_put, TryLeaves, TryFinds, LiveTryFinds, GetLeaves, PassLook, LookLeaves, HasRead};
+ghost use Rattle.percpu_gate.specs.Calls.{holding, is_refused, taken, after_put, has_dead, has_zero, TryLeaves, TryFinds, LiveTryFinds, TryMeets, GetLeaves, PassLook, LookLeaves, HasRead};
 
 use crate::gate::Gate;
 use crate::pass_seat::PassSeat;
@@ -90,6 +91,9 @@ impl<const W: usize> Pass<W> {
         ensures leaves { TryLeaves self.old.view self.new.view result }
         ensures finds { TryFinds gate.now self.old.view result }
         ensures again { 0 < self.old.view.standing.held → result ≡ Given }
+        ensures meets { TryMeets gate.now has_zero self.old.view self.new.view (is_refused result) }
+        ensures times { self.new.view.found_zero_times ≡ self.old.view.found_zero_times + count (is_refused result) }
+        ensures both { is_refused result ≡ true → self.new.view.found_dead_times ≡ self.old.view.found_dead_times + 1 }
         ensures ground { is_refused result ≡ true → (self.new.view.found_dead ≡ true) × (self.new.view.found_zero ≡ true) }
     {
         let is_given = self.seat.count_try(&gate.table, slot);
@@ -113,6 +117,8 @@ impl<const W: usize> Pass<W> {
         ensures floor { self.new.view.floor ≡ (if is_refused result then self.old.view.floor else next_even self.old.view.floor) }
         ensures live { self.new.view.live_given ≡ self.old.view.live_given + taken result }
         ensures later { is_refused result ≡ false → self.old.view.seen_front % 2 ≡ 1 → self.old.view.seen_front + 1 ≤ self.new.view.floor }
+        ensures meets { TryMeets gate.now has_dead self.old.view self.new.view (is_refused result) }
+        ensures times { self.new.view.found_dead_times ≡ self.old.view.found_dead_times + count (is_refused result) }
         ensures ground { is_refused result ≡ true → self.new.view.found_dead ≡ true }
     {
         let is_given = self.seat.count_live(&gate.table, slot);
@@ -178,6 +184,7 @@ impl<const W: usize> Pass<W> {
         ensures own { self.new.gate ≡ self.old.gate }
         ensures step { (look : PassLook gate.now self.old.view self.new.view) × (result ≡ dead_at look.moment) }
         ensures leaves { LookLeaves self.old.view self.new.view }
+        ensures times { self.new.view.found_dead_times ≡ self.old.view.found_dead_times + count result }
         ensures ground { result ≡ true → self.new.view.found_dead ≡ true }
     {
         is_dead(self.seat.look(&gate.table))
@@ -191,6 +198,7 @@ impl<const W: usize> Pass<W> {
         ensures own { self.new.gate ≡ self.old.gate }
         ensures step { (look : PassLook gate.now self.old.view self.new.view) × (result ≡ zero_at look.moment) }
         ensures leaves { LookLeaves self.old.view self.new.view }
+        ensures times { self.new.view.found_zero_times ≡ self.old.view.found_zero_times + count result }
         ensures ground { result ≡ true → (self.new.view.found_zero ≡ true) × (self.new.view.standing.held ≡ 0) }
     {
         is_zero(self.seat.look(&gate.table))
