@@ -20,6 +20,7 @@ use Rattle.percpu_gate.specs.Seats.{GateFacts, ControlStep, ControlFinds, FindsZ
 use Rattle.percpu_gate.specs.ControlCalls.{after_revival, IsBetweenCalls}
 use Rattle.percpu_gate.proofs.Known.{moment_known}
 use Rattle.percpu_gate.proofs.SharedWords.{shared_is}
+use Rattle.percpu_gate.proofs.Ending.{none_out_at_zero}
 
 -- the front before a confirmation is even
 pub odd_next : {g : GateFacts} (old new : ControlView) (r : Reply) → old.standing.phase ≡ Collected → ControlStep g events.Confirm old new r → (old.front + 1) % 2 ≡ 1
@@ -47,6 +48,11 @@ finds_zero old new w zero is s = record { moment = s.moment; found = sym (is ∙
 -- and what was known is found
 pub found_as_known : {g : GateFacts} (old new : ControlView) (w : ℕ) (zero : Bool) → zero ≡ (parts w).zero → ControlStep g events.LookShared old new (Shared w) → old.knows_zero ≡ true → zero ≡ true
 found_as_known old new w zero is s known = is ∙ ap (λ (x : SharedWord). x.zero) (exact old new w s) ∙ (moment_known old s.moment).zero known
+
+-- of a dead gate with no pass out the look finds ZERO
+pub zero_when_none_out : {g : GateFacts} (old new : ControlView) (w : ℕ) (zero : Bool) → old.standing.to_mark ≡ false → zero ≡ (parts w).zero → ControlStep g events.LookShared old new (Shared w)
+    → old.passes ≡ 0 → old.standing.phase ≡ Dead → zero ≡ true
+zero_when_none_out old new w zero marked is s none dead = is ∙ ap (λ (x : SharedWord). x.zero) (exact old new w s) ∙ none_out_at_zero old s.moment marked none dead
 
 won-most : (r : Reply) → won r ≤ 1
 won-most Given = omega arith

@@ -17,6 +17,7 @@ use Rattle.percpu_core.specs.Laws.{Laws, Lawful}
 use Rattle.percpu_core.specs.SeatLaws.{Sees}
 use Rattle.percpu_core.specs.ReleaseLaw.{Origin}
 use Rattle.percpu_core.specs.Starts.{starts_dead}
+use Rattle.percpu_core.specs.declared.start.Start.{Start}
 use Rattle.percpu_core.proofs.SeatSteps.{same_control}
 use Rattle.percpu_core.proofs.Counting.{value-unbiased}
 use Rattle.percpu_core.proofs.Passes.{EachPass-at}
@@ -24,7 +25,7 @@ use Rattle.percpu_gate.specs.declared.rule.GateKey.{GateKey}
 use Rattle.percpu_gate.specs.declared.rule.SeatView.{SeatView}
 use Rattle.percpu_gate.specs.declared.exit.ExitWhy.TheVariants.{MidSwitch, PassesOut}
 use Rattle.percpu_gate.specs.Rule.{MomentOf, Ruled, view_of}
-use Rattle.percpu_gate.specs.Seats.{GateFacts, Moment}
+use Rattle.percpu_gate.specs.Seats.{GateFacts, Moment, zero_at}
 use Rattle.percpu_gate.specs.ControlCalls.{IsBetweenCalls, exit_refusal}
 use Rattle.percpu_gate.specs.Exits.{Ended}
 
@@ -127,6 +128,10 @@ pub ended : (g : GateFacts) (c : ControlView) (m : Moment g (OfControl c)) → c
 ended g c m marked between refusal =
     let knows : (m : Moment g (OfControl c)) → Knows (starts_dead g.start) m.cells c = λ m. of_moment _ m.cells m.views m.seat c m.lawful m.sees refl marked between refusal (none_out c.standing.phase c.passes refusal) in
     let k = knows m in record { last = m; at_zero = λ m. (knows m).at_zero; releases = k.releases; at_most = k.at_most; found_dead = k.found_dead; found_zero = k.found_zero }
+
+-- a dead gate whose control has no pass out is at zero
+pub none_out_at_zero : {slots words : ℕ} {start : Start} (c : ControlView) (m : MomentOf slots start words (OfControl c)) → c.standing.to_mark ≡ false → c.passes ≡ 0 → c.standing.phase ≡ Dead → zero_at m ≡ true
+none_out_at_zero c m marked none dead = (of_moment _ m.cells m.views m.seat c m.lawful m.sees refl marked (subst IsBetweenCalls (sym dead) tt) (λ j. exit_refusal (dead j) (none j)) none).at_zero ∙ ap (is_phase Dead) dead
 
 -- the last state of a table, seen by the control's seat, is a moment of its gate
 pub last_moment : (k : GateKey) (id : ℕ) (me : Me (Unit {0}) SeatView) (c : ControlView) → me ≡ (record me.0 { view = OfControl c }, []) → (s : State (Unit {0}) SeatView)

@@ -127,11 +127,12 @@ abbrev pub zero_refusal : Phase → Bool → Option ControlFault
 zero_refusal Dead zero = if zero then None else Some NotZero
 zero_refusal phase zero = dead_refusal phase
 
--- what the load of a call for a gate at zero found: ZERO, where the control knew it. A gate that isn't dead is refused before the load
+-- what the load of a call for a gate at zero found: ZERO, where the control knew it or had no pass out. A gate that isn't dead is refused before the load
 pub record LooksForZero (g : GateFacts) (old : ControlView) (refusal : Option ControlFault) : Type 0 where
   pub zero : Bool
   pub found : old.standing.phase ≡ Dead → FindsZero g old zero
   pub known : old.knows_zero ≡ true → zero ≡ true
+  pub none_out : old.passes ≡ 0 → old.standing.phase ≡ Dead → zero ≡ true
   pub refused : refusal ≡ zero_refusal old.standing.phase zero
 
 abbrev pub is_at_zero : Revived → Bool

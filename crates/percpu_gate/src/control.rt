@@ -83,6 +83,7 @@ impl<const W: usize> Control<W> {
     pub fn phase(&self) -> Phase
         ensures value { result ≡ self.now.view.standing.phase }
         ensures between { IsBetweenCalls result }
+        ensures settled { self.now.view.standing.to_mark ≡ false }
     {
         self.phase
     }

@@ -19,6 +19,7 @@ impl<const W: usize> Control<W> {
         ensures found { FindsZero gate.now self.old.view result }
         ensures known { self.old.view.knows_zero ≡ true → result ≡ true }
         ensures dead { result ≡ true → self.old.view.standing.phase ≡ phases.Dead }
+        ensures none_out { self.old.view.passes ≡ 0 → self.old.view.standing.phase ≡ phases.Dead → result ≡ true }
     {
         is_zero(self.seat.look(&gate.table))
     }
