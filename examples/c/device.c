@@ -14,7 +14,7 @@ static atomic_int freed;
 
 static void free_if_last(uint32_t answer)
 {
-    if (answer == PERCPU_GATE_LAST || answer == PERCPU_GATE_REFUSED_LAST) {
+    if (percpu_gate_is_last(answer)) {
         free(device);
         atomic_fetch_add(&freed, 1);
     }

@@ -3,6 +3,7 @@
 #include "percpu_gate.h"
 
 #include <stdio.h>
+#include <string.h>
 
 static int failures;
 
@@ -31,8 +32,8 @@ static void closed_handles(void)
     IS(percpu_gate_try_get_live(&pass, 0), CLOSED);
     IS(percpu_gate_get(&pass, 0, 1), CLOSED);
     IS(percpu_gate_put(&pass, 0, 1), CLOSED);
-    IS(percpu_gate_is_dying(&pass), CLOSED);
-    IS(percpu_gate_is_zero(&pass), CLOSED);
+    TELLS(percpu_gate_is_dying(&pass), false);
+    TELLS(percpu_gate_is_zero(&pass), false);
     IS(percpu_gate_front(&pass, &told), CLOSED);
     IS(percpu_gate_word(&pass, 0, &told), CLOSED);
     IS(percpu_gate_next_pass(&control, &pass), CLOSED);
@@ -45,7 +46,9 @@ static void closed_handles(void)
     IS(percpu_gate_confirm(&control, &told), CLOSED);
     IS(percpu_gate_drop_base(&control), CLOSED);
     IS(percpu_gate_phase(&control), CLOSED);
-    IS(percpu_gate_control_is_zero(&control), CLOSED);
+    TELLS(percpu_gate_control_is_zero(&control), false);
+    TELLS(percpu_gate_pass_number(&pass), 0);
+    TELLS(percpu_gate_control_number(&control), 0);
     IS(percpu_gate_reinit(&control), CLOSED);
     IS(percpu_gate_resurrect(&control), CLOSED);
     IS(percpu_gate_switch_to_atomic(&control), CLOSED);
@@ -85,8 +88,8 @@ static void a_pass(percpu_gate_pass *pass)
     IS(percpu_gate_try_get_live(pass, 0), HELD_FULL);
     IS(percpu_gate_get(pass, 0, 1), HELD_FULL);
     IS(percpu_gate_put(pass, 1, 65534), OK);
-    IS(percpu_gate_is_dying(pass), OK);
-    IS(percpu_gate_is_zero(pass), OK);
+    TELLS(percpu_gate_is_dying(pass), false);
+    TELLS(percpu_gate_is_zero(pass), false);
 }
 
 /* What the gate itself refuses: while it lives, in the middle of a kill, and dead with a reference held. */
@@ -117,7 +120,7 @@ static void a_control(percpu_gate_control *control, percpu_gate_pass *pass)
         IS(percpu_gate_switch_to_slots(control), MID_SWITCH);
         IS(percpu_gate_store_word(control, 0, 1), MID_SWITCH);
         IS(percpu_gate_exit(control, &last), MID_SWITCH);
-        IS(percpu_gate_is_dying(pass), LAST); /* yes */
+        TELLS(percpu_gate_is_dying(pass), true);
         TELLS(slots, 2);
         TELLS(last.kills, 7);
     }
@@ -128,7 +131,41 @@ static void a_control(percpu_gate_control *control, percpu_gate_pass *pass)
     IS(percpu_gate_mark_dead(control, &slots), ALREADY_DEAD);
     IS(percpu_gate_reinit(control), NOT_ZERO);
     IS(percpu_gate_store_word(control, 0, 1), NOT_ZERO);
-    IS(percpu_gate_control_is_zero(control), OK);
+    TELLS(percpu_gate_control_is_zero(control), false);
+}
+
+/* Numbers from 0 to 50: which are misuse, which are the last, and a text for each that is an answer. */
+static void numbers(void)
+{
+    static const char *const none = "no answer of a gate";
+    for (uint32_t n = 0; n <= 50; n++) {
+        bool is_answer = n <= 4 || (n >= 17 && n <= 22) || (n >= 32 && n <= 45);
+        TELLS(percpu_gate_is_misuse(n), n >= 32);
+        TELLS(percpu_gate_is_last(n), n == PERCPU_GATE_LAST || n == PERCPU_GATE_NOT_GIVEN_LAST);
+        TELLS(strcmp(percpu_gate_text(n), none) != 0, is_answer);
+        for (uint32_t other = 0; is_answer && other < n; other++)
+            TELLS(strcmp(percpu_gate_text(n), percpu_gate_text(other)) != 0, true);
+    }
+}
+
+/* Passes that nobody asked for end with the gate. */
+static void unasked(void)
+{
+    percpu_gate_control control = {0};
+    percpu_gate_pass pass = {0};
+    IS(percpu_gate_new(&control, 1, PERCPU_GATE_MOST_PASSES, PERCPU_GATE_DEAD, words), OK);
+    IS(percpu_gate_exit(&control, &last), OK);
+    TELLS(last.dead, true);
+    TELLS(last.kills + last.releases, 0);
+    IS(percpu_gate_new(&control, PERCPU_GATE_MOST_SLOTS, 3, PERCPU_GATE_SLOTS, words), OK);
+    IS(percpu_gate_next_pass(&control, &pass), OK);
+    IS(percpu_gate_kill(&control), LAST);
+    IS(percpu_gate_exit(&control, &last), PASSES_OUT);
+    TELLS(percpu_gate_control_number(&control) == percpu_gate_pass_number(&pass), true);
+    IS(percpu_gate_retire(&control, &pass), OK);
+    IS(percpu_gate_exit(&control, &last), OK);
+    TELLS(last.kills, 1);
+    TELLS(last.releases, 1);
 }
 
 int main(void)
@@ -136,6 +173,7 @@ int main(void)
     percpu_gate_control control = {0};
     percpu_gate_pass pass = {0}, none = {0};
     closed_handles();
+    numbers();
     IS(percpu_gate_new(&control, 0, 1, PERCPU_GATE_SLOTS, words), SIZE);
     IS(percpu_gate_new(&control, 65, 1, PERCPU_GATE_SLOTS, words), SIZE);
     IS(percpu_gate_new(&control, 1, 0, PERCPU_GATE_SLOTS, words), SIZE);
@@ -143,18 +181,19 @@ int main(void)
     IS(percpu_gate_new(&control, 1, 1, 3, words), SIZE);
     IS(percpu_gate_new(&control, 2, 1, PERCPU_GATE_SLOTS, words), OK);
     IS(percpu_gate_new(&control, 2, 1, PERCPU_GATE_SLOTS, words), OPEN);
-    IS(percpu_gate_exit(&control, &last), PASSES_OUT);
     IS(percpu_gate_next_pass(&control, &pass), OK);
+    IS(percpu_gate_exit(&control, &last), PASSES_OUT);
     IS(percpu_gate_next_pass(&control, &pass), OPEN);
     IS(percpu_gate_next_pass(&control, &none), NO_PASS);
     a_pass(&pass);
     a_control(&control, &pass);
     IS(percpu_gate_retire(&control, &pass), STILL_HELD);
-    IS(percpu_gate_try_get_live(&pass, 0), REFUSED);
+    IS(percpu_gate_try_get_live(&pass, 0), NOT_GIVEN);
     IS(percpu_gate_try_get(&pass, 0), OK);
     IS(percpu_gate_put(&pass, 0, 2), LAST);
-    IS(percpu_gate_try_get(&pass, 0), REFUSED);
-    IS(percpu_gate_is_zero(&pass), LAST); /* yes */
+    IS(percpu_gate_try_get(&pass, 0), NOT_GIVEN);
+    TELLS(percpu_gate_is_zero(&pass), true);
+    TELLS(percpu_gate_control_is_zero(&control), true);
     IS(percpu_gate_store_word(&control, 0, 4), OK);
     IS(percpu_gate_reinit(&control), OK);
     IS(percpu_gate_front(&pass, &told), OK);
@@ -162,10 +201,11 @@ int main(void)
     IS(percpu_gate_words(&control, all), OK);
     TELLS(all[0], 4);
     IS(percpu_gate_kill(&control), LAST);
-    IS(percpu_gate_resurrect(&control), LAST); /* it had reached zero */
+    IS(percpu_gate_resurrect(&control), WAS_AT_ZERO);
     IS(percpu_gate_exit(&control, &last), PASSES_OUT);
     IS(percpu_gate_retire(&control, &pass), OK);
     IS(percpu_gate_exit(&control, &last), OK);
     TELLS(last.kills, 2);
+    unasked();
     return failures != 0;
 }

@@ -12,7 +12,7 @@ struct gate {
     uint32_t slots, waiting, out, closed; /* passes that wait, and that aren't retired; slots that a kill has closed */
     uint32_t phase, wants;                /* the phase, and the live phase of the mode asked for last */
     bool dead, zero;
-    uint64_t held, kills, releases, front, words[8];
+    uint64_t number, held, kills, releases, front, words[8];
 };
 
 static struct gate gates[GATES];
@@ -81,6 +81,8 @@ static void make(uint32_t c)
     next_gate->phase = dead ? PERCPU_GATE_PHASE_DEAD : start;
     next_gate->wants = start == PERCPU_GATE_ATOMIC ? PERCPU_GATE_PHASE_LIVE_ATOMIC : PERCPU_GATE_PHASE_LIVE_ON_SLOTS;
     memcpy(next_gate->words, words, sizeof words);
+    next_gate->number = percpu_gate_control_number(&controls[c].handle);
+    IS(next_gate->number > (next_gate == gates ? 0 : next_gate[-1].number), true); /* no other gate has it */
     controls[c].gate = next_gate++;
 }
 
@@ -121,7 +123,7 @@ static void end(uint32_t c)
     percpu_gate_final last = {.kills = UNWRITTEN};
     uint32_t want = !g             ? PERCPU_GATE_CLOSED
                     : in_a_kill(g) ? PERCPU_GATE_MID_SWITCH
-                    : g->out       ? PERCPU_GATE_PASSES_OUT
+                    : g->out > g->waiting ? PERCPU_GATE_PASSES_OUT
                                    : PERCPU_GATE_OK;
     IS(percpu_gate_exit(&controls[c].handle, &last), want);
     IS(last.kills, want ? UNWRITTEN : g->kills);
@@ -143,13 +145,10 @@ static void take(uint32_t p, bool live)
     else if (g && passes[p].held == HELD_MOST)
         want = PERCPU_GATE_HELD_FULL;
     else if (g && live && g->phase == PERCPU_GATE_PHASE_CLOSING) /* a slot that isn't closed yet gives still */
-        want = slot < g->closed ? PERCPU_GATE_REFUSED : PERCPU_GATE_OK;
+        want = slot < g->closed ? PERCPU_GATE_NOT_GIVEN : PERCPU_GATE_OK;
     else if (g)
-        want = (live ? g->dead : g->zero) ? PERCPU_GATE_REFUSED : PERCPU_GATE_OK;
-    if (live)
-        IS(percpu_gate_try_get_live(&passes[p].handle, slot), want);
-    else
-        IS(percpu_gate_try_get(&passes[p].handle, slot), want);
+        want = (live ? g->dead : g->zero) ? PERCPU_GATE_NOT_GIVEN : PERCPU_GATE_OK;
+    IS((live ? percpu_gate_try_get_live : percpu_gate_try_get)(&passes[p].handle, slot), want);
     if (want)
         return;
     passes[p].held++;
@@ -200,8 +199,9 @@ static void look(uint32_t p)
                     : !passes[p].held ? PERCPU_GATE_NOT_HELD
                     : k >= 8          ? PERCPU_GATE_WORD
                                       : PERCPU_GATE_OK;
-    IS(percpu_gate_is_dying(&passes[p].handle), g ? g->dead : PERCPU_GATE_CLOSED);
-    IS(percpu_gate_is_zero(&passes[p].handle), g ? g->zero : PERCPU_GATE_CLOSED);
+    IS(percpu_gate_is_dying(&passes[p].handle), g && g->dead);
+    IS(percpu_gate_is_zero(&passes[p].handle), g && g->zero);
+    IS(percpu_gate_pass_number(&passes[p].handle), g ? g->number : 0);
     IS(percpu_gate_front(&passes[p].handle, &front), g ? PERCPU_GATE_OK : PERCPU_GATE_CLOSED);
     IS(front, g ? g->front : UNWRITTEN);
     IS(percpu_gate_word(&passes[p].handle, k, &word), want);
@@ -298,7 +298,7 @@ static void revive(uint32_t c, bool from_zero)
     if (from_zero)
         IS(percpu_gate_reinit(&controls[c].handle), want ? want : g->zero ? PERCPU_GATE_OK : PERCPU_GATE_NOT_ZERO);
     else
-        IS(percpu_gate_resurrect(&controls[c].handle), want ? want : g->zero);
+        IS(percpu_gate_resurrect(&controls[c].handle), want ? want : g->zero ? PERCPU_GATE_WAS_AT_ZERO : PERCPU_GATE_OK);
     if (want || (from_zero && !g->zero))
         return;
     g->zero = g->dead = false;
@@ -310,10 +310,7 @@ static void change_mode(uint32_t c, bool atomic)
 {
     struct gate *g = controls[c].gate;
     uint32_t want = !g ? PERCPU_GATE_CLOSED : in_a_kill(g) ? PERCPU_GATE_MID_SWITCH : PERCPU_GATE_OK;
-    if (atomic)
-        IS(percpu_gate_switch_to_atomic(&controls[c].handle), want);
-    else
-        IS(percpu_gate_switch_to_slots(&controls[c].handle), want);
+    IS((atomic ? percpu_gate_switch_to_atomic : percpu_gate_switch_to_slots)(&controls[c].handle), want);
     if (want)
         return;
     g->wants = atomic ? PERCPU_GATE_PHASE_LIVE_ATOMIC : PERCPU_GATE_PHASE_LIVE_ON_SLOTS;
@@ -337,7 +334,8 @@ static void ask(uint32_t c)
     uint32_t want = g ? PERCPU_GATE_OK : PERCPU_GATE_CLOSED;
     uint64_t kills = UNWRITTEN, releases = UNWRITTEN, words[8] = {UNWRITTEN};
     IS(percpu_gate_phase(&controls[c].handle), g ? g->phase : PERCPU_GATE_CLOSED);
-    IS(percpu_gate_control_is_zero(&controls[c].handle), g ? g->zero : PERCPU_GATE_CLOSED);
+    IS(percpu_gate_control_is_zero(&controls[c].handle), g && g->zero);
+    IS(percpu_gate_control_number(&controls[c].handle), g ? g->number : 0);
     IS(percpu_gate_kills(&controls[c].handle, &kills), want);
     IS(percpu_gate_releases(&controls[c].handle, &releases), want);
     IS(percpu_gate_words(&controls[c].handle, words), want);

@@ -1,6 +1,5 @@
 /* Each allocation of a whole life is refused in turn: a number is answered, nothing is lost and nothing leaks. Then
- * the misuses that take two gates. (Linked with other_file.c, and with --wrap=malloc and free, so that this malloc
- * refuses and both count.) */
+ * the misuses that take two gates. (Linked with --wrap=malloc and free, so that this malloc refuses and both count.) */
 #include "percpu_gate.h"
 
 #include <stdio.h>
@@ -46,8 +45,10 @@ static long life(long allow)
     for (int i = 0; i < 2; i++)
         if (percpu_gate_next_pass(&control, &pass[i]) == PERCPU_GATE_NO_MEMORY) {
             refused = allow;
+            if (i == 1 && percpu_gate_exit(&control, &last) != PERCPU_GATE_PASSES_OUT)
+                return -2;
             allowed = -1; /* the pass waits still */
-            if (percpu_gate_exit(&control, &last) != PERCPU_GATE_PASSES_OUT || percpu_gate_next_pass(&control, &pass[i]))
+            if (percpu_gate_next_pass(&control, &pass[i]))
                 return -2;
         }
     allowed = -1;
@@ -57,6 +58,20 @@ static long life(long allow)
         if (percpu_gate_retire(&control, &pass[i]))
             return -2;
     return percpu_gate_exit(&control, &last) || last.words[0] != 3 ? -2 : refused;
+}
+
+/* A gate ends with no memory at all: with a pass that is back from a refused next_pass, and with one never asked for. */
+static int ends_without_memory(void)
+{
+    percpu_gate_control control = {0};
+    percpu_gate_pass pass = {0};
+    percpu_gate_final last;
+    if (percpu_gate_new(&control, 2, 2, PERCPU_GATE_SLOTS, words))
+        return 1;
+    allowed = 0;
+    uint32_t given = percpu_gate_next_pass(&control, &pass), ended = percpu_gate_exit(&control, &last);
+    allowed = -1;
+    return given != PERCPU_GATE_NO_MEMORY || ended || control.is_open || pass.is_open;
 }
 
 static int two_gates(void)
@@ -97,25 +112,22 @@ static int one_place_twice(void)
     return percpu_gate_retire(&control, &pass) || percpu_gate_exit(&control, &last);
 }
 
-uint32_t make_elsewhere(percpu_gate_control *control, const uint64_t words[8]);
-
-/* The first gates of two files, whose counters have drawn as much. */
-static int two_files(void)
+/* Two gates that are made alike. */
+static int two_alike(void)
 {
     percpu_gate_control here = {0}, there = {0};
     percpu_gate_pass pass = {0};
     percpu_gate_final last;
-    if (percpu_gate_new(&here, 1, 1, PERCPU_GATE_SLOTS, words) || make_elsewhere(&there, words))
+    if (percpu_gate_new(&here, 1, 1, PERCPU_GATE_SLOTS, words) || percpu_gate_new(&there, 1, 1, PERCPU_GATE_SLOTS, words))
         return 1;
     if (percpu_gate_next_pass(&there, &pass) || percpu_gate_retire(&here, &pass) != PERCPU_GATE_OTHER_GATE)
         return 2;
-    percpu_gate_free_control(&here);
-    return percpu_gate_retire(&there, &pass) || percpu_gate_exit(&there, &last);
+    return percpu_gate_exit(&here, &last) || percpu_gate_retire(&there, &pass) || percpu_gate_exit(&there, &last);
 }
 
 int main(void)
 {
-    if (two_files())
+    if (two_alike())
         return 3;
     long refused = 0, at;
     for (long allow = 0; (at = life(allow)) != -1; allow++, refused++)
@@ -123,5 +135,5 @@ int main(void)
             return 1;
     if (refused < 3)
         return 2;
-    return two_gates() || one_place_twice() || blocks != 0;
+    return ends_without_memory() || two_gates() || one_place_twice() || blocks != 0;
 }

@@ -27,10 +27,10 @@ static void *count(void *of)
             uint64_t word;
             if (percpu_gate_word(&me->pass, 0, &word) || percpu_gate_get(&me->pass, me->slot, 2))
                 abort();
-            me->lasts += percpu_gate_put(&me->pass, (me->slot + 1) % THREADS, 3);
-        } else if (answer == PERCPU_GATE_REFUSED_LAST) {
+            me->lasts += percpu_gate_is_last(percpu_gate_put(&me->pass, (me->slot + 1) % THREADS, 3));
+        } else if (answer == PERCPU_GATE_NOT_GIVEN_LAST) {
             me->lasts++;
-        } else if (answer != PERCPU_GATE_REFUSED) {
+        } else if (answer != PERCPU_GATE_NOT_GIVEN) {
             abort();
         }
     }
@@ -78,10 +78,11 @@ int main(int argc, char **argv)
         uint32_t answer = i % 3 ? percpu_gate_kill(&control) : kill_by_steps();
         if (answer > PERCPU_GATE_LAST)
             return 2;
-        lasts += answer;
-        if (percpu_gate_control_is_zero(&control) == 1 && percpu_gate_store_word(&control, 0, ++word))
+        lasts += percpu_gate_is_last(answer);
+        if (percpu_gate_control_is_zero(&control) && percpu_gate_store_word(&control, 0, ++word))
             return 3;
-        if (percpu_gate_resurrect(&control) > 1)
+        answer = percpu_gate_resurrect(&control);
+        if (answer != PERCPU_GATE_OK && answer != PERCPU_GATE_WAS_AT_ZERO)
             return 4;
         if (i % 2 ? percpu_gate_switch_to_atomic(&control) : percpu_gate_switch_to_slots(&control))
             return 5;

@@ -7,5 +7,7 @@ pub mod Closed
 pub mod Looks
 -- what a gate that has ended leaves
 pub mod Finals
+-- what taking in a fresh pass leaves
+pub mod Fresh
 -- what the closing of a slot tells
 pub mod Steps

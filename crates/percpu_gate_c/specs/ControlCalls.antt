@@ -7,10 +7,10 @@ use Rattle.percpu_core.specs.declared.start.Start.{Start}
 use Rattle.percpu_core.specs.declared.limits.TheConstants.{SLOT_LIMIT, PASS_LIMIT}
 use Rattle.percpu_gate.specs.declared.revived.Revived.{Revived}
 use Rattle.percpu_gate.specs.declared.mode.Mode.{Mode}
-use Rattle.percpu_gate.specs.Seats.{GateFacts, PassFacts, FindsZero, fresh_pass, fresh_control}
+use Rattle.percpu_gate.specs.Seats.{ControlFacts, FindsZero, fresh_pass, fresh_control}
 use Rattle.percpu_gate.specs.Rule.{after_retire}
 use Rattle.percpu_gate.specs.ControlCalls.{fault_of, kill_refusal, dead_refusal, switch_refusal, after_kill, after_revival, after_switch, after_store, live_phase, is_at_zero, LooksForZero}
-use Rattle.std.specs.Prelude.{◌||◌, ◌&&◌, List, All, length}
+use Rattle.std.specs.Prelude.{◌||◌, ◌&&◌, List}
 use Rattle.std.specs.Global.{Box}
 use Rattle.percpu_gate_c.specs.declared.gate_number.GateNumber.{GateNumber}
 use Rattle.percpu_gate_c.specs.declared.misuse.Misuse.{Misuse}
@@ -21,6 +21,10 @@ use Rattle.percpu_gate_c.specs.Opened.{PassOpened, ControlOpened}
 -- the same control, once it knows this
 abbrev pub knowing : ControlOpened → ControlView → ControlOpened
 knowing c view = record c { control = record c.control { view = view } }
+
+-- a control that has so many passes out
+abbrev pub with_passes : ℕ → ControlFacts → ControlFacts
+with_passes n c = record c { view = record c.view { passes = n } }
 
 -- what a call leaves that the gate may refuse: everything as it was, or this
 abbrev pub OrRefused : {A : Type 0} → ControlOpened → ControlOpened → (A → Type 0) → Result A ControlFault → Type 0
@@ -96,12 +100,6 @@ Made misuse fresh (Some c) new answer = (answer ≡ Err Open) × (new ≡ Some c
 Made (Some why) fresh None new answer = (answer ≡ Err why) × (new ≡ None)
 Made None fresh None new (Ok r) = (c : ControlOpened) × (new ≡ Some c) × fresh c
 Made None fresh None new (Err why) = (why ≡ Memory) × (new ≡ None)
-
--- what taking the last of these new passes leaves, and gives with the number of its gate
-abbrev pub WrapsLast : GateNumber → GateFacts → List PassFacts → List PassFacts → Result PassOpened Misuse → Type 0
-WrapsLast number gate old new (Ok p) = (p ≡ record { number = number; pass = fresh_pass gate }) × All (λ q. q ≡ fresh_pass gate) new × (length old ≡ length new + 1)
-WrapsLast number gate old new (Err NoPass) = (length old ≡ 0) × (new ≡ old)
-WrapsLast number gate old new (Err why) = (why ≡ Memory) × (new ≡ old)
 
 -- the next pass that waits, if there is one and memory for it
 abbrev pub Next : ControlOpened → ControlOpened → Result PassOpened Misuse → Type 0

@@ -1,5 +1,5 @@
 -- How gates and their handles come and go.
-use Rattle.std.specs.Prelude.{◌≡◌, ℕ, ◌+◌, ◌⊎◌, nat_eq, nat_lt, if◌then◌else◌, Option, Some, None, Result, Ok, Err}
+use Rattle.std.specs.Prelude.{◌≡◌, ℕ, ◌+◌, ◌-◌, ◌⊎◌, nat_eq, nat_lt, if◌then◌else◌, Option, Some, None, Result, Ok, Err}
 use Rattle.percpu_core.specs.Phases.{is_phase}
 use Rattle.percpu_core.specs.declared.phase.Phase.TheVariants.{Dead}
 use Rattle.percpu_core.specs.declared.start.Start.{Start}
@@ -12,6 +12,15 @@ use Rattle.percpu_gate_c.specs.declared.misuse.Misuse.TheVariants.{Closed, Open,
 use Rattle.percpu_gate_c.specs.declared.life.Final.{Final}
 use Rattle.percpu_gate_c.specs.Opened.{PassOpened, ControlOpened}
 use Rattle.percpu_gate_c.specs.ControlCalls.{Next, Retires, size_misuse}
+
+-- the number of a handle's gate, that whoever made it drew; 0 where the handle is closed
+abbrev pub pass_number : Option PassOpened → ℕ
+pass_number None = 0
+pass_number (Some p) = p.number.drawn
+
+abbrev pub control_number : Option ControlOpened → ℕ
+control_number None = 0
+control_number (Some c) = c.number.drawn
 
 -- how a gate starts, by its number
 abbrev pub start_named : ℕ → Start
@@ -54,7 +63,12 @@ pub record IsFinal (c : ControlOpened) (f : Final) : Type 0 where
   pub kills : f.kills ≡ c.control.view.standing.kills
   pub releases : f.releases ≡ c.control.view.releases
   pub words : f.words ≡ c.control.view.words
-  pub nothing_lost : Ended c.control.gate c.control.view
+  -- the passes that nobody asked for were taken in
+  pub nothing_lost : Ended c.control.gate (record c.control.view { passes = 0 })
+
+-- why a gate may not end: a kill is under way, or passes that were given out aren't retired
+abbrev pub end_refusal : ControlOpened → Option ExitWhy
+end_refusal c = exit_refusal c.control.view.standing.phase (c.control.view.passes - c.waiting)
 
 -- what ending a gate leaves: refused with everything as it was, or ended. (Somebody else's share of the gate is answered 45, with everything as it was, but that the control is gone where it has no new box: 44. No way of using handles leads there)
 abbrev pub ExitsOpen : Option ExitWhy → ControlOpened → Option ControlOpened → Final → Final → ℕ → Type 0
@@ -63,4 +77,4 @@ ExitsOpen None c new there here result = ((new ≡ None) × (result ≡ 0) × Is
 
 abbrev pub Exits : Option ControlOpened → Option ControlOpened → Final → Final → ℕ → Type 0
 Exits None new there here result = (result ≡ 32) × (new ≡ None) × (here ≡ there)
-Exits (Some c) new there here result = ExitsOpen (exit_refusal c.control.view.standing.phase c.control.view.passes) c new there here result
+Exits (Some c) new there here result = ExitsOpen (end_refusal c) c new there here result

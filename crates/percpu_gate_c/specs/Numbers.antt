@@ -1,5 +1,5 @@
 -- The numbers that C is answered.
-use Rattle.std.specs.Prelude.{ℕ, ◌+◌, Bool, true, false, Result, Ok, Err}
+use Rattle.std.specs.Prelude.{ℕ, ◌+◌, Result, Ok, Err}
 use Rattle.percpu_gate_c.specs.declared.misuse.Misuse.{Misuse}
 use Rattle.percpu_gate_c.specs.declared.misuse.Misuse.TheVariants as misuses
 use Rattle.percpu_gate.specs.declared.control_fault.ControlFault.{ControlFault}
@@ -27,10 +27,6 @@ misuse_number misuses.NoPass = 43
 misuse_number misuses.Memory = 44
 misuse_number misuses.InUse = 45
 
-abbrev pub bool_number : Bool → ℕ
-bool_number true = 1
-bool_number false = 0
-
 abbrev pub put_number : Put → ℕ
 put_number NotLast = 0
 put_number Last = 1
@@ -45,9 +41,9 @@ abbrev pub gate_number : {A : Type 0} → (A → ℕ) → Result A ControlFault 
 gate_number number (Ok a) = number a
 gate_number number (Err why) = 16 + fault_number why
 
--- 1 where the count had reached zero
+-- 4 where the count had reached zero, which is no release: that was told before
 abbrev pub revived_number : Revived → ℕ
-revived_number AtZero = 1
+revived_number AtZero = 4
 revived_number Held = 0
 
 -- the number of an answer, or of a misuse

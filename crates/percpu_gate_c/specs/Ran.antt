@@ -1,5 +1,5 @@
 -- What each call of a handle leaves: refused with everything as it was, or run.
-use Rattle.std.specs.Prelude.{◌≡◌, ℕ, Option, Some, None, Result, Ok, Err}
+use Rattle.std.specs.Prelude.{◌≡◌, ℕ, Bool, false, Option, Some, None, Result, Ok, Err}
 use Rattle.percpu_gate_c.specs.declared.misuse.Misuse.{Misuse}
 use Rattle.percpu_gate_c.specs.declared.misuse.Misuse.TheVariants.{Closed}
 use Rattle.percpu_gate_c.specs.Numbers.{number_of}
@@ -29,6 +29,12 @@ module _ {S A : Type 0} where
   -- the same of the number that C is answered
   abbrev pub Answers : (A → ℕ) → (S → Option Misuse) → (S → S → A → Type 0) → Option S → Option S → ℕ → Type 0
   Answers number misuse leaves old new result = (answer : Result A Misuse) × (result ≡ number_of number answer) × RanOn misuse leaves old new answer
+
+-- a question of a handle: false where that is closed, so that misuse is never taken for yes
+abbrev pub Asks : {S : Type 0} → (S → S → Bool → Type 0) → Option S → Option S → Bool → Type 0
+Asks leaves None new found = (found ≡ false) × (new ≡ None)
+Asks leaves (Some old) None found = ⊥
+Asks leaves (Some old) (Some new) found = leaves old new found
 
 -- the same of a call that writes what it gives: nothing is written where it is refused
 abbrev pub Writes : {S V : Type 0} → (S → Option Misuse) → (S → S → V → Type 0) → Option S → Option S → V → V → ℕ → Type 0

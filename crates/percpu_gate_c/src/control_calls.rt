@@ -1,13 +1,13 @@
-//! The calls of the control. A closed handle answers Closed.
+//! The calls of the control. A closed handle answers Closed, and a question of it false.
 ghost use Rattle.percpu_gate.specs.declared.mode.Mode.TheVariants as modes;
-ghost use Rattle.percpu_gate_c.specs.Numbers.{bool_number, gate_number, put_number, revived_number};
-ghost use Rattle.percpu_gate_c.specs.Ran.{Answers, Writes};
+ghost use Rattle.percpu_gate_c.specs.Numbers.{gate_number, put_number, revived_number};
+ghost use Rattle.percpu_gate_c.specs.Ran.{Answers, Asks, Writes};
 ghost use Rattle.percpu_gate_c.specs.PassCalls.{no_misuse};
 ghost use Rattle.percpu_gate_c.specs.ControlCalls.{Killed, SawZero, Reinited, Resurrected, Switched, StoredWord, store_misuse, Told, ToldWords};
 
 use crate::control_handle::ControlHandle;
 use crate::misuse::Misuse;
-use crate::number::{of_bool, of_done, of_kill, of_revived, write, write_words};
+use crate::number::{of_done, of_kill, of_revived, write, write_words};
 use crate::open_pass::WORDS;
 
 /// Kills the gate. 1 is the release. Linux: `percpu_ref_kill` (include/linux/percpu-refcount.h).
@@ -25,17 +25,16 @@ pub extern "C" fn percpu_gate_kill(control: &mut ControlHandle) -> u32
 }
 
 /// Whether the count has reached zero. Linux: `percpu_ref_is_zero` (include/linux/percpu-refcount.h).
-#[tactic(auto, using(crate::proofs::Closed::closed_answers))]
 #[unsafe(no_mangle)]
-pub extern "C" fn percpu_gate_control_is_zero(control: &mut ControlHandle) -> u32
-    ensures { Answers bool_number no_misuse SawZero control.old.held.control control.new.held.control result }
+pub extern "C" fn percpu_gate_control_is_zero(control: &mut ControlHandle) -> bool
+    ensures { Asks SawZero control.old.held.control control.new.held.control result }
 {
     let Some(mut open) = control.take() else {
-        return of_bool(Err(Misuse::Closed));
+        return false;
     };
-    let answer = open.is_zero();
+    let yes = open.is_zero();
     control.put_back(open);
-    of_bool(answer)
+    yes
 }
 
 /// Revives a gate that has reached zero. Linux: `percpu_ref_reinit` (lib/percpu-refcount.c).
@@ -52,7 +51,7 @@ pub extern "C" fn percpu_gate_reinit(control: &mut ControlHandle) -> u32
     of_done(answer)
 }
 
-/// Revives a dead gate. 1 where it had reached zero. Linux: `percpu_ref_resurrect` (lib/percpu-refcount.c).
+/// Revives a dead gate. 4 where it had reached zero. Linux: `percpu_ref_resurrect` (lib/percpu-refcount.c).
 #[tactic(auto, using(crate::proofs::Closed::closed_answers))]
 #[unsafe(no_mangle)]
 pub extern "C" fn percpu_gate_resurrect(control: &mut ControlHandle) -> u32

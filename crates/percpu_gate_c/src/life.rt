@@ -3,7 +3,7 @@ ghost use Rattle.std.specs.Prelude.{◌≡◌, None, Result};
 ghost use Rattle.percpu_gate_c.specs.declared.misuse.Misuse.{Misuse};
 ghost use Rattle.percpu_gate_c.specs.Numbers.{number_of};
 ghost use Rattle.percpu_gate_c.specs.ControlCalls.{Made, NewControl, Retires};
-ghost use Rattle.percpu_gate_c.specs.Life.{Exits, Given, Gives, NumbersTell, NumbersTellOn, Retired, new_misuse, start_named};
+ghost use Rattle.percpu_gate_c.specs.Life.{Exits, Given, Gives, NumbersTell, NumbersTellOn, Retired, control_number, new_misuse, pass_number, start_named};
 
 use crate::control_handle::ControlHandle;
 use crate::gate_number::GateNumber;
@@ -96,6 +96,34 @@ pub extern "C" fn percpu_gate_next_pass(control: &mut ControlHandle, pass: &mut 
     of_unit(answer)
 }
 
+/// The number of a pass's gate, or 0 of a closed handle.
+#[unsafe(no_mangle)]
+pub extern "C" fn percpu_gate_pass_number(pass: &mut PassHandle) -> u64
+    ensures number { result ≡ pass_number pass.old.held.pass }
+    ensures same { pass.new.held.pass ≡ pass.old.held.pass }
+{
+    let Some(open) = pass.take() else {
+        return 0;
+    };
+    let number = open.number().drawn;
+    pass.put_back(open);
+    number
+}
+
+/// The number of a control's gate, or 0 of a closed handle.
+#[unsafe(no_mangle)]
+pub extern "C" fn percpu_gate_control_number(control: &mut ControlHandle) -> u64
+    ensures number { result ≡ control_number control.old.held.control }
+    ensures same { control.new.held.control ≡ control.old.held.control }
+{
+    let Some(open) = control.take() else {
+        return 0;
+    };
+    let number = open.number().drawn;
+    control.put_back(open);
+    number
+}
+
 /// Frees what a pass handle has, and closes it. Its gate counts the pass as out for ever, if it wasn't retired.
 #[unsafe(no_mangle)]
 pub extern "C" fn percpu_gate_free_pass(pass: &mut PassHandle)
@@ -143,8 +171,8 @@ pub extern "C" fn percpu_gate_retire(control: &mut ControlHandle, pass: &mut Pas
     of_unit(answer)
 }
 
-/// Ends a gate whose passes are all retired, and closes the handle. Refuses Closed; 20 in the middle of a kill, 22
-/// where passes are out. Somebody else's share of the gate, which no way of using handles leads to, is answered InUse,
+/// Ends a gate, and closes the handle: takes in the passes that nobody asked for. Refuses Closed; 20 in the middle of a
+/// kill, 22 where passes that were given out aren't retired. Somebody else's share of the gate, which no way of using handles leads to, is answered InUse,
 /// with everything as it was, or Memory where the control has no new box: it is gone then. Linux: `percpu_ref_exit`
 /// (lib/percpu-refcount.c).
 #[unsafe(no_mangle)]

@@ -1,7 +1,7 @@
 //! The numbers that C is answered.
 ghost use Rattle.std.specs.Prelude.{◌≡◌, ◌≤◌, ◌+◌};
 ghost use Rattle.percpu_gate.specs.ControlCalls.{fault_number};
-ghost use Rattle.percpu_gate_c.specs.Numbers.{bool_number, gate_number, number_of, revived_number, put_number, tried_number};
+ghost use Rattle.percpu_gate_c.specs.Numbers.{gate_number, number_of, revived_number, put_number, tried_number};
 ghost use Rattle.percpu_gate_c.specs.Ran.{written};
 ghost use Rattle.percpu_gate_c.specs.KillSteps.{phase_number, slots_written};
 
@@ -46,16 +46,6 @@ pub fn of_unit(answer: Result<(), Misuse>) -> u32
 {
     match answer {
         Ok(()) => 0,
-        Err(why) => why.number(),
-    }
-}
-
-/// 1 for yes, 0 for no.
-pub fn of_bool(answer: Result<bool, Misuse>) -> u32
-    ensures { result ≡ number_of bool_number answer }
-{
-    match answer {
-        Ok(yes) => u32::from(yes),
         Err(why) => why.number(),
     }
 }
@@ -117,12 +107,12 @@ pub fn of_done(answer: Result<Result<(), ControlFault>, Misuse>) -> u32
     }
 }
 
-/// 1 where the count had reached zero, else 0.
+/// 4 where the count had reached zero, else 0.
 pub fn of_revived(answer: Result<Result<Revived, ControlFault>, Misuse>) -> u32
     ensures { result ≡ number_of (gate_number revived_number) answer }
 {
     match answer {
-        Ok(Ok(Revived::AtZero)) => 1,
+        Ok(Ok(Revived::AtZero)) => 4,
         Ok(Ok(Revived::Held)) => 0,
         Ok(Err(why)) => of_fault(why),
         Err(why) => why.number(),

@@ -1,12 +1,11 @@
 //! What an open control handle leads to.
-ghost use Rattle.std.specs.Prelude.{◌≡◌, None, All, MatchResult};
-ghost use Rattle.percpu_gate_c.specs.Life.{IsFinal};
-ghost use Rattle.percpu_gate.specs.ControlCalls.{exit_refusal};
+ghost use Rattle.std.specs.Prelude.{◌≡◌, ◌+◌, ◌-◌, None, All, IfSome, MatchResult, length, option_to_list};
+ghost use Rattle.percpu_gate_c.specs.Life.{IsFinal, end_refusal};
 ghost use Rattle.percpu_gate.specs.Rule.{after_retire};
 ghost use Rattle.percpu_gate.specs.Seats.{fresh_pass};
 ghost use Rattle.percpu_gate.specs.declared.mode.Mode.TheVariants as modes;
 ghost use Rattle.percpu_gate_c.specs.Ran.{Ran, misuse_of};
-ghost use Rattle.percpu_gate_c.specs.ControlCalls.{WrapsLast, Makes, NewControl, size_misuse, Next, value_of, Killed, SawZero, Reinited, Resurrected, Switched, StoredWord, store_misuse, Told, ToldWords, retire_misuse, knowing};
+ghost use Rattle.percpu_gate_c.specs.ControlCalls.{Makes, NewControl, size_misuse, Next, value_of, Killed, SawZero, Reinited, Resurrected, Switched, StoredWord, store_misuse, Told, ToldWords, retire_misuse, knowing, with_passes};
 ghost use Rattle.percpu_gate_c.specs.KillSteps.{BegunKill, ClosedSlot, close_misuse, CollectedSlots, collect_misuse, ConfirmedKill, confirm_misuse, DroppedBase, drop_misuse, TellsPhase};
 
 use crate::gate_number::GateNumber;
@@ -29,7 +28,7 @@ pub struct OpenControl {
     gate: Arc<Gate<WORDS>>,
     number: GateNumber,
     waiting: Vec<Pass<WORDS>>,
-    spare: Option<OpenPass>,
+    spare: Option<Pass<WORDS>>,
     passes: u32,
     control: Control<WORDS>,
     after: [u64; 16],
@@ -47,24 +46,36 @@ impl Model for OpenControl {
 
     ghost invariant = { λ c. (c.control.gate ≡ arc_value c.gate) × (c.control.view.passes ≡ c.passes)
         × All (λ p. p ≡ fresh_pass (arc_value c.gate)) c.waiting.items
-        × IfSome c.spare (λ p. p ≡ record { number = c.number; pass = fresh_pass (arc_value c.gate) }) };
+        × IfSome c.spare (λ p. p ≡ fresh_pass (arc_value c.gate)) };
 }
 
-/// The last of these passes, with its gate. Refuses Memory, NoPass.
-fn wrap_last(
-    gate: &Arc<Gate<WORDS>>,
-    number: GateNumber,
-    waiting: &mut Vec<Pass<WORDS>>,
-) -> Result<OpenPass, Misuse>
-    requires fresh { All (λ p. p ≡ fresh_pass gate.now.value) waiting.old.items }
-    ensures { WrapsLast number gate.now.value waiting.old.items waiting.new.items result }
+/// Takes in a pass that nobody asked for.
+#[tactic(auto, using(crate::proofs::Fresh::taken))]
+fn take_in(gate: &Gate<WORDS>, control: &mut Control<WORDS>, pass: Pass<WORDS>)
+    requires own { control.old.gate ≡ gate.now }
+    requires fresh { pass ≡ fresh_pass gate.now }
+    ensures { control.new ≡ with_passes (control.old.view.passes - 1) control.old }
 {
-    let Ok(gate) = Arc::try_clone(gate) else {
-        return Err(Misuse::Memory);
-    };
-    match waiting.pop() {
-        Some(pass) => Ok(OpenPass::new(gate, number, pass)),
-        None => Err(Misuse::NoPass),
+    control.retire(gate, pass);
+}
+
+/// Takes in passes that nobody asked for.
+fn take_in_all(
+    gate: &Gate<WORDS>,
+    control: &mut Control<WORDS>,
+    waiting: Vec<Pass<WORDS>>,
+    spare: Option<Pass<WORDS>>,
+)
+    requires own { control.old.gate ≡ gate.now }
+    requires fresh { All (λ p. p ≡ fresh_pass gate.now) waiting.items }
+    requires spare { IfSome spare (λ p. p ≡ fresh_pass gate.now) }
+    ensures { control.new ≡ with_passes (control.old.view.passes - (length waiting.items + length (option_to_list spare))) control.old }
+{
+    for pass in waiting {
+        take_in(gate, control, pass);
+    }
+    if let Some(pass) = spare {
+        take_in(gate, control, pass);
     }
 }
 
@@ -105,14 +116,20 @@ impl OpenControl {
     pub fn next_pass(&mut self, alloc: Global) -> Result<Box<OpenPass>, Misuse>
         ensures { Next self.old self.new (value_of result) }
     {
-        let open = match self.spare.take() {
-            Some(open) => open,
-            None => wrap_last(&self.gate, self.number, &mut self.waiting)?,
+        let Ok(gate) = Arc::try_clone(&self.gate) else {
+            return Err(Misuse::Memory);
         };
-        match Box::new(alloc, open) {
+        let next = match self.spare.take() {
+            Some(pass) => Some(pass),
+            None => self.waiting.pop(),
+        };
+        let Some(pass) = next else {
+            return Err(Misuse::NoPass);
+        };
+        match Box::new(alloc, OpenPass::new(gate, self.number, pass)) {
             Ok(open) => Ok(open),
             Err(back) => {
-                self.spare = Some(back.value);
+                self.spare = Some(back.value.into_pass());
                 Err(Misuse::Memory)
             }
         }
@@ -185,10 +202,10 @@ impl OpenControl {
     }
 
     /// Whether the count has reached zero.
-    pub fn is_zero(&mut self) -> Result<bool, Misuse>
-        ensures { Ran None SawZero self.old self.new result }
+    pub fn is_zero(&mut self) -> bool
+        ensures { SawZero self.old self.new result }
     {
-        Ok(self.control.is_zero(&self.gate))
+        self.control.is_zero(&self.gate)
     }
 
     /// Revives a gate at zero.
@@ -276,22 +293,43 @@ impl OpenControl {
         }
     }
 
+    /// The number of its gate.
+    pub fn number(&self) -> GateNumber
+        ensures { result ≡ self.now.number }
+    {
+        self.number
+    }
+
+    /// The passes that were given out and aren't retired.
+    fn given_out(&self) -> u32
+        ensures { result ≡ self.now.control.view.passes - self.now.waiting }
+    {
+        let waiting = self.waiting.len() + usize::from(self.spare.is_some());
+        if waiting < self.passes as usize {
+            self.passes - waiting as u32
+        } else {
+            0
+        }
+    }
+
     /// Why the gate may not end: 20, or 22.
     pub fn refuse_exit(&self) -> Option<ExitWhy>
-        ensures { result ≡ exit_refusal self.now.control.view.standing.phase self.now.control.view.passes }
+        ensures { result ≡ end_refusal self.now }
     {
+        let out = self.given_out();
         if self.control.phase().is_mid_switch() {
             Some(ExitWhy::MidSwitch)
-        } else if self.passes > 0 {
-            Some(ExitWhy::PassesOut(self.passes))
+        } else if out > 0 {
+            Some(ExitWhy::PassesOut(out))
         } else {
             None
         }
     }
 
-    /// Ends the gate. Itself where somebody has a share of the gate, which no way of using handles leads to.
+    /// Ends the gate, once the passes that nobody asked for are taken in. Itself where somebody has a share of the
+    /// gate, which no way of using handles leads to.
     pub fn end(self) -> Result<Final, OpenControl>
-        requires retired { exit_refusal self.control.view.standing.phase self.control.view.passes ≡ None }
+        requires retired { end_refusal self ≡ None }
         ensures { MatchResult result (λ f. IsFinal self f) (λ back. back ≡ self) }
     {
         let Self {
@@ -301,7 +339,7 @@ impl OpenControl {
             waiting,
             spare,
             passes,
-            control,
+            mut control,
             after,
         } = self;
         let gate = match Arc::try_unwrap(gate) {
@@ -319,6 +357,7 @@ impl OpenControl {
                 });
             }
         };
+        take_in_all(&gate, &mut control, waiting, spare);
         let Ok(ended) = gate.exit(control) else {
             unreachable!();
         };

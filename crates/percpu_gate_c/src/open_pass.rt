@@ -131,18 +131,18 @@ impl OpenPass {
         Ok(self.pass.front(&self.gate))
     }
 
-    /// Whether the gate was killed. Never refused.
-    pub fn is_dying(&mut self) -> Result<bool, Misuse>
-        ensures { Ran None LookedForDead self.old self.new result }
+    /// Whether the gate was killed.
+    pub fn is_dying(&mut self) -> bool
+        ensures { LookedForDead self.old self.new result }
     {
-        Ok(self.pass.is_dying(&self.gate))
+        self.pass.is_dying(&self.gate)
     }
 
-    /// Whether the count has reached zero. Never refused.
-    pub fn is_zero(&mut self) -> Result<bool, Misuse>
-        ensures { Ran None LookedForZero self.old self.new result }
+    /// Whether the count has reached zero.
+    pub fn is_zero(&mut self) -> bool
+        ensures { LookedForZero self.old self.new result }
     {
-        Ok(self.pass.is_zero(&self.gate))
+        self.pass.is_zero(&self.gate)
     }
 
     /// A guarded word. Refuses NotHeld, Word.

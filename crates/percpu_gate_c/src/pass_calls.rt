@@ -1,10 +1,10 @@
-//! The calls of a pass. A closed handle answers Closed.
-ghost use Rattle.percpu_gate_c.specs.Numbers.{bool_number, put_number, tried_number};
-ghost use Rattle.percpu_gate_c.specs.Ran.{Answers, Writes};
+//! The calls of a pass. A closed handle answers Closed, and a question of it false.
+ghost use Rattle.percpu_gate_c.specs.Numbers.{put_number, tried_number};
+ghost use Rattle.percpu_gate_c.specs.Ran.{Answers, Asks, Writes};
 ghost use Rattle.percpu_gate_c.specs.PassCalls.{take_misuse, get_misuse, put_misuse, word_misuse, no_misuse, TryGot, LiveTryGot, Got, HasPut, ReadFront, LookedForDead, LookedForZero, ReadWord};
 
 use crate::misuse::Misuse;
-use crate::number::{of_bool, of_put, of_tried, of_unit, write};
+use crate::number::{of_put, of_tried, of_unit, write};
 use crate::pass_handle::PassHandle;
 
 /// Takes a reference unless the gate has reached zero. Linux: `percpu_ref_tryget`
@@ -67,31 +67,29 @@ pub extern "C" fn percpu_gate_put(pass: &mut PassHandle, slot: u32, n: u32) -> u
 }
 
 /// Whether the gate was killed. Linux: `percpu_ref_is_dying` (include/linux/percpu-refcount.h).
-#[tactic(auto, using(crate::proofs::Closed::closed_answers))]
 #[unsafe(no_mangle)]
-pub extern "C" fn percpu_gate_is_dying(pass: &mut PassHandle) -> u32
-    ensures { Answers bool_number no_misuse LookedForDead pass.old.held.pass pass.new.held.pass result }
+pub extern "C" fn percpu_gate_is_dying(pass: &mut PassHandle) -> bool
+    ensures { Asks LookedForDead pass.old.held.pass pass.new.held.pass result }
 {
     let Some(mut open) = pass.take() else {
-        return of_bool(Err(Misuse::Closed));
+        return false;
     };
-    let answer = open.is_dying();
+    let yes = open.is_dying();
     pass.put_back(open);
-    of_bool(answer)
+    yes
 }
 
 /// Whether the count has reached zero. Linux: `percpu_ref_is_zero` (include/linux/percpu-refcount.h).
-#[tactic(auto, using(crate::proofs::Closed::closed_answers))]
 #[unsafe(no_mangle)]
-pub extern "C" fn percpu_gate_is_zero(pass: &mut PassHandle) -> u32
-    ensures { Answers bool_number no_misuse LookedForZero pass.old.held.pass pass.new.held.pass result }
+pub extern "C" fn percpu_gate_is_zero(pass: &mut PassHandle) -> bool
+    ensures { Asks LookedForZero pass.old.held.pass pass.new.held.pass result }
 {
     let Some(mut open) = pass.take() else {
-        return of_bool(Err(Misuse::Closed));
+        return false;
     };
-    let answer = open.is_zero();
+    let yes = open.is_zero();
     pass.put_back(open);
-    of_bool(answer)
+    yes
 }
 
 /// Writes the front.

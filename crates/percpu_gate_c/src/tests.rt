@@ -56,13 +56,14 @@ fn a_life(rt: HostRuntime) {
     assert!(rt; percpu_gate_get(&mut pass, 0, 2) == 0);
     assert!(rt; percpu_gate_kill(&mut control) == 0);
     assert!(rt; percpu_gate_kill(&mut control) == 17);
-    assert!(rt; percpu_gate_is_dying(&mut pass) == 1);
+    assert!(rt; percpu_gate_is_dying(&mut pass));
     assert!(rt; percpu_gate_try_get_live(&mut pass, 1) == 2);
     assert!(rt; percpu_gate_try_get(&mut pass, 1) == 0);
-    assert!(rt; percpu_gate_control_is_zero(&mut control) == 0);
+    assert!(rt; !percpu_gate_control_is_zero(&mut control));
+    assert!(rt; !percpu_gate_is_zero(&mut pass));
     assert!(rt; percpu_gate_put(&mut pass, 0, 4) == 1);
-    assert!(rt; percpu_gate_control_is_zero(&mut control) == 1);
-    assert!(rt; percpu_gate_is_zero(&mut pass) == 1);
+    assert!(rt; percpu_gate_control_is_zero(&mut control));
+    assert!(rt; percpu_gate_is_zero(&mut pass));
     let mut words = WORDS;
     assert!(rt; percpu_gate_store_word(&mut control, 7, 4) == 0);
     assert!(rt; percpu_gate_words(&mut control, &mut words) == 0);
@@ -99,9 +100,15 @@ fn misuse_of_a_pass(rt: HostRuntime) {
     assert!(rt; percpu_gate_get(&mut pass, 0, 65_534) == 0);
     assert!(rt; percpu_gate_try_get_live(&mut pass, 1) == 35);
     assert!(rt; percpu_gate_put(&mut pass, 0, 0) == 37);
+    assert!(rt; percpu_gate_put(&mut pass, 1, 65_535) == 0);
     percpu_gate_free_pass(&mut pass);
     assert!(rt; percpu_gate_try_get(&mut pass, 1) == 32);
+    assert!(rt; percpu_gate_kill(&mut control) == 1);
+    assert!(rt; !percpu_gate_is_dying(&mut pass));
+    assert!(rt; !percpu_gate_is_zero(&mut pass));
+    assert!(rt; percpu_gate_control_is_zero(&mut control));
     percpu_gate_free_control(&mut control);
+    assert!(rt; !percpu_gate_control_is_zero(&mut control));
     assert!(rt; percpu_gate_kill(&mut control) == 32);
 }
 
@@ -152,7 +159,7 @@ fn switches_and_revivals(rt: HostRuntime) {
     assert!(rt; percpu_gate_kill(&mut control) == 1);
     assert!(rt; percpu_gate_releases(&mut control, &mut told) == 0);
     assert!(rt; told == 1);
-    assert!(rt; percpu_gate_resurrect(&mut control) == 1);
+    assert!(rt; percpu_gate_resurrect(&mut control) == 4);
     assert!(rt; percpu_gate_kills(&mut control, &mut told) == 0);
     assert!(rt; told == 2);
     percpu_gate_free_control(&mut control);

@@ -8,8 +8,9 @@ use crate::control_calls::{percpu_gate_kill, percpu_gate_releases, percpu_gate_r
 use crate::control_handle::ControlHandle;
 use crate::gate_number::GateNumber;
 use crate::life::{
-    Final, percpu_gate_exit, percpu_gate_free_control, percpu_gate_free_pass,
-    percpu_gate_new_numbered, percpu_gate_next_pass, percpu_gate_retire,
+    Final, percpu_gate_control_number, percpu_gate_exit, percpu_gate_free_control,
+    percpu_gate_free_pass, percpu_gate_new_numbered, percpu_gate_next_pass,
+    percpu_gate_pass_number, percpu_gate_retire,
 };
 use crate::pass_calls::{percpu_gate_put, percpu_gate_try_get_live};
 use crate::pass_handle::PassHandle;
@@ -106,7 +107,7 @@ fn what_is_left(rt: HostRuntime) -> Result<(), Fail> {
     assert!(rt; resurrect(&mut control, &pass) == 0);
     assert!(rt; put(&control, &mut pass) == 0);
     assert!(rt; kill(&mut control, &pass) == 1);
-    assert!(rt; resurrect(&mut control, &pass) == 1);
+    assert!(rt; resurrect(&mut control, &pass) == 4);
     assert!(rt; kill(&mut control, &pass) == 1);
     assert!(rt; percpu_gate_retire(&mut control, &mut pass) == 0);
     assert!(rt; percpu_gate_exit(&mut control, &mut last) == 0);
@@ -118,6 +119,31 @@ fn what_is_left(rt: HostRuntime) -> Result<(), Fail> {
     let wanted = "Final { dead: true, kills: 3, releases: 2, words: [7, 1, 2, 3, 4, 5, 6, 9] }";
     assert!(rt; told.as_str() == wanted);
     Ok(())
+}
+
+/// Three passes of which nobody asked for one end with the gate, but not one that was given out.
+#[test]
+fn passes_that_nobody_asked_for(rt: HostRuntime) {
+    let mut control = ControlHandle::new(rt.alloc());
+    let mut pass = PassHandle::new(rt.alloc());
+    let mut last = NOT_YET;
+    let number = GateNumber {
+        counter: 5,
+        drawn: 6,
+    };
+    assert!(rt; percpu_gate_new_numbered(&mut control, &number, 2, 3, 2, &WORDS) == 0);
+    assert!(rt; percpu_gate_exit(&mut control, &mut last) == 0);
+    assert!(rt; (last.dead, last.kills, last.releases) == (true, 0, 0));
+    assert!(rt; percpu_gate_new_numbered(&mut control, &number, 2, 3, 0, &WORDS) == 0);
+    assert!(rt; percpu_gate_next_pass(&mut control, &mut pass) == 0);
+    assert!(rt; percpu_gate_exit(&mut control, &mut last) == 22);
+    assert!(rt; percpu_gate_pass_number(&mut pass) == 6);
+    assert!(rt; percpu_gate_control_number(&mut control) == 6);
+    percpu_gate_free_pass(&mut pass);
+    assert!(rt; percpu_gate_exit(&mut control, &mut last) == 22);
+    percpu_gate_free_control(&mut control);
+    assert!(rt; percpu_gate_pass_number(&mut pass) == 0);
+    assert!(rt; percpu_gate_control_number(&mut control) == 0);
 }
 
 #[test]

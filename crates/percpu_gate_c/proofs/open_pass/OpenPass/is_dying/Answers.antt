@@ -1,6 +1,6 @@
-use Rattle.std.proofs.Common.{refl, sym, ◌∙◌}
+use Rattle.std.proofs.Common.{sym, ◌∙◌}
 use Rattle.percpu_gate_c.proofs.Looks.{looked_dead}
 use Rattle.percpu_gate_c.proofs.open_pass.OpenPass.is_dying.Goals as goal
 
 pub returns : goal.returns
-returns c = (refl, looked_dead (sym c.self.view_is) (c.deref.ensures ∙ sym c.self.invariant) c.is_dying.ensures.own c.is_dying.ensures.step c.is_dying.ensures.leaves)
+returns c = looked_dead (sym c.self.view_is) (c.deref.ensures ∙ sym c.self.invariant) c.is_dying.ensures.own c.is_dying.ensures.step c.is_dying.ensures.leaves
