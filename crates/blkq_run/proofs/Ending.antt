@@ -1,12 +1,11 @@
--- What the program's status tells, of each way in which a run or a replay ends.
+-- What the program's status tells where a run or a replay ends with a fault.
 use Rattle.std.proofs.Common.{◌≡◌, ◌⊎◌, ℕ, List, Option, None, Some, IfSome, IfNone, OnSome, IsErr, IsOkAnd, Result, Ok, Err, lit<, refl, inl, inr, arith}
 use Rattle.line_text.specs.declared.fault.ParseFault.{ParseFault}
 use Rattle.counted_io.specs.Failures.{HasFailed}
 use Rattle.counted_io.specs.Reading.{IfKnown}
 use Rattle.counted_io.specs.Tally.{Tally}
-use Rattle.counted_io.specs.Writing.{Takes, TakesNothing, TakesPart}
-use Rattle.gate_replay.specs.Shown.{EndsSo, Shown, shown_by}
-use Rattle.gate_replay.specs.declared.replay.Replayed.TheVariants.{Whole, Stuck}
+use Rattle.counted_io.specs.Writing.{TakesNothing, TakesPart}
+use Rattle.gate_replay.specs.Shown.{Shown, shown_by}
 use Rattle.blkq_run.specs.Answer.{IsAnswer, IsAnsweredBy}
 use Rattle.blkq_run.specs.Faults.{IsOfReplay, IsRefusal, refusal_of, status_of, written_of}
 use Rattle.blkq_run.specs.Statuses.{ShowsPart, TellsReplay, TellsRun, WritesPart}
@@ -18,30 +17,18 @@ map_known : (known : Option (List ℕ)) (P Q : List ℕ → Type 0) → ((input 
 map_known None P Q f p = tt
 map_known (Some input) P Q f p = f input p
 
-not_refused : (status : ℕ) → (status ≡ 0) ⊎ (status ≡ 4) → (status ≡ 2) ⊎ (status ≡ 3) → ⊥
-not_refused status (inl is) (inl other) = omega (arith, is, other)
-not_refused status (inl is) (inr other) = omega (arith, is, other)
-not_refused status (inr is) (inl other) = omega (arith, is, other)
-not_refused status (inr is) (inr other) = omega (arith, is, other)
+no_refusal : (status : ℕ) → status ≡ 4 → (status ≡ 2) ⊎ (status ≡ 3) → ⊥
+no_refusal status four (inl is) = omega (arith, four, is)
+no_refusal status four (inr is) = omega (arith, four, is)
 
 module _ {R W : Type 0} (left : R → Option (List ℕ)) (held : W → Option (List ℕ)) (reader : Tally R) (old new : Tally W) where
-  -- the status of a run that wrote its answer
-  pub run_that_ended : IfKnown left reader (λ input. IsAnsweredBy input (Takes held old new)) → TellsRun left held reader old new 0
-  run_that_ended written = record {
-    statuses = (0, lit< tt, refl);
-    success = λ is. written;
-    refused = λ is. absurd (not_refused 0 (inl refl) is);
-    untouched = λ is. absurd (not_refused 0 (inl refl) is);
-    partly = λ is. absurd (omega (arith, is));
-  }
-
   short_run : TakesNothing held old new ⊎ (HasFailed old new × IfKnown left reader (λ input. IsAnsweredBy input (TakesPart held old new)))
       → TellsRun left held reader old new 4
   short_run short = record {
     statuses = (3, lit< tt, refl);
     success = λ is. absurd (omega (arith, is));
-    refused = λ is. absurd (not_refused 4 (inr refl) is);
-    untouched = λ is. absurd (not_refused 4 (inr refl) is);
+    refused = λ is. absurd (no_refusal 4 refl is);
+    untouched = λ is. absurd (no_refusal 4 refl is);
     partly = λ is. short;
   }
 
@@ -66,27 +53,6 @@ module _ {R W : Type 0} (left : R → Option (List ℕ)) (held : W → Option (L
     success = λ is. absurd (omega (arith, is));
     refused = λ is. map_known (left reader.inner) _ _ (λ input p. (Overlap pair, p, refl)) (refusal tt);
     untouched = λ is. none;
-    partly = λ is. absurd (omega (arith, is));
-  }
-
-  -- the status of a replay that wrote what it shows
-  pub whole_replay : IfKnown left reader (λ input. EndsSo input Whole (Takes held old new)) → TellsReplay left held reader old new 0
-  whole_replay written = record {
-    statuses = (0, lit< tt, refl);
-    whole = λ is. written;
-    stuck = λ is. absurd (omega (arith, is));
-    no_schedule = λ is. absurd (omega (arith, is));
-    untouched = λ is. absurd (omega (arith, is));
-    partly = λ is. absurd (omega (arith, is));
-  }
-
-  pub stuck_replay : IfKnown left reader (λ input. EndsSo input Stuck (Takes held old new)) → TellsReplay left held reader old new 3
-  stuck_replay written = record {
-    statuses = (2, lit< tt, refl);
-    whole = λ is. absurd (omega (arith, is));
-    stuck = λ is. written;
-    no_schedule = λ is. absurd (omega (arith, is));
-    untouched = λ is. absurd (omega (arith, is));
     partly = λ is. absurd (omega (arith, is));
   }
 

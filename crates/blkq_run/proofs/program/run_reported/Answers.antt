@@ -1,8 +1,5 @@
-use Rattle.blkq_run.proofs.Ending.{run_at_fault, run_that_ended}
+use Rattle.blkq_run.proofs.Ending.{run_at_fault}
 use Rattle.blkq_run.proofs.program.run_reported.Goals as goal
-
-pub returns-in-Ok-clause-told : goal.returns-in-Ok-clause-told
-returns-in-Ok-clause-told g c = run_that_ended _ _ _ _ _ c.in-Ok.ensures.ok
 
 pub returns-in-Err-clause-told : goal.returns-in-Err-clause-told
 returns-in-Err-clause-told g c = rw c.status.ensures (run_at_fault _ _ _ _ _ c.in-Err.fault c.in-Err.ensures.refused

@@ -1,4 +1,4 @@
-use Rattle.blkq_run.proofs.Ending.{replay_at_fault, stuck_replay, whole_replay}
+use Rattle.blkq_run.proofs.Ending.{replay_at_fault}
 use Rattle.blkq_run.proofs.replay_report.replay_reported.Goals as goal
 
 pub returns-in-Err-clause-told : goal.returns-in-Err-clause-told
