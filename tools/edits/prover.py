@@ -1,5 +1,7 @@
 """The kit's prover, run on copies of a crate over the libraries that stand in the repository."""
 
+import contextlib
+import fcntl
 import importlib.machinery
 import os
 import shutil
@@ -84,6 +86,16 @@ def is_usable(rt, crate):
         return False
     made = os.path.getmtime(f"{crate.rlib}/format")
     return all(newest(it.folder, rt.PARTS) < made for it in [*crate.below(), crate])
+
+
+def hold(crates):
+    """Keeps rt from making these crates' libraries anew until what this returns is closed; others may read them too."""
+    held = [os.open(it, os.O_RDONLY) for it in sorted({os.path.realpath(it.folder) for it in crates})]
+    for it in held:
+        with contextlib.suppress(OSError):
+            # Some file systems have no locks.
+            fcntl.flock(it, fcntl.LOCK_SH)
+    return held
 
 
 def build_libraries(rt, crates):

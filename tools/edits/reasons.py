@@ -9,6 +9,7 @@ class Kind(enum.Enum):
 
     CONTRACT = "a contract"
     NEED = "a need of the body"
+    VALUE = "another value than the one that a proof by hand is of"
     UNREAD = "the front end can't read it"
     NOT_COVERED = "the borrow checker doesn't cover the function"
     NAMES = "a proof names what is gone"
@@ -16,7 +17,7 @@ class Kind(enum.Enum):
     OTHER = "something else"
 
     def tells(self):
-        return self in (Kind.CONTRACT, Kind.NEED)
+        return self in (Kind.CONTRACT, Kind.NEED, Kind.VALUE)
 
 
 OPEN = "it is not proved that "
@@ -29,6 +30,8 @@ TRIED = re.compile(
 GONE = re.compile(
     r"has no field|is not in scope|has no `|can be named from here|was not admitted|were not admitted|is no name|not found"
 )
+# The goal has the form that its answer is for, and says it of another value.
+OTHER_VALUE = re.compile(r"the two (types|sides) (first differ|differ only) where one has")
 UNFIT = re.compile(r"expected type|types differ|is not a function|expected a function|expected .* found|too many arguments")
 # A place in a file, and what is said of it.
 PLACED = re.compile(r"(?:note: )?(?:\./)?((?:src|specs|proofs)/\S+?):(\d+):\d+: (.*)")
@@ -49,6 +52,8 @@ def kind_of(said):
             return Kind.NAMES
         if TRIED.search(text):
             return Kind.CONTRACT
+        if OTHER_VALUE.search(text):
+            return Kind.VALUE
         return Kind.SHAPE if UNFIT.search(text) else Kind.OTHER
     if GONE.search(text) and file.startswith("specs/"):
         return Kind.NAMES
@@ -97,5 +102,5 @@ def telling(reasons):
     gone = renamed(reasons)
     good = [it for it in reasons if it.kind.tells() and it.goal.partition("-")[0] not in gone]
     # The first of a contract, and best one that is shown to be false.
-    rank = {Kind.CONTRACT: 0, Kind.NEED: 1}
+    rank = {Kind.CONTRACT: 0, Kind.NEED: 1, Kind.VALUE: 2}
     return min(good, key=lambda it: ("gave up" in it.line, rank[it.kind]), default=None)

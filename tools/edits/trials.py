@@ -68,7 +68,7 @@ class Trial:
     def __init__(self, prover, edits, jobs, alone, said):
         self.prover, self.edits, self.jobs = prover, edits, jobs
         self.texts, self.alone, self.said = Texts(prover.crate.folder), alone, said
-        self.answers, self.checks = {}, 0
+        self.answers, self.unread, self.checks = {}, [], 0
 
     def check(self, edited, placed):
         """Checks the crate with these edits, as far as those that were placed ask for it."""
@@ -110,12 +110,11 @@ class Trial:
     def try_all(self, ready):
         """First all in as few checks as can tell them apart, then again those that weren't shown to be refused: what
         they call may have been edited too. What is still in doubt is tried by itself."""
-        for _ in range(0 if self.alone else 2):
-            doubtful = []
-            for batch in self.batches(ready):
-                doubtful += self.try_batch(batch)
-            ready = doubtful
-        for it in ready:
+        # Of two that are in doubt, a check of both would seldom spare one.
+        for few in () if self.alone else (1, 2):
+            if len(ready) > few:
+                ready = [it for batch in self.batches(ready) for it in self.try_batch(batch)]
+        for it in [*ready, *self.unread]:
             self.try_batch([it])
 
     def batches(self, ready):
@@ -153,9 +152,7 @@ class Trial:
             self.judge(batch[0], ran, reasons)
             return []
         if not ran.is_read:
-            unread = [it for it in batch if it.is_unread(reasons)] or batch[len(batch) // 2 :]
-            rest = [it for it in batch if it not in unread]
-            return [*unread, *(self.try_batch(rest) if len(rest) > 1 else rest)]
+            return self.try_without_unread(batch, reasons)
         doubtful = []
         for it in batch:
             told = telling(it.own(reasons))
@@ -164,6 +161,14 @@ class Trial:
             else:
                 doubtful.append(it)
         return doubtful
+
+    def try_without_unread(self, batch, reasons):
+        """Leaves out the edits at which the front end stopped, or half of a batch where its errors tell none."""
+        unread = [it for it in batch if it.is_unread(reasons)]
+        half = [] if unread else batch[len(batch) // 2 :]
+        self.unread += unread
+        rest = [it for it in batch if it not in unread and it not in half]
+        return [*half, *(self.try_batch(rest) if len(rest) > 1 else rest)]
 
     def judge(self, placed, ran, reasons):
         """The answer to an edit that was tried by itself."""
