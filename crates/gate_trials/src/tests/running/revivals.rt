@@ -1,5 +1,5 @@
 //! Revivals and guarded words.
-use super::trial::Answer::{Done, Killed, Number, Put, Revived, Set, ToClose, Tried};
+use super::trial::Answer::{Done, Flag, Killed, Number, Put, Revived, Set, ToClose, Tried};
 use super::trial::Call::{Control, Pass, Retire};
 use super::trial::{Answer, Call, ControlCall, PassCall, Trial};
 use percpu_gate::ControlFault::{AlreadyDead, MidSwitch, NotDead, NotZero};
@@ -120,5 +120,54 @@ fn eight_words(rt: HostRuntime) -> Result<(), Fail> {
     let words = [10, 11, 12, 13, 14, 15, 16, u64::MAX];
     let mut trial = Trial::<8>::new(rt.alloc(), 1, 1, Start::Atomic, words)?;
     assert_eq!(rt; trial.differs(&EIGHT_WORDS), None);
+    Ok(())
+}
+
+/// A pass finds both marks of a dead gate.
+const FOUND_ONCE: [(Call, Answer); 4] = [
+    (Control(ControlCall::Kill), Killed(Ok(Last))),
+    (
+        Pass(0, PassCall::TryGet { slot: 0 }),
+        Tried(Refused(NotLast)),
+    ),
+    (Pass(0, PassCall::IsDying), Flag(true)),
+    (Pass(0, PassCall::IsZero), Flag(true)),
+];
+
+/// The revived gate has neither, and gives. While it dies again another pass holds, so that only DEAD is set.
+const FOUND_ANEW: [(Call, Answer); 13] = [
+    (Control(ControlCall::Reinit), Set(Ok(()))),
+    (Pass(0, PassCall::IsDying), Flag(false)),
+    (Pass(0, PassCall::IsZero), Flag(false)),
+    (Pass(0, PassCall::TryGetLive { slot: 0 }), Tried(Given)),
+    (Pass(1, PassCall::TryGet { slot: 0 }), Tried(Given)),
+    (Pass(0, PassCall::Put { slot: 0, n: 1 }), Put(NotLast)),
+    (Control(ControlCall::Kill), Killed(Ok(NotLast))),
+    (Pass(0, PassCall::IsZero), Flag(false)),
+    (Pass(0, PassCall::TryGet { slot: 0 }), Tried(Given)),
+    (Pass(0, PassCall::Put { slot: 0, n: 1 }), Put(NotLast)),
+    (
+        Pass(0, PassCall::TryGetLive { slot: 0 }),
+        Tried(Refused(NotLast)),
+    ),
+    (Pass(1, PassCall::Put { slot: 0, n: 1 }), Put(Last)),
+    (Pass(0, PassCall::IsZero), Flag(true)),
+];
+
+/// What a pass found in one life of the gate says nothing of the next, however often it was refused.
+#[test]
+fn each_life_is_looked_at_anew(rt: HostRuntime) -> Result<(), Fail> {
+    let refused = [(
+        Pass(0, PassCall::TryGetLive { slot: 0 }),
+        Tried(Refused(NotLast)),
+    )];
+    for start in [Start::Slots, Start::Atomic] {
+        let mut trial = Trial::<0>::new(rt.alloc(), 1, 2, start, [])?;
+        assert_eq!(rt; trial.differs(&FOUND_ONCE), None);
+        for _ in 0..10 {
+            assert_eq!(rt; trial.differs(&refused), None);
+        }
+        assert_eq!(rt; trial.differs(&FOUND_ANEW), None);
+    }
     Ok(())
 }

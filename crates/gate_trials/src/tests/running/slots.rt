@@ -126,3 +126,36 @@ fn counts_to_the_limit_and_past_it(rt: HostRuntime) -> Result<(), Fail> {
     }
     Ok(())
 }
+
+/// The sum of 4 to 67 is held.
+const ALL_COUNTED: &[(Call, Answer)] = &[
+    (Control(ControlCall::Collect), Done),
+    (Control(ControlCall::Confirm), Number(1)),
+    (Control(ControlCall::DropBase), Put(NotLast)),
+    (Pass(0, PassCall::Put { slot: 63, n: 2_271 }), Put(NotLast)),
+    (Pass(0, PassCall::Put { slot: 63, n: 1 }), Put(Last)),
+];
+
+/// Of 64 slots each counts what is asked for on it: the deltas, which all differ, tell every call's part.
+#[test]
+fn all_slots_count(rt: HostRuntime) -> Result<(), Fail> {
+    let mut trial = Trial::<0>::new(rt.alloc(), 64, 1, Start::Slots, [])?;
+    for slot in 0..64 {
+        let n = slot + 7;
+        let row = [
+            (Pass(0, PassCall::TryGet { slot }), Tried(Given)),
+            (Pass(0, PassCall::TryGetLive { slot }), Tried(Given)),
+            (Pass(0, PassCall::Get { slot, n }), Done),
+            (Pass(0, PassCall::Put { slot, n: 5 }), Put(NotLast)),
+        ];
+        assert_eq!(rt; trial.differs(&row), None, "slot {slot}");
+    }
+    let begun = [(Control(ControlCall::MarkDead), ToClose(Ok(64)))];
+    assert_eq!(rt; trial.differs(&begun), None);
+    for slot in 0..64 {
+        let counted = [(Control(ControlCall::CloseNext), Delta(slot + 4))];
+        assert_eq!(rt; trial.differs(&counted), None, "slot {slot}");
+    }
+    assert_eq!(rt; trial.differs(&ALL_COUNTED), None);
+    Ok(())
+}
