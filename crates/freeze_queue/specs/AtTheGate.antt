@@ -1,4 +1,6 @@
--- What it means at the gate of a queue that limits are in force, and that the queue is drained.
+-- What it means at the gate of a queue that limits are in force, and that the queue is drained. A moment is one of a
+-- gate of this shape (its slots, start and words), seen by this seat: it carries no identity of the gate. What binds limits to their
+-- own queue is what the tag's seat has loaded there: the clauses `told`, `kept` and `same` of `BlockQueue::limits`.
 use Rattle.std.specs.Prelude.{◌≡◌, ℕ, ◌-◌, ◌<◌, true, Some, List, slice_index}
 use Rattle.percpu_core.specs.declared.view.PassView.{PassView}
 use Rattle.percpu_core.specs.declared.view.ControlView.{ControlView}
@@ -37,16 +39,16 @@ abbrev pub InForceAreSet : Type 0
 InForceAreSet = (f : FreezerFacts) (q : QueueFacts) (before : PassView) (limits : Bounds) → IsFreezer f → f.queue ≡ q
     → (found : AreInForce q.gate q.hardware before limits) → Stood f found.moment.views → limits ≡ f.limits
 
--- at every moment of its gate that a tag sees and at which the freezer stands so, the limits that the tag was told are the freezer's
+-- at every moment of such a gate that a tag sees and at which the freezer stands so, the limits that the tag was told are the freezer's
 abbrev pub TagsReadWhatIsSet : Type 0
 TagsReadWhatIsSet = (f : FreezerFacts) (t : TagFacts) (told : Bounds) → IsFreezer f → IsTag t → t.queue ≡ f.queue → t.limits ≡ Some told
     → (m : Moment t.queue.gate (OfPass t.seat)) → Stood f m.views → told ≡ f.limits
 
--- at every moment of a gate that a seat which was told these limits sees, the guarded words spell them
+-- at every moment of such a gate that a seat which was told these limits sees, the guarded words spell them
 abbrev pub LimitsHoldStill : Type 0
 LimitsHoldStill = (gate : GateFacts) (hardware : ℕ) (limits : Bounds) (p : PassView) → limits_told hardware p ≡ Some limits
     → (m : Moment gate (OfPass p)) → from_words hardware m.cells.words ≡ limits
 
--- at every moment of a gate that a control which knows zero sees, no seat holds a reference
+-- at every moment of such a gate that a control which knows zero sees, no seat holds a reference
 abbrev pub DrainedIsEmpty : Type 0
 DrainedIsEmpty = (gate : GateFacts) (c : ControlView) → c.knows_zero ≡ true → (m : Moment gate (OfControl c)) → held_by_all m.views ≡ 0

@@ -15,25 +15,27 @@ pub fn sizes_in_numbers()
 {}
 
 /// Limits that a tag reads at a moment at which the freezer stands as it does now are the freezer's. So after a
-/// freeze, a set and a thaw the next tag that reads is told the new limits, for as long as nobody freezes.
+/// freeze, a set and a thaw the next tag that reads is told the new limits, for as long as nobody freezes. That the
+/// freezer stood so at the moment (`Stood`) is a premise which no call hands out: who needs certain limits compares what it
+/// is told with them, and leaves and enters again where they differ.
 pub fn in_force_are_set()
     ensures { InForceAreSet }
 {}
 
-/// The limits that an entered tag was told are the freezer's, at every moment of its gate at which the freezer
-/// stands as it does now: none can be set while the tag is in.
+/// The limits that an entered tag was told are the freezer's, at every moment of a gate like its own at which the freezer
+/// stands as it does now (the same premise): none can be set while the tag is in.
 pub fn tags_read_what_is_set()
     ensures { TagsReadWhatIsSet }
 {}
 
-/// The limits that a tag was told are those that the guarded words spell, at every moment of its gate until it
-/// leaves.
+/// The limits that a tag was told are those that the guarded words spell, at every moment of a gate
+/// like its own that its seat can see until it leaves.
 pub fn limits_hold_still()
     ensures { LimitsHoldStill }
 {}
 
-/// Where a freezer knows its queue to be drained, no tag holds a reference, at every moment of its gate until
-/// it is thawed.
+/// Where a freezer knows its queue to be drained, no tag holds a reference, at every moment of a gate like
+/// its own that its seat can see until it is thawed.
 pub fn drained_is_empty()
     ensures { DrainedIsEmpty }
 {}
