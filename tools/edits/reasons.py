@@ -67,8 +67,8 @@ class Reason:
         placed = PLACED.match(line)
         self.line, self.kind = line, kind_of(line)
         self.file, self.row = (placed[1], int(placed[2])) if placed else ("", 0)
-        goals = re.findall(r"`([^`]*)`", line)
-        self.goal = goals[-1] if OPEN in line and goals else ""
+        goal = re.search(r"\(`([^`]*)`\)", line) if OPEN in line else None
+        self.goal = goal[1] if goal else ""
 
     def is_of(self, function):
         """Whether it stands in the function, or in a file of its proof."""
