@@ -19,6 +19,3 @@ pub use fault::LimitFault;
 pub use laws::{limits_in_numbers, one_split, physical_sizes, pieces_of_one_sector_blocks};
 pub use limits::{CHUNK_LIMIT, HARDWARE_LIMIT, Limits, PHYSICAL_LIMIT};
 pub use pieces::Pieces;
-
-#[cfg(test)]
-mod tests;

@@ -1,5 +1,6 @@
-//! The sectors of a disk, the words of a text, what scripts say, and which of their requests overlap.
+//! The pieces of a range, the sectors of a disk, the words of a text, what scripts say, and which of their requests overlap.
 mod disk;
+mod limits;
 mod overlaps;
 mod script;
 mod text;

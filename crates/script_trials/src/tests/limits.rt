@@ -2,7 +2,7 @@
 ghost use Rattle.std.specs.Prelude.{◌<◌, ◌^◌, IfOk};
 ghost use Rattle.queue_limits.specs.Pieces.{IsSplit};
 
-use crate::{LimitFault, Limits};
+use queue_limits::{LimitFault, Limits};
 use std::alloc::{AllocError, Global};
 use std::process::Abort;
 use std::test::Fail;
