@@ -1,6 +1,11 @@
 mod by_hand;
 mod caller;
+mod crowd;
 mod fixture;
+mod handing;
 mod modes;
+mod refused;
 mod rising;
+mod rounds;
+mod turns;
 mod waking;
