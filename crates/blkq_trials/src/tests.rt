@@ -7,6 +7,7 @@ mod each_byte;
 mod fakes;
 mod reading;
 mod scripts;
+mod stalling;
 mod texts;
 mod ways;
 mod writing;

@@ -3,4 +3,5 @@ mod disk;
 mod limits;
 mod overlaps;
 mod script;
+mod sizes;
 mod text;

@@ -181,6 +181,7 @@ fn the_largest_disk(rt: HostRuntime) -> Result<(), Fail> {
         disk.all_runs(alloc)?.as_slice(),
         [(0, 2_097_152)].as_slice()
     );
+    assert_eq!(rt; disk.share(alloc, 0, 4096)?.len(), 4096);
     assert_eq!(rt; disk.share(alloc, 4095, 1)?.len(), 1);
     assert_eq!(rt; disk.share(alloc, 0, 4097).err(), Some(DiskFault::PastEnd));
     disk.install(0, patterned(alloc, &[255], 4096)?);
