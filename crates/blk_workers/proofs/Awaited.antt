@@ -8,10 +8,11 @@ use Rattle.script_meaning.specs.Requests.{accepted_at, accepted_before}
 use Rattle.script_meaning.specs.Script.{Meant}
 use Rattle.script_meaning.specs.declared.request.Request.{Request}
 use Rattle.script_meaning.proofs.Numbers.{in_order}
-use Rattle.blk_workers.specs.Desk.{AreAwaited, is_owed}
-use Rattle.blk_workers.specs.Requests.{IsAcceptedAt}
-use Rattle.blk_workers.proofs.Places.{owed_push, owed_at, owed_set_other}
-use Rattle.blk_workers.proofs.Numbering.{before_grows}
+use Rattle.blk_workers.specs.Progress.{AreAwaited}
+use Rattle.run_desk.specs.Desk.{is_owed}
+use Rattle.run_desk.specs.Requests.{IsAcceptedAt}
+use Rattle.run_desk.proofs.Places.{owed_push, owed_at, owed_set_other}
+use Rattle.run_desk.proofs.Numbering.{before_grows}
 
 -- a request whose number is below the count before a position stands before it
 stands_before : (script : Meant) (number position here : ℕ) → IsAcceptedAt script number position → number < accepted_before script here → position < here

@@ -1,16 +1,4 @@
--- LineSteps: what a line does to a sector of the disk. Spans: the disk of a run while requests are under way. Places: lists of replies
--- one step further. RequestLines: what a request is answered, at its line. Desks: the thread that submits and collects, one step further.
--- Covering: the span that it keeps. Numbering: the numbers of accepted requests. Awaited: which replies are owed. TextLines: lines that stand in one text, and behind them those that are owed. Ends: its replies, once
--- none is owed. NextLines: the script's queue one line further, and what a request is due to.
-pub mod LineSteps
-pub mod Spans
-pub mod Places
-pub mod RequestLines
-pub mod Covering
-pub mod Desks
-pub mod Ends
-pub mod NextLines
-pub mod Counting
-pub mod Numbering
+-- Awaited: which replies are owed. FewNumbers: how many numbers an increasing list can hold. RunEnds: what a run has answered.
 pub mod Awaited
-pub mod TextLines
+pub mod FewNumbers
+pub mod RunEnds

@@ -6,7 +6,7 @@ use Rattle.freeze_queue.specs.AtTheGate.{AreInForce}
 use Rattle.freeze_queue.specs.Queue.{QueueFacts, TagFacts}
 use Rattle.atomic_table.specs.Seated.{TableId}
 use Rattle.run_queues.specs.Parts.{DutyFacts}
-use Rattle.blk_workers.specs.Requests.{IsAcceptedAt, IsDue}
+use Rattle.run_desk.specs.Requests.{IsAcceptedAt, IsDue}
 
 -- a request on its way to a worker: the duty to tell its completion, which has its number among the accepted ones, the position of its line, the tag that entered for it, and the sectors
 -- that it finds

@@ -1,17 +1,15 @@
 -- How far the thread that submits and collects has come.
-use Rattle.std.specs.Prelude.{◌≡◌, ℕ, ◌+◌, ◌<◌, ◌≤◌, true, false, if◌then◌else◌, List, [], length, Option}
-use Rattle.ram_disk.specs.Disk.{sectors_read}
+use Rattle.std.specs.Prelude.{◌≡◌, ℕ, ◌+◌, ◌<◌, ◌≤◌, true, List, [], length, Option}
 use Rattle.atomic_table.specs.Seated.{TableId}
-use Rattle.run_queues.specs.Numbers.{Draws}
+use Rattle.run_queues.specs.Numbers.{Draws, times}
 use Rattle.run_queues.specs.Parts.{CollectorFacts, DrawerFacts, SourceFacts}
 use Rattle.run_queues.specs.Requests.{all_parts}
 use Rattle.freeze_queue.specs.Queue.{QueueFacts, FreezerFacts}
 use Rattle.script_meaning.specs.Meaning.{after_lines, start_of}
-use Rattle.script_meaning.specs.Queue.{Queue, counted}
-use Rattle.script_meaning.specs.Requests.{accepted_before, accepted_in_all, queue_at, state_at}
+use Rattle.script_meaning.specs.Requests.{accepted_before, accepted_in_all}
 use Rattle.script_meaning.specs.Script.{Meant}
-use Rattle.script_meaning.specs.declared.request.Request.{Request}
-use Rattle.blk_workers.specs.Desk.{AreAwaited, AreJoined, Stands, owed_count}
+use Rattle.run_desk.specs.Requests.{IsAcceptedAt, IsQueueAt}
+use Rattle.run_desk.specs.Desk.{is_owed, AreJoined, Stands, owed_count}
 use Rattle.blk_workers.specs.Following.{mode_of}
 use Rattle.blk_workers.specs.declared.submitter.Submitter.{Submitter}
 
@@ -21,15 +19,15 @@ pub record IsFollowing (queue : QueueFacts) (most : ℕ) (f : FreezerFacts) : Ty
   pub drained : 0 < f.depth → f.drained ≡ true
   pub kills : f.kills ≤ most
 
--- the queue without its disk is the one that a single thread has before the line at a position
-pub record IsQueueAt (script : Meant) (position : ℕ) (q : Queue) : Type 0 where
-  pub is : q ≡ queue_at script position
-  pub counts : counted q ≤ position
-
 -- so many requests were accepted before a position
 pub record IsCounted (script : Meant) (position accepted : ℕ) : Type 0 where
   pub is : accepted ≡ accepted_before script position
   pub few : accepted ≤ position
+
+-- the reply to each accepted request whose completion may come and wasn't collected yet is owed
+abbrev pub AreAwaited : Meant → List (Option (List ℕ)) → ℕ → List ℕ → Type 0
+AreAwaited script replies given collected =
+    (number position : ℕ) → IsAcceptedAt script number position → number < given → times number collected ≡ 0 → is_owed replies position ≡ true
 
 -- the requests that were accepted before a position are pushed, each with the duty to tell its completion, and the replies to those whose
 -- completions weren't collected are owed
@@ -47,10 +45,6 @@ pub record IsAt (script : Meant) (queue : QueueFacts) (position : ℕ) (s : Subm
   pub freezer : IsFollowing queue position s.freezer
   pub mode : s.freezer.mode ≡ mode_of s.state.mode
   pub counted : IsCounted script position s.accepted
-
--- the sectors that a request finds: a write finds none
-abbrev pub found_at : Meant → ℕ → Request → List (List ℕ)
-found_at script position request = if request.writes then [] else sectors_read request.start request.count (state_at script position).disk
 
 -- every line is taken, and nothing is owed
 pub record IsEnd (script : Meant) (s : Submitter) : Type 0 where

@@ -1,14 +1,15 @@
 //! How completions are collected, and free tags taken.
 ghost use Rattle.std.specs.Prelude.{◌≡◌, ℕ, ◌+◌, ◌<◌, true, List, [], ◌∷◌, ◌++◌, Some, OnOk, length};
-ghost use Rattle.blk_workers.specs.Desk.{AreAwaited, Stands, is_owed, owed_count};
+ghost use Rattle.blk_workers.specs.Progress.{AreAwaited};
+ghost use Rattle.run_desk.specs.Desk.{Stands, is_owed, owed_count};
 
-use crate::desk::Desk;
 use crate::fault::RunFault;
 use crate::job::Completion;
 use crate::naming::{Line, Run};
 use crate::worker::Hall;
 use freeze_queue::Tag;
 use queue_limits::Limits;
+use run_desk::Desk;
 use run_queues::{Collector, CompletionQueue};
 use script_meaning::Script;
 use std::sync::Wait;

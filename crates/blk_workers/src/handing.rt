@@ -1,12 +1,12 @@
 //! How an accepted request is handed to the workers.
 ghost use Rattle.std.specs.Prelude.{◌≡◌, ◌+◌, ◌<◌, IfOk, OnOk, Some, length};
 ghost use Rattle.script_meaning.specs.Requests.{accepted_at, accepted_before, queue_at};
-ghost use Rattle.blk_workers.specs.Desk.{Stands, is_owed};
-ghost use Rattle.blk_workers.specs.Progress.{AreEndsOf, AreHandedOver, found_at};
-ghost use Rattle.blk_workers.specs.Span.{ClashesWithNone};
+ghost use Rattle.run_desk.specs.Desk.{Stands, is_owed};
+ghost use Rattle.blk_workers.specs.Progress.{AreEndsOf, AreHandedOver};
+ghost use Rattle.run_desk.specs.Requests.{found_at};
+ghost use Rattle.run_desk.specs.Span.{ClashesWithNone};
 
 use crate::collecting::entered;
-use crate::desk::Desk;
 use crate::fault::RunFault;
 use crate::job::{Completion, Job};
 use crate::naming::{Line, Run};
@@ -14,6 +14,7 @@ use crate::stall::{Point, Stall};
 use crate::worker::Hall;
 use queue_limits::Limits;
 use ram_disk::Sector;
+use run_desk::Desk;
 use run_queues::{Collector, Source};
 use script_meaning::{Request, Script};
 use std::alloc::Global;

@@ -1,12 +1,12 @@
 //! What a worker is handed for a request, and what it hands back.
 ghost use Rattle.std.specs.Prelude.{◌≡◌, ◌<◌, true, false, IfSome};
-ghost use Rattle.blk_workers.specs.Requests.{IsAcceptedAt, IsAnswer};
+ghost use Rattle.run_desk.specs.Requests.{IsAcceptedAt, IsAnswer};
 ghost use Rattle.blk_workers.specs.Jobs.{IsJob, IsReadUnderItsTag};
 
-use crate::answer::{Answer, answered};
 use crate::naming::{Line, Run};
 use freeze_queue::{BlockQueue, Tag};
 use ram_disk::Sector;
+use run_desk::{Answer, answered};
 use run_queues::{CompletionQueue, Duty, Numbered, Told};
 use script_meaning::Script;
 use std::alloc::Global;
@@ -62,7 +62,7 @@ pub(crate) struct Completion<J: Run> {
 impl<J: Run> Model for Completion<J> {
     ghost use Rattle.std.specs.Prelude.{IfSome};
     ghost use Rattle.blk_workers.specs.Jobs.{CompletionFacts};
-    ghost use Rattle.blk_workers.specs.Requests.{IsAcceptedAt, IsAnswer};
+    ghost use Rattle.run_desk.specs.Requests.{IsAcceptedAt, IsAnswer};
 
     ghost Value = { CompletionFacts };
 

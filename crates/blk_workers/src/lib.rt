@@ -7,11 +7,10 @@
 //! gives the tag back. Where a line drains, the queue is frozen until every tag has left, and all completions are
 //! collected; so it is at the end, and before a request that overlaps one since the last drain (`script_overlap::Span`).
 //!
-//! Answers come back in any order. The one thread that submits and collects owns the disk and the replies: for
-//! each answer that is owed it installs the sectors and keeps the line. So while requests are under way the disk
-//! is behind the one that a single thread would have; but no two that are under way overlap, so each reads what a
-//! single thread reads, whichever writes of its span were installed before ([`reads_stand_in_a_span`]), and once no
-//! answer is owed the disk is the single thread's.
+//! Answers come back in any order. The one thread that submits and collects owns the disk and the replies (`run_desk::Desk`):
+//! for each answer that is owed it installs the sectors and keeps the line. Why that gives one thread's disk and replies is
+//! said and proved in `run_desk`, where no thread and no gate has a part: [`reads_stand_in_a_span`] and
+//! [`answers_come_in_any_order`].
 //!
 //! What threads hand to one another is known by its type alone, so the types of requests, completions and free
 //! tags keep what [`run`]'s contract rests on; `specs/Jobs.antt` says what a request's type keeps. Requests,
@@ -19,19 +18,14 @@
 //! the first thread starts, and so is that for the lists of what each worker draws.
 #![tactic(auto)]
 
-mod answer;
 mod collecting;
 mod config;
-mod desk;
 mod fault;
 mod following;
 mod handing;
 mod job;
-mod laws;
-mod lines;
 mod naming;
 mod ran;
-mod replies;
 mod running;
 mod stall;
 mod submitter;
@@ -41,7 +35,7 @@ mod worker;
 
 pub use config::{Config, MOST_SLOTS, MOST_TAGS, MOST_WORKERS};
 pub use fault::RunFault;
-pub use laws::{answers_come_in_any_order, reads_stand_in_a_span};
 pub use ran::Ran;
+pub use run_desk::{answers_come_in_any_order, reads_stand_in_a_span};
 pub use running::run;
 pub use stall::{NoStall, Point, Stall};

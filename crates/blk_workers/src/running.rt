@@ -1,8 +1,7 @@
 //! A script's run on several threads.
-ghost use Rattle.std.specs.Prelude.{◌≡◌, ◌+◌, ◌<◌, ◌≤◌, ◌==◌, ◌^◌, if◌then◌else◌, false, All, IfOk, is_some, length, map};
+ghost use Rattle.std.specs.Prelude.{◌≡◌, ◌+◌, ◌<◌, ◌≤◌, ◌==◌, ◌^◌, if◌then◌else◌, false, All, IfOk, length, map};
 ghost use Rattle.script_meaning.specs.Queue.{start_queue};
 ghost use Rattle.script_meaning.specs.Requests.{accepted_in_all};
-ghost use Rattle.script_meaning.specs.Taken.{accepted_in};
 ghost use Rattle.blk_workers.specs.Following.{mode_of};
 ghost use Rattle.blk_workers.specs.Progress.{AreDrawn, AreNewEnds, IsAt, IsFollowing, IsRun};
 
@@ -18,34 +17,13 @@ use crate::team::{drawers, with_workers};
 use crate::worker::Hall;
 use freeze_queue::{BlockQueue, NewQueue, Tag};
 use queue_limits::Limits;
+use run_desk::accepted_requests;
 use run_queues::{Collector, CompletionQueue};
-use script_meaning::{Outcome, QueueState, Script};
+use script_meaning::Script;
 use std::alloc::Global;
 use std::marker::Brand;
 use std::sync::Wait;
 use std::thread::Threads;
-
-// Whether a line came to an accepted request.
-fn is_accepted(came: &Outcome) -> bool
-    ensures { result ≡ is_some (accepted_in came.now) }
-{
-    matches!(came, Outcome::Accepted(_))
-}
-
-// How many of a script's requests the queue accepts.
-fn accepted_requests(script: &Script) -> usize
-    ensures count { result ≡ accepted_in_all script.now }
-    ensures few { result ≤ length script.now.lines }
-{
-    let mut queue = QueueState::new(script);
-    let mut accepted = 0;
-    for line in script.lines() {
-        if is_accepted(&queue.take(&line.what)) {
-            accepted += 1;
-        }
-    }
-    accepted
-}
 
 // A run whose types name its queue of requests.
 fn run_in<

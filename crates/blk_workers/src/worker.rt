@@ -2,7 +2,7 @@
 ghost use Rattle.std.specs.Prelude.{◌≡◌, ◌<◌, ◌^◌, true, false, [], All, IfOk, length};
 ghost use Rattle.script_meaning.specs.Requests.{accepted_in_all};
 ghost use Rattle.run_queues.specs.Requests.{all_parts};
-ghost use Rattle.blk_workers.specs.Requests.{IsAcceptedAt};
+ghost use Rattle.run_desk.specs.Requests.{IsAcceptedAt};
 
 use crate::fault::RunFault;
 use crate::job::{Completion, FreeTag, Job};

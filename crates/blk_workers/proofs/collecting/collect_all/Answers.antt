@@ -1,6 +1,6 @@
 use Rattle.std.proofs.Common.{◌∙◌, sym, subst}
 use Rattle.run_queues.specs.Parts.{CollectorFacts}
-use Rattle.blk_workers.specs.Desk.{AreAwaited}
+use Rattle.blk_workers.specs.Progress.{AreAwaited}
 use Rattle.blk_workers.proofs.Awaited.{same_but_collected}
 use Rattle.blk_workers.proofs.collecting.collect_all.Goals as goal
 

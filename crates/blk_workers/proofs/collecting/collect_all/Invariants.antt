@@ -1,5 +1,6 @@
 use Rattle.std.proofs.Common.{◌≡◌, length}
-use Rattle.blk_workers.specs.Desk.{AreAwaited, Stands}
+use Rattle.blk_workers.specs.Progress.{AreAwaited}
+use Rattle.run_desk.specs.Desk.{Stands}
 use Rattle.blk_workers.proofs.collecting.collect_all.Given as goal
 
 abbrev pub invariant-loop : goal.invariant-loop

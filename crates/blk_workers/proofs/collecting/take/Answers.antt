@@ -1,9 +1,10 @@
 use Rattle.std.proofs.Common.{◌∙◌, sym, ap, subst, ◌+◌, ◌++◌, ◌∷◌, [], Some}
-use Rattle.blk_workers.specs.Desk.{AreAwaited, is_owed, owed_count}
-use Rattle.blk_workers.specs.Requests.{IsAcceptedAt}
+use Rattle.blk_workers.specs.Progress.{AreAwaited}
+use Rattle.run_desk.specs.Desk.{is_owed, owed_count}
+use Rattle.run_desk.specs.Requests.{IsAcceptedAt}
 use Rattle.blk_workers.proofs.Awaited.{awaited_fewer, awaited_taken}
-use Rattle.blk_workers.proofs.NextLines.{moved}
-use Rattle.blk_workers.proofs.Places.{count_set}
+use Rattle.run_desk.proofs.NextLines.{moved}
+use Rattle.run_desk.proofs.Places.{count_set}
 use Rattle.blk_workers.proofs.collecting.take.Goals as goal
 
 pub returns-in_default-clause-awaited : goal.returns-in_default-clause-awaited

@@ -1,12 +1,12 @@
 use Rattle.std.proofs.Common.{◌≡◌, ◌∙◌, ◌+◌, ◌++◌, ◌∷◌, [], ap, sym, subst, true, length, is_some, Some, None}
 use Rattle.script_meaning.specs.Script.{Meant}
-use Rattle.blk_workers.specs.Desk.{AreAwaited}
+use Rattle.blk_workers.specs.Progress.{AreAwaited}
 use Rattle.blk_workers.proofs.Awaited.{awaited_submitted}
-use Rattle.blk_workers.proofs.Numbering.{counts_request}
+use Rattle.run_desk.proofs.Numbering.{counts_request}
 use Rattle.script_meaning.specs.Requests.{accepted_at, accepted_before}
 use Rattle.run_queues.specs.Parts.{CollectorFacts, DutyFacts, SourceFacts}
-use Rattle.blk_workers.specs.Requests.{IsDue}
-use Rattle.blk_workers.proofs.NextLines.{due_at, moved}
+use Rattle.run_desk.specs.Requests.{IsDue}
+use Rattle.run_desk.proofs.NextLines.{due_at, moved}
 use Rattle.blk_workers.proofs.handing.hand_over.Goals as goal
 
 pub new-job-requires : goal.new-job-requires

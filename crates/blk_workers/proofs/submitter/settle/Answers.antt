@@ -1,5 +1,5 @@
 use Rattle.std.proofs.Common.{sym, subst, Some}
-use Rattle.blk_workers.specs.Desk.{AreAwaited}
+use Rattle.blk_workers.specs.Progress.{AreAwaited}
 use Rattle.blk_workers.proofs.Awaited.{awaited_settled}
 use Rattle.blk_workers.proofs.submitter.settle.Goals as goal
 

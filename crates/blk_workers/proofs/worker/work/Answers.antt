@@ -5,7 +5,8 @@ use Rattle.run_queues.specs.Numbers.{IsIncreasing}
 use Rattle.run_queues.specs.Parts.{DrawerFacts, after_draw}
 use Rattle.script_meaning.specs.Requests.{accepted_in_all}
 use Rattle.script_meaning.specs.Script.{Meant}
-use Rattle.blk_workers.proofs.Numbering.{few_accepted, few_increasing, number_below}
+use Rattle.run_desk.proofs.Numbering.{few_accepted, number_below}
+use Rattle.blk_workers.proofs.FewNumbers.{few_increasing}
 use Rattle.blk_workers.proofs.worker.work.Goals as goal
 
 pub unreachable-requires : goal.unreachable-requires

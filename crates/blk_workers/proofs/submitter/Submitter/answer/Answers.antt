@@ -1,4 +1,4 @@
-use Rattle.blk_workers.proofs.NextLines.{run_ended}
+use Rattle.blk_workers.proofs.RunEnds.{run_ended}
 use Rattle.blk_workers.proofs.submitter.Submitter.answer.Goals as goal
 
 pub returns-clause-run : goal.returns-clause-run

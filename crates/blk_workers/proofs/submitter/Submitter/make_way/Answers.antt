@@ -2,8 +2,8 @@ use Rattle.std.proofs.Common.{◌∙◌, sym, ap, length}
 use Rattle.std.proofs.lemmas.Bool.{false≢true}
 use Rattle.freeze_queue.specs.Queue.{QueueFacts}
 use Rattle.script_meaning.specs.Queue.{Queue}
-use Rattle.blk_workers.proofs.NextLines.{hardware_at}
-use Rattle.blk_workers.proofs.Places.{none_counted}
+use Rattle.run_desk.proofs.NextLines.{hardware_at}
+use Rattle.run_desk.proofs.Places.{none_counted}
 use Rattle.blk_workers.proofs.submitter.Submitter.make_way.Goals as goal
 
 pub follow-requires-clause-hardware : goal.follow-requires-clause-hardware

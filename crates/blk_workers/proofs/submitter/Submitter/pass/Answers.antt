@@ -3,10 +3,10 @@ use Rattle.freeze_queue.specs.Queue.{QueueFacts}
 use Rattle.script_meaning.specs.Queue.{Queue}
 use Rattle.script_meaning.specs.Requests.{accepted_at}
 use Rattle.script_meaning.specs.Script.{Meant}
-use Rattle.blk_workers.specs.Desk.{Stands}
+use Rattle.run_desk.specs.Desk.{Stands}
 use Rattle.blk_workers.specs.Progress.{IsFollowing}
-use Rattle.blk_workers.proofs.Numbering.{counts_line}
-use Rattle.blk_workers.proofs.NextLines.{hardware_at}
+use Rattle.run_desk.proofs.Numbering.{counts_line}
+use Rattle.run_desk.proofs.NextLines.{hardware_at}
 use Rattle.blk_workers.proofs.submitter.Submitter.pass.Goals as goal
 
 pub follow-requires-clause-hardware : goal.follow-requires-clause-hardware

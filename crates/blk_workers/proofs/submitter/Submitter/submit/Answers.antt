@@ -2,9 +2,9 @@ use Rattle.std.proofs.Common.{◌≡◌, ◌∙◌, sym, ap, subst, ◌+◌, ari
 use Rattle.script_meaning.specs.Queue.{Queue}
 use Rattle.script_meaning.specs.Requests.{accepted_at}
 use Rattle.script_meaning.specs.Script.{Meant}
-use Rattle.blk_workers.specs.Desk.{Stands}
+use Rattle.run_desk.specs.Desk.{Stands}
 use Rattle.blk_workers.specs.Following.{mode_of}
-use Rattle.blk_workers.proofs.Numbering.{counts_request}
+use Rattle.run_desk.proofs.Numbering.{counts_request}
 use Rattle.blk_workers.proofs.submitter.Submitter.submit.Goals as goal
 
 pub returns-clause-at : goal.returns-clause-at

@@ -4,12 +4,11 @@ use Rattle.script_meaning.specs.Queue.{Queue}
 use Rattle.script_meaning.specs.Requests.{accepted_at, accepted_before, drains_at}
 use Rattle.script_meaning.specs.Taken.{accepted_in}
 use Rattle.script_meaning.specs.declared.outcome.Outcome.TheVariants.{Accepted, Drained, Replied}
-use Rattle.blk_workers.specs.Progress.{IsQueueAt}
-use Rattle.blk_workers.specs.Requests.{IsReplyLine}
-use Rattle.blk_workers.proofs.NextLines.{came_to, next_queue, accepted_there, drains_there, reply_drained, reply_replied, moved, mode_kept}
+use Rattle.run_desk.specs.Requests.{IsQueueAt, IsReplyLine}
+use Rattle.run_desk.proofs.NextLines.{came_to, next_queue, accepted_there, drains_there, reply_drained, reply_replied, moved, mode_kept}
 use Rattle.run_queues.specs.Parts.{CollectorFacts}
-use Rattle.blk_workers.proofs.Desks.{on_ok}
-use Rattle.blk_workers.proofs.Numbering.{counts_line}
+use Rattle.run_desk.proofs.Desks.{on_ok}
+use Rattle.run_desk.proofs.Numbering.{counts_line}
 use Rattle.blk_workers.proofs.submitter.Submitter.take_next.Goals as goal
 
 pub submit-requires-clause-next : goal.submit-requires-clause-next

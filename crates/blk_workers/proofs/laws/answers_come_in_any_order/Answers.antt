@@ -1,6 +1,0 @@
-use Rattle.blk_workers.proofs.Desks.{first, settled, submitted, collected, all_there}
-use Rattle.blk_workers.proofs.Ends.{are_joined}
-use Rattle.blk_workers.proofs.laws.answers_come_in_any_order.Goals as goal
-
-pub returns : goal.returns
-returns c = record { start = first; line = settled; request = submitted; answer = collected; end = all_there; replies = are_joined }

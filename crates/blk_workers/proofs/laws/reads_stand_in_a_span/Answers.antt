@@ -1,5 +1,0 @@
-use Rattle.blk_workers.proofs.Spans.{reads_stand}
-use Rattle.blk_workers.proofs.laws.reads_stand_in_a_span.Goals as goal
-
-pub returns : goal.returns
-returns c = reads_stand

@@ -1,7 +1,0 @@
-use Rattle.std.proofs.Common.{◌∙◌, sym, ap, map, Some}
-use Rattle.blk_workers.specs.Desk.{joined}
-use Rattle.blk_workers.proofs.TextLines.{joined_is_text}
-use Rattle.blk_workers.proofs.lines.Lines.into_text.Goals as goal
-
-pub returns : goal.returns
-returns c = sym (joined_is_text c.self.inside.lengths.items c.self.inside.text.items c.self.invariant) ∙ ap (λ ls. joined (map Some ls)) c.self.view_is

@@ -1,0 +1,82 @@
+-- What a request is answered, at its line.
+use Rattle.std.proofs.Common.{◌≡◌, ◌∙◌, sym, ap, subst, ℕ, true, List, get_or, Option, Some, None, IfSome, is_some}
+use Rattle.std.specs.List.{slice_get}
+use Rattle.std.proofs.lemmas.Bool.{false≢true}
+use Rattle.std.proofs.lemmas.Option.{get_or_from_slice_get}
+use Rattle.queue_limits.specs.Bounds.{Bounds}
+use Rattle.script_meaning.specs.Meaning.{State, IsAnswered, IsReplyTo, IsReply}
+use Rattle.script_meaning.specs.Requests.{state_at}
+use Rattle.script_meaning.specs.Script.{Meant}
+use Rattle.script_meaning.specs.Taken.{outcome, accepted, accepted_in}
+use Rattle.script_meaning.specs.declared.line.Line.{Line}
+use Rattle.script_meaning.specs.declared.line.What.{What}
+use Rattle.script_meaning.specs.declared.line.What.TheVariants.{Read, Write}
+use Rattle.script_meaning.specs.declared.outcome.Outcome.{Outcome}
+use Rattle.script_meaning.specs.declared.outcome.Outcome.TheVariants.{Accepted, Drained, Replied}
+use Rattle.script_meaning.specs.declared.reply.Reply.{Reply}
+use Rattle.script_meaning.proofs.Disks.{state_queue}
+use Rattle.blk_script.specs.Texts.{reply_line}
+use Rattle.run_desk.specs.Requests.{IsRequestAt, IsDue, IsAnswer, IsReadAnswer, IsWriteAnswer, found_by, left_by}
+
+pub if_some : {A : Type 0} (o : Option A) (P Q : A → Type 0) → ((x : A) → P x → Q x) → IfSome o P → IfSome o Q
+if_some None P Q f h = tt
+if_some (Some x) P Q f h = f x h
+
+answered_there : (came : Outcome) (s : State) (what : What) (reply : Reply) → is_some (accepted_in came) ≡ true → IsAnswered s what reply → IsReplyTo came s what reply
+answered_there (Accepted request) s what reply taken answered = answered
+answered_there (Drained told) s what reply taken answered = absurd (false≢true taken)
+answered_there (Replied told) s what reply taken answered = absurd (false≢true taken)
+
+-- the reply to an accepted request is the reply to its line
+pub replied : (script : Meant) (position : ℕ) (line : Line) (reply : Reply) → IsRequestAt script position line → IsAnswered (state_at script position) line.what reply
+    → IsReply (state_at script position) line.what reply
+replied script position line reply request answered =
+    answered_there (outcome (state_at script position).queue line.what) (state_at script position) line.what reply
+    (ap (λ q. is_some (accepted q line.what)) (state_queue script position) ∙ request.accepted) answered
+
+-- the line that was read is the one that the request is due to
+same_line : (script : Meant) (position : ℕ) (line due : Line) → line ≡ get_or script.lines position line → slice_get script.lines position ≡ Some due → line ≡ due
+same_line script position line due is at = is ∙ get_or_from_slice_get script.lines position due line at
+
+pub from_read : (script : Meant) (position : ℕ) (limits : Bounds) (found : List (List ℕ)) (due : IsDue script position limits found) (line : Line) (start count : ℕ)
+    → line ≡ get_or script.lines position line → line.what ≡ Read start count → (text : List ℕ) (sectors : List (List ℕ))
+    → IsReadAnswer line.number limits start count found text sectors → IsAnswer script position text sectors
+from_read script position limits found due line start count is what text sectors answer =
+    let same = same_line script position line due.line is due.request.at in
+    let asks : due.line.what ≡ Read start count = sym (ap (λ (l : Line). l.what) same) ∙ what in
+    let finds = due.finds ∙ ap (found_by (state_at script position).disk) asks in
+    let right : IsAnswered (state_at script position) due.line.what answer.reply =
+    subst (λ w. IsAnswered (state_at script position) w answer.reply) (sym asks) (answer.right (state_at script position) due.in_force finds) in
+    record {
+      line = due.line;
+      request = due.request;
+      text_is = record {
+        line = due.line;
+        reply = answer.reply;
+        at = due.request.at;
+        replied = replied script position due.line answer.reply due.request right;
+        told = answer.told ∙ ap (λ (l : Line). reply_line (l.number, answer.reply)) same;
+      };
+      leaves = answer.leaves ∙ sym (ap left_by asks);
+    }
+
+pub from_write : (script : Meant) (position : ℕ) (limits : Bounds) (found : List (List ℕ)) (due : IsDue script position limits found) (line : Line) (start count : ℕ) (pattern : List ℕ)
+    → line ≡ get_or script.lines position line → line.what ≡ Write start count pattern → (text : List ℕ) (sectors : List (List ℕ))
+    → IsWriteAnswer line.number limits start count pattern text sectors → IsAnswer script position text sectors
+from_write script position limits found due line start count pattern is what text sectors answer =
+    let same = same_line script position line due.line is due.request.at in
+    let asks : due.line.what ≡ Write start count pattern = sym (ap (λ (l : Line). l.what) same) ∙ what in
+    let right : IsAnswered (state_at script position) due.line.what answer.reply =
+    subst (λ w. IsAnswered (state_at script position) w answer.reply) (sym asks) (answer.right (state_at script position) due.in_force) in
+    record {
+      line = due.line;
+      request = due.request;
+      text_is = record {
+        line = due.line;
+        reply = answer.reply;
+        at = due.request.at;
+        replied = replied script position due.line answer.reply due.request right;
+        told = answer.told ∙ ap (λ (l : Line). reply_line (l.number, answer.reply)) same;
+      };
+      leaves = answer.leaves ∙ sym (ap left_by asks);
+    }

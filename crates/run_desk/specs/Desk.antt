@@ -1,0 +1,99 @@
+-- How far a run has come in a script: the lines of the replies, and the disk.
+use Rattle.std.specs.Prelude.{◌≡◌, ℕ, ◌+◌, ◌≤◌, ◌⊎◌, ◌++◌, Bool, true, false, List, [], ◌∷◌, length, Option, Some, None, is_none, set, slice_get, flat_map}
+use Rattle.std.specs.Option.{option_map_or}
+use Rattle.ram_disk.specs.Disk.{sectors_written}
+use Rattle.blk_script.specs.Texts.{reply_line}
+use Rattle.script_meaning.specs.Meaning.{AreReplies, start_of}
+use Rattle.script_meaning.specs.Requests.{accepted_at, drains_at, state_at}
+use Rattle.script_meaning.specs.Script.{Meant}
+use Rattle.script_meaning.specs.declared.line.Line.{Line}
+use Rattle.script_meaning.specs.declared.line.What.{What}
+use Rattle.script_meaning.specs.declared.line.What.TheVariants.{Write}
+use Rattle.script_meaning.specs.declared.reply.Reply.{Reply}
+use Rattle.script_meaning.specs.declared.request.Request.{Request}
+use Rattle.script_overlap.specs.SpanOfRequests.{Marks}
+use Rattle.run_desk.specs.Requests.{IsReplyLine, IsAnswer}
+use Rattle.run_desk.specs.Span.{AreInSpan, ClashesWithNone, Covers, IsDiskBut}
+
+-- the reply to the line at a position isn't there yet
+abbrev pub is_owed : List (Option (List ℕ)) → ℕ → Bool
+is_owed replies position = option_map_or is_none (slice_get replies position) false
+
+-- how many replies aren't there
+abbrev pub owed_count : List (Option (List ℕ)) → ℕ
+owed_count [] = 0
+owed_count (None ∷ replies) = owed_count replies + 1
+owed_count (Some line ∷ replies) = owed_count replies
+
+-- the lines of the replies that are there, one after another
+abbrev pub joined : List (Option (List ℕ)) → List ℕ
+joined [] = []
+joined (Some line ∷ replies) = line ++ joined replies
+joined (None ∷ replies) = joined replies
+
+-- the disk where what a line leaves is installed
+abbrev pub installed : What → List (List ℕ) → List (List ℕ) → List (List ℕ)
+installed (Write start count pattern) sectors disk = sectors_written start sectors disk
+installed what sectors disk = disk
+
+-- the lines before a position are taken: each reply is there or owed, and the disk is behind by the writes that are owed
+pub record IsUpTo (script : Meant) (here : ℕ) (replies : List (Option (List ℕ))) (disk : List (List ℕ)) : Type 0 where
+  pub lines : length replies ≡ here
+  pub told : (position : ℕ) (text : List ℕ) → slice_get replies position ≡ Some (Some text) → IsReplyLine script position text
+  pub span : AreInSpan script (is_owed replies) here
+  pub disk_is : IsDiskBut script (is_owed replies) here disk
+
+-- the sectors that a write leaves fit the disk
+abbrev pub FitsAt : What → List (List ℕ) → List (List ℕ) → Type 0
+FitsAt (Write start count pattern) sectors disk = start + length sectors ≤ length disk
+FitsAt what sectors disk = Unit {0}
+
+-- as many lines of the script are taken as there are replies, and the span has the sectors of the requests that are owed
+pub record Stands (script : Meant) (replies : List (Option (List ℕ))) (disk : List (List ℕ)) (span : Marks) : Type 0 where
+  pub within : length replies ≤ length script.lines
+  pub up : IsUpTo script (length replies) replies disk
+  pub covers : Covers script (is_owed replies) span
+
+-- ---- the laws of submitting and collecting
+
+-- at the start the disk is all zero
+abbrev pub StartsUpTo : Type 0
+StartsUpTo = (script : Meant) → IsUpTo script 0 [] (state_at script 0).disk
+
+-- a line that is no accepted request leaves the disk. Where it drains, nothing may be owed
+abbrev pub TakesALine : Type 0
+TakesALine = (script : Meant) (here : ℕ) (line : Line) (replies : List (Option (List ℕ))) (disk : List (List ℕ)) (text : List ℕ) → IsUpTo script here replies disk
+    → slice_get script.lines here ≡ Some line → accepted_at script here ≡ None → (drains_at script here ≡ false) ⊎ ((p : ℕ) → is_owed replies p ≡ false) → IsReplyLine script here text
+    → IsUpTo script (here + 1) (replies ++ Some text ∷ []) disk
+
+-- an accepted request that clashes with none that is owed is owed too
+abbrev pub TakesARequest : Type 0
+TakesARequest = (script : Meant) (here : ℕ) (line : Line) (replies : List (Option (List ℕ))) (disk : List (List ℕ)) (request : Request) → IsUpTo script here replies disk
+    → slice_get script.lines here ≡ Some line → accepted_at script here ≡ Some request → ClashesWithNone script (is_owed replies) request
+    → IsUpTo script (here + 1) (replies ++ None ∷ []) disk
+
+-- any answer that is owed may be collected: its reply is there then, and what its line leaves is installed
+abbrev pub CollectsAnAnswer : Type 0
+CollectsAnAnswer = (script : Meant) (here : ℕ) (replies : List (Option (List ℕ))) (disk : List (List ℕ)) (p : ℕ) (text : List ℕ) (sectors : List (List ℕ)) (line : Line)
+    → here ≤ length script.lines → IsUpTo script here replies disk → is_owed replies p ≡ true → IsAnswer script p text sectors → slice_get script.lines p ≡ Some line
+    → IsUpTo script here (set replies p (Some text)) (installed line.what sectors disk)
+
+-- where nothing is owed the disk is the one that a single thread has
+abbrev pub EndsWithTheDisk : Type 0
+EndsWithTheDisk = (script : Meant) (here : ℕ) (replies : List (Option (List ℕ))) (disk : List (List ℕ)) → IsUpTo script here replies disk → owed_count replies ≡ 0
+    → disk ≡ (state_at script here).disk
+
+-- this is the text of a single thread's replies to a whole script
+pub record AreJoined (script : Meant) (text : List ℕ) : Type 0 where
+  pub replies : List (ℕ × Reply)
+  pub replied : AreReplies (start_of script) script.lines replies
+  pub told : text ≡ flat_map reply_line replies
+
+-- so where every line is taken and nothing is owed, the lines that are there are a single thread's replies
+abbrev pub EndsWithTheReplies : Type 0
+EndsWithTheReplies = (script : Meant) (replies : List (Option (List ℕ))) (disk : List (List ℕ)) → IsUpTo script (length script.lines) replies disk → owed_count replies ≡ 0
+    → AreJoined script (joined replies)
+
+-- the next line may be taken: it doesn't drain, or nothing is owed
+abbrev pub MayPass : Meant → List (Option (List ℕ)) → Type 0
+MayPass script replies = (drains_at script (length replies) ≡ false) ⊎ (owed_count replies ≡ 0)

@@ -1,0 +1,113 @@
+//! What a worker makes of a request: the line of its reply, and the sectors that a write leaves.
+ghost use Rattle.std.specs.Prelude.{◌≡◌, IfSome};
+ghost use Rattle.queue_limits.specs.Pieces.{IsSplit};
+ghost use Rattle.ram_disk.specs.Runs.{IsRuns};
+ghost use Rattle.ram_disk.specs.Sector.{bytes_of};
+ghost use Rattle.ram_disk.specs.Pattern.{pattern_sectors};
+ghost use Rattle.blk_script.specs.Texts.{reply_line};
+ghost use Rattle.run_desk.specs.Requests.{IsDue, IsAnswer, IsReadAnswer, IsWriteAnswer};
+
+use blk_script::render;
+use queue_limits::Limits;
+use ram_disk::{Sector, patterned, runs};
+use script_meaning::{ByteRuns, Pattern, PieceLengths, Reply, Script, What};
+use std::alloc::Global;
+
+/// The answer to a request: the line of its reply, and the sectors that a write leaves.
+#[derive(Drop)]
+pub struct Answer {
+    pub text: Vec<u8>,
+    pub sectors: Vec<Sector>,
+}
+
+// The lengths of a range's pieces under these limits.
+fn pieces(alloc: Global, limits: Limits, start: u32, count: u32) -> Option<PieceLengths>
+    ensures { IfSome result (λ pieces. IsSplit limits start count pieces) }
+{
+    let lengths = limits.pieces(u64::from(start), count).collect(alloc).ok()?;
+    Some(PieceLengths::new(lengths))
+}
+
+// The runs of these sectors' bytes.
+fn runs_of(alloc: Global, sectors: &[Sector]) -> Option<ByteRuns>
+    ensures { IfSome result (λ found. IsRuns found (bytes_of sectors.now)) }
+{
+    let found = runs(alloc, sectors).ok()?;
+    Some(ByteRuns::new(found))
+}
+
+// The line of a reply.
+fn told(alloc: Global, number: u32, reply: &Reply) -> Option<Vec<u8>>
+    ensures { IfSome result (λ text. text.items ≡ reply_line (number, reply.now)) }
+{
+    render(alloc, number, reply).ok()
+}
+
+// The sectors of a write.
+fn made(alloc: Global, pattern: &Pattern, count: u32) -> Option<Vec<Sector>>
+    ensures { IfSome result (λ sectors. sectors.items ≡ pattern_sectors pattern.now count) }
+{
+    patterned(alloc, pattern.bytes(), count).ok()
+}
+
+// The answer to a read, which found these sectors.
+fn read(
+    alloc: Global,
+    number: u32,
+    limits: Limits,
+    start: u32,
+    count: u32,
+    found: &[Sector],
+) -> Option<Answer>
+    ensures { IfSome result (λ answer. IsReadAnswer number limits start count found.now answer.text.items answer.sectors.items) }
+{
+    let pieces = pieces(alloc, limits, start, count)?;
+    let runs = runs_of(alloc, found)?;
+    let text = told(alloc, number, &Reply::Data { pieces, runs })?;
+    Some(Answer {
+        text,
+        sectors: Vec::new(alloc),
+    })
+}
+
+// The answer to a write.
+fn write(
+    alloc: Global,
+    number: u32,
+    limits: Limits,
+    start: u32,
+    count: u32,
+    pattern: &Pattern,
+) -> Option<Answer>
+    ensures { IfSome result (λ answer. IsWriteAnswer number limits start count pattern.now answer.text.items answer.sectors.items) }
+{
+    let pieces = pieces(alloc, limits, start, count)?;
+    let text = told(alloc, number, &Reply::Written { pieces })?;
+    let sectors = made(alloc, pattern, count)?;
+    Some(Answer { text, sectors })
+}
+
+/// The answer to the request at a position of the script, by the limits in force there and the sectors that a
+/// read finds. `None` where memory was refused.
+pub fn answered(
+    alloc: Global,
+    script: &Script,
+    position: usize,
+    limits: Limits,
+    found: &[Sector],
+) -> Option<Answer>
+    requires { IsDue script.now position limits found.now }
+    ensures { IfSome result (λ answer. IsAnswer script.now position answer.text.items answer.sectors.items) }
+{
+    let line = &script.lines()[position];
+    match &line.what {
+        What::Read { start, count } => read(alloc, line.number, limits, *start, *count, found),
+        What::Write {
+            start,
+            count,
+            pattern,
+        } => write(alloc, line.number, limits, *start, *count, pattern),
+        // No other line makes a request.
+        _ => None,
+    }
+}
