@@ -62,13 +62,7 @@ fn freeze_while_inside<R: Wait + Abort>(
 }
 
 /// Tries until the round is drained.
-fn try_in_round<R: Abort>(
-    rt: &R,
-    queue: &BlockQueue,
-    tag: &mut Tag,
-    rounds: &Rounds,
-    round: u64,
-)
+fn try_in_round<R: Abort>(rt: &R, queue: &BlockQueue, tag: &mut Tag, rounds: &Rounds, round: u64)
     requires own { tag.old.queue ≡ queue.now }
     requires slot { 1 < queue.now.gate.slots }
     requires out { tag.old.entered ≡ false }

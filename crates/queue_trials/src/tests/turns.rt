@@ -1,9 +1,8 @@
 //! Threads that wait for one another in a test: by turns that are counted, so that a thread which is never woken ends the
 //! test with a failure.
-use std::hint;
 use std::process::Abort;
 use std::sync::atomic::{AtomicU64, Ordering};
-use std::thread;
+use std::{hint, thread};
 
 /// How many turns a thread waits at most for the others: some ten seconds of a processor, where they need microseconds.
 const PATIENCE: u64 = 20_000_000;

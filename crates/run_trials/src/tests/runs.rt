@@ -201,7 +201,10 @@ fn as_many_drains_as_are_ordered(rt: HostRuntime) -> Result<(), Fail> {
         ),
         (ORDERED, 34),
         (b"blkq 1\ndisk 4 hw 4\nread 0 4\nread 0 4\n", 2),
-        (b"blkq 1\ndisk 4 hw 4\nread 0 4\nfreeze\nset max_sectors 2\nstat\n", 1),
+        (
+            b"blkq 1\ndisk 4 hw 4\nread 0 4\nfreeze\nset max_sectors 2\nstat\n",
+            1,
+        ),
     ] {
         let counts = Counts {
             drains: AtomicU32::new(0),
