@@ -7,7 +7,7 @@ use std::thread::Threads;
 use wait_queue::WaitQueue;
 
 /// How often each hands over.
-const ROUNDS: u64 = 100_000;
+const ROUNDS: u64 = 20_000;
 
 /// What one thread hands to the other, and who waits for it.
 #[derive(Drop)]
@@ -16,7 +16,7 @@ struct Side {
     waiting: WaitQueue,
 }
 
-fn side() -> Side {
+fn new_side() -> Side {
     Side {
         handed: AtomicU64::new(0),
         waiting: WaitQueue::new(),
@@ -54,7 +54,7 @@ fn follow<R: Wait>(rt: &R, mine: &Side, other: &Side) {
 }
 
 fn hand_to_and_fro<R: Threads + Wait + Sync>(rt: &R) -> u64 {
-    let (first, second) = (side(), side());
+    let (first, second) = (new_side(), new_side());
     let (one, two) = (&first, &second);
     thread::join(rt, || lead(rt, one, two), || follow(rt, two, one));
     second.handed.load(Ordering::SeqCst)
