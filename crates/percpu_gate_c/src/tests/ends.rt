@@ -4,7 +4,9 @@ ghost use Rattle.std.specs.Prelude.{◌≡◌, IfSome};
 ghost use Rattle.percpu_gate_c.specs.Life.{NumbersTellOn};
 
 use super::WORDS;
-use crate::control_calls::{percpu_gate_kill, percpu_gate_releases, percpu_gate_resurrect};
+use crate::control_calls::{
+    percpu_gate_control_is_zero, percpu_gate_kill, percpu_gate_releases, percpu_gate_resurrect,
+};
 use crate::control_handle::ControlHandle;
 use crate::gate_number::GateNumber;
 use crate::life::{
@@ -12,7 +14,7 @@ use crate::life::{
     percpu_gate_free_pass, percpu_gate_new_numbered, percpu_gate_next_pass,
     percpu_gate_pass_number, percpu_gate_retire,
 };
-use crate::pass_calls::{percpu_gate_put, percpu_gate_try_get_live};
+use crate::pass_calls::{percpu_gate_is_dying, percpu_gate_put, percpu_gate_try_get_live};
 use crate::pass_handle::PassHandle;
 use std::alloc::Global;
 use std::process::Abort;
@@ -168,4 +170,46 @@ fn a_pass_of_another_gate(rt: HostRuntime) {
     percpu_gate_free_pass(&mut other);
     percpu_gate_free_control(&mut first);
     percpu_gate_free_control(&mut second);
+}
+
+/// What a freed pass held, it holds for ever: nobody is told that the last reference is gone.
+#[test]
+fn a_freed_pass_holds_on(rt: HostRuntime) {
+    let (mut control, mut pass) = of_one_gate(&rt, rt.alloc(), 1);
+    assert!(rt; percpu_gate_try_get_live(&mut pass, 0) == 0);
+    percpu_gate_free_pass(&mut pass);
+    assert!(rt; percpu_gate_kill(&mut control) == 0);
+    assert!(rt; !percpu_gate_control_is_zero(&mut control));
+    percpu_gate_free_control(&mut control);
+}
+
+/// The passes of a freed control count on: nobody has killed their gate.
+#[test]
+fn a_freed_control_leaves_its_gate_live(rt: HostRuntime) {
+    let (mut control, mut pass) = of_one_gate(&rt, rt.alloc(), 1);
+    percpu_gate_free_control(&mut control);
+    assert!(rt; !percpu_gate_is_dying(&mut pass));
+    assert!(rt; percpu_gate_try_get_live(&mut pass, 0) == 0);
+    assert!(rt; percpu_gate_put(&mut pass, 0, 1) == 0);
+    percpu_gate_free_pass(&mut pass);
+}
+
+/// The greatest gate is made where there is memory, and gives each of its passes once.
+#[test]
+fn the_greatest_gate(rt: HostRuntime) {
+    let mut control = ControlHandle::new(rt.alloc());
+    let mut pass = PassHandle::new(rt.alloc());
+    let mut last = NOT_YET;
+    let number = GateNumber {
+        counter: 5,
+        drawn: 6,
+    };
+    assert!(rt; percpu_gate_new_numbered(&mut control, &number, 64, 64, 0, &WORDS) == 0);
+    for _ in 0..64u32 {
+        assert!(rt; percpu_gate_next_pass(&mut control, &mut pass) == 0);
+        percpu_gate_free_pass(&mut pass);
+    }
+    assert!(rt; percpu_gate_next_pass(&mut control, &mut pass) == 43);
+    assert!(rt; percpu_gate_exit(&mut control, &mut last) == 22);
+    percpu_gate_free_control(&mut control);
 }
