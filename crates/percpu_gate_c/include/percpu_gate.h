@@ -8,20 +8,29 @@
  * both. But a gate that is revived (resurrect) while references are held still is live again, and nobody is told of that
  * kill's end: who revives it tells those who wait for it. It is what Linux's percpu_ref is (lib/percpu-refcount.c).
  *
- * A gate has one control and 1 to 64 passes; each thread counts with a pass of its own, on a slot of its own. A reference
- * belongs to the pass that took it, unlike percpu_ref's: no other pass can put it (NOT_HELD), so a request that ends on
- * another thread takes its pass along. A get and its put may use different slots. The passes are 64 in the gate's whole
- * life, as a retired one makes no room for another: where threads come and go, keep the passes of those that are gone
- * for those that come.
+ * A gate has one control and 1 to 64 passes; each thread counts with a pass of its own, on a slot of its own (from 0
+ * on). Threads may share a slot, which is slower, and a get and its put may use different ones. A reference belongs to
+ * the pass that took it, unlike percpu_ref's: no other pass can put it (NOT_HELD), so a request that ends on another
+ * thread takes its pass along: where requests do, give a pass to each that is under way (to each tag), not to each
+ * thread. The passes are 64 in the gate's whole life, as a retired one makes no room for another: where threads come
+ * and go, keep the passes of those that are gone for those that come.
  *
- * No call waits, takes a lock or tries again; only new and next_pass allocate. Most answer a number: below 16 it is done,
- * from 16 on it is refused and everything is as it was (exit tells of the one exception). A question answers true or
- * false.
+ * A gate has eight guarded words of 64 bits too, for a setting: the control stores them while the gate is dead and at
+ * zero, and a pass reads them while it holds a reference. So a request sees the words of one setting, from its try to
+ * its put.
  *
- * Order: what was done while a reference was held is seen by who is told that the last is gone: by LAST,
- * NOT_GIVEN_LAST, WAS_AT_ZERO, a reinit that is OK, or is_zero. What was done before a revival is seen by who is given a
- * reference in the life that it begins. This stands on the gate's atomic steps, each of which is sequentially
- * consistent; the proofs are of the orders of these steps, and not of other memory.
+ * No call waits, takes a lock or tries again; only new and next_pass allocate. Most answer a number: below 16 it is
+ * done, from 16 on it is refused and everything is as it was (exit tells of the one exception). A question answers
+ * true or false. The names in capitals below are what a call may answer besides OK, without PERCPU_GATE_.
+ *
+ * To wait for the last, let whoever is told so count it and signal a condition variable: the telling thread may come
+ * late. WAS_AT_ZERO, a reinit that is OK, and is_zero say that nobody holds a reference, and not that who was told
+ * LAST has freed or signalled yet.
+ *
+ * Order: what was done while a reference was held, or before the kill, is seen by who is told that the last is gone:
+ * by LAST, NOT_GIVEN_LAST, WAS_AT_ZERO, a reinit that is OK, or is_zero. What was done before a revival is seen by who
+ * is given a reference in the life that it begins. This stands on the gate's atomic steps, each of which is
+ * sequentially consistent; the proofs are of the orders of these steps, and not of other memory.
  *
  * What the caller owes, since no proof sees it:
  *  - set a handle to zero before its first call, and never copy one or write into it;
@@ -64,7 +73,7 @@ enum {
 typedef struct percpu_gate_control { bool is_open; void *at; } percpu_gate_control;
 typedef struct percpu_gate_pass { bool is_open; void *at; } percpu_gate_pass;
 
-/* What is left of a gate that has ended. */
+/* What is left of a gate that has ended: whether it was dead, its kills, and how many calls were told of a last. */
 typedef struct percpu_gate_final {
     bool dead;
     uint64_t kills;
@@ -105,7 +114,7 @@ enum {
     /* misuse */
     PERCPU_GATE_CLOSED = 32,     /* the handle is closed */
     PERCPU_GATE_OPEN = 33,       /* the handle is open */
-    PERCPU_GATE_SLOT = 34,       /* no such slot */
+    PERCPU_GATE_SLOT = 34,       /* no such slot (PERCPU_GATE_SLOTS is a start) */
     PERCPU_GATE_HELD_FULL = 35,  /* a pass holds at most 65,535 references */
     PERCPU_GATE_NOT_HELD = 36,   /* the pass doesn't hold as many */
     PERCPU_GATE_AMOUNT = 37,     /* none is asked for */
@@ -126,7 +135,7 @@ static inline bool percpu_gate_is_last(uint32_t answer)
 }
 
 /* Whether nothing was done since the call was wrong, or memory or passes have run out: 32 to 45. (A reference that isn't
- * given is no misuse, and nor is a refusal of the gate.) */
+ * given is no misuse, and nor is a refusal of the gate. What is refused for any reason is 16 or more.) */
 static inline bool percpu_gate_is_misuse(uint32_t answer) { return answer >= 32; }
 
 /* What an answer says, in a few words: a text that stays. */
@@ -145,14 +154,15 @@ PERCPU_GATE_MUST_USE uint32_t percpu_gate_next_pass(percpu_gate_control *control
 /* Ends a pass that holds nothing, and closes its handle. CLOSED, OTHER_GATE, STILL_HELD. */
 PERCPU_GATE_MUST_USE uint32_t percpu_gate_retire(percpu_gate_control *control, percpu_gate_pass *pass);
 
-/* Ends a gate whose passes were all retired, but for those that nobody asked for, writes what is left of it, and closes
- * the handle. Needs no memory. CLOSED, MID_SWITCH, PASSES_OUT. (And IN_USE and NO_MEMORY, if somebody else had a share of
- * the gate, as no use of handles leads to: IN_USE leaves everything as it was, NO_MEMORY takes the control.)
+/* Ends a gate, live or dead, whose passes were all retired, but for those that nobody asked for, writes what is left of
+ * it, and closes the handle. Needs no memory. CLOSED, MID_SWITCH, PASSES_OUT. (And IN_USE and NO_MEMORY, if somebody
+ * else had a share of the gate, as no use of handles leads to: IN_USE leaves everything as it was, NO_MEMORY takes the
+ * control.)
  * Linux: percpu_ref_exit. */
 PERCPU_GATE_MUST_USE uint32_t percpu_gate_exit(percpu_gate_control *control, percpu_gate_final *last);
 
-/* Free what a handle has, and close it; a closed one stays so. The gate counts a freed pass as out for ever. Passes
- * whose control was freed count on; they can only be freed. */
+/* Free what a handle has, and close it; a closed one stays so. The gate counts a freed pass as out for ever: its exit
+ * answers PASSES_OUT, and free_control ends it. Passes whose control was freed count on, and can only be freed. */
 void percpu_gate_free_pass(percpu_gate_pass *pass);
 void percpu_gate_free_control(percpu_gate_control *control);
 
@@ -183,7 +193,7 @@ PERCPU_GATE_MUST_USE uint32_t percpu_gate_put(percpu_gate_pass *pass, uint32_t s
 bool percpu_gate_is_dying(percpu_gate_pass *pass);
 bool percpu_gate_is_zero(percpu_gate_pass *pass);
 
-/* Writes the front, which is odd from the confirmation of a kill to the next life. CLOSED. */
+/* Writes the front, which is odd from the confirmation of a kill to the next life: confirm tells what for. CLOSED. */
 uint32_t percpu_gate_front(percpu_gate_pass *pass, uint64_t *front);
 
 /* Writes the guarded word k, one value for as long as the pass holds a reference. CLOSED, NOT_HELD, WORD. */
@@ -191,8 +201,8 @@ uint32_t percpu_gate_word(percpu_gate_pass *pass, uint32_t k, uint64_t *word);
 
 /* ---- The control kills and revives: whoever owns it. ---- */
 
-/* Kills the gate: OK, or LAST where nobody held a reference. CLOSED, ALREADY_DEAD, MID_SWITCH, WORN_OUT.
- * Linux: percpu_ref_kill. */
+/* Kills the gate: LAST where nobody held a reference, else OK; then another call is told, maybe before this one returns,
+ * or none where resurrect comes first. CLOSED, ALREADY_DEAD, MID_SWITCH, WORN_OUT. Linux: percpu_ref_kill. */
 PERCPU_GATE_MUST_USE uint32_t percpu_gate_kill(percpu_gate_control *control);
 
 /* A kill step by step, for who acts when it is confirmed: mark_dead, close_next for each slot and, where there are any,
@@ -245,11 +255,15 @@ uint32_t percpu_gate_store_word(percpu_gate_control *control, uint32_t k, uint64
 /* Writes the eight guarded words. (A pass reads them by percpu_gate_word, while it holds a reference.) CLOSED. */
 uint32_t percpu_gate_words(percpu_gate_control *control, uint64_t words[8]);
 
-/* Write the kills so far, and the releases of the control and of retired passes. CLOSED. */
+/* Write the kills so far, and the releases: the calls of the control and of retired passes that were told of a last.
+ * CLOSED. */
 uint32_t percpu_gate_kills(percpu_gate_control *control, uint64_t *kills);
 uint32_t percpu_gate_releases(percpu_gate_control *control, uint64_t *releases);
 
-/* ---- The thread sanitizer doesn't see the library's atomic steps: it is told what "Order" above promises. ---- */
+/* ---- The thread sanitizer ---- */
+
+/* The thread sanitizer doesn't see the library's atomic steps. In code that is compiled with -fsanitize=thread the
+ * calls which order memory are macros that tell it what "Order" above promises; nothing else is needed. */
 
 #if defined(__SANITIZE_THREAD__)
 #define PERCPU_GATE_TELLS_TSAN 1
