@@ -7,7 +7,7 @@ use std::thread::Threads;
 use wait_queue::WaitQueue;
 
 /// How often each hands over.
-const ROUNDS: u64 = 20_000;
+const ROUNDS: u64 = 200_000;
 
 /// What one thread hands to the other, and who waits for it.
 #[derive(Drop)]

@@ -14,7 +14,7 @@ use std::thread;
 use std::thread::Threads;
 
 /// How many rounds there are.
-const ROUNDS: u64 = 1_000;
+const ROUNDS: u64 = 10_000;
 
 /// How far the two threads are.
 #[derive(Drop)]
