@@ -213,3 +213,26 @@ fn the_greatest_gate(rt: HostRuntime) {
     assert!(rt; percpu_gate_exit(&mut control, &mut last) == 22);
     percpu_gate_free_control(&mut control);
 }
+
+/// Who asks for a pass where none waits takes no share of the gate, which ends.
+#[test]
+fn no_pass_takes_no_share(rt: HostRuntime) {
+    let (mut control, mut pass) = of_one_gate(&rt, rt.alloc(), 1);
+    let mut last = NOT_YET;
+    assert!(rt; percpu_gate_retire(&mut control, &mut pass) == 0);
+    assert!(rt; percpu_gate_next_pass(&mut control, &mut pass) == 43);
+    assert!(rt; percpu_gate_exit(&mut control, &mut last) == 0);
+}
+
+/// Two hundred gates in turn, each with another number, are made, give a pass and end: there is memory for all.
+#[test]
+fn gates_in_turn(rt: HostRuntime) {
+    for drawn in 1..201u64 {
+        let (mut control, mut pass) = of_one_gate(&rt, rt.alloc(), drawn);
+        let mut last = NOT_YET;
+        let retired = percpu_gate_retire(&mut control, &mut pass);
+        assert!(rt; retired == 0, "{drawn}");
+        let ended = percpu_gate_exit(&mut control, &mut last);
+        assert!(rt; ended == 0, "{drawn}");
+    }
+}
