@@ -159,6 +159,19 @@ fn want_of_memory(rt: HostRuntime) {
     }
 }
 
+/// Every number of slots is had with every start, and with the most passes and guarded words.
+#[test]
+fn every_size_is_made(rt: HostRuntime) -> Result<(), Fail> {
+    for start in [Start::Slots, Start::Atomic, Start::Dead] {
+        for slots in 1..=64 {
+            let (gate, control, passes) = Gate::<8>::new(rt.alloc(), slots, 64, start, [9; 8])?;
+            assert_eq!(rt; (gate.slots(), passes.len()), (slots, 64));
+            assert_eq!(rt; control.words(), [9; 8]);
+        }
+    }
+    Ok(())
+}
+
 /// Each refusal's text.
 #[test]
 fn texts_of_faults(rt: HostRuntime) -> Result<(), Fail> {

@@ -135,7 +135,7 @@ const FOUND_ONCE: [(Call, Answer); 4] = [
 ];
 
 /// The revived gate has neither, and gives. While it dies again another pass holds, so that only DEAD is set.
-const FOUND_ANEW: [(Call, Answer); 13] = [
+const FOUND_ANEW: [(Call, Answer); 15] = [
     (Control(ControlCall::Reinit), Set(Ok(()))),
     (Pass(0, PassCall::IsDying), Flag(false)),
     (Pass(0, PassCall::IsZero), Flag(false)),
@@ -152,6 +152,8 @@ const FOUND_ANEW: [(Call, Answer); 13] = [
     ),
     (Pass(1, PassCall::Put { slot: 0, n: 1 }), Put(Last)),
     (Pass(0, PassCall::IsZero), Flag(true)),
+    (Control(ControlCall::IsZero), Flag(true)),
+    (Control(ControlCall::Reinit), Set(Ok(()))),
 ];
 
 /// What a pass found in one life of the gate says nothing of the next, however often it was refused.
@@ -168,6 +170,36 @@ fn each_life_is_looked_at_anew(rt: HostRuntime) -> Result<(), Fail> {
             assert_eq!(rt; trial.differs(&refused), None);
         }
         assert_eq!(rt; trial.differs(&FOUND_ANEW), None);
+    }
+    Ok(())
+}
+
+/// After the second and the third kill a pass is the last, so that the control has to look for the zero: by a store, and
+/// by a revival.
+const LOOKED_FOR: [(Call, Answer); 15] = [
+    (Control(ControlCall::Kill), Killed(Ok(Last))),
+    (Control(ControlCall::Reinit), Set(Ok(()))),
+    (Pass(0, PassCall::TryGet { slot: 0 }), Tried(Given)),
+    (Pass(0, PassCall::Word(0)), Number(7)),
+    (Control(ControlCall::Kill), Killed(Ok(NotLast))),
+    (Pass(0, PassCall::Put { slot: 0, n: 1 }), Put(Last)),
+    (Control(ControlCall::StoreWord { k: 0, v: 8 }), Set(Ok(()))),
+    (Control(ControlCall::WordAt(0)), Number(8)),
+    (Control(ControlCall::Reinit), Set(Ok(()))),
+    (Pass(0, PassCall::TryGetLive { slot: 0 }), Tried(Given)),
+    (Pass(0, PassCall::Word(0)), Number(8)),
+    (Control(ControlCall::Kill), Killed(Ok(NotLast))),
+    (Pass(0, PassCall::Put { slot: 0, n: 1 }), Put(Last)),
+    (Control(ControlCall::Reinit), Set(Ok(()))),
+    (Pass(0, PassCall::Front), Number(6)),
+];
+
+/// In a later life too the control finds the zero, though a pass is out.
+#[test]
+fn later_lives_are_looked_at(rt: HostRuntime) -> Result<(), Fail> {
+    for start in [Start::Slots, Start::Atomic] {
+        let mut trial = Trial::<1>::new(rt.alloc(), 1, 1, start, [7])?;
+        assert_eq!(rt; trial.differs(&LOOKED_FOR), None);
     }
     Ok(())
 }

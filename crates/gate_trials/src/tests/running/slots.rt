@@ -24,10 +24,13 @@ pub(super) const SLOTS_REALLY_COUNT: &[(Call, Answer)] = &[
 ];
 
 /// The most that a pass takes on one slot and puts on the other.
-const PAIR: [(Call, Answer); 2] = [
-    (Pass(0, PassCall::Get { slot: 0, n: 65_534 }), Done),
-    (Pass(0, PassCall::Put { slot: 1, n: 65_534 }), Put(NotLast)),
-];
+fn pair(up: u32, down: u32) -> [(Call, Answer); 2] {
+    let n = 65_534;
+    [
+        (Pass(0, PassCall::Get { slot: up, n }), Done),
+        (Pass(0, PassCall::Put { slot: down, n }), Put(NotLast)),
+    ]
+}
 
 /// What was counted on the slots by then, and the last put.
 const PAST_THE_LIMIT: &[(Call, Answer)] = &[
@@ -91,6 +94,8 @@ pub(super) const EACH_ON_ITS_SLOT: &[(Call, Answer)] = &[
     ),
     (Pass(0, PassCall::TryGetLive { slot: 3 }), Tried(Given)),
     (Pass(0, PassCall::TryGet { slot: 0 }), Tried(Given)),
+    (Pass(0, PassCall::Get { slot: 0, n: 2 }), Done),
+    (Pass(0, PassCall::Put { slot: 0, n: 1 }), Put(NotLast)),
     (Control(ControlCall::CloseNext), Delta(1)),
     (Control(ControlCall::CloseNext), Delta(1)),
     (Control(ControlCall::CloseNext), Delta(5)),
@@ -111,18 +116,61 @@ const TO_THE_LIMIT: &[(Call, Answer)] = &[
     (Control(ControlCall::CloseNext), Delta(-1_048_576)),
 ];
 
-/// After 16 pairs there is room for 32 more, and of 17 the last would leave the limit of the deltas, so it goes to the
-/// shared word.
+/// Tries take up to the limit too, and what is past it goes to the shared word, not to a slot with room.
+const FIRST_IS_FULL: &[(Call, Answer)] = &[
+    (Pass(0, PassCall::Get { slot: 0, n: 29 }), Done),
+    (Pass(0, PassCall::TryGet { slot: 0 }), Tried(Given)),
+    (Pass(0, PassCall::TryGetLive { slot: 0 }), Tried(Given)),
+    (Pass(0, PassCall::TryGet { slot: 0 }), Tried(Given)),
+    (Pass(0, PassCall::TryGetLive { slot: 0 }), Tried(Given)),
+    (Pass(0, PassCall::Get { slot: 0, n: 2 }), Done),
+    (Pass(0, PassCall::Put { slot: 1, n: 33 }), Put(NotLast)),
+    (Control(ControlCall::MarkDead), ToClose(Ok(2))),
+    (Control(ControlCall::CloseNext), Delta(1_048_576)),
+    (Control(ControlCall::CloseNext), Delta(-1_048_544)),
+    (Control(ControlCall::Collect), Done),
+    (Control(ControlCall::Confirm), Number(1)),
+    (Control(ControlCall::DropBase), Put(NotLast)),
+    (Pass(0, PassCall::Put { slot: 0, n: 2 }), Put(NotLast)),
+    (Pass(0, PassCall::Put { slot: 0, n: 1 }), Put(Last)),
+];
+
+/// The same where it is the last slot that is full, and the first has room.
+const LAST_IS_FULL: &[(Call, Answer)] = &[
+    (Pass(0, PassCall::Get { slot: 1, n: 29 }), Done),
+    (Pass(0, PassCall::TryGet { slot: 1 }), Tried(Given)),
+    (Pass(0, PassCall::TryGetLive { slot: 1 }), Tried(Given)),
+    (Pass(0, PassCall::TryGet { slot: 1 }), Tried(Given)),
+    (Pass(0, PassCall::TryGetLive { slot: 1 }), Tried(Given)),
+    (Pass(0, PassCall::Get { slot: 1, n: 2 }), Done),
+    (Pass(0, PassCall::Put { slot: 0, n: 33 }), Put(NotLast)),
+    (Control(ControlCall::MarkDead), ToClose(Ok(2))),
+    (Control(ControlCall::CloseNext), Delta(-1_048_544)),
+    (Control(ControlCall::CloseNext), Delta(1_048_576)),
+    (Control(ControlCall::Collect), Done),
+    (Control(ControlCall::Confirm), Number(1)),
+    (Control(ControlCall::DropBase), Put(NotLast)),
+    (Pass(0, PassCall::Put { slot: 0, n: 2 }), Put(NotLast)),
+    (Pass(0, PassCall::Put { slot: 0, n: 1 }), Put(Last)),
+];
+
+/// One slot counts up and the other down. After 16 pairs there is room for 31 more on the one and for 32 on the other,
+/// and of 17 the last would leave the limit of the deltas, so it goes to the shared word.
 #[test]
 fn counts_to_the_limit_and_past_it(rt: HostRuntime) -> Result<(), Fail> {
-    for (pairs, rest) in [(16, TO_THE_LIMIT), (17, PAST_THE_LIMIT)] {
+    for (up, down, pairs, rest) in [
+        (0, 1, 16, TO_THE_LIMIT),
+        (0, 1, 17, PAST_THE_LIMIT),
+        (0, 1, 16, FIRST_IS_FULL),
+        (1, 0, 16, LAST_IS_FULL),
+    ] {
         let mut trial = Trial::<0>::new(rt.alloc(), 2, 1, Start::Slots, [])?;
-        let first = [(Pass(0, PassCall::TryGet { slot: 0 }), Tried(Given))];
+        let first = [(Pass(0, PassCall::TryGet { slot: up }), Tried(Given))];
         assert_eq!(rt; trial.differs(&first), None);
         for _ in 0..pairs {
-            assert_eq!(rt; trial.differs(&PAIR), None);
+            assert_eq!(rt; trial.differs(&pair(up, down)), None);
         }
-        assert_eq!(rt; trial.differs(rest), None);
+        assert_eq!(rt; trial.differs(rest), None, "{pairs} pairs up at {up}");
     }
     Ok(())
 }
