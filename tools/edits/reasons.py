@@ -73,7 +73,7 @@ class Reason:
     def is_of(self, function):
         """Whether it stands in the function, or in a file of its proof."""
         if self.file == function.file:
-            return function.first <= self.row <= function.last
+            return function.has_row(self.row)
         return bool(re.match(function.proofs, self.file))
 
 
