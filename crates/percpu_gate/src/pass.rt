@@ -1,5 +1,5 @@
 //! A pass: what a thread counts with.
-ghost use Rattle.std.specs.Prelude.{◌≡◌, ◌*◌, ℕ, ◌∷◌, ◌+◌, ◌-◌, ◌%◌, ◌<◌, ◌≤◌, true, false, if◌then◌else◌};
+ghost use Rattle.std.specs.Prelude.{◌≡◌, ◌*◌, ℕ, ◌∷◌, ◌+◌, ◌-◌, ◌%◌, ◌<◌, ◌≤◌, ◌^◌, true, false, if◌then◌else◌};
 ghost use Rattle.percpu_core.specs.declared.limits.TheConstants.{KILL_LIMIT};
 ghost use Rattle.percpu_core.specs.declared.pass_event.PassEvent.TheVariants as events;
 ghost use Rattle.percpu_core.specs.declared.reply.Reply.TheVariants.{Number};
@@ -44,6 +44,17 @@ impl<const W: usize> Model for Pass<W> {
 
     ghost invariant = { λ p. (p.seat.view.standing ≡ holding p.held) × (p.held ≤ HELD_LIMIT)
         × (p.seat.view.seen_front ≡ p.seen_front) × (p.seen_front ≤ p.seat.view.floor) × (p.seat.view.releases ≡ p.releases) × (p.releases ≤ 2 * KILL_LIMIT) };
+}
+
+/// Counts so many releases more, and stores nothing where there are none: a store delays the exchange that comes next.
+#[inline]
+fn count_releases(releases: &mut u64, more: u64)
+    requires few { releases.old + more < 2 ^ 64 }
+    ensures { releases.new ≡ releases.old + more }
+{
+    if more != 0 {
+        *releases += more;
+    }
 }
 
 impl<const W: usize> Pass<W> {
@@ -99,7 +110,7 @@ impl<const W: usize> Pass<W> {
         let is_given = self.seat.count_try(&gate.table, slot);
         let answer = self.seat.end_try(&gate.table, is_given);
         self.held += answer.taken();
-        self.releases += answer.released();
+        count_releases(&mut self.releases, answer.released());
         answer
     }
 
@@ -124,7 +135,7 @@ impl<const W: usize> Pass<W> {
         let is_given = self.seat.count_live(&gate.table, slot);
         let answer = self.seat.end_try(&gate.table, is_given);
         self.held += answer.taken();
-        self.releases += answer.released();
+        count_releases(&mut self.releases, answer.released());
         answer
     }
 
@@ -157,7 +168,7 @@ impl<const W: usize> Pass<W> {
     {
         let answer = self.seat.count_put(&gate.table, slot, n);
         self.held -= n;
-        self.releases += answer.released();
+        count_releases(&mut self.releases, answer.released());
         answer
     }
 

@@ -62,10 +62,8 @@ impl PassHandle {
         requires closed { self.old.held.pass ≡ None }
         ensures { self.new.held.pass ≡ Some pass.value }
     {
-        *self = PassHandle {
-            is_open: true,
-            held: PassHeld::of(pass),
-            alloc: self.alloc,
-        };
+        // One by one, since the bytes between them needn't be stored: what is stored delays the exchange that comes next.
+        self.held = PassHeld::of(pass);
+        self.is_open = true;
     }
 }

@@ -31,5 +31,5 @@ pub returns-clause-times : goal.returns-clause-times
 returns-clause-times g c = rw (← c.self.view_is) (dead_times _ _ _ (try_meets has_dead _ _ _ _ _ c.count_live-is_given.ensures.counts.meets (ap (λ s. s.view) c.end_try-answer.ensures.view) c.end_try-answer.ensures.answer))
 
 pub invariant_of-self : goal.invariant_of-self
-invariant_of-self g c = fields_kept _ _ c.end_try-answer.result _ _ _ _ _ (live_try_leaves _ _ _ _ _ _ c.count_live-is_given.ensures.counts (ap (λ s. s.view) c.end_try-answer.ensures.view) c.end_try-answer.ensures.answer)
-    c.self.invariant.0 c.self.invariant.2 c.self.invariant.3 c.self.invariant.4 (rw (← c.self.view_is) at c.requires.room) c.end_try-answer.ensures.few c.taken.ensures c.released.ensures
+invariant_of-self g c = rw (c.count_releases.ensures) (fields_kept _ _ c.end_try-answer.result _ _ _ _ _ (live_try_leaves _ _ _ _ _ _ c.count_live-is_given.ensures.counts (ap (λ s. s.view) c.end_try-answer.ensures.view) c.end_try-answer.ensures.answer)
+    c.self.invariant.0 c.self.invariant.2 c.self.invariant.3 c.self.invariant.4 (rw (← c.self.view_is) at c.requires.room) c.end_try-answer.ensures.few c.taken.ensures c.released.ensures)
