@@ -1,5 +1,5 @@
 -- What C may do wrong with the control, and what each of its calls leaves.
-use Rattle.std.specs.Prelude.{◌≡◌, ℕ, ◌+◌, Bool, true, nat_le, nat_lt, nat_eq, if◌then◌else◌, Option, Some, None, Result, Ok, Err}
+use Rattle.std.specs.Prelude.{◌≡◌, ℕ, ◌+◌, ◌<◌, Bool, true, nat_le, nat_lt, nat_eq, if◌then◌else◌, Option, Some, None, Result, Ok, Err}
 use Rattle.percpu_gate.specs.declared.tried.Put.{Put}
 use Rattle.percpu_gate.specs.declared.control_fault.ControlFault.{ControlFault}
 use Rattle.percpu_core.specs.declared.view.ControlView.{ControlView}
@@ -101,11 +101,11 @@ Made (Some why) fresh None new answer = (answer ≡ Err why) × (new ≡ None)
 Made None fresh None new (Ok r) = (c : ControlOpened) × (new ≡ Some c) × fresh c
 Made None fresh None new (Err why) = (why ≡ Memory) × (new ≡ None)
 
--- the next pass that waits, if there is one and memory for it
+-- the next pass that waits, if there is one and memory for it. What there is none of isn't told as a want of memory
 abbrev pub Next : ControlOpened → ControlOpened → Result PassOpened Misuse → Type 0
 Next old new (Ok p) = (p ≡ record { number = old.number; pass = fresh_pass old.control.gate }) × (old ≡ record new { waiting = new.waiting + 1 })
 Next old new (Err NoPass) = (old.waiting ≡ 0) × (new ≡ old)
-Next old new (Err why) = (why ≡ Memory) × (new ≡ old)
+Next old new (Err why) = (why ≡ Memory) × (0 < old.waiting) × (new ≡ old)
 
 -- the same of a box
 abbrev pub value_of : Result (Box PassOpened) Misuse → Result PassOpened Misuse

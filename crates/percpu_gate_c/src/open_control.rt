@@ -116,15 +116,16 @@ impl OpenControl {
     pub fn next_pass(&mut self, alloc: Global) -> Result<Box<OpenPass>, Misuse>
         ensures { Next self.old self.new (value_of result) }
     {
-        let Ok(gate) = Arc::try_clone(&self.gate) else {
-            return Err(Misuse::Memory);
-        };
         let next = match self.spare.take() {
             Some(pass) => Some(pass),
             None => self.waiting.pop(),
         };
         let Some(pass) = next else {
             return Err(Misuse::NoPass);
+        };
+        let Ok(gate) = Arc::try_clone(&self.gate) else {
+            self.spare = Some(pass);
+            return Err(Misuse::Memory);
         };
         match Box::new(alloc, OpenPass::new(gate, self.number, pass)) {
             Ok(open) => Ok(open),
