@@ -4,7 +4,8 @@ ghost use Rattle.percpu_core.specs.declared.limits.TheConstants.{SLOT_LIMIT};
 ghost use Rattle.percpu_gate.specs.Seats.{fresh_pass};
 ghost use Rattle.freeze_queue.specs.declared.tag.Enter.TheVariants.{Entered, Again};
 ghost use Rattle.freeze_queue.specs.Queue.{IsQueue, first_tag, first_freezer, after_entering, after_refusal, after_leaving};
-ghost use Rattle.percpu_gate.specs.Calls.{taken, LiveTryFinds};
+ghost use Rattle.percpu_core.specs.Views.{count};
+ghost use Rattle.percpu_gate.specs.Calls.{is_refused, taken, LiveTryFinds};
 ghost use Rattle.freeze_queue.specs.AtTheGate.{AreInForce};
 ghost use Rattle.freeze_queue.specs.Readings.{IsTag};
 ghost use Rattle.freeze_queue.specs.Entering.{answered};
@@ -120,6 +121,8 @@ impl BlockQueue {
         ensures finds { LiveTryFinds self.now.gate slot tag.old.seat (answered result) }
         // What Entered found is of the very step that took the reference: the gate, while it was live, gave it.
         ensures counted { tag.new.seat.live_given ≡ tag.old.seat.live_given + taken (answered result) }
+        // What Again found is of a step of this very call, also where the tag was refused before.
+        ensures times { tag.new.seat.found_dead_times ≡ tag.old.seat.found_dead_times + count (is_refused (answered result)) }
     {
         match tag.take(&self.gate, slot) {
             Ok(()) => Enter::Entered,

@@ -4,7 +4,8 @@ ghost use Rattle.percpu_gate.specs.Seats.{fresh_pass};
 ghost use Rattle.queue_limits.specs.Bounds.{Bounds};
 ghost use Rattle.queue_limits.specs.Words.{from_words};
 ghost use Rattle.freeze_queue.specs.Queue.{first_tag, after_entering, after_refusal, after_leaving};
-ghost use Rattle.percpu_gate.specs.Calls.{taken, LiveTryFinds};
+ghost use Rattle.percpu_core.specs.Views.{count};
+ghost use Rattle.percpu_gate.specs.Calls.{is_refused, taken, LiveTryFinds};
 ghost use Rattle.freeze_queue.specs.AtTheGate.{AreInForce};
 ghost use Rattle.freeze_queue.specs.Readings.{IsTag};
 ghost use Rattle.freeze_queue.specs.Entering.{tried};
@@ -75,6 +76,7 @@ impl Tag {
         ensures refused { IfErr result (λ d. (self.new ≡ after_refusal d.put self.new.seat self.old) × (self.new.seat.found_dead ≡ true)) }
         ensures finds { LiveTryFinds gate.now slot self.old.seat (tried result) }
         ensures counted { self.new.seat.live_given ≡ self.old.seat.live_given + taken (tried result) }
+        ensures times { self.new.seat.found_dead_times ≡ self.old.seat.found_dead_times + count (is_refused (tried result)) }
     {
         match self.pass.try_get_live(gate, slot) {
             Tried::Given => Ok(()),
