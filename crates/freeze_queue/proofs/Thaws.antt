@@ -3,6 +3,8 @@ use Rattle.std.proofs.Common.{◌≡◌, ◌∙◌, ap, sym, refl, ◌+◌, ◌-
 use Rattle.std.proofs.lemmas.Bool.{ne_eqb}
 use Rattle.percpu_gate.specs.ControlCalls.{after_revival}
 use Rattle.percpu_gate.specs.Modes.{live_in}
+use Rattle.percpu_gate.specs.Seats.{GateFacts, FindsZero}
+use Rattle.percpu_gate.proofs.Known.{moment_known}
 use Rattle.freeze_queue.specs.Queue.{FreezerFacts, after_thaw}
 
 -- whether it is the last one
@@ -20,3 +22,8 @@ depth_left at_zero old new some is = ap (λ (f : FreezerFacts). f.depth + 1) is 
 -- a thaw that isn't the last
 pub one_thaw_less : (old new : FreezerFacts) → ¬ (old.depth ≡ 1) → new ≡ record old { depth = old.depth - 1 } → new ≡ after_thaw true old
 one_thaw_less old new more is = is ∙ ap (λ last. thawed_by last true old) (sym (ne_eqb old.depth 1 more))
+
+-- a revival of a gate that was known to be at zero finds it there
+pub known_thaw : (gate : GateFacts) (at_zero : Bool) (old new : FreezerFacts) → new ≡ after_thaw at_zero old → FindsZero gate old.seat at_zero → old.seat.knows_zero ≡ true
+    → new ≡ after_thaw true old
+known_thaw gate at_zero old new is found knows = is ∙ ap (λ (z : Bool). after_thaw z old) (sym found.found ∙ (moment_known old.seat found.moment).zero knows)

@@ -210,6 +210,8 @@ impl Freezer {
         ensures refused { fault_of result ≡ thaw_refusal self.old }
         ensures unchanged { OnErr result (self.new ≡ self.old) }
         ensures thawed { IfOk result (λ depth. (depth + 1 ≡ self.old.depth) × (at_zero : Bool) × (self.new ≡ after_thaw at_zero self.old) × (self.old.depth ≡ 1 → FindsZero queue.now.gate self.old.seat at_zero)) }
+        // Where the freezer knew the queue to be drained, the revival found it so: that drain is counted.
+        ensures drained { IfOk result (λ depth. self.old.drained ≡ true → self.new ≡ after_thaw true self.old) }
     {
         if self.depth == 0 {
             return Err(FreezeFault::NotFrozen);
@@ -230,7 +232,7 @@ impl Freezer {
     {
         let _revived = self.control.resurrect(&queue.gate);
         self.depth = 0;
-        queue.wake_submitters();
+        queue.wake_submitters(&self.control);
     }
 
     /// Takes a tag back.

@@ -1,6 +1,7 @@
 //! The queue: what tags enter and leave.
 ghost use Rattle.std.specs.Prelude.{◌≡◌, ◌+◌, ◌<◌, ◌≤◌, true, false, All, vec_len, replicate, Some, IfSome, IfOk};
 ghost use Rattle.percpu_core.specs.declared.limits.TheConstants.{SLOT_LIMIT};
+ghost use Rattle.percpu_core.specs.Phases.{is_live};
 ghost use Rattle.percpu_gate.specs.Seats.{fresh_pass};
 ghost use Rattle.freeze_queue.specs.declared.tag.Enter.TheVariants.{Entered, Again};
 ghost use Rattle.freeze_queue.specs.Queue.{IsQueue, first_tag, first_freezer, after_entering, after_refusal, after_leaving};
@@ -16,7 +17,7 @@ use crate::freezer::Freezer;
 use crate::limit_words::LIMIT_WORDS;
 use crate::tag::{Enter, Tag};
 use crossbeam_utils::sync::{Parker, Unparker};
-use percpu_gate::{Gate, Memory, Pass, Put, Start};
+use percpu_gate::{Control, Gate, Memory, Pass, Put, Start};
 use queue_limits::Limits;
 use std::alloc::{AllocError, Global};
 use std::marker::Model;
@@ -105,8 +106,13 @@ impl BlockQueue {
         self.gate.slots()
     }
 
-    /// Wakes those who wait to enter.
-    pub(crate) fn wake_submitters(&self) {
+    /// Wakes those who wait to enter, once the control has brought the gate back: who is woken before that tries in vain,
+    /// and may sleep again when it lives.
+    pub(crate) fn wake_submitters(&self, control: &Control<LIMIT_WORDS>)
+        requires own { control.now.gate ≡ self.now.gate }
+        requires live { is_live control.now.view.standing.phase ≡ true }
+    {
+        let _ = control;
         self.thawed.wake_all();
     }
 
