@@ -1,5 +1,5 @@
 -- What a list of commands to a device is.
-use Rattle.std.specs.Prelude.{◌≡◌, ℕ, ◌+◌, Option, Some, None, List, [], ◌∷◌, map}
+use Rattle.std.specs.Prelude.{◌≡◌, ℕ, ◌+◌, Option, Some, None, Result, Ok, Err, List, [], ◌∷◌, map}
 use Rattle.freeze_queue.specs.declared.tag.Enter.{Enter}
 use Rattle.freeze_queue.specs.declared.tag.Enter.TheVariants.{Entered, Again}
 use Rattle.uses.specs.declared.cutting.Command.{Command}
@@ -13,7 +13,8 @@ abbrev pub AreInARow : ℕ → List Command → Type 0
 AreInARow start [] = Unit {0}
 AreInARow start (c ∷ commands) = (c.first ≡ start) × AreInARow (start + c.sectors) commands
 
--- what the attempt to enter was answered: there are commands where the tag entered, and none where the queue was frozen
-abbrev pub entering : {A : Type 0} → Option A → Enter
-entering (Some made) = Entered
-entering None = Again
+-- what the attempt to enter was answered: there are commands where the tag entered, and none where the queue was frozen; who is refused memory had entered
+abbrev pub entering : {A E : Type 0} → Result (Option A) E → Enter
+entering (Ok (Some made)) = Entered
+entering (Ok None) = Again
+entering (Err why) = Entered

@@ -2,9 +2,9 @@
 ghost use Rattle.std.specs.Prelude.{◌≡◌, ◌+◌, ◌<◌, false, None};
 ghost use Rattle.percpu_core.specs.declared.phase.Phase.TheVariants.{Dead};
 ghost use Rattle.percpu_core.specs.Starts.{starts_dead};
-ghost use Rattle.percpu_gate.specs.Calls.{holding, released};
+ghost use Rattle.percpu_gate.specs.Calls.{holding, released, LiveTryFinds};
 ghost use Rattle.percpu_gate.specs.ControlCalls.{kill_refusal};
-ghost use Rattle.uses.specs.Removal.{told};
+ghost use Rattle.uses.specs.Removal.{told, tried};
 
 use crate::removal::{Served, remove, serve};
 use percpu_gate::{Control, Gate, Pass, Put};
@@ -25,6 +25,7 @@ fn served_by(gate: &Gate<1>, mut pass: Pass<1>) -> (Pass<1>, Served)
     ensures own { result.0.gate ≡ gate.now }
     ensures idle { result.0.view.standing ≡ holding 0 }
     ensures told { result.0.view.releases ≡ pass.view.releases + told result.1 }
+    ensures finds { LiveTryFinds gate.now 0 pass.view (tried result.1) }
 {
     let served = serve(gate, &mut pass, 0);
     (pass, served)
@@ -45,7 +46,7 @@ fn removed_by(gate: &Gate<1>, mut control: Control<1>) -> (Control<1>, Put)
     }
 }
 
-/// One thread runs a request while another removes its device; then the gate ends. In whatever order their steps
+/// This thread runs a request while another removes its device; then the gate ends. In whatever order their steps
 /// come, exactly one of the two is told that it was the last, and so the device is freed once.
 pub fn race<R: Threads>(rt: &R, gate: Gate<1>, pass: Pass<1>, control: Control<1>) -> Raced
     requires own { (pass.gate ≡ gate) × (control.gate ≡ gate) }
@@ -54,18 +55,20 @@ pub fn race<R: Threads>(rt: &R, gate: Gate<1>, pass: Pass<1>, control: Control<1
     requires live { kill_refusal control.view.standing.phase control.view.standing.kills ≡ None }
     requires new { (starts_dead gate.start ≡ false) × (control.view.passes ≡ 1) × (control.view.releases ≡ 0) × (control.view.zeros_cleared ≡ 0) }
     ensures once { told result.served + released result.removed ≡ 1 }
+    // The request was done where a live gate let it in, and one that isn't found the device removed.
+    ensures finds { LiveTryFinds gate 0 pass.view (tried result.served) }
 {
     let shared = &gate;
-    let ((pass, served), (mut control, removed)) = thread::join(
+    let ((mut control, removed), (pass, served)) = thread::join(
         rt,
-        move || -> (Pass<1>, Served)
-            requires { (pass.gate ≡ shared.now) × (0 < shared.now.slots) × (pass.view.standing ≡ holding 0) × (pass.view.releases ≡ 0) }
-            ensures { (result.0.gate ≡ shared.entry.now) × (result.0.view.standing ≡ holding 0) × (result.0.view.releases ≡ told result.1) }
-        { served_by(shared, pass) },
         move || -> (Control<1>, Put)
             requires { (control.gate ≡ shared.now) × (kill_refusal control.view.standing.phase control.view.standing.kills ≡ None) × (control.view.passes ≡ 1) × (control.view.releases ≡ 0) × (control.view.zeros_cleared ≡ 0) }
             ensures { (result.0.gate ≡ shared.entry.now) × (result.0.view.passes ≡ 1) × (result.0.view.standing.phase ≡ Dead) × (result.0.view.releases ≡ released result.1) × (result.0.view.zeros_cleared ≡ 0) }
         { removed_by(shared, control) },
+        move || -> (Pass<1>, Served)
+            requires { (pass.gate ≡ shared.now) × (0 < shared.now.slots) × (pass.view.standing ≡ holding 0) × (pass.view.releases ≡ 0) }
+            ensures { (result.0.gate ≡ shared.entry.now) × (result.0.view.standing ≡ holding 0) × (result.0.view.releases ≡ told result.1) × LiveTryFinds shared.entry.now 0 pass.view (tried result.1) }
+        { served_by(shared, pass) },
     );
     control.retire(&gate, pass);
     match gate.exit(control) {

@@ -1,9 +1,10 @@
 //! A device that may be removed while requests run on it.
 ghost use Rattle.std.specs.Prelude.{◌≡◌, ◌+◌, ◌<◌, IfOk, OnErr};
 ghost use Rattle.percpu_core.specs.declared.phase.Phase.TheVariants.{Dead};
-ghost use Rattle.percpu_gate.specs.Calls.{holding, released, taken, LiveTryFinds};
-ghost use Rattle.percpu_gate.specs.ControlCalls.{fault_of, kill_refusal};
-ghost use Rattle.uses.specs.Removal.{told, tried};
+ghost use Rattle.percpu_core.specs.Views.{count as one_if};
+ghost use Rattle.percpu_gate.specs.Calls.{holding, is_refused, released, taken, LiveTryFinds};
+ghost use Rattle.percpu_gate.specs.ControlCalls.{after_kill, fault_of, kill_refusal};
+ghost use Rattle.uses.specs.Removal.{told, tried, HasWorked};
 
 use percpu_gate::{Control, ControlFault, Gate, Pass, Put, Tried};
 
@@ -27,6 +28,9 @@ pub fn serve(gate: &Gate<1>, pass: &mut Pass<1>, slot: u32) -> Served
     // A request that is done was let in by a step that a live gate gives, and one that isn't found the device removed.
     ensures finds { LiveTryFinds gate.now slot pass.old.view (tried result) }
     ensures counted { pass.new.view.live_given ≡ pass.old.view.live_given + taken (tried result) }
+    ensures times { pass.new.view.found_dead_times ≡ pass.old.view.found_dead_times + one_if (is_refused (tried result)) }
+    // It read the setting before its work and after it, and both were one value.
+    ensures worked { HasWorked pass.new.view.read result }
 {
     match pass.try_get_live(gate, slot) {
         Tried::Refused(put) => Served::Gone(put),
@@ -51,6 +55,7 @@ pub fn remove(gate: &Gate<1>, control: &mut Control<1>) -> Result<Put, ControlFa
     ensures unchanged { OnErr result (control.new ≡ control.old) }
     ensures dead { IfOk result (λ put. control.new.view.standing.phase ≡ Dead) }
     ensures told { IfOk result (λ put. control.new.view.releases ≡ control.old.view.releases + released put) }
+    ensures killed { IfOk result (λ put. control.new ≡ record control.old { view = after_kill put control.old.view }) }
 {
     control.kill(gate)
 }

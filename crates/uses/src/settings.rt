@@ -1,13 +1,12 @@
 //! The limits of a queue, changed while others submit to it.
-ghost use Rattle.std.specs.Prelude.{◌≡◌, ◌<◌, ◌^◌, true, false, Some, IfOk, IfSome, OnOk, OnErr};
-ghost use Rattle.percpu_core.specs.declared.view.PassView.{PassView};
-ghost use Rattle.percpu_gate.specs.Calls.{LiveTryFinds};
+ghost use Rattle.std.specs.Prelude.{◌≡◌, ◌+◌, ◌<◌, ◌^◌, true, false, Some, IfOk, IfSome, OnOk, OnErr};
+ghost use Rattle.percpu_core.specs.Views.{count as one_if};
+ghost use Rattle.percpu_gate.specs.Calls.{is_refused, taken, LiveTryFinds};
 ghost use Rattle.freeze_queue.specs.Entering.{answered};
 ghost use Rattle.freeze_queue.specs.Queue.{fault_of, freeze_refusal};
-ghost use Rattle.freeze_queue.specs.AtTheGate.{AreInForce};
 ghost use Rattle.freeze_queue.specs.Readings.{IsTag};
 ghost use Rattle.uses.specs.Commands.{lengths, entering, AreInARow};
-ghost use Rattle.uses.specs.Settings.{IsCutByLimits, IsChanged, is_made};
+ghost use Rattle.uses.specs.Settings.{IsCutByLimits, IsChanged, WereReadInside, EndsWithOneTry, is_made};
 
 use crate::cutting::{Command, commands};
 use freeze_queue::{BlockQueue, Enter, FreezeFault, Freezer, Tag};
@@ -33,8 +32,11 @@ pub fn submit(
     requires place { start < 2 ^ 32 }
     ensures own { tag.new.queue ≡ queue.now }
     ensures entered { tag.new.entered ≡ is_made result }
-    // None says that the attempt to enter found the queue frozen, commands that it found it live.
-    ensures finds { IfOk result (λ made. LiveTryFinds queue.now.gate slot tag.old.seat (answered (entering made))) }
+    // None says that the attempt to enter found the queue frozen, commands that it found it live; so does a refusal of memory.
+    ensures finds { LiveTryFinds queue.now.gate slot tag.old.seat (answered (entering result)) }
+    // It is one attempt, and what it found was found by a step of this call.
+    ensures counted { tag.new.seat.live_given ≡ tag.old.seat.live_given + taken (answered (entering result)) }
+    ensures times { tag.new.seat.found_dead_times ≡ tag.old.seat.found_dead_times + one_if (is_refused (answered (entering result))) }
     ensures row { IfOk result (λ made. IfSome made (λ made. AreInARow start made.items)) }
     ensures split { IfOk result (λ made. IfSome made (λ made. IsCutByLimits tag.new start count (lengths made.items))) }
 {
@@ -62,7 +64,9 @@ pub fn enter_under<R: Wait>(rt: &R, queue: &BlockQueue, tag: &mut Tag, slot: u32
     ensures entered { tag.new.entered ≡ true }
     ensures told { tag.new.limits ≡ Some limits.now }
     ensures kept { IsTag tag.new }
-    ensures in_force { (before : PassView) × AreInForce queue.now.gate queue.now.hardware before limits.now }
+    // They were read under the reference that it took last, and a try that found the queue live gave it that.
+    ensures in_force { WereReadInside queue.now tag.new limits.now }
+    ensures finds { EndsWithOneTry queue.now slot tag.old tag.new }
 {
     for _ in rt.forever() {
         queue.enter(rt, tag, slot);

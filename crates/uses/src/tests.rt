@@ -1,10 +1,15 @@
-//! Each function once on its happy path.
+//! Each function on its happy path, and what no clause says: that there is memory for many commands, that a request leaves on
+//! its own slot, and that a race is one.
+ghost use Rattle.std.specs.Prelude.{◌≡◌};
+
 use crate::{Command, Served, change_limits, commands, enter_under, race, remove, serve, submit};
 use freeze_queue::BlockQueue;
-use percpu_gate::{Gate, Put, Start, Tried};
+use percpu_gate::{Control, Gate, Phase, Put, Start, Tried};
 use queue_limits::Limits;
+use std::alloc::Global;
 use std::process::Abort;
 use std::test::Fail;
+use std::thread::Threads;
 
 #[test]
 fn a_range_is_cut(rt: HostRuntime) -> Result<(), Fail> {
@@ -69,5 +74,58 @@ fn a_request_is_cut_by_the_limits_in_force(rt: HostRuntime) -> Result<(), Fail> 
     queue.leave(&mut tag, 0);
     let made = submit(rt.alloc(), &queue, &mut tag, 0, 6, 6)?.ok_or("entered")?;
     assert_eq!(rt; made.len(), 2);
+    Ok(())
+}
+
+/// Each command moves one sector: there is memory for all of them.
+#[test]
+fn a_long_range_is_cut(rt: HostRuntime) -> Result<(), Fail> {
+    let made = commands(rt.alloc(), &Limits::new(8, 1, 0)?, 1, 200_000)?;
+    assert_eq!(rt; made.len(), 200_000);
+    Ok(())
+}
+
+/// What the next slot to be closed has counted.
+fn close_next(gate: &Gate<1>, control: &mut Control<1>) -> Option<i64>
+    requires own { control.old.gate ≡ gate.now }
+    ensures { control.new.gate ≡ gate.now }
+{
+    match control.phase() {
+        Phase::Closing(closed) if closed < gate.slots() => Some(control.close_next(gate)),
+        _ => None,
+    }
+}
+
+/// It leaves on the slot that it came by: no slot has counted more in than out.
+#[test]
+fn a_request_leaves_on_its_own_slot(rt: HostRuntime) -> Result<(), Fail> {
+    let (gate, mut control, mut passes) = Gate::new(rt.alloc(), 2, 1, Start::Slots, [7])?;
+    let mut pass = passes.pop().ok_or("a pass")?;
+    assert_eq!(rt; serve(&gate, &mut pass, 1), Served::Done(Put::NotLast));
+    assert_eq!(rt; control.mark_dead(&gate), Ok(2));
+    let counted = (
+        close_next(&gate, &mut control),
+        close_next(&gate, &mut control),
+    );
+    assert_eq!(rt; counted, (Some(0), Some(0)));
+    Ok(())
+}
+
+/// Whether the request was done, in a race on a new device.
+fn is_done_in_race<R: Threads>(rt: &R, alloc: Global) -> Result<bool, Fail> {
+    let (gate, control, mut passes) = Gate::new(alloc, 1, 1, Start::Atomic, [7])?;
+    let pass = passes.pop().ok_or("a pass")?;
+    Ok(matches!(race(rt, gate, pass, control).served, Served::Done(_)))
+}
+
+/// The removal isn't always first: of so many races one ends with a request that was done, mostly the very first.
+#[test]
+fn a_request_is_done_in_some_race(rt: HostRuntime) -> Result<(), Fail> {
+    for _ in 0..10_000 {
+        if is_done_in_race(&rt, rt.alloc())? {
+            return Ok(());
+        }
+    }
+    assert!(rt; false, "each request came after the removal");
     Ok(())
 }
