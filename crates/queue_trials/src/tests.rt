@@ -7,5 +7,6 @@ mod modes;
 mod refused;
 mod rising;
 mod rounds;
+mod sharing;
 mod turns;
 mod waking;

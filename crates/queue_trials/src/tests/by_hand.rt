@@ -173,6 +173,14 @@ fn memory(rt: HostRuntime) -> Result<(), Fail> {
     Ok(())
 }
 
+/// There is memory for the largest queue.
+#[test]
+fn the_largest_queue_is_made(rt: HostRuntime) -> Result<(), Fail> {
+    let (queue, freezer, tags) = BlockQueue::new(rt.alloc(), Limits::start(8)?, 64, MOST_TAGS)?;
+    assert_eq!(rt; sizes((queue, freezer, tags)), (64, 0, 63));
+    Ok(())
+}
+
 #[test]
 fn faults_have_texts(rt: HostRuntime) -> Result<(), Fail> {
     let texts = [
