@@ -159,14 +159,18 @@ fn want_of_memory(rt: HostRuntime) {
     }
 }
 
-/// Every number of slots is had with every start, and with the most passes and guarded words.
+/// Every number of slots is had with every start, and with the most passes and guarded words; every number of passes
+/// with one slot and no word.
 #[test]
 fn every_size_is_made(rt: HostRuntime) -> Result<(), Fail> {
     for start in [Start::Slots, Start::Atomic, Start::Dead] {
-        for slots in 1..=64 {
-            let (gate, control, passes) = Gate::<8>::new(rt.alloc(), slots, 64, start, [9; 8])?;
-            assert_eq!(rt; (gate.slots(), passes.len()), (slots, 64));
+        for size in 1..=64 {
+            let (gate, control, passes) = Gate::<8>::new(rt.alloc(), size, 64, start, [9; 8])?;
+            assert_eq!(rt; (gate.slots(), passes.len()), (size, 64));
             assert_eq!(rt; control.words(), [9; 8]);
+            let (gate, control, passes) = Gate::<0>::new(rt.alloc(), 1, size, start, [])?;
+            assert_eq!(rt; (gate.slots(), passes.len()), (1, size as usize));
+            assert_eq!(rt; control.words(), []);
         }
     }
     Ok(())

@@ -203,3 +203,86 @@ fn later_lives_are_looked_at(rt: HostRuntime) -> Result<(), Fail> {
     }
     Ok(())
 }
+
+/// A life from this front on, and its end. The first pass holds meanwhile, the second only asks for the front, and the
+/// third is refused. The word is the front of the life, and what is stored at zero is that of the next round.
+fn a_life(front: u32) -> [(Call, Answer); 17] {
+    let front = u64::from(front);
+    let next = front + 4;
+    [
+        (Pass(1, PassCall::Front), Number(front)),
+        (Pass(1, PassCall::Front), Number(front)),
+        (Pass(2, PassCall::Front), Number(front)),
+        (Pass(0, PassCall::TryGet { slot: 0 }), Tried(Given)),
+        (Pass(0, PassCall::Word(0)), Number(front)),
+        (Control(ControlCall::Kill), Killed(Ok(NotLast))),
+        (Pass(1, PassCall::Front), Number(front + 1)),
+        (
+            Pass(2, PassCall::TryGetLive { slot: 0 }),
+            Tried(Refused(NotLast)),
+        ),
+        (Pass(2, PassCall::SeenFront), Number(front)),
+        (Pass(2, PassCall::Front), Number(front + 1)),
+        (Pass(2, PassCall::SeenFront), Number(front + 1)),
+        (Control(ControlCall::IsZero), Flag(false)),
+        (Pass(0, PassCall::Put { slot: 0, n: 1 }), Put(Last)),
+        (Control(ControlCall::IsZero), Flag(true)),
+        (
+            Control(ControlCall::StoreWord { k: 0, v: next }),
+            Set(Ok(())),
+        ),
+        (Pass(1, PassCall::Front), Number(front + 1)),
+        (Control(ControlCall::Reinit), Set(Ok(()))),
+    ]
+}
+
+/// The life after it, which ends by a revival while the first pass still holds.
+fn a_life_that_is_held(front: u32) -> [(Call, Answer); 10] {
+    let front = u64::from(front);
+    [
+        (Pass(1, PassCall::Front), Number(front + 2)),
+        (Pass(0, PassCall::TryGetLive { slot: 0 }), Tried(Given)),
+        (Pass(0, PassCall::Front), Number(front + 2)),
+        (Pass(0, PassCall::Word(0)), Number(front + 4)),
+        (Control(ControlCall::Kill), Killed(Ok(NotLast))),
+        (Pass(0, PassCall::Front), Number(front + 3)),
+        (Pass(1, PassCall::Front), Number(front + 3)),
+        (Control(ControlCall::IsZero), Flag(false)),
+        (Control(ControlCall::Resurrect), Revived(Ok(Held))),
+        (Pass(0, PassCall::Put { slot: 0, n: 1 }), Put(NotLast)),
+    ]
+}
+
+/// A gate that starts dead, until its first life.
+const BORN: [(Call, Answer); 4] = [
+    (Pass(1, PassCall::Front), Number(1)),
+    (Pass(1, PassCall::Front), Number(1)),
+    (Control(ControlCall::IsZero), Flag(true)),
+    (Control(ControlCall::Reinit), Set(Ok(()))),
+];
+
+/// In each of fifty lives a pass is told the front of then, also one that made no other call in between, and the control
+/// finds the zero of that life, and no other.
+#[test]
+fn fronts_and_zeros_of_fifty_lives(rt: HostRuntime) -> Result<(), Fail> {
+    let starts: [(Start, u32, &[(Call, Answer)]); 3] = [
+        (Start::Slots, 0, &[]),
+        (Start::Atomic, 0, &[]),
+        (Start::Dead, 2, &BORN),
+    ];
+    for (start, first, born) in starts {
+        let mut trial = Trial::<1>::new(rt.alloc(), 1, 3, start, [u64::from(first)])?;
+        assert_eq!(rt; trial.differs(born), None);
+        for round in 0..25u32 {
+            let front = first.wrapping_add(4 * round);
+            assert_eq!(rt;
+                trial.differs(&a_life(front)),
+                None,
+                "a life from {front} on"
+            );
+            let held = a_life_that_is_held(front);
+            assert_eq!(rt; trial.differs(&held), None, "the life after {front}");
+        }
+    }
+    Ok(())
+}

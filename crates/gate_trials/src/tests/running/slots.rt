@@ -207,3 +207,97 @@ fn all_slots_count(rt: HostRuntime) -> Result<(), Fail> {
     assert_eq!(rt; trial.differs(&ALL_COUNTED), None);
     Ok(())
 }
+
+/// The end of a kill once all slots are closed, with one reference held.
+const LAST_OF_ALL: [(Call, Answer); 4] = [
+    (Control(ControlCall::Collect), Done),
+    (Control(ControlCall::Confirm), Number(1)),
+    (Control(ControlCall::DropBase), Put(NotLast)),
+    (Pass(0, PassCall::Put { slot: 0, n: 1 }), Put(Last)),
+];
+
+/// Counts on one slot up to the limit and past it by 4, and on another down to it and past it by 3, after 16 pairs.
+fn past_both_limits(full: u32, down: u32) -> [(Call, Answer); 8] {
+    [
+        (Pass(0, PassCall::Get { slot: full, n: 31 }), Done),
+        (Pass(0, PassCall::Put { slot: down, n: 31 }), Put(NotLast)),
+        (Pass(0, PassCall::TryGet { slot: full }), Tried(Given)),
+        (Pass(0, PassCall::TryGetLive { slot: full }), Tried(Given)),
+        (Pass(0, PassCall::Get { slot: full, n: 2 }), Done),
+        (Pass(0, PassCall::Put { slot: down, n: 2 }), Put(NotLast)),
+        (Pass(0, PassCall::Put { slot: down, n: 1 }), Put(NotLast)),
+        (Pass(0, PassCall::Put { slot: down, n: 1 }), Put(NotLast)),
+    ]
+}
+
+/// What is past a slot's limit goes to none of the others, wherever they lie: of four slots two stay at 0.
+#[test]
+fn full_slots_beside_empty_ones(rt: HostRuntime) -> Result<(), Fail> {
+    for (full, down) in [(0, 2), (1, 3), (2, 0), (3, 1)] {
+        let mut trial = Trial::<0>::new(rt.alloc(), 4, 1, Start::Slots, [])?;
+        let first = [(Pass(0, PassCall::TryGet { slot: full }), Tried(Given))];
+        assert_eq!(rt; trial.differs(&first), None);
+        for _ in 0..16 {
+            assert_eq!(rt; trial.differs(&pair(full, down)), None);
+        }
+        assert_eq!(rt;
+            trial.differs(&past_both_limits(full, down)),
+            None,
+            "full is {full}"
+        );
+        let begun = [(Control(ControlCall::MarkDead), ToClose(Ok(4)))];
+        assert_eq!(rt; trial.differs(&begun), None);
+        for slot in 0..4 {
+            let delta = match slot {
+                _ if slot == full => 1_048_576,
+                _ if slot == down => -1_048_576,
+                _ => 0,
+            };
+            let counted = [(Control(ControlCall::CloseNext), Delta(delta))];
+            assert_eq!(rt;
+                trial.differs(&counted),
+                None,
+                "slot {slot}, full is {full}"
+            );
+        }
+        assert_eq!(rt; trial.differs(&LAST_OF_ALL), None);
+    }
+    Ok(())
+}
+
+/// Calls on a slot that a kill has closed. They leave 8 more held.
+fn on_a_closed_slot(slot: u32) -> [(Call, Answer); 4] {
+    [
+        (Pass(0, PassCall::TryGet { slot }), Tried(Given)),
+        (
+            Pass(0, PassCall::TryGetLive { slot }),
+            Tried(percpu_gate::Tried::Refused(NotLast)),
+        ),
+        (Pass(0, PassCall::Get { slot, n: 11 }), Done),
+        (Pass(0, PassCall::Put { slot, n: 4 }), Put(NotLast)),
+    ]
+}
+
+/// What is counted on a closed slot goes to no slot that is still open, and is held when all are closed: 8 after each of
+/// ten rows, and what was taken first.
+#[test]
+fn closed_slots_beside_open_ones(rt: HostRuntime) -> Result<(), Fail> {
+    let mut trial = Trial::<0>::new(rt.alloc(), 4, 1, Start::Slots, [])?;
+    let begun = [
+        (Pass(0, PassCall::TryGet { slot: 3 }), Tried(Given)),
+        (Control(ControlCall::MarkDead), ToClose(Ok(4))),
+    ];
+    assert_eq!(rt; trial.differs(&begun), None);
+    for (closing, delta) in [(0u32, 0), (1, 0), (2, 0), (3, 1)] {
+        let closed = [(Control(ControlCall::CloseNext), Delta(delta))];
+        assert_eq!(rt; trial.differs(&closed), None, "slot {closing}");
+        for slot in 0..=closing {
+            let row = on_a_closed_slot(slot);
+            assert_eq!(rt; trial.differs(&row), None, "slot {slot} of {closing}");
+        }
+    }
+    let most = [(Pass(0, PassCall::Put { slot: 1, n: 80 }), Put(NotLast))];
+    assert_eq!(rt; trial.differs(&most), None);
+    assert_eq!(rt; trial.differs(&LAST_OF_ALL), None);
+    Ok(())
+}
