@@ -1,7 +1,7 @@
 //! What the threads of a run share, and what a worker does.
 ghost use Rattle.std.specs.Prelude.{◌≡◌, ◌<◌, ◌^◌, true, false, [], All, IfOk, length};
 ghost use Rattle.script_meaning.specs.Requests.{accepted_in_all};
-ghost use Rattle.run_queues.specs.Requests.{all_parts};
+ghost use Rattle.run_queues.specs.Parts.{new_source};
 ghost use Rattle.run_desk.specs.Requests.{IsAcceptedAt};
 
 use crate::fault::RunFault;
@@ -60,7 +60,7 @@ impl<J: Run, C: Line> Hall<J, C> {
         ensures queue { IfOk result (λ h. h.0.queue ≡ queue) }
         ensures rooms { IfOk result (λ h. (h.0.requests.room ≡ length tags.items) × (h.0.tags ≡ length tags.items)) }
         ensures completions { IfOk result (λ h. h.0.completions ≡ completions) }
-        ensures source { IfOk result (λ h. h.1 ≡ record { queue = h.0.requests.id; parts = all_parts; pushed = 0; marks = 0; drained = false; lists = []; room = workers }) }
+        ensures source { IfOk result (λ h. h.1 ≡ new_source h.0.requests.id workers) }
     {
         let (requests, source) = RequestQueue::new(alloc, tags.len(), workers as usize)?;
         let hall = Hall {

@@ -1,8 +1,9 @@
 -- What a queue of requests, and those who push and draw, are to a caller.
-use Rattle.std.specs.Prelude.{◌≡◌, ℕ, ◌++◌, ◌∷◌, [], Bool, true, List, Option, Some, None}
+use Rattle.std.specs.Prelude.{◌≡◌, ℕ, ◌++◌, ◌∷◌, [], Bool, true, false, List, Option, Some, None}
 use Rattle.atomic_table.specs.Seated.{TableId}
 use Rattle.crossbeam_queue.specs.Passes.{Pass, view}
 use Rattle.run_queues.specs.Numbers.{AllIncrease, times, times_in_all}
+use Rattle.run_queues.specs.Requests.{all_parts}
 
 -- which queue it is, and how many items it has room for
 pub record QueueFacts : Type 0 where
@@ -24,6 +25,10 @@ pub record SourceFacts : Type 0 where
   pub lists : List (List ℕ)
   -- how many lists there is memory for
   pub room : ℕ
+
+-- what the one who pushes knows of a new queue, with memory for so many lists: every part is here, and nothing was pushed or drawn
+abbrev pub new_source : TableId → ℕ → SourceFacts
+new_source queue room = record { queue = queue; parts = all_parts; pushed = 0; marks = 0; drained = false; lists = []; room = room }
 
 -- What one who draws knows.
 pub record DrawerFacts : Type 0 where

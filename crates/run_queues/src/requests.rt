@@ -2,7 +2,7 @@
 ghost use Rattle.std.specs.Prelude.{◌≡◌, ◌+◌, ◌-◌, ◌<◌, ◌≤◌, true, false, ◌||◌, [], ◌∷◌, ◌++◌, IfOk, OnOk, OnErr, length, map};
 ghost use Rattle.run_queues.specs.Numbers.{Draws, IsIncreasing};
 ghost use Rattle.run_queues.specs.Requests.{all_parts};
-ghost use Rattle.run_queues.specs.Parts.{after_draw};
+ghost use Rattle.run_queues.specs.Parts.{after_draw, new_source};
 
 use crate::line::Line;
 use crate::numbered::Numbered;
@@ -179,7 +179,7 @@ impl<T: Numbered + Drop> RequestQueue<T> {
     ) -> Result<(RequestQueue<T>, Source<T>), AllocError>
         requires { 0 < room }
         ensures queue { IfOk result (λ q. (q.0.room ≡ room) × (q.1.queue ≡ q.0.id)) }
-        ensures source { IfOk result (λ q. q.1 ≡ record { queue = q.0.id; parts = all_parts; pushed = 0; marks = 0; drained = false; lists = []; room = drawers }) }
+        ensures source { IfOk result (λ q. q.1 ≡ new_source q.0.id drawers) }
     {
         let lists = Vec::with_capacity(alloc, drawers)?;
         let (line, seat) = Line::new(alloc, room)?;
