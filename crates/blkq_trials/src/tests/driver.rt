@@ -63,7 +63,8 @@ pub(super) struct Answer {
     pub(super) status: u8,
     pub(super) out: Vec<u8>,
     pub(super) errors: Vec<u8>,
-    pub(super) is_read: bool,
+    /// How often the reader was asked.
+    pub(super) reads: u32,
 }
 
 /// Calls the program.
@@ -86,14 +87,24 @@ pub(super) fn call(
         status,
         out: out.taken,
         errors: errors.taken,
-        is_read: feed.reads > 0,
+        reads: feed.reads,
     })
 }
 
 /// What stands on standard error where the words ask for nothing that there is.
 pub(super) const USAGE: &[u8] = b"usage: blkq run [WORKERS SLOTS TAGS] or blkq replay\n";
 
-/// Plays each row. Where the words ask for nothing, nothing is read.
+/// How often the input of a row is read: not at all where its words ask for nothing, else to its end, once, whatever comes
+/// of it. It comes whole, and the read behind it is at the end, or fails.
+fn reads(row: &Row) -> u32 {
+    if row.errors == USAGE {
+        0
+    } else {
+        1 + u32::from(!row.input.is_empty())
+    }
+}
+
+/// Plays each row.
 pub(super) fn play_all(
     rt: &(impl Abort + Threads + Wait + AllocGlobal + Sync),
     rows: &[Row],
@@ -103,7 +114,7 @@ pub(super) fn play_all(
         assert!(rt; answer.status == row.status, "{}", row.name);
         assert!(rt; answer.out.as_slice() == row.out, "{}", row.name);
         assert!(rt; answer.errors.as_slice() == row.errors, "{}", row.name);
-        assert!(rt; answer.is_read || row.errors == USAGE, "{}", row.name);
+        assert!(rt; answer.reads == reads(row), "{}", row.name);
     }
     Ok(())
 }

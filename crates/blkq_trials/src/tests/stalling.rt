@@ -1,4 +1,4 @@
-//! A run that is held passes its points.
+//! A run that is held passes its points, once.
 use super::fakes::{Feed, Sink};
 use blk_workers::{Config, Point, Stall};
 use blkq_run::run_bytes;
@@ -35,23 +35,48 @@ impl Stall for Counts {
     }
 }
 
+impl Counts {
+    fn new() -> Self {
+        Counts {
+            entered: AtomicU32::new(0),
+            drawn: AtomicU32::new(0),
+            answered: AtomicU32::new(0),
+            drained: AtomicU32::new(0),
+        }
+    }
+
+    /// How often each request was entered, drawn and answered.
+    fn of_requests(&self) -> [u32; 3] {
+        [&self.entered, &self.drawn, &self.answered].map(|at| at.load(Ordering::SeqCst))
+    }
+}
+
 // Each accepted request is entered, drawn and answered once. Drained is told before each ordered request, and at the end.
 #[test]
 fn each_point_is_told(rt: HostRuntime) -> Result<(), Fail> {
-    let counts = Counts {
-        entered: AtomicU32::new(0),
-        drawn: AtomicU32::new(0),
-        answered: AtomicU32::new(0),
-        drained: AtomicU32::new(0),
-    };
+    let counts = Counts::new();
     let config = Config::new(2, 2, 2).ok_or("within the limits")?;
     let mut reader = Counted::new(Feed::new(SCRIPT));
     let mut writer = Counted::new(Sink::new(rt.alloc()));
     let found = run_bytes(&rt, rt.alloc(), &mut reader, &mut writer, config, &counts);
     assert!(rt; found.is_ok(), "{found:?}");
-    for at in [&counts.entered, &counts.drawn, &counts.answered] {
-        assert_eq!(rt; at.load(Ordering::SeqCst), 0x1111);
-    }
+    assert_eq!(rt; counts.of_requests(), [0x1111; 3]);
     assert_eq!(rt; counts.drained.load(Ordering::SeqCst), 134);
+    Ok(())
+}
+
+// Whatever the run is refused, it isn't begun again: no request is at a point twice, and the input is read to its end once.
+#[test]
+fn want_of_memory_ends_the_run(rt: HostRuntime) -> Result<(), Fail> {
+    let counts = Counts::new();
+    let config = Config::new(2, 2, 2).ok_or("within the limits")?;
+    let mut feed = Feed::new(SCRIPT);
+    let mut reader = Counted::new(&mut feed);
+    let mut writer = Counted::new(Sink::new(rt.alloc()));
+    let found = run_bytes(&rt, rt.alloc(), &mut reader, &mut writer, config, &counts);
+    for times in counts.of_requests() {
+        assert!(rt; times & !0x1111 == 0, "{found:?}: {times:x}");
+    }
+    assert!(rt; feed.reads <= 2, "{found:?}");
     Ok(())
 }

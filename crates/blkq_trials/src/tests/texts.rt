@@ -48,6 +48,29 @@ fn two_hundred_writes(rt: HostRuntime) -> Result<(), Fail> {
     Ok(())
 }
 
+// An answer of 1,310,816 bytes: each byte that is read, and that the disk has, is a run of its own.
+#[test]
+fn a_long_answer(rt: HostRuntime) -> Result<(), Fail> {
+    let alloc = rt.alloc();
+    let script = b"blkq 1\ndisk 256 hw 256\nwrite 0 256 6162\nstat\nread 0 256\n";
+    let mut runs = String::new(alloc);
+    for _ in 0..65_535u32 {
+        runs.push_str("61*1,62*1,")?;
+    }
+    runs.push_str("61*1,62*1\n")?;
+    let mut out = String::from_str(alloc, "3 ok 256\n")?;
+    out.push_str(
+        "4 stat reads 0 writes 1 again 0 eio 0 depth 0 max 256 chunk 0 mode slots\n5 ok 256 ",
+    )?;
+    out.push_str(runs.as_str())?;
+    out.push_str("disk ")?;
+    out.push_str(runs.as_str())?;
+    let answer = call(&rt, "run 2 2 2", script, WILLING)?;
+    assert_eq!(rt; answer.status, 0);
+    assert!(rt; answer.out.as_slice() == out.as_bytes());
+    Ok(())
+}
+
 #[test]
 fn depth_full(rt: HostRuntime) -> Result<(), Fail> {
     let alloc = rt.alloc();

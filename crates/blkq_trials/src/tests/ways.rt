@@ -5,6 +5,9 @@ const SCRIPT: &[u8] = b"blkq 1\ndisk 4 hw 8\n";
 
 const ANSWER: &[u8] = b"disk 00*2048\n";
 
+/// Both write sector 0.
+const OVERLAP: &[u8] = b"blkq 1\ndisk 4 hw 8\nwrite 0 1 61\nwrite 0 1 62\n";
+
 const SCHEDULE: &[u8] = b"gate 1\nworld 1 1 atomic 0\n0 add try\n";
 
 const SHOWN: &[u8] = b"given\nend live 2 front 0 kills 0 releases 0 held 1\n";
@@ -136,6 +139,50 @@ pub(super) const ROWS: &[Row] = &[
         out: b"",
         errors: b"line 2: no world\n",
         ..REPLAY
+    },
+    Row {
+        name: "no schedule, and nobody takes the fault's line",
+        input: b"gate 1\n",
+        sides: Sides {
+            room_for_errors: 0,
+            ..WILLING
+        },
+        status: 2,
+        out: b"",
+        errors: b"",
+        ..REPLAY
+    },
+    Row {
+        name: "no script, and nobody takes the fault's line",
+        input: b"blkq 1\n",
+        sides: Sides {
+            room_for_errors: 0,
+            ..WILLING
+        },
+        status: 2,
+        out: b"",
+        errors: b"",
+        ..RUN
+    },
+    Row {
+        name: "an overlap",
+        input: OVERLAP,
+        status: 3,
+        out: b"",
+        errors: b"line 4: overlaps line 3\n",
+        ..RUN
+    },
+    Row {
+        name: "an overlap, and nobody takes the fault's line",
+        input: OVERLAP,
+        sides: Sides {
+            room_for_errors: 0,
+            ..WILLING
+        },
+        status: 3,
+        out: b"",
+        errors: b"",
+        ..RUN
     },
     Row {
         name: "the reader fails behind the schedule",
