@@ -75,6 +75,26 @@ fn guarded_words(rt: HostRuntime) -> Result<(), Fail> {
     Ok(())
 }
 
+/// More pairs of steps than a schedule's text has room for: each of the steps is replied to, and so is one behind them
+/// that isn't enabled.
+#[test]
+fn very_many_steps(rt: HostRuntime) -> Result<(), Fail> {
+    let mut world = World::new(rt.alloc(), 1, 1, Start::Atomic, &[])?;
+    let (mut events, mut want) = (Vec::new(rt.alloc()), Vec::new(rt.alloc()));
+    for _ in 0..75_000 {
+        events.push(Pass(0, AddTry))?;
+        events.push(Pass(0, Sub(1)))?;
+        want.push(Reply::Given)?;
+        want.push(Reply::NotLast)?;
+    }
+    answers(&rt, rt.alloc(), &mut world, &events, &want)?;
+    assert_eq!(rt; (world.shared(), world.held_by_all()), (1, 0));
+    events.push(Control(TakeBase))?;
+    refuses(&rt, rt.alloc(), &mut world, &events, NotEnabled::WrongPhase)?;
+    assert_eq!(rt; (world.shared(), world.held_by_all()), (1, 0));
+    Ok(())
+}
+
 /// Without memory no world is made, and none changes. To be run with each allocation failing in turn.
 #[test]
 fn want_of_memory(rt: HostRuntime) -> Result<(), Fail> {
