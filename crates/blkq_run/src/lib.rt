@@ -18,6 +18,6 @@ mod run;
 pub use arguments::{Task, requested};
 pub use fault::Fault;
 pub use laws::{one_answer, sizes_in_numbers};
-pub use program::{command, refuse_words};
+pub use program::{command, command_held, refuse_words};
 pub use replay_run::replay_bytes;
 pub use run::{MOST_READ, run_bytes};

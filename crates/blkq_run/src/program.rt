@@ -8,7 +8,7 @@ use crate::arguments::{Task, requested};
 use crate::fault::Fault;
 use crate::replay_report::replay_reported;
 use crate::run::{MOST_READ, run_bytes};
-use blk_workers::{Config, NoStall};
+use blk_workers::{Config, NoStall, Stall};
 use counted_io::Counted;
 use std::alloc::Global;
 use std::io;
@@ -30,11 +30,12 @@ fn run_reported<R: Read, W: Write, E: Write>(
     reader: &mut Counted<R>,
     writer: &mut Counted<W>,
     errors: &mut E,
+    stall: &impl Stall,
 ) -> u8
     ensures told { TellsRun R.remaining W.contents reader.old writer.old writer.new result }
     ensures taken { TakesUpTo R.remaining reader.old reader.new MOST_READ }
 {
-    match run_bytes(rt, alloc, reader, writer, config, &NoStall) {
+    match run_bytes(rt, alloc, reader, writer, config, stall) {
         Ok(()) => 0,
         Err(fault) => {
             let _ = errors.writeln(fault);
@@ -48,7 +49,8 @@ fn run_reported<R: Read, W: Write, E: Write>(
 /// the input is no script or no schedule, 3 where requests of a script overlap, and 4 where reading, writing,
 /// memory or the start of a thread was refused, or the words ask for nothing that there is. Only a replay that
 /// ends at a step that isn't enabled has status 3 without such a line: its answer went out, and says so. The
-/// words are looked at before anything is read. Where `errors` fails, the line is lost and the status stays.
+/// words are looked at before anything is read. Where `errors` fails, the line is lost and the status stays. A run
+/// has as many workers, slots and tags as the words say, or the usual ones.
 pub fn command<R: Read, W: Write, E: Write>(
     rt: &(impl Threads + Wait + Sync),
     alloc: Global,
@@ -70,8 +72,34 @@ pub fn command<R: Read, W: Write, E: Write>(
 
     ensures taken { TakesUpTo R.remaining reader.old reader.new MOST_READ }
 {
+    command_held(rt, alloc, args, reader, writer, errors, &NoStall)
+}
+
+/// [`command`] of which `stall` holds a run at its points, as a test does that has to see its workers.
+pub fn command_held<R: Read, W: Write, E: Write>(
+    rt: &(impl Threads + Wait + Sync),
+    alloc: Global,
+    args: &[String],
+    reader: &mut Counted<R>,
+    writer: &mut Counted<W>,
+    errors: &mut E,
+    stall: &impl Stall,
+) -> u8
+    ensures statuses { Contains (0 ∷ 2 ∷ 3 ∷ 4 ∷ []) result }
+    ensures run { AsksSomeRun (map string_bytes args.now)
+        → TellsRun R.remaining W.contents reader.old writer.old writer.new result }
+    ensures replay { AsksReplay (map string_bytes args.now)
+        → TellsReplay R.remaining W.contents reader.old writer.old writer.new result }
+
+    // Where the words ask for neither, nothing is read and nothing is written.
+    ensures usage { ¬ (AsksSomething (map string_bytes args.now)) → result ≡ 4 }
+    ensures unread { ¬ (AsksSomething (map string_bytes args.now)) → reader.new ≡ reader.old }
+    ensures unwritten { ¬ (AsksSomething (map string_bytes args.now)) → writer.new ≡ writer.old }
+
+    ensures taken { TakesUpTo R.remaining reader.old reader.new MOST_READ }
+{
     match requested(args) {
-        Task::Run(config) => run_reported(rt, alloc, config, reader, writer, errors),
+        Task::Run(config) => run_reported(rt, alloc, config, reader, writer, errors, stall),
         Task::Replay => replay_reported(alloc, reader, writer, errors),
         Task::Usage => {
             let _ = errors.writeln(USAGE);

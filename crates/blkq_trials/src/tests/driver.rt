@@ -1,6 +1,7 @@
 //! The program, played on a table of words, inputs and writers.
 use super::fakes::{Feed, Sink};
-use blkq_run::command;
+use blk_workers::{NoStall, Stall};
+use blkq_run::command_held;
 use counted_io::Counted;
 use std::alloc::{AllocError, Global};
 use std::io::ErrorKind;
@@ -74,6 +75,17 @@ pub(super) fn call(
     input: &[u8],
     sides: Sides,
 ) -> Result<Answer, Fail> {
+    call_held(rt, line, input, sides, &NoStall)
+}
+
+/// Calls the program, whose run this holds at its points.
+pub(super) fn call_held(
+    rt: &(impl Threads + Wait + AllocGlobal + Sync),
+    line: &str,
+    input: &[u8],
+    sides: Sides,
+    stall: &impl Stall,
+) -> Result<Answer, Fail> {
     let args = words(rt.alloc(), line)?;
     let mut feed = Feed::new(input);
     if sides.fails {
@@ -82,7 +94,15 @@ pub(super) fn call(
     let (mut out, mut errors) = (Sink::new(rt.alloc()), Sink::new(rt.alloc()));
     (out.room, errors.room) = (sides.room, sides.room_for_errors);
     let (mut reader, mut writer) = (Counted::new(&mut feed), Counted::new(&mut out));
-    let status = command(rt, rt.alloc(), &args, &mut reader, &mut writer, &mut errors);
+    let status = command_held(
+        rt,
+        rt.alloc(),
+        &args,
+        &mut reader,
+        &mut writer,
+        &mut errors,
+        stall,
+    );
     Ok(Answer {
         status,
         out: out.taken,

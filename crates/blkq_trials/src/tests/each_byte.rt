@@ -3,9 +3,10 @@ use super::fakes::{Feed, KINDS, Sink};
 use blk_script::{check, parse, run_alone};
 use blk_workers::{Config, NoStall};
 use blkq_run::{Fault, run_bytes};
-use counted_io::Counted;
+use counted_io::{Counted, TRIES};
 use std::alloc::Global;
 use std::fs;
+use std::io::ErrorKind;
 use std::process::Abort;
 use std::rt::Files;
 use std::sync::Wait;
@@ -22,35 +23,55 @@ const ANSWER: &[u8] = b"3 ok\n4 ok\n5 ok 2+4\ndisk 00*3072,61*3072,00*2048\n";
 const REMOVED: &[u8] =
     b"blkq 1\ndisk 1 hw 4\nmode atomic\nwrite 0 1 0a0a\nread 1 1\nstat\nremove\nread 0 1\nthaw\nremove\n";
 
-/// A run of two workers, on two slots and with two tags, answers so, and writes exactly this.
+/// A run of two workers, on two slots and with two tags, answers so, and writes exactly this. Gives how often its reader was
+/// read, and its writer written to.
 fn gives(
     rt: &(impl Abort + Threads + Wait + AllocGlobal + Sync),
     mut feed: Feed<'_>,
     mut sink: Sink,
     answer: Result<(), Fault>,
     written: &[u8],
-) {
+) -> (u64, u64) {
     let config = Config::new(2, 2, 2).expect(rt, "a config");
     let (mut reader, mut writer) = (Counted::new(&mut feed), Counted::new(&mut sink));
     let alloc = rt.alloc();
     let found = run_bytes(rt, alloc, &mut reader, &mut writer, config, &NoStall);
     let is_right = found == answer && sink.taken.as_slice() == written;
     assert!(rt; is_right, "{found:?} in place of {answer:?}");
+    (u64::from(feed.reads), u64::from(sink.writes))
 }
 
-/// Where the reader fails, also behind the last byte in place of ending, the answer is Read, and nothing is written.
+/// How often a reader or a writer that fails so behind so many bytes, and moves one each time, is asked: no failure but an
+/// interruption is a reason to ask again.
+fn asked(bytes: usize, failure: Option<ErrorKind>) -> u64 {
+    let tries = if failure == Some(ErrorKind::Interrupted) {
+        TRIES
+    } else {
+        1
+    };
+    u64::from(tries).wrapping_add(bytes as u64)
+}
+
+/// Where the reader fails, also behind the last byte in place of ending, the answer is Read, and nothing is written. It isn't
+/// read again.
 #[test]
 fn reader_fails_behind_each_byte(rt: HostRuntime) {
     for failure in KINDS {
         for k in 0..=SCRIPT.len() {
             let mut feed = Feed::new(&SCRIPT[..k]);
             (feed.most, feed.failure) = (1, Some(failure));
-            gives(&rt, feed, Sink::new(rt.alloc()), Err(Fault::Read), b"");
+            let (reads, writes) = gives(&rt, feed, Sink::new(rt.alloc()), Err(Fault::Read), b"");
+            assert_eq!(rt;
+                (reads, writes),
+                (asked(k, Some(failure)), 0),
+                "{failure:?} behind {k}"
+            );
         }
     }
 }
 
-/// Where the writer takes one byte a write and then fails, or takes nothing, exactly the bytes before went out.
+/// Where the writer takes one byte a write and then fails, or takes nothing, exactly the bytes before went out. What is left
+/// isn't tried again.
 #[test]
 fn writer_fails_behind_each_byte(rt: HostRuntime) {
     for (k, _) in ANSWER.iter().enumerate() {
@@ -58,7 +79,12 @@ fn writer_fails_behind_each_byte(rt: HostRuntime) {
             let mut sink = Sink::new(rt.alloc());
             (sink.most, sink.room, sink.failure) = (1, k, failure);
             let fault = Fault::Write { written: k as u64 };
-            gives(&rt, Feed::new(SCRIPT), sink, Err(fault), &ANSWER[..k]);
+            let (reads, writes) = gives(&rt, Feed::new(SCRIPT), sink, Err(fault), &ANSWER[..k]);
+            assert_eq!(rt;
+                (reads, writes),
+                (2, asked(k, failure)),
+                "{failure:?} behind {k}"
+            );
         }
     }
 }
@@ -79,7 +105,7 @@ fn cut_behind_each_byte(rt: HostRuntime) {
         match alone(rt.alloc(), cut) {
             Ok(text) => gives(&rt, feed, sink, Ok(()), &text),
             Err(fault) => gives(&rt, feed, sink, Err(fault), b""),
-        }
+        };
     }
 }
 

@@ -1,10 +1,12 @@
-//! A run that is held passes its points, once.
+//! A run that is held passes its points, once, and has as many workers and tags as its words say.
+use super::driver::{WILLING, call_held};
 use super::fakes::{Feed, Sink};
 use blk_workers::{Config, Point, Stall};
 use blkq_run::run_bytes;
 use counted_io::Counted;
 use std::sync::atomic::{AtomicU32, Ordering};
 use std::test::Fail;
+use std::thread;
 
 /// The row ordered_twice: four requests, of which the second and the fourth are ordered.
 const SCRIPT: &[u8] = b"blkq 2\ndisk 4 hw 4\nwrite 0 2 01\nwrite 1 2 02\nwrite 0 1 03\nread 1 1\n";
@@ -78,5 +80,94 @@ fn want_of_memory_ends_the_run(rt: HostRuntime) -> Result<(), Fail> {
         assert!(rt; times & !0x1111 == 0, "{found:?}: {times:x}");
     }
     assert!(rt; feed.reads <= 2, "{found:?}");
+    Ok(())
+}
+
+/// Holds each request that is drawn until so many are entered and so many drawn, for 10,000,000 turns at most, and then for
+/// 10,000 turns more, and from then on none.
+#[derive(Drop)]
+struct Gathers {
+    workers: u32,
+    tags: u32,
+    entered: AtomicU32,
+    drawn: AtomicU32,
+    /// How many were entered, times 100, and drawn, while all of them were held; 0 as long as they are.
+    found: AtomicU32,
+}
+
+impl Gathers {
+    fn new(workers: u32, tags: u32) -> Self {
+        Gathers {
+            workers,
+            tags,
+            entered: AtomicU32::new(0),
+            drawn: AtomicU32::new(0),
+            found: AtomicU32::new(0),
+        }
+    }
+
+    /// How many are entered and drawn.
+    fn at_once(&self) -> (u32, u32) {
+        (
+            self.entered.load(Ordering::SeqCst),
+            self.drawn.load(Ordering::SeqCst),
+        )
+    }
+
+    fn hold(&self) {
+        let mut more = 10_000u32;
+        for _ in 0..10_000_000 {
+            if self.found.load(Ordering::SeqCst) > 0 || more == 0 {
+                break;
+            }
+            let (entered, drawn) = self.at_once();
+            if entered >= self.tags && drawn >= self.workers {
+                more -= 1;
+            }
+            thread::yield_now();
+        }
+        let (entered, drawn) = self.at_once();
+        let found = entered.wrapping_mul(100).wrapping_add(drawn);
+        let _ = self
+            .found
+            .compare_exchange(0, found, Ordering::SeqCst, Ordering::SeqCst);
+    }
+}
+
+impl Stall for Gathers {
+    fn at(&self, _number: u32, point: Point) {
+        match point {
+            Point::Entered => {
+                self.entered.fetch_add(1, Ordering::SeqCst);
+            }
+            Point::Drawn => {
+                self.drawn.fetch_add(1, Ordering::SeqCst);
+                self.hold();
+            }
+            Point::Answered | Point::Drained => {}
+        }
+    }
+}
+
+// While no request that is drawn goes on, each worker holds one, and each tag has entered.
+#[test]
+fn as_many_as_the_words_say(rt: HostRuntime) -> Result<(), Fail> {
+    let mut script = String::from_str(rt.alloc(), "blkq 1\ndisk 1 hw 1\n")?;
+    for _ in 0..70 {
+        script.push_str("read 0 1\n")?;
+    }
+    for (words, workers, tags) in [
+        ("run", 4, 16),
+        ("run 1 1 1", 1, 1),
+        ("run 3 2 7", 3, 7),
+        ("run 5 8 5", 5, 5),
+        ("run 32 64 63", 32, 63),
+    ] {
+        let gathers = Gathers::new(workers, tags);
+        let answer = call_held(&rt, words, script.as_bytes(), WILLING, &gathers)?;
+        assert_eq!(rt; answer.status, 0);
+        let found = gathers.found.load(Ordering::SeqCst);
+        assert_eq!(rt; (found / 100, found % 100), (tags, workers), "{words}");
+    }
     Ok(())
 }

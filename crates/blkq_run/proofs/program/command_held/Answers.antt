@@ -1,7 +1,7 @@
 use Rattle.std.proofs.Common.{lit<, refl, inl}
 use Rattle.std.proofs.KnownBytes.{Keeps-refl}
 use Rattle.counted_io.proofs.Taking.{LosesUpTo-none}
-use Rattle.blkq_run.proofs.program.command.Goals as goal
+use Rattle.blkq_run.proofs.program.command_held.Goals as goal
 
 pub returns-in-Run-clause-usage : goal.returns-in-Run-clause-usage
 returns-in-Run-clause-usage g c = λ none. absurd (none (inl (c.in-Run.config, (c.in-Run.ensures.run c.in-Run.config).0 refl)))
