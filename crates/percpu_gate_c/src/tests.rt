@@ -73,6 +73,28 @@ fn a_life(rt: HostRuntime) {
     percpu_gate_free_control(&mut control);
 }
 
+/// In each life zero is found once it is reached and not before, a word is stored and the gate revived, with a pass out.
+#[test]
+fn three_lives(rt: HostRuntime) {
+    let (mut control, mut pass) = opened(rt);
+    let mut words = WORDS;
+    for life in 1..=3u64 {
+        assert!(rt; percpu_gate_try_get_live(&mut pass, 1) == 0);
+        assert!(rt; percpu_gate_kill(&mut control) == 0);
+        assert!(rt; !percpu_gate_control_is_zero(&mut control));
+        assert!(rt; percpu_gate_store_word(&mut control, 0, life) == 19);
+        assert!(rt; percpu_gate_reinit(&mut control) == 19);
+        assert!(rt; percpu_gate_put(&mut pass, 0, 1) == 1);
+        assert!(rt; percpu_gate_control_is_zero(&mut control));
+        assert!(rt; percpu_gate_store_word(&mut control, 0, life) == 0);
+        assert!(rt; percpu_gate_words(&mut control, &mut words) == 0);
+        assert!(rt; words == [life, 1, 2, 3, 4, 5, 6, 9]);
+        assert!(rt; percpu_gate_reinit(&mut control) == 0);
+    }
+    percpu_gate_free_pass(&mut pass);
+    percpu_gate_free_control(&mut control);
+}
+
 #[test]
 fn guarded_words(rt: HostRuntime) {
     let (mut control, mut pass) = opened(rt);
