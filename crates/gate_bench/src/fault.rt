@@ -7,7 +7,7 @@ use thiserror::Error;
 /// Why the program ends without its table.
 #[derive(Debug, Drop, Error)]
 pub enum Fault {
-    #[error("usage: gate_bench [THREADS ROUNDS], up to 64 threads of 1,000,000,000 rounds each")]
+    #[error("usage: gate_bench, or gate_bench [--csv] [THREADS] ROUNDS: up to 64 threads of 1,000,000,000 rounds each")]
     Usage,
     #[error("memory")]
     Memory,

@@ -1,46 +1,66 @@
 //! How fast a gate is entered and left, beside what else could guard the same thing.
 //!
 //! Without arguments each form of a round is gone through once on two threads, which shows that it works. With
-//! `THREADS ROUNDS` each is timed, one after another: so many threads at once, so many rounds on each.
+//! `THREADS ROUNDS` each is timed, one after another: so many threads at once, so many rounds on each; with `ROUNDS`
+//! alone on 1, 2, 4 .. threads, up to the processors that are there. Each race is run several times, and the least and
+//! the middle are told, by the clock and in processor time. `--csv` before the numbers asks for a table that
+//! `tools/picture bench` reads.
 #![tactic(auto)]
 
-ghost use Rattle.std.specs.Prelude.{◌≡◌, ◌≤◌, ℕ};
+ghost use Rattle.std.specs.Prelude.{◌≡◌, ◌≤◌, ℕ, Bool};
 
 mod fault;
 mod form;
 mod race;
 mod rounds;
+mod runs;
 mod table;
 
 use fault::Fault;
 use form::FORMS;
 use race::run_race;
-use std::env;
+use runs::time_race;
+use std::io::IsTerminal;
 use std::process::ExitCode;
 use std::rt::Env;
 use std::sync::Wait;
 use std::thread::Threads;
-use std::time::Clock;
-use table::{HEAD, Line};
+use std::time::{Clock, CpuClock};
+use std::{env, thread};
+use table::{CSV_HEAD, CsvLine, HEADS, Line};
 
 /// What the words after the program's name ask for.
 #[derive(Clone, Copy, Debug, PartialEq, Eq)]
 enum Task {
     Show,
-    Time { threads: u32, rounds: u64 },
+    Time {
+        threads: u32,
+        rounds: u64,
+        is_csv: bool,
+    },
+    /// On 1, 2, 4 .. threads.
+    TimeAll {
+        rounds: u64,
+        is_csv: bool,
+    },
     Usage,
 }
 
-/// 1 to 64 threads, and 1 to 1,000,000,000 rounds on each.
-fn requested(words: &[String]) -> Task
-    ensures { (threads rounds : ℕ) → result ≡ Task.Time threads rounds → (1 ≤ threads) × (threads ≤ 64) × (1 ≤ rounds) × (rounds ≤ 1000000000) }
+/// 1 to 1,000,000,000 rounds, on 1 to 64 threads where their number comes before.
+fn timing(words: &[String], is_csv: bool) -> Task
+    ensures one { (threads rounds : ℕ) (is_csv : Bool) → result ≡ Task.Time threads rounds is_csv → (1 ≤ threads) × (threads ≤ 64) × (1 ≤ rounds) × (rounds ≤ 1000000000) }
+    ensures all { (rounds : ℕ) (is_csv : Bool) → result ≡ Task.TimeAll rounds is_csv → (1 ≤ rounds) × (rounds ≤ 1000000000) }
 {
     match words {
-        [] => Task::Show,
+        [rounds] => match rounds.parse::<u64>() {
+            Ok(rounds @ 1..=1_000_000_000) => Task::TimeAll { rounds, is_csv },
+            _ => Task::Usage,
+        },
         [threads, rounds] => match (threads.parse::<u32>(), rounds.parse::<u64>()) {
             (Ok(threads @ 1..=64), Ok(rounds @ 1..=1_000_000_000)) => Task::Time {
                 threads,
                 rounds,
+                is_csv,
             },
             _ => Task::Usage,
         },
@@ -48,8 +68,22 @@ fn requested(words: &[String]) -> Task
     }
 }
 
+/// What the words ask for.
+fn requested(words: &[String]) -> Task
+    ensures one { (threads rounds : ℕ) (is_csv : Bool) → result ≡ Task.Time threads rounds is_csv → (1 ≤ threads) × (threads ≤ 64) × (1 ≤ rounds) × (rounds ≤ 1000000000) }
+    ensures all { (rounds : ℕ) (is_csv : Bool) → result ≡ Task.TimeAll rounds is_csv → (1 ≤ rounds) × (rounds ≤ 1000000000) }
+{
+    match words {
+        [] => Task::Show,
+        [first, numbers @ ..] if first.as_str() == "--csv" => timing(numbers, true),
+        _ => timing(words, false),
+    }
+}
+
 /// A round of each form on two threads at once.
-fn show<R: Threads + Wait + Sync + Clock + Print + AllocGlobal>(rt: &R) -> Result<(), Fault> {
+fn show<R: Threads + Wait + Sync + Clock + CpuClock + Print + AllocGlobal>(
+    rt: &R,
+) -> Result<(), Fault> {
     for form in FORMS {
         let shown = run_race(rt, rt.alloc(), form, 2, 1)?;
         println!(rt; "{:<30} {} of 2 entered", form.name(), shown.entered)?;
@@ -57,46 +91,92 @@ fn show<R: Threads + Wait + Sync + Clock + Print + AllocGlobal>(rt: &R) -> Resul
     Ok(())
 }
 
-/// The table.
-fn time<R: Threads + Wait + Sync + Clock + Print + AllocGlobal>(
+/// The lines of the table of so many threads.
+fn time<R: Threads + Wait + Sync + Clock + CpuClock + Print + Eprint + AllocGlobal>(
     rt: &R,
     threads: u32,
     rounds: u64,
+    is_csv: bool,
+    is_told: bool,
 ) -> Result<(), Fault>
     requires { (1 ≤ threads) × (threads ≤ 64) }
 {
-    println!(rt; "{HEAD}")?;
     let mut first = 0;
     for form in FORMS {
-        let race = run_race(rt, rt.alloc(), form, threads, rounds)?;
+        let timed = time_race(rt, form, threads, rounds, is_told)?;
         if first == 0 {
-            first = race.nanoseconds;
+            first = timed.clock.least;
         }
-        println!(rt;
-            "{}",
-            Line {
-                form,
-                race,
-                rounds,
-                first
-            }
-        )?;
+        let line = Line {
+            form,
+            threads,
+            rounds,
+            timed,
+            first,
+        };
+        if is_csv {
+            println!(rt; "{}", CsvLine(line))?;
+        } else {
+            println!(rt; "{line}")?;
+        }
+    }
+    Ok(())
+}
+
+/// What stands above the table.
+fn head<R: Print>(rt: &R, is_csv: bool) -> Result<(), Fault> {
+    if is_csv {
+        println!(rt; "{CSV_HEAD}")?;
+    } else {
+        for line in HEADS {
+            println!(rt; "{line}")?;
+        }
+    }
+    Ok(())
+}
+
+/// The table of 1, 2, 4 .. threads, up to the processors that are there.
+fn time_all<R: Threads + Wait + Sync + Clock + CpuClock + Print + Eprint + AllocGlobal>(
+    rt: &R,
+    rounds: u64,
+    is_csv: bool,
+    is_told: bool,
+) -> Result<(), Fault> {
+    let processors = thread::available_parallelism(rt)?.get().min(64) as u32;
+    for threads in 1..=processors {
+        if threads.is_power_of_two() {
+            time(rt, threads, rounds, is_csv, is_told)?;
+        }
     }
     Ok(())
 }
 
 /// What the words after the program's name ask for, done.
-fn run<R: Threads + Wait + Sync + Clock + Print + Env + AllocGlobal>(rt: &R) -> Result<(), Fault> {
+fn run<R: Threads + Wait + Sync + Clock + CpuClock + Print + Eprint + Env + AllocGlobal>(
+    rt: &R,
+    is_told: bool,
+) -> Result<(), Fault> {
     let words: Vec<String> = env::args(rt)?.skip(1).collect(rt.alloc())?;
     match requested(&words) {
         Task::Show => show(rt),
-        Task::Time { threads, rounds } => time(rt, threads, rounds),
+        Task::Time {
+            threads,
+            rounds,
+            is_csv,
+        } => {
+            head(rt, is_csv)?;
+            time(rt, threads, rounds, is_csv, is_told)
+        }
+        Task::TimeAll { rounds, is_csv } => {
+            head(rt, is_csv)?;
+            time_all(rt, rounds, is_csv, is_told)
+        }
         Task::Usage => Err(Fault::Usage),
     }
 }
 
 fn main(rt: HostRuntime) -> ExitCode {
-    match run(&rt) {
+    match run(&rt, rt.stderr().is_terminal()) {
         Ok(()) => ExitCode::SUCCESS,
         Err(why) => {
             let _ = eprintln!(rt; "gate_bench: {why}");

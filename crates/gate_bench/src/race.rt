@@ -16,7 +16,7 @@ use std::sync::atomic::{AtomicU32, AtomicU64, Ordering};
 use std::sync::{Arc, Mutex, RwLock, Wait};
 use std::thread;
 use std::thread::Threads;
-use std::time::{Clock, Instant};
+use std::time::{Clock, CpuClock, Instant};
 
 /// In how many rounds each thread entered.
 type Entered = Vec<u64>;
@@ -79,12 +79,14 @@ fn race_on_one<R: Threads + Wait + Sync>(
 pub struct Race {
     /// In how many rounds its threads entered, in all.
     pub entered: u64,
-    /// What it took, with the start of its threads and the wait for the last of them.
-    pub nanoseconds: u64,
+    /// The nanoseconds that it took, with the start of its threads and the wait for the last of them.
+    pub clock: u64,
+    /// The nanoseconds of processor time that its threads took, all together.
+    pub processor: u64,
 }
 
 /// So many rounds on each of so many threads, 1 to 64, all at once.
-pub fn run_race<R: Threads + Wait + Sync + Clock>(
+pub fn run_race<R: Threads + Wait + Sync + Clock + CpuClock>(
     rt: &R,
     alloc: Global,
     form: Form,
@@ -93,18 +95,20 @@ pub fn run_race<R: Threads + Wait + Sync + Clock>(
 ) -> Result<Race, Fault>
     requires threads { (1 ≤ threads) × (threads ≤ 64) }
 {
-    let start = Instant::now(rt)?;
+    let (start, used) = (Instant::now(rt)?, rt.process_cpu_time()?);
     let entered = match form {
         Form::OwnSlots => race_on_gate(rt, alloc, Start::Slots, threads, threads, rounds)?,
         Form::OneSlot => race_on_gate(rt, alloc, Start::Slots, 1, threads, rounds)?,
         Form::SharedWord => race_on_gate(rt, alloc, Start::Atomic, threads, threads, rounds)?,
         _ => race_on_one(rt, alloc, form, threads as usize, rounds)?,
     };
-    let taken = start.elapsed(rt)?.as_nanos();
+    let clock = start.elapsed(rt)?.as_nanos();
+    let processor = rt.process_cpu_time()?.saturating_sub(used).as_nanos();
     Ok(Race {
         entered: entered
             .iter()
             .fold(0u64, |all, entered| all.saturating_add(*entered)),
-        nanoseconds: u64::try_from(taken).unwrap_or(u64::MAX),
+        clock: u64::try_from(clock).unwrap_or(u64::MAX),
+        processor: u64::try_from(processor).unwrap_or(u64::MAX),
     })
 }

@@ -1,6 +1,6 @@
-//! The lines of the table.
+//! The lines of the table, for a reader and for a program.
 use crate::form::Form;
-use crate::race::Race;
+use crate::runs::Timed;
 use std::fmt;
 
 /// A number with two decimals, kept in hundredths.
@@ -9,40 +9,94 @@ struct Hundredths(u128);
 
 impl Hundredths {
     /// `above` of `below`, or 0 where that is nothing.
-    fn of(above: u128, below: u64) -> Hundredths {
-        Hundredths(above.checked_div(u128::from(below)).unwrap_or(0))
+    fn of(above: u64, below: u128) -> Hundredths {
+        Hundredths((u128::from(above) * 100).checked_div(below).unwrap_or(0))
     }
 }
 
 impl fmt::Display for Hundredths {
     fn fmt<W: fmt::Write>(&self, f: &mut fmt::Formatter<W>) -> fmt::Result {
-        write!(f, "{:>9}.{:02}", self.0 / 100, self.0 % 100)
+        write!(f, "{}.{:02}", self.0 / 100, self.0 % 100)
     }
 }
 
-/// The line above the table.
-pub const HEAD: &str = "form                             ns a round  M rounds/s  to the first";
+/// The same at the right of a column of the table.
+#[derive(Clone, Copy, Debug, PartialEq, Eq)]
+struct Column(Hundredths);
 
-/// A line of the table: the form, what a round took a thread, how many millions of rounds all threads made in a
-/// second, and how many times what the first form took that is.
+impl fmt::Display for Column {
+    fn fmt<W: fmt::Write>(&self, f: &mut fmt::Formatter<W>) -> fmt::Result {
+        let Column(Hundredths(number)) = *self;
+        write!(f, "{:>9}.{:02}", number / 100, number % 100)
+    }
+}
+
+/// The two lines above the table.
+pub const HEADS: [&str; 2] = [
+    "                                ns a round by the clock   and in processor time",
+    "form                          threads    least      middle       least      middle  to the first",
+];
+
+/// The line above a table for programs.
+pub const CSV_HEAD: &str = "form,threads,clock least,clock middle,processor least,processor middle";
+
+/// What so many threads took for a form: nanoseconds of a round by the clock, and in processor time of one thread.
 #[derive(Clone, Copy, Debug, PartialEq, Eq)]
 pub struct Line {
     pub form: Form,
-    pub race: Race,
+    pub threads: u32,
+    /// On each thread.
     pub rounds: u64,
-    /// What the first form took.
+    pub timed: Timed,
+    /// What the first form took on as many threads, by the clock.
     pub first: u64,
+}
+
+impl Line {
+    /// The least and the middle by the clock, and the least and the middle in processor time.
+    fn rounds_taken(&self) -> [Hundredths; 4] {
+        let (rounds, timed) = (u128::from(self.rounds), self.timed);
+        let all = rounds * u128::from(self.threads);
+        [
+            Hundredths::of(timed.clock.least, rounds),
+            Hundredths::of(timed.clock.middle, rounds),
+            Hundredths::of(timed.processor.least, all),
+            Hundredths::of(timed.processor.middle, all),
+        ]
+    }
 }
 
 impl fmt::Display for Line {
     fn fmt<W: fmt::Write>(&self, f: &mut fmt::Formatter<W>) -> fmt::Result {
-        let taken = u128::from(self.race.nanoseconds);
-        let round = Hundredths::of(taken * 100, self.rounds);
-        let speed = Hundredths::of(
-            u128::from(self.race.entered) * 100_000,
-            self.race.nanoseconds,
-        );
-        let ratio = Hundredths::of(taken * 100, self.first);
-        write!(f, "{:<30}{round}{speed}  {ratio}", self.form.name())
+        let [least, middle, processor, processor_middle] = self.rounds_taken();
+        let ratio = Hundredths::of(self.timed.clock.least, u128::from(self.first));
+        write!(
+            f,
+            "{:<30}{:>7}{}{}{}{}{}",
+            self.form.name(),
+            self.threads,
+            Column(least),
+            Column(middle),
+            Column(processor),
+            Column(processor_middle),
+            Column(ratio)
+        )
+    }
+}
+
+/// The same for a program: words with a comma between them. A form's name has commas, so it stands in quotes.
+#[derive(Clone, Copy, Debug, PartialEq, Eq)]
+pub struct CsvLine(pub Line);
+
+impl fmt::Display for CsvLine {
+    fn fmt<W: fmt::Write>(&self, f: &mut fmt::Formatter<W>) -> fmt::Result {
+        let line = self.0;
+        let [least, middle, processor, processor_middle] = line.rounds_taken();
+        write!(
+            f,
+            "\"{}\",{},{least},{middle},{processor},{processor_middle}",
+            line.form.name(),
+            line.threads
+        )
     }
 }
