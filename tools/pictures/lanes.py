@@ -71,7 +71,7 @@ class Lanes:
         x = EDGE
         self.lanes, self.words = {}, {}
         for actor in self.actors:
-            texts = [f"{row.step.text}   {reply_of(row)}" for row in self.schedule.rows if row.step.actor == actor]
+            texts = [f"{row.step.text}   {reply_of(row)}" for row in self.schedule.rows if self.lane_of(row.step) == actor]
             small = [standing(actor, state)[2] for state in self.states]
             wide = max([width_of(text, SIZE) for text in texts] + [width_of(text, SMALL) for text in small] + [90])
             self.lanes[actor] = Column("control" if actor == "c" else f"pass {actor}", x, wide + 2 * INNER)
@@ -81,6 +81,10 @@ class Lanes:
             self.words[key] = Column(name, x, max(width_of(text, MIDDLE) for text in [*texts, name]) + 14)
             x = self.words[key].end + GAP
         self.wide = x - GAP + EDGE
+
+    def lane_of(self, step):
+        """The lane of a step's actor; where there is no such actor, the control's."""
+        return step.actor if step.actor in self.actors else "c"
 
     def shown_words(self):
         """The words of the gate that the picture has: the shared word and the front, the slots where one was open, and the
@@ -105,7 +109,7 @@ class Lanes:
         return TOP + ROW * (row + 1)
 
     def drawn(self):
-        last = self.y_of(len(self.schedule.rows))
+        last = self.y_of(len(self.schedule.rows)) + 6
         self.draw_heads(last)
         for actor in self.actors:
             self.draw_shades(actor)
@@ -155,9 +159,7 @@ class Lanes:
 
     def draw_step(self, index, row):
         """A step's box with its reply, and the line to the word that it is taken on."""
-        column, y = self.lanes.get(row.step.actor), self.y_of(index)
-        if column is None:  # No such actor: the step is told at the left.
-            column = Column("", EDGE, self.lanes["c"].wide)
+        column, y = self.lanes[self.lane_of(row.step)], self.y_of(index)
         reply, kind = reply_of(row), self.kind_of(row)
         self.draw_reach(index, row, column, y)
         x, wide = column.x + 4, column.wide - 8

@@ -103,13 +103,16 @@ class Page:
         )
 
     def look_for_overlaps(self, wide, high):
-        """Each text stands on the page, and on no other."""
-        for at, (left, top, right, low, words) in enumerate(self.texts):
+        """Each text stands on the page, and on no other. They are gone through from the top, beside those that reach as low."""
+        reaching = []
+        for left, top, right, low, words in sorted(self.texts, key=lambda text: text[1]):
             if left < 0 or top < 0 or right > wide or low > high:
                 raise Wrong(f"'{words}' doesn't stand on the page")
-            for other in self.texts[:at]:
-                if left < other[2] and other[0] < right and top < other[3] and other[1] < low:
+            reaching = [other for other in reaching if top < other[3]]
+            for other in reaching:
+                if left < other[2] and other[0] < right:
                     raise Wrong(f"'{words}' stands on '{other[4]}'")
+            reaching.append((left, top, right, low, words))
 
     def made(self, wide, high):
         """The whole of it."""
