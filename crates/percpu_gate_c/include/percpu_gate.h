@@ -20,12 +20,28 @@
  * its put.
  *
  * No call waits, takes a lock or tries again; only new and next_pass allocate. Most answer a number: below 16 it is
- * done, from 16 on it is refused and everything is as it was (exit tells of the one exception). A question answers
- * true or false. The names in capitals below are what a call may answer besides OK, without PERCPU_GATE_.
+ * done, from 16 on it is refused, nothing is written, and everything is as it was (exit tells of the one exception). A
+ * question answers true or false. The names in capitals below are what a call may answer besides OK, without PERCPU_GATE_.
  *
- * To wait for the last, let whoever is told so count it and signal a condition variable: the telling thread may come
- * late. WAS_AT_ZERO, a reinit that is OK, and is_zero say that nobody holds a reference, and not that who was told
- * LAST has freed or signalled yet.
+ * To wait for the last, let whoever is told so count it under a lock and signal a condition variable: the telling thread
+ * may come late. Wait until as many were told as there were kills (but those that a resurrect ended, which answered OK).
+ * From then on the gate is at zero until it is revived, whatever tries come: store_word and reinit don't answer
+ * NOT_ZERO. The other way round, WAS_AT_ZERO, a reinit that is OK, and is_zero say that nobody holds a reference, and not
+ * that who was told LAST has freed or signalled yet.
+ *
+ * A change of a setting, by who owns the control:
+ *
+ *     answer = percpu_gate_kill(&control);
+ *     if (percpu_gate_is_last(answer))
+ *         tell();                             (counts, and signals; so does who is told by a put or a try)
+ *     wait_until_told(++kills);
+ *     ok = percpu_gate_store_word(&control, 0, first) == PERCPU_GATE_OK &&
+ *          percpu_gate_store_word(&control, 1, second) == PERCPU_GATE_OK && percpu_gate_reinit(&control) == PERCPU_GATE_OK;
+ *
+ * Words are stored one by one, so on a refusal don't revive the gate: those stored before stay. NOT_GIVEN tells neither a
+ * change from a removal nor when to try again, and orders nothing: keep a flag of your own for that under a lock, set
+ * before the kill and after the revival, and wait for it there. A try that begins after a revival has returned, with no
+ * kill since, is given.
  *
  * Order: what was done while a reference was held, or before the kill, is seen by who is told that the last is gone:
  * by LAST, NOT_GIVEN_LAST, WAS_AT_ZERO, a reinit that is OK, or is_zero. What was done before a revival is seen by who
@@ -148,10 +164,11 @@ const char *percpu_gate_text(uint32_t answer);
 PERCPU_GATE_MUST_USE uint32_t percpu_gate_new(percpu_gate_control *control, uint32_t slots, uint32_t passes,
                                               uint32_t start, const uint64_t words[8]);
 
-/* Gives the next pass to a closed handle. CLOSED, OPEN, NO_PASS, NO_MEMORY. */
+/* Gives the next pass to a closed handle, live or dead or in a kill. CLOSED, OPEN, NO_PASS, NO_MEMORY. */
 PERCPU_GATE_MUST_USE uint32_t percpu_gate_next_pass(percpu_gate_control *control, percpu_gate_pass *pass);
 
-/* Ends a pass that holds nothing, and closes its handle. CLOSED, OTHER_GATE, STILL_HELD. */
+/* Ends a pass that holds nothing, live or dead or in a kill, and closes its handle, which the thread that counted with it
+ * has handed over. CLOSED, OTHER_GATE, STILL_HELD. */
 PERCPU_GATE_MUST_USE uint32_t percpu_gate_retire(percpu_gate_control *control, percpu_gate_pass *pass);
 
 /* Ends a gate, live or dead, whose passes were all retired, but for those that nobody asked for, writes what is left of
@@ -197,7 +214,7 @@ bool percpu_gate_is_zero(percpu_gate_pass *pass);
 uint32_t percpu_gate_front(percpu_gate_pass *pass, uint64_t *front);
 
 /* Writes the guarded word k, one value for as long as the pass holds a reference. CLOSED, NOT_HELD, WORD. */
-uint32_t percpu_gate_word(percpu_gate_pass *pass, uint32_t k, uint64_t *word);
+PERCPU_GATE_MUST_USE uint32_t percpu_gate_word(percpu_gate_pass *pass, uint32_t k, uint64_t *word);
 
 /* ---- The control kills and revives: whoever owns it. ---- */
 
@@ -250,7 +267,7 @@ uint32_t percpu_gate_switch_to_atomic(percpu_gate_control *control);
 uint32_t percpu_gate_switch_to_slots(percpu_gate_control *control);
 
 /* Stores the guarded word k of a gate that is dead and at zero. CLOSED, WORD, NOT_DEAD, NOT_ZERO, MID_SWITCH. */
-uint32_t percpu_gate_store_word(percpu_gate_control *control, uint32_t k, uint64_t v);
+PERCPU_GATE_MUST_USE uint32_t percpu_gate_store_word(percpu_gate_control *control, uint32_t k, uint64_t v);
 
 /* Writes the eight guarded words. (A pass reads them by percpu_gate_word, while it holds a reference.) CLOSED. */
 uint32_t percpu_gate_words(percpu_gate_control *control, uint64_t words[8]);
@@ -294,19 +311,19 @@ static inline uint32_t percpu_gate_acquires(bool sees, void *order, uint32_t ans
     return answer;
 }
 
-static inline uint32_t percpu_gate_told_try_get(percpu_gate_pass *pass, uint32_t slot)
+PERCPU_GATE_MUST_USE static inline uint32_t percpu_gate_told_try_get(percpu_gate_pass *pass, uint32_t slot)
 {
     void *order = percpu_gate_order_of_pass(pass);
     uint32_t answer = percpu_gate_try_get(pass, slot);
     return percpu_gate_acquires(answer == PERCPU_GATE_OK || answer == PERCPU_GATE_NOT_GIVEN_LAST, order, answer);
 }
-static inline uint32_t percpu_gate_told_try_get_live(percpu_gate_pass *pass, uint32_t slot)
+PERCPU_GATE_MUST_USE static inline uint32_t percpu_gate_told_try_get_live(percpu_gate_pass *pass, uint32_t slot)
 {
     void *order = percpu_gate_order_of_pass(pass);
     uint32_t answer = percpu_gate_try_get_live(pass, slot);
     return percpu_gate_acquires(answer == PERCPU_GATE_OK || answer == PERCPU_GATE_NOT_GIVEN_LAST, order, answer);
 }
-static inline uint32_t percpu_gate_told_put(percpu_gate_pass *pass, uint32_t slot, uint32_t n)
+PERCPU_GATE_MUST_USE static inline uint32_t percpu_gate_told_put(percpu_gate_pass *pass, uint32_t slot, uint32_t n)
 {
     void *order = percpu_gate_order_of_pass(pass);
     __tsan_release(order);
@@ -319,14 +336,14 @@ static inline bool percpu_gate_told_is_zero(percpu_gate_pass *pass)
     bool yes = percpu_gate_is_zero(pass);
     return percpu_gate_acquires(yes, order, yes);
 }
-static inline uint32_t percpu_gate_told_kill(percpu_gate_control *control)
+PERCPU_GATE_MUST_USE static inline uint32_t percpu_gate_told_kill(percpu_gate_control *control)
 {
     void *order = percpu_gate_order_of_control(control);
     __tsan_release(order);
     uint32_t answer = percpu_gate_kill(control);
     return percpu_gate_acquires(answer == PERCPU_GATE_LAST, order, answer);
 }
-static inline uint32_t percpu_gate_told_drop_base(percpu_gate_control *control)
+PERCPU_GATE_MUST_USE static inline uint32_t percpu_gate_told_drop_base(percpu_gate_control *control)
 {
     void *order = percpu_gate_order_of_control(control);
     __tsan_release(order);
@@ -339,14 +356,14 @@ static inline bool percpu_gate_told_control_is_zero(percpu_gate_control *control
     bool yes = percpu_gate_control_is_zero(control);
     return percpu_gate_acquires(yes, order, yes);
 }
-static inline uint32_t percpu_gate_told_reinit(percpu_gate_control *control)
+PERCPU_GATE_MUST_USE static inline uint32_t percpu_gate_told_reinit(percpu_gate_control *control)
 {
     void *order = percpu_gate_order_of_control(control);
     __tsan_release(order);
     uint32_t answer = percpu_gate_reinit(control);
     return percpu_gate_acquires(answer == PERCPU_GATE_OK, order, answer);
 }
-static inline uint32_t percpu_gate_told_resurrect(percpu_gate_control *control)
+PERCPU_GATE_MUST_USE static inline uint32_t percpu_gate_told_resurrect(percpu_gate_control *control)
 {
     void *order = percpu_gate_order_of_control(control);
     __tsan_release(order);
