@@ -16,6 +16,17 @@
 //! tags keep what [`run`]'s contract rests on; `specs/Jobs.antt` says what a request's type keeps. Requests,
 //! completions and free tags stand in queues under a rule (`run_queues`) of a fixed room, whose memory is taken before
 //! the first thread starts, and so is that for the lists of what each worker draws.
+//!
+//! Words of this crate:
+//! - *hall*: what the threads share, which is the queue that requests enter, and three queues by which they hand on requests,
+//!   completions and free tags.
+//! - *desk*: the disk and the replies so far, which the submitter alone has (`run_desk`). A reply is *owed* while its request is
+//!   under way.
+//! - *stall*: what a test holds a run by at its points; it changes no answer.
+//! - *ends*: the submitter's right to push requests and to collect completions. A *drawer* is a worker's right to draw requests,
+//!   a *duty* the right to tell one completion, which goes with its request.
+//! - `J` is the run: `J.script` its script, `J.queue` the queue that requests enter. `C` is its queue of completions, and `L` its
+//!   queue of requests: `C.id` and `L.id` say which. Each is a name that a run takes once it has the thing (src/naming.rt).
 #![tactic(auto)]
 
 mod collecting;
