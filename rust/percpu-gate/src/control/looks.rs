@@ -1,0 +1,107 @@
+//! What a control is asked.
+use super::Control;
+use crate::WORD_COUNT;
+use crate::answer::Answer;
+use crate::outcomes::Phase;
+
+impl Control {
+    /// The eight guarded words. (A pass reads them while it holds a reference.)
+    ///
+    /// ```
+    /// # use percpu_gate::{Gate, Start};
+    /// # use std::sync::Arc;
+    /// let control = Gate::new(4, 4, Start::Slots, [1, 2, 3, 4, 5, 6, 7, 8], Arc::new(|| {}))?;
+    /// assert_eq!(control.words(), [1, 2, 3, 4, 5, 6, 7, 8]);
+    /// # Ok::<(), Box<dyn std::error::Error>>(())
+    /// ```
+    #[must_use]
+    pub fn words(&self) -> [u64; WORD_COUNT] {
+        self.handle.words().unwrap_or_else(|answer| answer.is_a_bug("words"))
+    }
+
+    /// How many times the gate was killed.
+    ///
+    /// ```
+    /// # use percpu_gate::{Gate, Start};
+    /// # use std::sync::Arc;
+    /// # let mut control = Gate::new(4, 4, Start::Slots, [0; 8], Arc::new(|| {}))?;
+    /// control.kill()?;
+    /// assert_eq!(control.kills(), 1);
+    /// # Ok::<(), Box<dyn std::error::Error>>(())
+    /// ```
+    #[must_use]
+    pub fn kills(&self) -> u64 {
+        self.handle.kills().unwrap_or_else(|answer| answer.is_a_bug("kills"))
+    }
+
+    /// How many releases fell to this control's calls and to those of retired passes.
+    ///
+    /// ```
+    /// # use percpu_gate::{Gate, Start};
+    /// # use std::sync::Arc;
+    /// # let mut control = Gate::new(4, 4, Start::Slots, [0; 8], Arc::new(|| {}))?;
+    /// let pass = control.next_pass(0)?;
+    /// let reference = pass.try_get_live()?;
+    /// control.kill()?;
+    /// drop(reference); // told here
+    /// assert_eq!(control.releases(), 0);
+    /// control.retire(pass)?;
+    /// assert_eq!(control.releases(), 1);
+    /// # Ok::<(), Box<dyn std::error::Error>>(())
+    /// ```
+    #[must_use]
+    pub fn releases(&self) -> u64 {
+        self.handle.releases().unwrap_or_else(|answer| answer.is_a_bug("releases"))
+    }
+
+    /// Where the gate stands.
+    ///
+    /// ```
+    /// # use percpu_gate::{Gate, Phase, Start};
+    /// # use std::sync::Arc;
+    /// let control = Gate::new(4, 4, Start::Dead, [0; 8], Arc::new(|| {}))?;
+    /// assert_eq!(control.phase(), Phase::Dead);
+    /// # Ok::<(), Box<dyn std::error::Error>>(())
+    /// ```
+    #[must_use]
+    pub fn phase(&self) -> Phase {
+        match self.handle.phase() {
+            0 => Phase::LiveOnSlots,
+            1 => Phase::LiveAtomic,
+            5 => Phase::Dead,
+            other => Answer(other).is_a_bug("phase"),
+        }
+    }
+
+    /// Whether the count has reached zero. It doesn't say that `on_last` was called yet, or has returned. Linux:
+    /// `percpu_ref_is_zero`.
+    ///
+    /// ```
+    /// # use percpu_gate::{Gate, Start};
+    /// # use std::sync::Arc;
+    /// # let mut control = Gate::new(4, 4, Start::Slots, [0; 8], Arc::new(|| {}))?;
+    /// assert!(!control.is_zero());
+    /// control.kill()?;
+    /// assert!(control.is_zero());
+    /// # Ok::<(), Box<dyn std::error::Error>>(())
+    /// ```
+    #[must_use]
+    pub fn is_zero(&self) -> bool {
+        self.handle.is_zero()
+    }
+
+    /// The number of the gate, from 1 on, which no other has.
+    ///
+    /// ```
+    /// # use percpu_gate::{Gate, Start};
+    /// # use std::sync::Arc;
+    /// let here = Gate::new(1, 1, Start::Slots, [0; 8], Arc::new(|| {}))?;
+    /// let there = Gate::new(1, 1, Start::Slots, [0; 8], Arc::new(|| {}))?;
+    /// assert_ne!(here.gate_number(), there.gate_number());
+    /// # Ok::<(), Box<dyn std::error::Error>>(())
+    /// ```
+    #[must_use]
+    pub fn gate_number(&self) -> u64 {
+        self.handle.number()
+    }
+}

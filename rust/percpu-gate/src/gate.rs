@@ -1,0 +1,106 @@
+//! Where a gate is made.
+use crate::answer::Answer;
+use crate::control::Control;
+use crate::errors::NewError;
+use crate::library::ControlHandle;
+use crate::{OnLast, WORD_COUNT};
+
+/// How a gate starts.
+///
+/// ```
+/// use percpu_gate::{Gate, Phase, Start};
+/// use std::sync::Arc;
+///
+/// let control = Gate::new(4, 4, Start::Atomic, [0; 8], Arc::new(|| {}))?;
+/// assert_eq!(control.phase(), Phase::LiveAtomic);
+/// # Ok::<(), Box<dyn std::error::Error>>(())
+/// ```
+#[derive(Clone, Copy, Debug, PartialEq, Eq, Hash)]
+pub enum Start {
+    /// Live, counting on slots.
+    Slots,
+    /// Live, counting on the shared word alone.
+    Atomic,
+    /// Dead and at zero. (Nobody is told of that zero.)
+    Dead,
+}
+
+impl Start {
+    fn number(self) -> u32 {
+        match self {
+            Start::Slots => 0,
+            Start::Atomic => 1,
+            Start::Dead => 2,
+        }
+    }
+}
+
+/// A gate. It has no value of its own: who has its [`Control`] kills and revives it, and who has one of its passes counts.
+///
+/// ```
+/// use percpu_gate::{Gate, Start};
+/// use std::sync::Arc;
+///
+/// let control = Gate::new(4, 4, Start::Slots, [0; 8], Arc::new(|| {}))?;
+/// # Ok::<(), Box<dyn std::error::Error>>(())
+/// ```
+#[derive(Debug)]
+pub enum Gate {}
+
+impl Gate {
+    /// Slots of a gate at most.
+    ///
+    /// ```
+    /// assert_eq!(percpu_gate::Gate::MOST_SLOTS, 64);
+    /// ```
+    pub const MOST_SLOTS: u32 = 64;
+
+    /// Passes of a gate at most, in its whole life.
+    ///
+    /// ```
+    /// assert_eq!(percpu_gate::Gate::MOST_PASSES, 64);
+    /// ```
+    pub const MOST_PASSES: u32 = 64;
+
+    /// References of one pass at most.
+    ///
+    /// ```
+    /// assert_eq!(percpu_gate::Gate::MOST_HELD, 65_535);
+    /// ```
+    pub const MOST_HELD: u32 = 65_535;
+
+    /// Makes a gate of 1 to 64 slots and 1 to 64 passes with these guarded words. Linux: `percpu_ref_init`.
+    ///
+    /// `on_last` is called once for each release: by the call that is told that the last reference is gone, on its
+    /// thread, before that call returns. That is the drop of a reference, a kill, or a try that is refused.
+    ///
+    /// # Errors
+    ///
+    /// [`NewError::Size`] or [`NewError::NoMemory`].
+    ///
+    /// # Examples
+    ///
+    /// ```
+    /// use percpu_gate::{Gate, Killed, Start};
+    /// use std::sync::Arc;
+    ///
+    /// let mut control = Gate::new(1, 1, Start::Slots, [0; 8], Arc::new(|| println!("the last is gone")))?;
+    /// assert_eq!(control.kill()?, Killed::AtZero);
+    /// # Ok::<(), Box<dyn std::error::Error>>(())
+    /// ```
+    #[expect(clippy::new_ret_no_self, reason = "a gate is what its control and its passes share, and no value")]
+    pub fn new(
+        slots: u32,
+        passes: u32,
+        start: Start,
+        words: [u64; WORD_COUNT],
+        on_last: OnLast,
+    ) -> Result<Control, NewError> {
+        match ControlHandle::new(slots, passes, start.number(), &words) {
+            Ok(handle) => Ok(Control::of(handle, slots, on_last)),
+            Err(Answer::SIZE) => Err(NewError::Size),
+            Err(Answer::NO_MEMORY) => Err(NewError::NoMemory),
+            Err(other) => other.is_a_bug("new"),
+        }
+    }
+}

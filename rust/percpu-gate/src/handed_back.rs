@@ -1,0 +1,65 @@
+//! A refusal that hands back what the call was given.
+use crate::control::Control;
+use crate::errors::{ExitError, RetireError, TryGetError};
+use crate::pass::Pass;
+use std::error::Error;
+use std::fmt;
+
+/// A refusal of a call that takes a value: it hands the value back.
+///
+/// `?` turns it into its reason, and so drops the value.
+///
+/// ```
+/// # use percpu_gate::{ExitError, Gate, HandedBack, Start};
+/// # use std::sync::Arc;
+/// # let mut control = Gate::new(1, 1, Start::Slots, [0; 8], Arc::new(|| {}))?;
+/// # let pass = control.next_pass(0)?;
+/// let HandedBack { value: control, reason } = control.exit().unwrap_err();
+/// assert_eq!(reason, ExitError::PassesOut);
+/// assert_eq!(control.kills(), 0);
+/// # Ok::<(), Box<dyn std::error::Error>>(())
+/// ```
+#[derive(Debug)]
+pub struct HandedBack<T, E> {
+    /// What the call was given, as it was.
+    pub value: T,
+    /// Why the call refused.
+    pub reason: E,
+}
+
+impl<T, E: fmt::Display> fmt::Display for HandedBack<T, E> {
+    fn fmt(&self, f: &mut fmt::Formatter<'_>) -> fmt::Result {
+        self.reason.fmt(f)
+    }
+}
+
+impl<T: fmt::Debug, E: Error> Error for HandedBack<T, E> {}
+
+/// That `?` in a function with these errors drops what was handed back.
+macro_rules! reasons {
+    ($($value:ty, $error:ident;)+) => {$(
+        impl From<HandedBack<$value, $error>> for $error {
+            fn from(refused: HandedBack<$value, $error>) -> $error {
+                refused.reason
+            }
+        }
+    )+};
+}
+
+reasons! {
+    Pass, RetireError;
+    Pass, TryGetError;
+    Control, ExitError;
+}
+
+#[cfg(test)]
+mod tests {
+    use super::*;
+
+    #[test]
+    fn a_refusal_that_hands_back_says_why() {
+        let refused = HandedBack { value: 7, reason: ExitError::PassesOut };
+        assert_eq!(refused.to_string(), "passes aren't retired");
+        assert_eq!(refused.value, 7);
+    }
+}

@@ -1,0 +1,329 @@
+//! What doesn't compile: each misuse that the C library's header forbids or answers by a number, and that the types here
+//! exclude. Each stands behind the same lines without it, which do compile, and has the compiler's number for it.
+//!
+//! # A pass on two threads
+//!
+//! "One call at a time on a handle":
+//!
+//! ```
+//! # use percpu_gate::{Gate, Start};
+//! # use std::{sync::Arc, thread};
+//! # let mut control = Gate::new(1, 1, Start::Slots, [0; 8], Arc::new(|| {})).unwrap();
+//! let pass = control.next_pass(0).unwrap();
+//! thread::spawn(move || drop(pass.try_get_live())).join().unwrap();
+//! ```
+//! ```compile_fail,E0277
+//! # use percpu_gate::{Gate, Start};
+//! # use std::{sync::Arc, thread};
+//! # let mut control = Gate::new(1, 1, Start::Slots, [0; 8], Arc::new(|| {})).unwrap();
+//! let pass = control.next_pass(0).unwrap();
+//! thread::scope(|threads| {
+//!     threads.spawn(|| drop(pass.try_get_live()));
+//!     threads.spawn(|| drop(pass.try_get_live()));
+//! });
+//! ```
+//!
+//! # A control on two threads
+//!
+//! ```
+//! # use percpu_gate::{Gate, Start};
+//! # use std::{sync::Arc, thread};
+//! let mut control = Gate::new(1, 1, Start::Slots, [0; 8], Arc::new(|| {})).unwrap();
+//! thread::scope(|threads| {
+//!     threads.spawn(|| control.kill());
+//! });
+//! ```
+//! ```compile_fail,E0499
+//! # use percpu_gate::{Gate, Start};
+//! # use std::{sync::Arc, thread};
+//! let mut control = Gate::new(1, 1, Start::Slots, [0; 8], Arc::new(|| {})).unwrap();
+//! thread::scope(|threads| {
+//!     threads.spawn(|| control.kill());
+//!     threads.spawn(|| control.kill());
+//! });
+//! ```
+//!
+//! Two that only look are as little allowed:
+//!
+//! ```compile_fail,E0277
+//! # use percpu_gate::{Gate, Start};
+//! # use std::{sync::Arc, thread};
+//! let control = Gate::new(1, 1, Start::Slots, [0; 8], Arc::new(|| {})).unwrap();
+//! thread::scope(|threads| {
+//!     threads.spawn(|| control.is_zero());
+//! });
+//! ```
+//!
+//! # A handle that is copied
+//!
+//! "Never copy one":
+//!
+//! ```
+//! # use percpu_gate::{Gate, Start};
+//! # use std::sync::Arc;
+//! # let mut control = Gate::new(1, 1, Start::Slots, [0; 8], Arc::new(|| {})).unwrap();
+//! let pass = control.next_pass(0).unwrap();
+//! let moved = pass;
+//! drop(moved.try_get_live());
+//! ```
+//! ```compile_fail,E0382
+//! # use percpu_gate::{Gate, Start};
+//! # use std::sync::Arc;
+//! # let mut control = Gate::new(1, 1, Start::Slots, [0; 8], Arc::new(|| {})).unwrap();
+//! let pass = control.next_pass(0).unwrap();
+//! let moved = pass;
+//! drop(pass.try_get_live());
+//! ```
+//! ```compile_fail,E0599
+//! # use percpu_gate::{Gate, Start};
+//! # use std::sync::Arc;
+//! # let mut control = Gate::new(1, 1, Start::Slots, [0; 8], Arc::new(|| {})).unwrap();
+//! let pass = control.next_pass(0).unwrap();
+//! let copied = pass.clone();
+//! ```
+//! ```compile_fail,E0599
+//! # use percpu_gate::{Gate, Start};
+//! # use std::sync::Arc;
+//! let control = Gate::new(1, 1, Start::Slots, [0; 8], Arc::new(|| {})).unwrap();
+//! let copied = control.clone();
+//! ```
+//!
+//! # A guarded word without a reference
+//!
+//! `NOT_HELD`:
+//!
+//! ```
+//! # use percpu_gate::{Gate, Start, Word};
+//! # use std::sync::Arc;
+//! # let mut control = Gate::new(1, 1, Start::Slots, [0; 8], Arc::new(|| {})).unwrap();
+//! # let pass = control.next_pass(0).unwrap();
+//! let reference = pass.try_get_live().unwrap();
+//! let word = reference.word(Word::ALL[0]);
+//! drop(reference);
+//! ```
+//! ```compile_fail,E0624
+//! # use percpu_gate::{Gate, Start, Word};
+//! # use std::sync::Arc;
+//! # let mut control = Gate::new(1, 1, Start::Slots, [0; 8], Arc::new(|| {})).unwrap();
+//! # let pass = control.next_pass(0).unwrap();
+//! let word = pass.word(Word::ALL[0]);
+//! ```
+//! ```compile_fail,E0382
+//! # use percpu_gate::{Gate, Start, Word};
+//! # use std::sync::Arc;
+//! # let mut control = Gate::new(1, 1, Start::Slots, [0; 8], Arc::new(|| {})).unwrap();
+//! # let pass = control.next_pass(0).unwrap();
+//! let reference = pass.try_get_live().unwrap();
+//! drop(reference);
+//! let word = reference.word(Word::ALL[0]);
+//! ```
+//!
+//! # A guarded word that there isn't
+//!
+//! `WORD`:
+//!
+//! ```
+//! # use percpu_gate::Word;
+//! const LAST: Word = Word::new(7).unwrap();
+//! # let _ = LAST;
+//! ```
+//! ```compile_fail,E0080
+//! # use percpu_gate::Word;
+//! const LAST: Word = Word::new(8).unwrap();
+//! # let _ = LAST;
+//! ```
+//!
+//! # A reference that is put twice
+//!
+//! `NOT_HELD`:
+//!
+//! ```
+//! # use percpu_gate::{Gate, Start};
+//! # use std::sync::Arc;
+//! # let mut control = Gate::new(1, 1, Start::Slots, [0; 8], Arc::new(|| {})).unwrap();
+//! # let pass = control.next_pass(0).unwrap();
+//! let reference = pass.try_get_live().unwrap();
+//! drop(reference);
+//! ```
+//! ```compile_fail,E0382
+//! # use percpu_gate::{Gate, Start};
+//! # use std::sync::Arc;
+//! # let mut control = Gate::new(1, 1, Start::Slots, [0; 8], Arc::new(|| {})).unwrap();
+//! # let pass = control.next_pass(0).unwrap();
+//! let reference = pass.try_get_live().unwrap();
+//! drop(reference);
+//! drop(reference);
+//! ```
+//! ```compile_fail,E0382
+//! # use percpu_gate::{Gate, Start};
+//! # use std::sync::Arc;
+//! # let mut control = Gate::new(1, 1, Start::Slots, [0; 8], Arc::new(|| {})).unwrap();
+//! # let pass = control.next_pass(0).unwrap();
+//! let request = pass.into_reference_live().unwrap();
+//! request.put();
+//! request.put();
+//! ```
+//!
+//! # A reference on another thread than its pass
+//!
+//! "A reference belongs to the pass that took it":
+//!
+//! ```
+//! # use percpu_gate::{Gate, Start};
+//! # use std::{sync::Arc, thread};
+//! # let mut control = Gate::new(1, 1, Start::Slots, [0; 8], Arc::new(|| {})).unwrap();
+//! # let pass = control.next_pass(0).unwrap();
+//! let request = pass.into_reference_live().unwrap();
+//! thread::scope(|threads| {
+//!     threads.spawn(move || drop(request));
+//! });
+//! ```
+//! ```compile_fail,E0277
+//! # use percpu_gate::{Gate, Start};
+//! # use std::{sync::Arc, thread};
+//! # let mut control = Gate::new(1, 1, Start::Slots, [0; 8], Arc::new(|| {})).unwrap();
+//! # let pass = control.next_pass(0).unwrap();
+//! let reference = pass.try_get_live().unwrap();
+//! thread::scope(|threads| {
+//!     threads.spawn(move || drop(reference));
+//! });
+//! ```
+//!
+//! # A reference that outlives its pass
+//!
+//! ```
+//! # use percpu_gate::{Gate, Start};
+//! # use std::sync::Arc;
+//! # let mut control = Gate::new(1, 1, Start::Slots, [0; 8], Arc::new(|| {})).unwrap();
+//! let pass = control.next_pass(0).unwrap();
+//! let reference = pass.try_get_live().unwrap();
+//! drop(reference);
+//! drop(pass);
+//! ```
+//! ```compile_fail,E0505
+//! # use percpu_gate::{Gate, Start};
+//! # use std::sync::Arc;
+//! # let mut control = Gate::new(1, 1, Start::Slots, [0; 8], Arc::new(|| {})).unwrap();
+//! let pass = control.next_pass(0).unwrap();
+//! let reference = pass.try_get_live().unwrap();
+//! drop(pass);
+//! drop(reference);
+//! ```
+//!
+//! # Passes that are swapped under a reference
+//!
+//! ```
+//! # use percpu_gate::{Gate, Start};
+//! # use std::{mem, sync::Arc};
+//! # let mut control = Gate::new(1, 2, Start::Slots, [0; 8], Arc::new(|| {})).unwrap();
+//! let (mut one, mut other) = (control.next_pass(0).unwrap(), control.next_pass(0).unwrap());
+//! let reference = one.try_get_live().unwrap();
+//! drop(reference);
+//! mem::swap(&mut one, &mut other);
+//! ```
+//! ```compile_fail,E0502
+//! # use percpu_gate::{Gate, Start};
+//! # use std::{mem, sync::Arc};
+//! # let mut control = Gate::new(1, 2, Start::Slots, [0; 8], Arc::new(|| {})).unwrap();
+//! let (mut one, mut other) = (control.next_pass(0).unwrap(), control.next_pass(0).unwrap());
+//! let reference = one.try_get_live().unwrap();
+//! mem::swap(&mut one, &mut other);
+//! drop(reference);
+//! ```
+//!
+//! # A pass that is retired under a reference, or used after it
+//!
+//! `STILL_HELD`, `CLOSED`:
+//!
+//! ```
+//! # use percpu_gate::{Gate, Start};
+//! # use std::sync::Arc;
+//! # let mut control = Gate::new(1, 1, Start::Slots, [0; 8], Arc::new(|| {})).unwrap();
+//! let pass = control.next_pass(0).unwrap();
+//! let reference = pass.try_get_live().unwrap();
+//! drop(reference);
+//! control.retire(pass).unwrap();
+//! ```
+//! ```compile_fail,E0505
+//! # use percpu_gate::{Gate, Start};
+//! # use std::sync::Arc;
+//! # let mut control = Gate::new(1, 1, Start::Slots, [0; 8], Arc::new(|| {})).unwrap();
+//! let pass = control.next_pass(0).unwrap();
+//! let reference = pass.try_get_live().unwrap();
+//! control.retire(pass).unwrap();
+//! drop(reference);
+//! ```
+//! ```compile_fail,E0382
+//! # use percpu_gate::{Gate, Start};
+//! # use std::sync::Arc;
+//! # let mut control = Gate::new(1, 1, Start::Slots, [0; 8], Arc::new(|| {})).unwrap();
+//! let pass = control.next_pass(0).unwrap();
+//! control.retire(pass).unwrap();
+//! drop(pass.try_get_live());
+//! ```
+//!
+//! # A control that is used after its gate's end
+//!
+//! `CLOSED`:
+//!
+//! ```
+//! # use percpu_gate::{Gate, Start};
+//! # use std::sync::Arc;
+//! let mut control = Gate::new(1, 1, Start::Slots, [0; 8], Arc::new(|| {})).unwrap();
+//! control.kill().unwrap();
+//! control.exit().unwrap();
+//! ```
+//! ```compile_fail,E0382
+//! # use percpu_gate::{Gate, Start};
+//! # use std::sync::Arc;
+//! let mut control = Gate::new(1, 1, Start::Slots, [0; 8], Arc::new(|| {})).unwrap();
+//! control.exit().unwrap();
+//! control.kill().unwrap();
+//! ```
+//!
+//! # A control that is used in the middle of its kill
+//!
+//! `MID_SWITCH`:
+//!
+//! ```
+//! # use percpu_gate::{Gate, Start};
+//! # use std::sync::Arc;
+//! let mut control = Gate::new(1, 1, Start::Slots, [0; 8], Arc::new(|| {})).unwrap();
+//! control.kill_and_confirm(|_| ()).unwrap();
+//! control.reinit().unwrap();
+//! ```
+//! ```compile_fail,E0499
+//! # use percpu_gate::{Gate, Start};
+//! # use std::sync::Arc;
+//! let mut control = Gate::new(1, 1, Start::Slots, [0; 8], Arc::new(|| {})).unwrap();
+//! control.kill_and_confirm(|_| control.reinit().unwrap()).unwrap();
+//! ```
+//!
+//! # A handle that is made by hand
+//!
+//! ```compile_fail,E0451
+//! # use percpu_gate::{Gate, Pass, Start};
+//! # use std::sync::Arc;
+//! # let mut control = Gate::new(1, 2, Start::Slots, [0; 8], Arc::new(|| {})).unwrap();
+//! let (one, other) = (control.next_pass(0).unwrap(), control.next_pass(0).unwrap());
+//! let forged = Pass { slots: 64, ..one };
+//! ```
+//!
+//! # An `on_last` that only one thread may call
+//!
+//! It is called on whichever thread is told:
+//!
+//! ```
+//! # use percpu_gate::{Gate, Start};
+//! # use std::sync::{Arc, atomic::{AtomicU32, Ordering}};
+//! let told = Arc::new(AtomicU32::new(0));
+//! let on_last = Arc::new(move || { told.fetch_add(1, Ordering::SeqCst); });
+//! Gate::new(1, 1, Start::Slots, [0; 8], on_last).unwrap();
+//! ```
+//! ```compile_fail,E0277
+//! # use percpu_gate::{Gate, Start};
+//! # use std::{cell::Cell, rc::Rc, sync::Arc};
+//! let told = Rc::new(Cell::new(0));
+//! let on_last = Arc::new(move || told.set(told.get() + 1));
+//! Gate::new(1, 1, Start::Slots, [0; 8], on_last).unwrap();
+//! ```

@@ -1,0 +1,87 @@
+//! What calls of a control tell.
+use crate::WORD_COUNT;
+
+/// What a kill found.
+///
+/// ```
+/// use percpu_gate::{Gate, Killed, Start};
+/// use std::sync::Arc;
+///
+/// let mut control = Gate::new(1, 1, Start::Slots, [0; 8], Arc::new(|| {}))?;
+/// let pass = control.next_pass(0)?;
+/// let reference = pass.try_get_live()?;
+/// assert_eq!(control.kill()?, Killed::WhileHeld);
+/// # Ok::<(), Box<dyn std::error::Error>>(())
+/// ```
+#[derive(Clone, Copy, Debug, PartialEq, Eq, Hash)]
+pub enum Killed {
+    /// Nobody held a reference, and this call was told so: `on_last` was called in it.
+    AtZero,
+    /// Another call is told of the last, maybe before this one returned; or none, where `resurrect` comes first.
+    WhileHeld,
+}
+
+/// What a revival by [`Control::resurrect`] found.
+///
+/// ```
+/// use percpu_gate::{Gate, Revived, Start};
+/// use std::sync::Arc;
+///
+/// let mut control = Gate::new(1, 1, Start::Dead, [0; 8], Arc::new(|| {}))?;
+/// assert_eq!(control.resurrect()?, Revived::FromZero);
+/// # Ok::<(), Box<dyn std::error::Error>>(())
+/// ```
+#[derive(Clone, Copy, Debug, PartialEq, Eq, Hash)]
+pub enum Revived {
+    /// The gate had reached zero: the release fell to an earlier call, whose `on_last` may still be under way.
+    FromZero,
+    /// References are held still. Nobody is told of the last for the kill that ends here.
+    WhileHeld,
+}
+
+/// Where a gate stands.
+///
+/// ```
+/// use percpu_gate::{Gate, Phase, Start};
+/// use std::sync::Arc;
+///
+/// let mut control = Gate::new(1, 1, Start::Slots, [0; 8], Arc::new(|| {}))?;
+/// assert_eq!(control.phase(), Phase::LiveOnSlots);
+/// control.kill()?;
+/// assert_eq!(control.phase(), Phase::Dead);
+/// # Ok::<(), Box<dyn std::error::Error>>(())
+/// ```
+#[derive(Clone, Copy, Debug, PartialEq, Eq, Hash)]
+pub enum Phase {
+    /// Live, counting on slots.
+    LiveOnSlots,
+    /// Live, counting on the shared word alone.
+    LiveAtomic,
+    /// Killed, or started dead, and not revived since.
+    Dead,
+}
+
+/// What is left of a gate that has ended.
+///
+/// ```
+/// use percpu_gate::{Gate, Start};
+/// use std::sync::Arc;
+///
+/// let mut control = Gate::new(1, 1, Start::Slots, [5; 8], Arc::new(|| {}))?;
+/// control.kill()?;
+/// let last = control.exit()?;
+/// assert!(last.dead);
+/// assert_eq!((last.kills, last.releases, last.words), (1, 1, [5; 8]));
+/// # Ok::<(), Box<dyn std::error::Error>>(())
+/// ```
+#[derive(Clone, Copy, Debug, PartialEq, Eq, Hash)]
+pub struct Final {
+    /// Whether it was dead.
+    pub dead: bool,
+    /// How many times it was killed.
+    pub kills: u64,
+    /// How many times `on_last` was called.
+    pub releases: u64,
+    /// The guarded words.
+    pub words: [u64; WORD_COUNT],
+}

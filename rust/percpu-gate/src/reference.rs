@@ -1,0 +1,116 @@
+//! A reference that borrows its pass.
+use crate::WORD_COUNT;
+use crate::errors::GetError;
+use crate::pass::Pass;
+use crate::word::Word;
+use std::fmt;
+
+/// A reference: while it is there the gate doesn't reach zero, and the guarded words hold still.
+///
+/// It borrows the pass that took it, as no other pass can put it, and stays on its thread; one that ends on another
+/// thread is an [`OwnedReference`](crate::OwnedReference). Dropping it puts it, on the slot that the pass uses then.
+/// Where it was the last after a kill, `on_last` is called before the drop is over. One that is forgotten (`mem::forget`)
+/// is held for ever: its gate never reaches zero, and its pass can't be retired. Linux: `percpu_ref_put`.
+///
+/// ```
+/// use percpu_gate::{Gate, Start};
+/// use std::sync::Arc;
+/// use std::sync::atomic::{AtomicU32, Ordering};
+///
+/// let told = Arc::new(AtomicU32::new(0));
+/// let count = Arc::clone(&told);
+/// let on_last = Arc::new(move || { count.fetch_add(1, Ordering::SeqCst); });
+/// let mut control = Gate::new(1, 1, Start::Slots, [0; 8], on_last)?;
+/// let pass = control.next_pass(0)?;
+/// let reference = pass.try_get_live()?;
+/// control.kill()?;
+/// assert_eq!(told.load(Ordering::SeqCst), 0);
+/// drop(reference);
+/// assert_eq!(told.load(Ordering::SeqCst), 1);
+/// # Ok::<(), Box<dyn std::error::Error>>(())
+/// ```
+#[must_use = "a reference is put where it is dropped"]
+pub struct Reference<'p> {
+    pass: &'p Pass,
+}
+
+impl<'p> Reference<'p> {
+    /// Of a pass that holds one more than it has given out.
+    pub(crate) fn of(pass: &'p Pass) -> Reference<'p> {
+        Reference { pass }
+    }
+
+    /// One reference more, live or dead: who holds one is always given another, but for the last of 65,535. Linux:
+    /// `percpu_ref_get`.
+    ///
+    /// # Errors
+    ///
+    /// [`GetError::HeldFull`].
+    ///
+    /// # Examples
+    ///
+    /// ```
+    /// # use percpu_gate::{Gate, Start};
+    /// # use std::sync::Arc;
+    /// # let mut control = Gate::new(1, 1, Start::Slots, [0; 8], Arc::new(|| {}))?;
+    /// # let pass = control.next_pass(0)?;
+    /// let reference = pass.try_get_live()?;
+    /// control.kill()?;
+    /// let another = reference.try_clone()?;
+    /// drop(reference);
+    /// assert!(!control.is_zero());
+    /// drop(another);
+    /// assert!(control.is_zero());
+    /// # Ok::<(), Box<dyn std::error::Error>>(())
+    /// ```
+    pub fn try_clone(&self) -> Result<Reference<'p>, GetError> {
+        self.pass.get()?;
+        Ok(Reference::of(self.pass))
+    }
+
+    /// A guarded word: one value for as long as a reference is held.
+    ///
+    /// ```
+    /// # use percpu_gate::{Gate, Start, Word};
+    /// # use std::sync::Arc;
+    /// const SECTOR_LIMIT: Word = Word::new(0).unwrap();
+    /// let words = [512, 0, 0, 0, 0, 0, 0, 0];
+    /// # let mut control = Gate::new(1, 1, Start::Slots, words, Arc::new(|| {}))?;
+    /// # let pass = control.next_pass(0)?;
+    /// let reference = pass.try_get_live()?;
+    /// assert_eq!(reference.word(SECTOR_LIMIT), 512);
+    /// # Ok::<(), Box<dyn std::error::Error>>(())
+    /// ```
+    #[must_use]
+    pub fn word(&self, which: Word) -> u64 {
+        self.pass.word(which)
+    }
+
+    /// All eight guarded words.
+    ///
+    /// ```
+    /// # use percpu_gate::{Gate, Start};
+    /// # use std::sync::Arc;
+    /// # let mut control = Gate::new(1, 1, Start::Slots, [7; 8], Arc::new(|| {}))?;
+    /// # let pass = control.next_pass(0)?;
+    /// let reference = pass.try_get_live()?;
+    /// assert_eq!(reference.words(), [7; 8]);
+    /// # Ok::<(), Box<dyn std::error::Error>>(())
+    /// ```
+    #[must_use]
+    pub fn words(&self) -> [u64; WORD_COUNT] {
+        Word::ALL.map(|which| self.word(which))
+    }
+}
+
+impl Drop for Reference<'_> {
+    fn drop(&mut self) {
+        self.pass.put();
+    }
+}
+
+impl fmt::Debug for Reference<'_> {
+    fn fmt(&self, f: &mut fmt::Formatter<'_>) -> fmt::Result {
+        f.debug_tuple("Reference").field(self.pass).finish()
+    }
+}

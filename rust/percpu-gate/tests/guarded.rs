@@ -1,0 +1,121 @@
+//! Plain memory under the gate's guard, from life to life: threads write it while they hold a reference, who is told of
+//! the last reads what they wrote and frees it, and who revives the gate has made it anew. Built for the thread sanitizer
+//! with `--cfg percpu_gate_tsan` this is a race wherever the crate doesn't tell it the gate's order. The gate alone
+//! guards the memory, which no type of Rust's can know: so this test has `unsafe` of its own.
+#![allow(unsafe_code)]
+
+use percpu_gate::{Gate, Killed, OnLast, Pass, Revived, Start};
+use std::cell::UnsafeCell;
+use std::env;
+use std::ptr;
+use std::sync::Arc;
+use std::sync::atomic::{AtomicBool, AtomicU64, Ordering};
+use std::thread;
+
+const THREADS: u32 = 4;
+
+type Counts = [u64; THREADS as usize];
+
+/// A device that is there while the gate isn't at zero, with a count for each thread; null while it isn't.
+struct Device(UnsafeCell<*mut Counts>);
+
+// SAFETY: the gate guards it: each thread changes its own count under a reference; who is told of the last, or revives
+// the gate from zero, has it alone.
+unsafe impl Sync for Device {}
+// SAFETY: what it leads to is plain numbers.
+unsafe impl Send for Device {}
+
+impl Device {
+    fn serve(&self, thread: u32) {
+        // SAFETY: the caller holds a reference, so nobody writes the pointer.
+        let counts = unsafe { *self.0.get() };
+        // SAFETY: the caller holds a reference and counts at its own place; nobody frees the counts meanwhile.
+        unsafe { (*counts)[thread as usize] += 1 }
+    }
+
+    fn make(&self) {
+        let counts = Box::into_raw(Box::new(Counts::default()));
+        // SAFETY: the gate is at zero, and its release was told and is done: nobody else is here.
+        let old = unsafe { self.0.get().replace(counts) };
+        assert!(old.is_null());
+    }
+
+    fn free(&self) -> u64 {
+        // SAFETY: the caller was told of the last: nobody else is here before the revival.
+        let counts = unsafe { self.0.get().replace(ptr::null_mut()) };
+        assert!(!counts.is_null());
+        // SAFETY: it came from a box, and isn't led to any more.
+        let counts = unsafe { Box::from_raw(counts) };
+        counts.iter().sum()
+    }
+}
+
+/// Serves until the end, and tells how often. While `quiet` it asks for nothing, so that a kill may find nobody.
+fn serve(pass: &Pass, thread: u32, device: &Device, over: &AtomicBool, quiet: &AtomicBool) -> u64 {
+    let mut served = 0;
+    while !over.load(Ordering::SeqCst) {
+        if quiet.load(Ordering::Relaxed) {
+            thread::yield_now();
+            continue;
+        }
+        let given = if thread.is_multiple_of(2) { pass.try_get_live() } else { pass.try_get() };
+        if let Ok(_reference) = given {
+            device.serve(thread);
+            served += 1;
+        }
+    }
+    served
+}
+
+#[test]
+fn memory_that_the_gate_guards() {
+    let lives: u64 = env::var("PERCPU_GATE_LIVES").ok().and_then(|told| told.parse().ok()).unwrap_or(1000);
+    let device = Arc::new(Device(UnsafeCell::new(ptr::null_mut())));
+    device.make();
+    let (freed, all) = (Arc::new(AtomicU64::new(0)), Arc::new(AtomicU64::new(0)));
+    let (its, told, sum) = (Arc::clone(&device), Arc::clone(&freed), Arc::clone(&all));
+    let on_last: OnLast = Arc::new(move || {
+        sum.fetch_add(its.free(), Ordering::SeqCst);
+        told.fetch_add(1, Ordering::SeqCst);
+    });
+    let mut control = Gate::new(THREADS, THREADS, Start::Slots, [0; 8], on_last).unwrap();
+    let (over, quiet) = (AtomicBool::new(false), AtomicBool::new(false));
+    let passes: Vec<Pass> = (0..THREADS).map(|slot| control.next_pass(slot).unwrap()).collect();
+    let (mut served, mut found) = (0, [0; 2]);
+    thread::scope(|threads| {
+        let serving: Vec<_> = (0..THREADS)
+            .zip(passes)
+            .map(|(thread, pass)| {
+                let (device, over, quiet) = (&device, &over, &quiet);
+                threads.spawn(move || (serve(&pass, thread, device, over, quiet), pass))
+            })
+            .collect();
+        for life in 1..=lives {
+            quiet.store(life % 4 < 2, Ordering::Relaxed);
+            if life % 4 < 2 {
+                thread::sleep(std::time::Duration::from_micros(100));
+            }
+            let killed = if life % 3 == 0 { control.kill_and_confirm(|_| ()) } else { control.kill() }.unwrap();
+            found[usize::from(killed == Killed::AtZero)] += 1;
+            while freed.load(Ordering::SeqCst) < life {
+                thread::yield_now();
+            }
+            quiet.store(false, Ordering::Relaxed);
+            device.make();
+            if life % 5 == 0 {
+                assert_eq!(control.resurrect(), Ok(Revived::FromZero));
+            } else {
+                control.reinit().unwrap();
+            }
+        }
+        over.store(true, Ordering::SeqCst);
+        for thread in serving {
+            let (count, pass) = thread.join().unwrap();
+            served += count;
+            control.retire(pass).unwrap();
+        }
+    });
+    assert_eq!(control.exit().unwrap().releases, lives);
+    assert!(found[1] > 0, "no kill found the gate without references");
+    assert_eq!(all.load(Ordering::SeqCst) + device.free(), served);
+}
