@@ -21,7 +21,7 @@ pub enum Killed {
     WhileHeld,
 }
 
-/// What a revival by [`Control::resurrect`] found.
+/// What a revival by [`Control::resurrect`](crate::Control::resurrect) found.
 ///
 /// ```
 /// use percpu_gate::{Gate, Revived, Start};
