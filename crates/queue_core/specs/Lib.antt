@@ -1,0 +1,6 @@
+pub mod Queue
+pub mod Readings
+pub mod AtTheGate
+pub mod Entering
+pub mod Sets
+pub mod Removal

@@ -1,0 +1,253 @@
+//! The freezer: it freezes a queue, sets its limits and thaws it.
+ghost use Rattle.std.specs.Prelude.{◌≡◌, ◌+◌, ◌<◌, ◌≤◌, Bool, true, false, IfOk, OnOk, OnErr};
+ghost use Rattle.percpu_gate.specs.Seats.{fresh_control};
+ghost use Rattle.percpu_gate.specs.ControlCalls.{after_switch};
+ghost use Rattle.percpu_gate.specs.declared.mode.Mode.TheVariants.{Slots};
+ghost use Rattle.percpu_core.specs.declared.phase.Phase.TheVariants as phases;
+ghost use Rattle.percpu_core.specs.declared.start.Start.TheVariants.{Atomic};
+ghost use Rattle.queue_limits.specs.Words.{to_words};
+ghost use Rattle.percpu_gate.specs.declared.tried.Put.{Put};
+ghost use Rattle.percpu_gate.specs.Seats.{FindsZero};
+ghost use Rattle.queue_core.specs.Queue.{IsFreezer, first_freezer, after_freeze, after_look, after_mode, after_thaw, after_set, after_return, freeze_refusal, thaw_refusal, fault_of};
+ghost use Rattle.queue_core.specs.Sets.{LooksForDrained};
+
+use crate::fault::FreezeFault;
+use crate::limit_words::{LIMIT_WORDS, store_words};
+use crate::queue::BlockQueue;
+use crate::tag::Tag;
+use percpu_gate::{Control, Mode, Put};
+use queue_limits::Limits;
+use std::marker::Model;
+
+/// The most freezes that may be under way at once.
+pub const MOST_DEPTH: u32 = 1_000;
+
+/// What a freeze that has begun answers.
+#[derive(Clone, Copy, Debug, PartialEq, Eq)]
+pub struct Frozen {
+    /// The freezes that aren't thawed yet, this one too.
+    pub depth: u32,
+    /// `Last` where this freeze found nobody in the queue: it is drained, and nobody else is told so. Else look by
+    /// `poll_drained`; where that says no, whoever drops last is told.
+    pub put: Put,
+}
+
+/// What a thaw answers.
+#[derive(Clone, Copy, Debug, PartialEq, Eq)]
+pub struct Thawed {
+    /// The freezes that are left.
+    pub depth: u32,
+    /// Whether the queue is live again: those who wait to enter are to be woken.
+    pub live: bool,
+}
+
+/// The one freezer of a queue: it counts freezes, and sets the limits while the queue is drained.
+///
+/// It moves between threads by ownership.
+#[derive(Drop)]
+pub struct Freezer {
+    control: Control<LIMIT_WORDS>,
+    depth: u32,
+    limits: Limits,
+    tags: u32,
+}
+
+impl Model for Freezer {
+    ghost use Rattle.queue_core.specs.Queue.{FreezerFacts};
+
+    ghost Value = { FreezerFacts };
+
+    ghost use Rattle.queue_core.specs.Readings.{freezer_facts, Keeps};
+
+    ghost view = { λ f. freezer_facts f.control f.depth f.limits };
+
+    ghost invariant = { λ f. Keeps f.control.view f.control.wants f.depth f.limits f.tags };
+}
+
+impl Freezer {
+    /// The freezer of a new queue, which counts on its slots.
+    pub(crate) fn new(control: Control<LIMIT_WORDS>, limits: Limits, tags: u32) -> Freezer
+        requires new { control ≡ after_switch Slots (fresh_control control.gate tags (to_words limits)) }
+        requires live { control.gate.start ≡ Atomic }
+        ensures { result ≡ first_freezer (record { gate = control.gate; hardware = limits.hardware }) limits tags }
+    {
+        Freezer {
+            control,
+            depth: 0,
+            limits,
+            tags,
+        }
+    }
+
+    /// The freezes that aren't thawed yet: 0 to 1,000. The queue is live exactly where there is none. Linux:
+    /// `mq_freeze_depth` (include/linux/blkdev.h).
+    #[inline]
+    pub fn depth(&self) -> u32
+        ensures value { result ≡ self.now.depth }
+        ensures kept { IsFreezer self.now }
+    {
+        // The type's facts speak of the control too, so the clause needs it read.
+        let _ = &self.control;
+        self.depth
+    }
+
+    /// The tags that it hasn't taken back.
+    pub(crate) fn tags(&self) -> u32
+        ensures { result ≡ self.now.tags }
+    {
+        self.tags
+    }
+
+    /// The limits in force.
+    #[inline]
+    pub fn limits(&self) -> Limits
+        ensures value { result ≡ self.now.limits }
+        ensures kept { IsFreezer self.now }
+    {
+        let _ = &self.control;
+        self.limits
+    }
+
+    /// Begins a freeze: the depth that this gives, and whether the queue is drained by it. The first one kills the gate, so
+    /// that no tag enters from then on but to look. Refuses DepthFull, WornOut. Linux: `blk_freeze_queue_start`
+    /// (block/blk-mq.c).
+    pub fn start_freeze(&mut self, queue: &BlockQueue) -> Result<Frozen, FreezeFault>
+        requires own { self.old.queue ≡ queue.now }
+        ensures refused { fault_of result ≡ freeze_refusal self.old }
+        ensures unchanged { OnErr result (self.new ≡ self.old) }
+        ensures frozen { IfOk result (λ f. (f.depth ≡ self.old.depth + 1) × (self.new ≡ after_freeze f.put self.old)) }
+    {
+        if self.depth >= MOST_DEPTH {
+            return Err(FreezeFault::DepthFull);
+        }
+        let mut put = Put::NotLast;
+        if self.depth == 0 {
+            match self.control.kill(&queue.gate) {
+                Ok(last) => put = last,
+                Err(_) => return Err(FreezeFault::WornOut),
+            }
+        }
+        self.depth += 1;
+        Ok(Frozen {
+            depth: self.depth,
+            put,
+        })
+    }
+
+    /// Whether the queue is frozen and every tag has left, at this look. Once it was true it is true until the
+    /// last thaw. Linux: `percpu_ref_is_zero` in `blk_mq_freeze_queue_wait` (block/blk-mq.c).
+    pub fn poll_drained(&mut self, queue: &BlockQueue) -> bool
+        requires own { self.old.queue ≡ queue.now }
+        ensures look { self.new ≡ after_look result self.old }
+        ensures found { FindsZero queue.now.gate self.old.seat result }
+        ensures known { self.old.drained ≡ true → result ≡ true }
+        ensures frozen { result ≡ true → 0 < self.old.depth }
+    {
+        self.control.is_zero(&queue.gate)
+    }
+
+    /// Sets the limits of a drained queue. Refuses NotFrozen, NotDrained. Linux: `queue_limits_commit_update`
+    /// (block/blk-settings.c), under a freeze.
+    pub fn set(&mut self, queue: &BlockQueue, limits: Limits) -> Result<(), FreezeFault>
+        requires own { self.old.queue ≡ queue.now }
+        requires hardware { limits.hardware ≡ self.old.queue.hardware }
+        ensures looks { LooksForDrained self.old (fault_of result) }
+        ensures unchanged { OnErr result (self.new ≡ self.old) }
+        ensures set { OnOk result (self.new ≡ after_set limits self.old) }
+    {
+        if self.depth == 0 {
+            return Err(FreezeFault::NotFrozen);
+        }
+        if !self.poll_drained(queue) {
+            return Err(FreezeFault::NotDrained);
+        }
+        self.store(queue, limits);
+        Ok(())
+    }
+
+    /// Stores the limits where the control knows that nothing is held.
+    fn store(&mut self, queue: &BlockQueue, limits: Limits)
+        requires own { self.old.queue ≡ queue.now }
+        requires hardware { limits.hardware ≡ self.old.queue.hardware }
+        requires drained { self.old.drained ≡ true }
+        ensures { self.new ≡ after_set limits self.old }
+    {
+        store_words(&mut self.control, &queue.gate, limits.to_words());
+        self.limits = limits;
+    }
+
+    /// Counts in this mode from now on; a frozen queue does once it is thawed. Depth and limits stay. Linux:
+    /// `percpu_ref_switch_to_atomic_sync`, `percpu_ref_switch_to_percpu` (lib/percpu-refcount.c).
+    pub fn mode(&mut self, queue: &BlockQueue, mode: Mode)
+        requires own { self.old.queue ≡ queue.now }
+        ensures { self.new ≡ after_mode mode self.old }
+    {
+        let _switched = match mode {
+            Mode::Atomic => self.control.switch_to_atomic(&queue.gate),
+            Mode::Slots => self.control.switch_to_slots(&queue.gate),
+        };
+    }
+
+    /// Ends a freeze: the depth that is left, and whether the queue is live again: then those who wait to enter are to be
+    /// woken. The last thaw brings the gate back, drained or not. Refuses NotFrozen. Linux: `blk_mq_unfreeze_queue`
+    /// (block/blk-mq.c).
+    pub fn thaw(&mut self, queue: &BlockQueue) -> Result<Thawed, FreezeFault>
+        requires own { self.old.queue ≡ queue.now }
+        ensures refused { fault_of result ≡ thaw_refusal self.old }
+        ensures unchanged { OnErr result (self.new ≡ self.old) }
+        ensures thawed { IfOk result (λ t. (t.depth + 1 ≡ self.old.depth) × (at_zero : Bool) × (self.new ≡ after_thaw at_zero self.old) × (self.old.depth ≡ 1 → FindsZero queue.now.gate self.old.seat at_zero)) }
+        ensures live { IfOk result (λ t. (t.depth ≡ self.new.depth) × (t.live ≡ self.new.live)) }
+        // Where the freezer knew the queue to be drained, the revival found it so: that drain is counted.
+        ensures drained { IfOk result (λ t. self.old.drained ≡ true → self.new ≡ after_thaw true self.old) }
+    {
+        if self.depth == 0 {
+            return Err(FreezeFault::NotFrozen);
+        }
+        if self.depth == 1 {
+            self.revive(queue);
+        } else {
+            self.depth -= 1;
+        }
+        Ok(Thawed {
+            depth: self.depth,
+            live: self.depth == 0,
+        })
+    }
+
+    /// Brings the gate back.
+    fn revive(&mut self, queue: &BlockQueue)
+        requires own { self.old.queue ≡ queue.now }
+        requires last { self.old.depth ≡ 1 }
+        ensures { (at_zero : Bool) × (self.new ≡ after_thaw at_zero self.old) × FindsZero queue.now.gate self.old.seat at_zero }
+    {
+        let _revived = self.control.resurrect(&queue.gate);
+        self.depth = 0;
+    }
+
+    /// Takes a tag back.
+    pub(crate) fn take_back(&mut self, queue: &BlockQueue, tag: Tag)
+        requires own { (self.old.queue ≡ queue.now) × (tag.queue ≡ queue.now) }
+        requires out { tag.entered ≡ false }
+        ensures { self.new ≡ after_return tag self.old }
+    {
+        self.control.retire(&queue.gate, tag.into_pass());
+        self.tags = self.tags.saturating_sub(1);
+    }
+
+    /// The control of a freezer that ends.
+    pub(crate) fn into_control(self) -> Control<LIMIT_WORDS>
+        ensures own { result.gate ≡ self.queue.gate }
+        ensures seat { result.view ≡ self.seat }
+        ensures dead { self.live ≡ false → result.view.standing.phase ≡ phases.Dead }
+        ensures counts { (result.view.standing.kills ≡ self.kills) × (result.view.releases ≡ self.releases) × (result.view.passes ≡ self.tags) }
+        ensures words { result.view.words ≡ to_words self.limits }
+    {
+        let Self {
+            control,
+            depth: _,
+            limits: _,
+            tags: _,
+        } = self;
+        control
+    }
+}
