@@ -16,8 +16,8 @@
 //!
 //! Whom to wake: who is told [`Put::Last`], by `leave`, by a refused try or by `start_freeze` itself, wakes the
 //! freezer, which finds the queue drained then; who is told by `thaw` that the queue is live wakes those who wait to
-//! enter. Whoever sleeps looks once more after he has said that he will. The crate `freeze_queue` stands on this one,
-//! and waits by the kit's means.
+//! enter. Whoever sleeps looks once more after he has said that he will. The crate `freeze_queue` has the same calls, and
+//! others that wait by the kit's means.
 //!
 //! `specs/Queue.antt` says in five minutes what a tag and a freezer know and what each call leaves. What it means
 //! at the gate that limits hold still and that a queue is drained is proved by [`limits_hold_still`] and
