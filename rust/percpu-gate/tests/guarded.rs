@@ -4,13 +4,14 @@
 //! guards the memory, which no type of Rust's can know: so this test has `unsafe` of its own.
 #![allow(unsafe_code)]
 
-use percpu_gate::{Gate, Killed, OnLast, Pass, Revived, Start};
+use percpu_gate::{Control, Gate, Killed, OnLast, Pass, Revived, Start};
 use std::cell::UnsafeCell;
 use std::env;
 use std::ptr;
 use std::sync::Arc;
 use std::sync::atomic::{AtomicBool, AtomicU64, Ordering};
 use std::thread;
+use std::time::Duration;
 
 const THREADS: u32 = 4;
 
@@ -50,26 +51,71 @@ impl Device {
     }
 }
 
-/// Serves until the end, and tells how often. While `quiet` it asks for nothing, so that a kill may find nobody.
-fn serve(pass: &Pass, thread: u32, device: &Device, over: &AtomicBool, quiet: &AtomicBool) -> u64 {
+/// What the threads are told, and what they tell. All but `over` is relaxed: it orders nothing.
+#[derive(Default)]
+struct Signs {
+    over: AtomicBool,
+    /// Nobody asks for a reference, so that a kill may find nobody.
+    quiet: AtomicBool,
+    /// Requests so far, of all threads.
+    requests: AtomicU64,
+}
+
+/// Serves until the end, and tells how often.
+fn serve(pass: &Pass, thread: u32, device: &Device, signs: &Signs) -> u64 {
     let mut served = 0;
-    while !over.load(Ordering::SeqCst) {
-        if quiet.load(Ordering::Relaxed) {
-            thread::yield_now();
+    while !signs.over.load(Ordering::SeqCst) {
+        if signs.quiet.load(Ordering::Relaxed) {
+            thread::sleep(Duration::from_micros(20));
             continue;
         }
         let given = if thread.is_multiple_of(2) { pass.try_get_live() } else { pass.try_get() };
         if let Ok(_reference) = given {
             device.serve(thread);
             served += 1;
+            signs.requests.fetch_add(1, Ordering::Relaxed);
         }
     }
     served
 }
 
+/// Waits until the threads have served in this life too; in some lives then until nobody asks.
+fn let_serve(signs: &Signs, life: u64) {
+    let before = signs.requests.load(Ordering::Relaxed);
+    while signs.requests.load(Ordering::Relaxed) < before + 20 {
+        thread::sleep(Duration::from_micros(20));
+    }
+    if life % 4 < 2 {
+        signs.quiet.store(true, Ordering::Relaxed);
+        thread::sleep(Duration::from_micros(100));
+    }
+}
+
+/// One life after another: kills, waits until the device was freed, makes another, and revives. How many kills found the
+/// gate without references.
+fn live_and_die(control: &mut Control, device: &Device, freed: &AtomicU64, signs: &Signs, lives: u64) -> u64 {
+    let mut at_zero = 0;
+    for life in 1..=lives {
+        let_serve(signs, life);
+        let killed = if life % 3 == 0 { control.kill_and_confirm(|_| ()) } else { control.kill() };
+        at_zero += u64::from(killed == Ok(Killed::AtZero));
+        while freed.load(Ordering::SeqCst) < life {
+            thread::sleep(Duration::from_micros(20));
+        }
+        signs.quiet.store(false, Ordering::Relaxed);
+        device.make();
+        if life % 5 == 0 {
+            assert_eq!(control.resurrect(), Ok(Revived::FromZero));
+        } else {
+            control.reinit().unwrap();
+        }
+    }
+    at_zero
+}
+
 #[test]
 fn memory_that_the_gate_guards() {
-    let lives: u64 = env::var("PERCPU_GATE_LIVES").ok().and_then(|told| told.parse().ok()).unwrap_or(1000);
+    let lives: u64 = env::var("PERCPU_GATE_LIVES").ok().and_then(|told| told.parse().ok()).unwrap_or(300);
     let device = Arc::new(Device(UnsafeCell::new(ptr::null_mut())));
     device.make();
     let (freed, all) = (Arc::new(AtomicU64::new(0)), Arc::new(AtomicU64::new(0)));
@@ -79,36 +125,19 @@ fn memory_that_the_gate_guards() {
         told.fetch_add(1, Ordering::SeqCst);
     });
     let mut control = Gate::new(THREADS, THREADS, Start::Slots, [0; 8], on_last).unwrap();
-    let (over, quiet) = (AtomicBool::new(false), AtomicBool::new(false));
+    let signs = Signs::default();
     let passes: Vec<Pass> = (0..THREADS).map(|slot| control.next_pass(slot).unwrap()).collect();
-    let (mut served, mut found) = (0, [0; 2]);
+    let (mut served, mut at_zero) = (0, 0);
     thread::scope(|threads| {
         let serving: Vec<_> = (0..THREADS)
             .zip(passes)
             .map(|(thread, pass)| {
-                let (device, over, quiet) = (&device, &over, &quiet);
-                threads.spawn(move || (serve(&pass, thread, device, over, quiet), pass))
+                let (device, signs) = (&device, &signs);
+                threads.spawn(move || (serve(&pass, thread, device, signs), pass))
             })
             .collect();
-        for life in 1..=lives {
-            quiet.store(life % 4 < 2, Ordering::Relaxed);
-            if life % 4 < 2 {
-                thread::sleep(std::time::Duration::from_micros(100));
-            }
-            let killed = if life % 3 == 0 { control.kill_and_confirm(|_| ()) } else { control.kill() }.unwrap();
-            found[usize::from(killed == Killed::AtZero)] += 1;
-            while freed.load(Ordering::SeqCst) < life {
-                thread::yield_now();
-            }
-            quiet.store(false, Ordering::Relaxed);
-            device.make();
-            if life % 5 == 0 {
-                assert_eq!(control.resurrect(), Ok(Revived::FromZero));
-            } else {
-                control.reinit().unwrap();
-            }
-        }
-        over.store(true, Ordering::SeqCst);
+        at_zero = live_and_die(&mut control, &device, &freed, &signs, lives);
+        signs.over.store(true, Ordering::SeqCst);
         for thread in serving {
             let (count, pass) = thread.join().unwrap();
             served += count;
@@ -116,6 +145,6 @@ fn memory_that_the_gate_guards() {
         }
     });
     assert_eq!(control.exit().unwrap().releases, lives);
-    assert!(found[1] > 0, "no kill found the gate without references");
+    assert!(at_zero > 0, "no kill found the gate without references");
     assert_eq!(all.load(Ordering::SeqCst) + device.free(), served);
 }
