@@ -85,8 +85,8 @@ class Trial:
     def answer(self, placed, passed, text):
         self.answers[placed.edit] = Answer(placed.edit, passed, text)
 
-    def run(self, is_proved=False):
-        """An answer for each edit, in their order. Whether the crate is proved without edits may be known."""
+    def run(self, is_known_proved=False):
+        """An answer for each edit, in their order. That the crate is proved without edits may be known."""
         functions, ready = functions_of(self.prover.rt.RATTLE, self.prover.crate.folder), []
         for edit in self.edits:
             try:
@@ -94,7 +94,7 @@ class Trial:
                 ready.append(Placed(edit, self.texts, functions))
             except CannotApply as why:
                 self.answers[edit] = Answer(edit, False, f"can't be applied: {why}")
-        if ready and (is_proved or self.is_proved(ready)):
+        if ready and (is_known_proved or self.is_proved(ready)):
             self.try_all(ready)
         return [self.answers[it] for it in self.edits]
 
