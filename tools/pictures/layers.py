@@ -180,7 +180,7 @@ def draw_lines(page, rows, y_of):
 
 def draw_crate(page, node, crates, programs, y):
     x = node.x - node.wide / 2
-    is_test = node.name.endswith("_trials")
+    is_test = node.name.startswith("trials_")
     fill = "hold" if node.name in programs else "owe" if node.name in crates.static else "ground" if is_test else "panel"
     page.box(x, y, node.wide, HIGH, fill, "dim", 6, is_test)
     page.text(node.x, y + 19.5, node.name, "dim" if is_test else "ink", SIZE, "middle")
