@@ -1,8 +1,9 @@
-# Installs the program: blkq, and its pages blkq(1) and blkq(5), of which the second is made of docs/FORMATS.md. The
-# library for C is installed by crates/percpu_gate_c/Makefile.
+# Installs the program: blkq, and its pages blkq(1) and blkq(5), of which the second is made of docs/FORMATS.md; and apart
+# from it the libraries for C, each of which its crate's Makefile installs too.
 #
-#   make                             proves the crates and builds the program, where that is to be done
-#   make install PREFIX=/usr/local   puts the program and the pages there; DESTDIR goes before it
+#   make                               proves the crates and builds the program, where that is to be done
+#   make install PREFIX=/usr/local     puts the program and the pages there; DESTDIR goes before it
+#   make install-c PREFIX=/usr/local   proves, builds and puts there both libraries for C, the queue's and the gate's
 PREFIX ?= /usr/local
 AWK ?= awk
 AT = $(DESTDIR)$(PREFIX)
@@ -16,4 +17,8 @@ install: all
 	install -m 644 docs/blkq.1 $(AT)/share/man/man1
 	$(AWK) -f tools/formats_page docs/FORMATS.md >$(AT)/share/man/man5/blkq.5
 
-.PHONY: all install
+install-c:
+	$(MAKE) -C crates/percpu_gate_c install
+	$(MAKE) -C crates/freeze_queue_c install
+
+.PHONY: all install install-c

@@ -97,6 +97,7 @@ def shorter(word):
     digits = word.removeprefix(b"-")
     if digits.isdigit() and len(digits) <= 20:
         number = int(digits)
-        return [b"%d" % less for less in sorted({0, 1, number // 2, number - 1, number}) if 0 <= less <= number and b"%d" % less != word]
+        smaller = sorted({0, 1, number // 2, number - 1, number})
+        return [b"%d" % less for less in smaller if 0 <= less <= number and b"%d" % less != word]
     is_pattern = len(word) >= 4 and len(word) % 2 == 0 and all(letter in b"0123456789abcdefABCDEF" for letter in word)
     return [word[:2], word[: len(word) // 4 * 2], word[:-2]] if is_pattern else []

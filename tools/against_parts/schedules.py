@@ -26,7 +26,16 @@ NEXT = {
     "opening": ("open",),
 }
 PASS_STEPS = ("add try", "add live", "add get", "sub", "undo", "mark", "look", "take", "give", "shared", "front", "word")
-CONTROL_STEPS = ("dead", "close", "collect", "confirm", "base", "mark", "take", "front", "clear", "bias", "open", "store", "join", "shared")
+CONTROL_STEPS = "dead close collect confirm base mark take front clear bias open store join shared".split()
+
+# The control's steps in the order in which they come, round and round.
+ORDER = ("bias", "open", "dead", "close", "collect", "confirm", "base", "take", "front", "clear")
+
+# What comes next where the same steps led elsewhere: a kill and a switch collect alike.
+OTHERS = {"collected": ("bias",), "live atomic": ("confirm",)}
+
+# Where a step is worth a try: in each phase, and where few gates stand.
+EDGES = (*NEXT, "control owes", "control owes", "pass owes", "pass owes", "not at zero", "at zero", "full", "full")
 
 
 class Step:
@@ -48,7 +57,7 @@ class Schedule:
         self.passes = pick.choice((1, 3, 5, 64)) if once_in(pick, 3) else 2
         start = pick.choice(("slots", "slots", "atomic", "dead"))
         kills = pick.choice((1, 7, KILLS - 1, KILLS, KILLS)) if once_in(pick, 4) else 0
-        words = [pick.choice((0, 1, 512, GREATEST)) for _ in range(pick.choice((0, 1, 2, 8)))]
+        words = [pick.choice((0, 1, 512, GREATEST)) for _ in range(pick.choice((0, 1, 2, 2, 8)))]
         self.gate = Gate(self.slots, self.passes, start, kills, words)
         self.lines = [["gate", "1"], ["world", *map(str, (self.slots, self.passes, start, kills, *words))]]
         # How often the control has its turn, and how often somebody looks or counts on a slot.
@@ -87,7 +96,7 @@ class Schedule:
         if name == "join":
             return (self.a_pass(),)
         if name == "store":
-            return self.pick.randrange(len(self.gate.words) or 1), self.pick.choice((0, 1, 2, 4_096, GREATEST))
+            return self.pick.randrange(len(self.gate.words) or 1), self.pick.choice((0, 1, 4_096, GREATEST))
         return ()
 
     def a_pass(self):
@@ -104,6 +113,7 @@ class Schedule:
         names = ["add try", "add live", "take", "take", self.pick.choice(("look", "shared", "front"))]
         if seat.held:
             names += ["sub", "give", "give", "word", self.pick.choice(("add get", "take"))]
+            names += ["word", "word"] * bool(self.gate.words)
         name = self.pick.choice(names)
         return Step(actor, name, *self.numbers_of_pass(name, seat))
 
@@ -142,23 +152,30 @@ class Schedule:
     def refuse(self):
         """Adds a step that the machine refuses, of any kind and for any reason, and perhaps some that nobody takes then."""
         refused, probe = {}, copy.deepcopy(self.gate)
+        any_step = self.pick.choice((self.any_step, self.any_step_of_control, self.any_step_of_pass))
         for _ in range(150):
-            step = self.any_step()
+            step = any_step()
             try:
                 probe.take(step)
                 probe = copy.deepcopy(self.gate)
             except Stuck as why:
                 refused[step.actor == "c", step.name, str(why)] = step
+        if not refused:
+            return
         why = self.pick.choice(sorted({why for _, _, why in refused}))
         chosen = self.pick.choice(sorted(key for key in refused if key[2] == why))
         self.lines.append(refused[chosen].words())
         self.lines += [self.any_step().words() for _ in range(self.pick.randrange(3))]
 
     def any_step(self):
-        if once_in(self.pick, 3):
-            name = self.pick.choice((*CONTROL_STEPS, "join", "join", "store"))
-            numbers = {"join": (self.an_index(self.passes),), "store": (self.an_index(len(self.gate.words)), 7)}
-            return Step("c", name, *numbers.get(name, ()))
+        return self.any_step_of_control() if once_in(self.pick, 3) else self.any_step_of_pass()
+
+    def any_step_of_control(self):
+        name = self.pick.choice((*CONTROL_STEPS, "join", "join", "store"))
+        numbers = {"join": (self.an_index(self.passes),), "store": (self.an_index(len(self.gate.words)), 7)}
+        return Step("c", name, *numbers.get(name, ()))
+
+    def any_step_of_pass(self):
         name = self.pick.choice(PASS_STEPS)
         slot, count = self.an_index(self.slots), self.pick.choice((0, 1, 1, 2, ROOM - 1, ROOM))
         seen = self.pick.choice((0, 1, DELTA, -DELTA, DELTA + 1, -DELTA - 1, MOST, -MOST))
@@ -190,6 +207,121 @@ class Schedule:
                 self.takes(step)
 
 
+    def add_too_many_words(self):
+        """A ninth guarded word, for which the schedule is refused; or the eighth."""
+        world = self.lines[1]
+        world += ["7"] * (5 + self.pick.choice((8, 9)) - len(world))
+
+    # Steps where few gates stand.
+
+    def is_at(self, edge):
+        """Whether the gate stands where it is to: in a phase, or where a seat owes a step."""
+        match edge:
+            case "control owes":
+                return self.gate.control.owes
+            case "pass owes":
+                return self.who_owes() is not None
+            case "full":
+                return self.gate.passes[0].held >= ROOM - 1
+            case "not at zero":
+                return self.gate.phase == "dead" and not self.gate.zero
+            case "at zero":
+                return self.gate.phase in ("reviving", "fronted") and self.gate.zero
+        return self.gate.phase == edge
+
+    def who_owes(self):
+        """The first pass that holds something and owes a step, or else that owes one."""
+        owing = [actor for actor, seat in enumerate(self.gate.passes) if seat.owes]
+        return next((actor for actor in owing if self.gate.passes[actor].held), next(iter(owing), None))
+
+    def drive(self, edge):
+        """Goes there as directly as it can: passes settle, so that a kill finds nobody, but for one that is to hold."""
+        holds = edge in ("not at zero", "pass owes")
+        for actor, seat in enumerate(self.gate.passes):
+            for _ in range(3):
+                if seat.owes:
+                    self.takes(Step(actor, seat.owes))
+                elif seat.held and not (holds and actor == 0):
+                    self.takes(Step(actor, "sub", seat.held))
+        if holds and not self.gate.passes[0].held:
+            self.takes(Step(0, "add try"))
+        for _ in range(3 * self.slots + 40):
+            if self.is_at(edge):
+                return
+            if edge == "full" and not self.gate.zero and self.takes(Step(0, "add try")):
+                self.takes(Step(0, "add get", ROOM - 1 - self.pick.choice((0, 0, 0, 1))))
+                return
+            if edge != "pass owes" or not self.gate.dead or not self.takes(Step(0, "add live")):
+                self.takes(self.next_of_control())
+
+    def steps_at(self, edge):
+        """Steps that are worth a try there: most of them aren't enabled, or only just."""
+        slot, word = self.pick.randrange(self.slots), self.pick.randrange(len(self.gate.words) + 1)
+        delta = self.gate.slots[slot] or 0
+        near = [Step("c", name, *self.numbers_of_control(name)) for name in near_steps(self.gate.phase)]
+        match edge:
+            case "full":
+                takes = [(delta, 0), (delta, 1), (delta, 2), (DELTA, 1), (-DELTA - 1, 1)]
+                counts = [Step(0, "take", slot, *seen) for seen in takes] + [Step(0, "add get", count) for count in (0, 1, 2)]
+                return [Step(0, "add try"), Step(0, "add live"), *counts]
+            case "pass owes":
+                actor = self.who_owes() or 0
+                counts = [Step(actor, name, at, delta, 1) for name in ("take", "give") for at in (slot, self.slots)]
+                looks = [Step(actor, "look", self.slots), Step(actor, "word", len(self.gate.words)), Step(actor, "shared")]
+                names = ("undo", "mark", "add try", "add live", "front")
+                return [*counts, *looks, *(Step(actor, name) for name in names), *[Step("c", "join", actor)] * 3]
+            case "control owes":
+                others = ("shared", "join", "store", "take", "bias", "base", "dead")
+                return [*near, *(Step("c", name, *self.numbers_of_control(name)) for name in others)]
+            case "at zero" | "not at zero":
+                return [*near, *[Step("c", "store", word, 7)] * 4]
+            case "closing":
+                # All slots have to be closed before they are collected.
+                return [*near, Step("c", "collect"), Step("c", "collect")]
+        return [*near, Step("c", "store", word, 7)]
+
+    def try_at(self, edge):
+        """Adds steps that are worth a try, up to the first one that the machine refuses, and perhaps some that nobody takes."""
+        steps = self.steps_at(edge)
+        self.pick.shuffle(steps)
+        for step in steps[:4]:
+            if not self.takes(step):
+                self.lines.append(step.words())
+                self.lines += [self.any_step().words() for _ in range(self.pick.randrange(3))]
+                return
+
+
+def near_steps(phase):
+    """The control's steps that are one or two before or behind one that a phase has, so that it is easily taken for them."""
+    places = {ORDER.index(name) + by for name in NEXT[phase] if name in ORDER for by in (-2, -1, 1, 2)}
+    near = {ORDER[place % len(ORDER)] for place in places} | set(OTHERS.get(phase, ()))
+    return sorted(near - set(NEXT[phase]))
+
+
+def range_of(words, at):
+    """The range of a word that is a number, by its line and its place there."""
+    if words[0] == "world":
+        return {1: (1, 64), 2: (1, 64), 3: None, 4: (0, KILLS)}.get(at, (0, GREATEST)) if at else None
+    if at == 0 and words[0].isdecimal():
+        return 0, MOST
+    name = " ".join(words[1 : 3 if words[1:2] == ["add"] else 2])
+    return {
+        ("add get", 3): (0, ROOM),
+        ("sub", 2): (0, ROOM),
+        ("look", 2): (0, MOST),
+        ("word", 2): (0, MOST),
+        ("take", 2): (0, MOST),
+        ("take", 3): (-MOST, MOST),
+        ("take", 4): (0, ROOM),
+        ("give", 2): (0, MOST),
+        ("give", 3): (-MOST, MOST),
+        ("give", 4): (0, ROOM),
+        ("join", 2): (0, MOST),
+        ("store", 2): (0, MOST),
+        ("store", 3): (0, GREATEST),
+    }.get((name, at))
+
+
 def schedule(pick):
     """The bytes of a random schedule."""
     made = Schedule(pick)
@@ -197,11 +329,19 @@ def schedule(pick):
     if once_in(pick, 40):
         made.fill_slot()
         most += len(made.lines)
-    is_refused = once_in(pick, 3)
+    end = pick.choice(("whole", "whole", "refused", "at an edge", "at an edge"))
+    edge = pick.choice(EDGES) if end == "at an edge" else None
+    if edge and once_in(pick, 2):
+        most = pick.randint(2, 8)
     while len(made.lines) < most and made.grow():
         # What is refused while a seat owes a step is worth a try.
-        if is_refused and made.owes() and once_in(pick, 20):
+        if end == "refused" and made.owes() and once_in(pick, 20):
             break
-    if is_refused:
+    if edge:
+        made.drive(edge)
+        made.try_at(edge)
+    elif end == "refused":
         made.refuse()
-    return text_of(pick, made.lines, KNOWN)
+    if once_in(pick, 80):
+        made.add_too_many_words()
+    return text_of(pick, made.lines, KNOWN, range_of)

@@ -2,7 +2,9 @@
 
 from against_parts.spelling import once_in, text_of
 
-KNOWN = "blkq disk hw read write freeze thaw set max_sectors chunk_sectors physical_sectors mode atomic slots stat remove".split()
+KNOWN = (
+    "blkq disk hw read write freeze thaw set max_sectors chunk_sectors physical_sectors mode atomic slots stat remove"
+).split()
 
 # How often a line comes, beside the others.
 WEIGHTS = {"read": 12, "write": 16, "freeze": 4, "thaw": 3, "set": 10, "mode": 1, "stat": 2, "remove": 0.2}
@@ -73,7 +75,8 @@ class Script:
         if self.version == 2:
             self.under_way.clear()
         elif once_in(self.pick, 2):
-            self.add(*self.pick.choice(("thaw", "mode slots", "mode atomic", f"set chunk_sectors {MOST}", f"read {MOST} 1")).split())
+            lines = ("thaw", "mode slots", "mode atomic", f"set chunk_sectors {MOST}", f"read {MOST} 1")
+            self.add(*self.pick.choice(lines).split())
 
     def range(self):
         """A range, mostly of the disk, and short or long."""
@@ -90,17 +93,20 @@ class Script:
         count = self.pick.choice((1, 2, max(1, self.sectors - start), max(1, self.sectors - start + 1), 5, 65_535))
         return start, count
 
-    def add_freeze(self):
-        # The depth is full at 1,000, which takes a script of its own.
-        if once_in(self.pick, 400):
-            count = DEEPEST - self.depth + self.pick.choice((-1, 0, 1, 2))
-            for _ in range(count):
-                self.add("freeze")
-            self.depth = min(DEEPEST, self.depth + count)
-        else:
+    def add_freeze(self, count=1):
+        for _ in range(count):
             self.add("freeze")
-            self.depth = min(DEEPEST, self.depth + 1)
+        self.depth = min(DEEPEST, self.depth + count)
         self.under_way.clear()
+
+    def freeze_deep(self):
+        """The depth is full at 1,000, which takes a script of its own."""
+        self.add_freeze(DEEPEST - self.depth + self.pick.choice((-1, 0, 1, 2)))
+
+    def put_block(self):
+        """A setting of version 2 somewhere in a script of version 1, which is refused for it."""
+        at = self.pick.randint(2, len(self.lines))
+        self.lines.insert(at, ["set", "physical_sectors", str(self.pick.choice((1, 2, 3, 8, 32_768)))])
 
     def add_thaw(self):
         self.add("thaw")
@@ -137,12 +143,30 @@ class Script:
         self.is_removed = True
 
 
+def range_of(words, at):
+    """The range of a word that is a number, by its line and its place there."""
+    return {
+        ("disk", 1): (1, 4_096),
+        ("disk", 3): (1, 65_535),
+        ("read", 1): (0, MOST),
+        ("read", 2): (1, 65_535),
+        ("write", 1): (0, MOST),
+        ("write", 2): (1, 65_535),
+        ("set", 2): (0, MOST),
+    }.get((words[0], at))
+
+
 def script(pick, version=None):
     """The bytes of a random script."""
     made = Script(pick, version)
     most = pick.choice((4, 8, 16, 32, 64))
+    if once_in(pick, 120):
+        made.freeze_deep()
+        most += len(made.lines)
     while len(made.lines) < most and not (made.is_removed and once_in(pick, 5)):
         made.grow()
     if not once_in(pick, 3):
         made.add_stat()
-    return text_of(pick, made.lines, KNOWN)
+    if made.version == 1 and once_in(pick, 40):
+        made.put_block()
+    return text_of(pick, made.lines, KNOWN, range_of)

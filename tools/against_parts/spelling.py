@@ -8,7 +8,8 @@ ODD_NUMBERS = (
     *("99999999999999999999", "100000000000000000000"),
 )
 ODD_PATTERNS = ("0", "000", "0g", "0x00", "-1", "ab" * 64, "ab" * 65, "a" * 127, "\u0661\u0661")
-ODD_BYTES = (b"\xff", b"\xc3", b"\xed\xa0\x80", b"\0", b"\x0b", b"\x0c", b"\r", b"#", b" #", b"\n#", b"\xc2\xa0", b"\xe2\x80\xa8", b"\xef\xbb\xbf")
+ODD_BYTES = (b"\xff", b"\xc3", b"\xed\xa0\x80", b"\0", b"\x0b", b"\x0c", b"\r", b"\r", b"\r\r", b"#", b" #", b"\n#")
+ODD_BYTES += (b"\xc2\xa0", b"\xe2\x80\xa8", b"\xef\xbb\xbf")
 BLANKS = (" ", "  ", "\t", " \t ")
 COMMENTS = ("", "#", "# a note", "#read 0 1", "  # \u00e9", "\t")
 
@@ -74,7 +75,8 @@ def add_words(pick, lines, known):
 
 def add_line(pick, lines, known):
     """A line that belongs into another version, or only to the beginning."""
-    line = pick.choice(("set physical_sectors 2", "blkq 1", "disk 4 hw 4", "gate 1", "world 1 1 slots 0", "set", "c", "0 add", "mode"))
+    others = ("set physical_sectors 2", "blkq 1", "disk 4 hw 4", "gate 1", "world 1 1 slots 0")
+    line = pick.choice((*others, "set", "c", "0 add", "mode"))
     lines.insert(pick.randint(min(2, len(lines)), len(lines)), line.split())
 
 
@@ -82,9 +84,29 @@ def cut_short(pick, lines, known):
     del lines[pick.randrange(3) :]
 
 
+def kind_of(words, at):
+    """What a word is: its line's name, which stands behind an actor, and its place."""
+    return (words[1] if words[0].isdecimal() or words[0] == "c" else words[0]), at
+
+
+def at_edge(pick, lines, range_of):
+    """The lines with a number put at an end of its range, or beside that, or spelled in a way that is odd."""
+    lines = [list(words) for words in lines]
+    places = [(words, at) for words in lines for at in range(len(words)) if range_of(words, at)]
+    # One kind of number as often as another, however many there are of it.
+    kinds = sorted({kind_of(*place) for place in places})
+    if kinds:
+        kind = pick.choice(kinds)
+        words, at = pick.choice([place for place in places if kind_of(*place) == kind])
+        least, most = range_of(words, at)
+        edge = str(pick.choice((least - 1, least, most, most + 1)))
+        words[at] = pick.choice((edge, edge, edge, "+" + words[at].lstrip("-"), words[at].zfill(21), pick.choice(ODD_NUMBERS)))
+    return lines
+
+
 FAULTS = (
     *(drop_word, add_word, change_word, change_word, change_number, change_number, change_number, change_pattern),
-    *(add_words, add_line, change_case, repeat_head, lose_head, change_version, cut_short),
+    *(add_words, add_line, change_case, repeat_head, lose_head, change_version, change_version, cut_short),
 )
 
 
@@ -110,11 +132,21 @@ def spelled(pick, words):
     return pick.choice(("", "", " ", "\t")) + (text if once_in(pick, 2) else text.rstrip())
 
 
-def text_of(pick, lines, known):
+def with_odd_bytes(pick, text):
+    """A text with bytes that mean something else at a line's edge than within it."""
+    ends = [at for at, byte in enumerate(text) if byte == 10]
+    edges = [0, len(text), *ends, *(at + 1 for at in ends)]
+    at = pick.choice(edges) if once_in(pick, 2) else pick.randint(0, len(text))
+    return text[:at] + pick.choice(ODD_BYTES) + text[at:]
+
+
+def text_of(pick, lines, known, range_of):
     """The bytes of an input of these lines, each a list of words: mostly plain, at times oddly spelled, and at times with
-    a fault."""
-    if once_in(pick, 8):
+    a fault. range_of gives the range of a line's word of some place, or None where it is no number."""
+    if once_in(pick, 7):
         lines = spoiled(pick, lines, known)
+    elif once_in(pick, 5):
+        lines = at_edge(pick, lines, range_of)
     is_odd, end = once_in(pick, 4), pick.choice(("\n", "\n", "\n", "\r\n"))
     texts = []
     for words in lines:
@@ -122,9 +154,8 @@ def text_of(pick, lines, known):
             texts.append(pick.choice(COMMENTS))
         texts.append(spelled(pick, words) if is_odd and once_in(pick, 3) else " ".join(words))
     text = end.join(texts).encode() + (b"" if once_in(pick, 8) else end.encode())
-    if once_in(pick, 25):
-        at = pick.randint(0, len(text))
-        text = text[:at] + pick.choice(ODD_BYTES) + text[at:]
-    if once_in(pick, 400):
+    if once_in(pick, 12):
+        text = with_odd_bytes(pick, text)
+    if once_in(pick, 150):
         text += b"#" * (MOST_BYTES - len(text) + pick.choice((0, 1)))
     return text

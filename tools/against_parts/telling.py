@@ -36,7 +36,8 @@ class Progress:
 def shown(line, at=0):
     """A line as it is shown: what can't be printed as a backslash and its number, and of a long one the part round a place."""
     text = line.decode(errors="backslashreplace")
-    text = "".join(letter if letter.isprintable() or letter == "\t" else letter.encode("unicode_escape").decode() for letter in text)
+    is_plain = [letter.isprintable() or letter == "\t" for letter in text]
+    text = "".join(one if plain else one.encode("unicode_escape").decode() for one, plain in zip(text, is_plain))
     begin = max(0, at - WIDTH // 2) if len(text) > WIDTH else 0
     end = begin + WIDTH
     return (".." if begin else "") + text[begin:end] + (f".. ({len(text)} letters)" if end < len(text) else "")

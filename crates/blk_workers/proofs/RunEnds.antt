@@ -1,5 +1,5 @@
 -- What a run has answered once every line is taken and nothing is owed.
-use Rattle.std.proofs.Common.{◌≡◌, ◌∙◌, sym, ap, subst, ℕ, ◌-◌, List, length, Option}
+use Rattle.std.proofs.Common.{◌≡◌, ◌∙◌, sym, ap, subst, ℕ, List, length, Option}
 use Rattle.std.proofs.Math.Seq.{take-length}
 use Rattle.script_meaning.specs.Meaning.{after_lines, start_of}
 use Rattle.script_meaning.specs.Script.{Meant}

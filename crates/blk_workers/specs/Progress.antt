@@ -1,16 +1,24 @@
 -- How far the thread that submits and collects has come.
-use Rattle.std.specs.Prelude.{◌≡◌, ℕ, ◌+◌, ◌<◌, ◌≤◌, true, List, [], length, Option}
+use Rattle.std.specs.Prelude.{◌≡◌, ℕ, ◌+◌, ◌<◌, ◌≤◌, ◌^◌, true, false, All, List, [], ◌∷◌, ◌++◌, length, Option, Some, None}
 use Rattle.atomic_table.specs.Seated.{TableId}
 use Rattle.run_queues.specs.Numbers.{Draws, times}
 use Rattle.run_queues.specs.Parts.{CollectorFacts, DrawerFacts, SourceFacts}
 use Rattle.run_queues.specs.Requests.{all_parts}
-use Rattle.freeze_queue.specs.Queue.{QueueFacts, FreezerFacts}
+use Rattle.freeze_queue.specs.Queue.{QueueFacts, FreezerFacts, TagFacts}
 use Rattle.script_meaning.specs.Meaning.{after_lines, start_of}
-use Rattle.script_meaning.specs.Requests.{accepted_before, accepted_in_all}
+use Rattle.script_meaning.specs.Queue.{Queue, start_queue}
+use Rattle.script_meaning.specs.Requests.{accepted_at, accepted_before, accepted_in_all, queue_at}
 use Rattle.script_meaning.specs.Script.{Meant}
-use Rattle.run_desk.specs.Requests.{IsAcceptedAt, IsQueueAt}
+use Rattle.script_meaning.specs.declared.reply.Reply.{Reply}
+use Rattle.script_meaning.specs.declared.request.Request.{Request}
+use Rattle.blk_script.specs.Texts.{reply_line}
+use Rattle.run_desk.specs.Requests.{IsAcceptedAt, IsQueueAt, IsReplyLine}
 use Rattle.run_desk.specs.Desk.{is_owed, AreJoined, Stands, owed_count}
+use Rattle.run_desk.specs.Span.{ClashesWithNone}
+use Rattle.run_desk.specs.declared.desk.Desk.{Desk}
 use Rattle.blk_workers.specs.Following.{mode_of}
+use Rattle.blk_workers.specs.Sizes.{Sizes}
+use Rattle.blk_workers.specs.declared.handing.Accepted.{Accepted}
 use Rattle.blk_workers.specs.declared.submitter.Submitter.{Submitter}
 
 -- the freezer is the queue's, knows a frozen queue to be drained, and killed its gate at most so often
@@ -29,10 +37,21 @@ abbrev pub AreAwaited : Meant → List (Option (List ℕ)) → ℕ → List ℕ 
 AreAwaited script replies given collected =
     (number position : ℕ) → IsAcceptedAt script number position → number < given → times number collected ≡ 0 → is_owed replies position ≡ true
 
--- the requests that were accepted before a position are pushed, each with the duty to tell its completion, and the replies to those whose
--- completions weren't collected are owed
-pub record AreHandedOver (script : Meant) (position : ℕ) (replies : List (Option (List ℕ))) (source : SourceFacts) (collector : CollectorFacts) : Type 0 where
-  pub requests : source.pushed ≡ accepted_before script position
+-- what was awaited beside these replies is so beside those, but for the request of a number
+abbrev pub StaysAwaitedBut : Meant → List (Option (List ℕ)) → List (Option (List ℕ)) → ℕ → Type 0
+StaysAwaitedBut script before after number = (given : ℕ) (collected : List ℕ) → AreAwaited script before given collected → AreAwaited script after given (collected ++ number ∷ [])
+
+-- what was awaited beside these replies, of the requests before the next line, is so beside those
+abbrev pub StaysAwaited : Meant → List (Option (List ℕ)) → List (Option (List ℕ)) → Type 0
+StaysAwaited script before after =
+    (given : ℕ) (collected : List ℕ) → given ≡ accepted_before script (length before) → AreAwaited script before given collected → AreAwaited script after given collected
+
+-- the requests that were accepted before a position are pushed to their queue, each with the duty to tell its completion at that of completions, and
+-- the replies to those whose completions weren't collected are owed
+pub record AreHandedOver (script : Meant) (requests completions : TableId) (position : ℕ) (replies : List (Option (List ℕ))) (source : SourceFacts) (collector : CollectorFacts) : Type 0 where
+  pub pushes : source.queue ≡ requests
+  pub collects : collector.queue ≡ completions
+  pub pushed : source.pushed ≡ accepted_before script position
   pub not_ended : source.marks ≡ 0
   pub duties : collector.given ≡ accepted_before script position
   pub awaited : AreAwaited script replies collector.given collector.collected
@@ -46,16 +65,78 @@ pub record IsAt (script : Meant) (queue : QueueFacts) (position : ℕ) (s : Subm
   pub mode : s.freezer.mode ≡ mode_of s.state.mode
   pub counted : IsCounted script position s.accepted
 
+-- the lines before a position are taken, and what was accepted of them is handed over
+pub record HasTaken (script : Meant) (queue : QueueFacts) (requests completions : TableId) (position : ℕ) (s : Submitter) (source : SourceFacts) (collector : CollectorFacts) : Type 0 where
+  pub at : IsAt script queue position s
+  pub handed_over : AreHandedOver script requests completions position s.desk.replies source collector
+
+-- whatever came of it, the right to push is as it was but for what was pushed, and the freezer is the queue's
+pub record StayOwn (queue : QueueFacts) (before after : SourceFacts) (f : FreezerFacts) : Type 0 where
+  pub source : after ≡ record before { pushed = after.pushed }
+  pub own : f.queue ≡ queue
+
+-- the desk is right, and the replies are owed to the requests whose completions this right to collect may still bring
+pub record IsCollecting (script : Meant) (completions : TableId) (desk : Desk) (collector : CollectorFacts) : Type 0 where
+  pub stands : Stands script desk.replies desk.disk desk.span
+  pub own : collector.queue ≡ completions
+  pub awaited : AreAwaited script desk.replies collector.given collector.collected
+
+-- completions were collected and no line was taken; the freezer may have killed its gate once more, and has the script's mode
+pub record HasCollected (script : Meant) (queue : QueueFacts) (completions : TableId) (old new : Submitter) (before after : CollectorFacts) : Type 0 where
+  pub collecting : IsCollecting script completions new.desk after
+  pub collector : after ≡ record before { collected = after.collected }
+  pub lines : length new.desk.replies ≡ length old.desk.replies
+  pub state : new.state ≡ old.state
+  pub accepted : new.accepted ≡ old.accepted
+  pub follows : IsFollowing queue (length old.desk.replies + 1) new.freezer
+  pub mode : new.freezer.mode ≡ mode_of new.state.mode
+
+-- the next line is this accepted request, it has this number and these limits, and it overlaps none that is owed
+pub record IsReady (script : Meant) (replies : List (Option (List ℕ))) (next : Accepted) : Type 0 where
+  pub accepted : accepted_at script (length replies) ≡ Some next.request
+  pub number : next.number ≡ accepted_before script (length replies)
+  pub limits : next.limits ≡ (queue_at script (length replies)).limits
+  pub apart : ClashesWithNone script (is_owed replies) next.request
+
+-- one line more is taken, whose request is handed over, and the desk is right
+pub record HasHandedOver (script : Meant) (requests completions : TableId) (old new : Desk) (source : SourceFacts) (collector : CollectorFacts) : Type 0 where
+  pub stands : Stands script new.replies new.disk new.span
+  pub lines : length new.replies ≡ length old.replies + 1
+  pub all : AreHandedOver script requests completions (length old.replies + 1) new.replies source collector
+
+-- the next line is this accepted request, which a number has room for, and leaves the script's queue as it says, in the mode that it had
+pub record IsRequestNext (script : Meant) (position : ℕ) (request : Request) (now next : Queue) : Type 0 where
+  pub few : position + 1 < 2 ^ 32
+  pub accepted : accepted_at script position ≡ Some request
+  pub queue : IsQueueAt script (position + 1) next
+  pub mode : next.mode ≡ now.mode
+
+-- the next line is no accepted request; it has this reply, and leaves the script's queue as it says
+pub record IsReplyNext (script : Meant) (replies : List (Option (List ℕ))) (number : ℕ) (answered : Reply) (next : Queue) : Type 0 where
+  pub refused : accepted_at script (length replies) ≡ None
+  pub reply : IsReplyLine script (length replies) (reply_line (number, answered))
+  pub queue : IsQueueAt script (length replies + 1) next
+
+-- the lines before the next are taken, but the freezer may have killed its gate once more
+pub record MayTake (script : Meant) (queue : QueueFacts) (s : Submitter) : Type 0 where
+  pub stands : Stands script s.desk.replies s.desk.disk s.desk.span
+  pub follows : IsFollowing queue (length s.desk.replies + 1) s.freezer
+  pub counted : IsCounted script (length s.desk.replies) s.accepted
+
+-- the next line is taken, and what was awaited still is
+pub record HasPassed (script : Meant) (queue : QueueFacts) (old new : Submitter) : Type 0 where
+  pub at : IsAt script queue (length old.desk.replies + 1) new
+  pub awaited : StaysAwaited script old.desk.replies new.desk.replies
+
+-- with a freezer that follows the script's queue from its start, no line is taken
+abbrev pub IsAtStartWith : Meant → FreezerFacts → Submitter → Type 0
+IsAtStartWith script freezer s = (queue : QueueFacts) → IsFollowing queue 0 freezer → freezer.mode ≡ mode_of (start_queue script).mode → IsAt script queue 0 s
+
 -- every line is taken, and nothing is owed
 pub record IsEnd (script : Meant) (s : Submitter) : Type 0 where
   pub stands : Stands script s.desk.replies s.desk.disk s.desk.span
   pub lines : length s.desk.replies ≡ length script.lines
   pub none_owed : owed_count s.desk.replies ≡ 0
-
--- the two ends are those of these queues
-pub record AreEndsOf (requests completions : TableId) (source : SourceFacts) (collector : CollectorFacts) : Type 0 where
-  pub pushes : source.queue ≡ requests
-  pub collects : collector.queue ≡ completions
 
 -- the right to push, of whose parts so many are with drawers, with room for their lists, before the first request
 pub record IsNewSource (line : TableId) (out : ℕ) (source : SourceFacts) : Type 0 where
@@ -94,3 +175,37 @@ pub record AreDrawn (script : Meant) (workers : ℕ) (lists : List (List ℕ)) :
 pub record IsRun (script : Meant) (replies : List ℕ) (disk : List (List ℕ)) : Type 0 where
   pub told : AreJoined script replies
   pub left : disk ≡ (after_lines (start_of script) script.lines).disk
+
+-- as a run's threads are led to the end: every line is taken, and all workers are back with what they drew of all requests
+pub record IsLed (script : Meant) (line : TableId) (workers : ℕ) (s : Submitter) (source : SourceFacts) : Type 0 where
+  pub end : IsEnd script s
+  pub back : AreBack line workers source
+  pub pushed : source.pushed ≡ accepted_in_all script
+
+-- so many workers are to come back, each of which has a part of the right to push, and there is room for their lists
+pub record AreOut (line : TableId) (workers : ℕ) (source : SourceFacts) : Type 0 where
+  pub own : source.queue ≡ line
+  pub out : source.parts + workers ≡ all_parts
+  pub parts : 0 < source.parts
+  pub some : 0 < workers
+  pub no_lists : source.lists ≡ []
+  pub room : workers ≤ source.room
+
+-- there are tags, which are this queue's, and none is entered
+pub record AreFreeTags (queue : QueueFacts) (tags : List TagFacts) : Type 0 where
+  pub some : 0 < length tags
+  pub free : All (λ (t : TagFacts). (t.queue ≡ queue) × (t.entered ≡ false)) tags
+
+-- a queue of so many slots is one that requests of a script can enter, whose lines are few enough to be numbered
+pub record Suits (script : Meant) (number : ℕ) (queue : QueueFacts) : Type 0 where
+  pub hardware : queue.hardware ≡ script.hardware
+  pub slots : queue.gate.slots ≡ number
+  pub few : length script.lines < 2 ^ 32
+
+-- a queue as it is made for a script and these sizes: it suits the script, its freezer follows the script's queue from its start, and its tags are free and as many
+pub record IsNewQueue (script : Meant) (sizes : Sizes) (queue : QueueFacts) (f : FreezerFacts) (tags : List TagFacts) : Type 0 where
+  pub suits : Suits script sizes.slots queue
+  pub follows : IsFollowing queue 0 f
+  pub mode : f.mode ≡ mode_of (start_queue script).mode
+  pub count : length tags ≡ sizes.tags
+  pub free : AreFreeTags queue tags

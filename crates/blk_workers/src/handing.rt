@@ -1,17 +1,17 @@
 //! How an accepted request is handed to the workers.
-ghost use Rattle.std.specs.Prelude.{◌≡◌, ◌+◌, ◌<◌, IfOk, OnOk, Some, length};
-ghost use Rattle.script_meaning.specs.Requests.{accepted_at, accepted_before, queue_at};
+ghost use Rattle.std.specs.Prelude.{◌≡◌, false, IfOk, OnOk, Some, length};
+ghost use Rattle.script_meaning.specs.Requests.{accepted_at};
 ghost use Rattle.run_desk.specs.Desk.{Stands, is_owed};
-ghost use Rattle.blk_workers.specs.Progress.{AreEndsOf, AreHandedOver};
+ghost use Rattle.blk_workers.specs.Progress.{AreHandedOver, HasHandedOver, IsReady};
 ghost use Rattle.run_desk.specs.Requests.{found_at};
 ghost use Rattle.run_desk.specs.Span.{ClashesWithNone};
 
 use crate::collecting::entered;
 use crate::fault::RunFault;
+use crate::hall::Hall;
 use crate::job::{Completion, Job};
 use crate::naming::{Line, Run};
 use crate::stall::{Point, Stall};
-use crate::worker::Hall;
 use queue_limits::Limits;
 use ram_disk::Sector;
 use run_desk::Desk;
@@ -49,6 +49,19 @@ fn found(
     }
 }
 
+/// Whether the request of the next line has to wait until nothing is owed. One that needn't overlaps none that is.
+pub(crate) fn must_wait<J: Run, C: Line, L: Line, R, S>(
+    hall: &Hall<'_, J, C, L, R, S>,
+    desk: &Desk,
+    request: &Request,
+) -> bool
+    requires stands { Stands J.script desk.now.replies desk.now.disk desk.now.span }
+    requires accepted { accepted_at J.script (length desk.now.replies) ≡ Some request.now }
+    ensures { result ≡ false → ClashesWithNone J.script (is_owed desk.now.replies) request.now }
+{
+    desk.must_wait(hall.script, request)
+}
+
 /// An accepted request of the next line: its number among the accepted ones, and the limits in force.
 #[derive(Clone, Copy)]
 pub(crate) struct Accepted {
@@ -58,32 +71,17 @@ pub(crate) struct Accepted {
 }
 
 /// Hands an accepted request to the workers: it enters the queue under the limits in force, and is owed.
-pub(crate) fn hand_over<J: Run, C: Line, R: Wait, S: Stall>(
-    rt: &R,
-    alloc: Global,
-    hall: &Hall<J, C>,
-    script: &Script,
-    stall: &S,
+pub(crate) fn hand_over<J: Run, C: Line, L: Line, R: Wait, S: Stall>(
+    hall: &Hall<'_, J, C, L, R, S>,
     desk: &mut Desk,
     ends: &mut Ends<J, C>,
     accepted: Accepted,
 ) -> Result<(), RunFault>
-    requires script { script.now ≡ J.script }
-    requires queue { hall.now.queue ≡ J.queue }
-    requires slot { 0 < J.queue.gate.slots }
-    requires completions { hall.now.completions.id ≡ C.id }
-    requires own { AreEndsOf hall.now.requests.id hall.now.completions.id ends.old.source ends.old.collector }
-    requires handed_over { AreHandedOver J.script (length desk.old.replies) desk.old.replies ends.old.source ends.old.collector }
-    requires number { accepted.number ≡ accepted_before J.script (length desk.old.replies) }
-    requires stands { Stands script.now desk.old.replies desk.old.disk desk.old.span }
-    requires accepted { accepted_at script.now (length desk.old.replies) ≡ Some accepted.request }
-    requires apart { ClashesWithNone script.now (is_owed desk.old.replies) accepted.request }
-    requires limits { accepted.limits ≡ (queue_at script.now (length desk.old.replies)).limits }
-    ensures stands { OnOk result (Stands script.now desk.new.replies desk.new.disk desk.new.span) }
-    ensures lines { OnOk result (length desk.new.replies ≡ length desk.old.replies + 1) }
-    ensures handed_over { OnOk result (AreHandedOver J.script (length desk.old.replies + 1) desk.new.replies ends.new.source ends.new.collector) }
+    requires handed_over { AreHandedOver J.script L.id C.id (length desk.old.replies) desk.old.replies ends.old.source ends.old.collector }
+    requires stands { Stands J.script desk.old.replies desk.old.disk desk.old.span }
+    requires ready { IsReady J.script desk.old.replies accepted }
+    ensures handed_over { OnOk result (HasHandedOver J.script L.id C.id desk.old desk.new ends.new.source ends.new.collector) }
     ensures source { ends.new.source ≡ record ends.old.source { pushed = ends.new.source.pushed } }
-    ensures collector { ends.new.collector ≡ record ends.old.collector { given = ends.new.collector.given } }
 {
     let Accepted {
         request,
@@ -91,12 +89,12 @@ pub(crate) fn hand_over<J: Run, C: Line, R: Wait, S: Stall>(
         limits,
     } = accepted;
     let position = desk.replies.len();
-    let found = found(alloc, script, desk, request)?;
-    desk.submit(script, &request)?;
-    let tag = entered(rt, hall, limits);
-    stall.at(number, Point::Entered);
+    let found = found(hall.alloc, hall.script, desk, request)?;
+    desk.submit(hall.script, &request)?;
+    let tag = entered(hall, limits);
+    hall.stall.at(number, Point::Entered);
     let duty = hall.completions.duty(&mut ends.collector, number);
     let job = Job::new(duty, position, tag, found);
-    hall.requests.push(rt, &mut ends.source, job);
+    hall.requests.push(hall.rt, &mut ends.source, job);
     Ok(())
 }

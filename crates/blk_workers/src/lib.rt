@@ -18,8 +18,8 @@
 //! the first thread starts, and so is that for the lists of what each worker draws.
 //!
 //! Words of this crate:
-//! - *hall*: what the threads share, which is the queue that requests enter, and three queues by which they hand on requests,
-//!   completions and free tags.
+//! - *hall*: what the threads stand on, which is the runtime, the allocator, the script, the stall, the queue that requests
+//!   enter, and three queues by which they hand on requests, completions and free tags.
 //! - *desk*: the disk and the replies so far, which the submitter alone has (`run_desk`). A reply is *owed* while its request is
 //!   under way.
 //! - *stall*: what a test holds a run by at its points; it changes no answer.
@@ -33,6 +33,7 @@ mod collecting;
 mod config;
 mod fault;
 mod following;
+mod hall;
 mod handing;
 mod job;
 mod naming;

@@ -1,12 +1,12 @@
 //! A script's run on several threads.
-ghost use Rattle.std.specs.Prelude.{◌≡◌, ◌+◌, ◌<◌, ◌≤◌, ◌==◌, ◌^◌, if◌then◌else◌, false, All, IfOk, length, map};
-ghost use Rattle.script_meaning.specs.Queue.{start_queue};
+ghost use Rattle.std.specs.Prelude.{◌≡◌, ◌<◌, ◌≤◌, ◌==◌, ◌^◌, if◌then◌else◌, IfOk, length, map};
 ghost use Rattle.script_meaning.specs.Requests.{accepted_in_all};
-ghost use Rattle.blk_workers.specs.Following.{mode_of};
-ghost use Rattle.blk_workers.specs.Progress.{AreDrawn, AreNewEnds, IsAt, IsFollowing, IsRun};
+ghost use Rattle.blk_workers.specs.Halls.{IsHall};
+ghost use Rattle.blk_workers.specs.Progress.{AreDrawn, AreFreeTags, AreNewEnds, IsAt, IsNewQueue, IsRun, Suits};
 
 use crate::config::Config;
 use crate::fault::RunFault;
+use crate::hall::{Hall, Queues};
 use crate::handing::Ends;
 use crate::job::Completion;
 use crate::naming::{Line, Run};
@@ -14,7 +14,6 @@ use crate::ran::Ran;
 use crate::stall::Stall;
 use crate::submitter::Submitter;
 use crate::team::{drawers, with_workers};
-use crate::worker::Hall;
 use freeze_queue::{BlockQueue, NewQueue, Tag};
 use queue_limits::Limits;
 use run_desk::accepted_requests;
@@ -35,35 +34,26 @@ fn run_in<
 >(
     rt: &R,
     alloc: Global,
-    hall: &Hall<J, C>,
     script: &Script,
     config: Config,
     stall: &S,
+    queues: &Queues<J, C>,
     submitter: Submitter,
     mut ends: Ends<J, C>,
     accepted: usize,
 ) -> Result<Ran, RunFault>
-    requires script { script.now ≡ J.script }
-    requires queue { hall.now.queue ≡ J.queue }
-    requires line { hall.now.requests.id ≡ L.id }
-    requires hardware { J.queue.hardware ≡ J.script.hardware }
-    requires slots { J.queue.gate.slots ≡ config.slots }
-    requires few { length script.now.lines < 2 ^ 32 }
+    requires hall { IsHall J.script J.queue L.id C.id script.now queues.now.queue queues.now.requests.id queues.now.completions.id }
     requires start { IsAt J.script J.queue 0 submitter }
-    requires completions { hall.now.completions.id ≡ C.id }
-    requires ends { AreNewEnds hall.now.requests.id hall.now.completions.id 0 ends.source ends.collector }
+    requires ends { AreNewEnds L.id C.id 0 ends.source ends.collector }
     requires room { config.workers ≤ ends.source.room }
-    requires accepted { accepted ≡ accepted_in_all J.script }
-    requires few_accepted { accepted < 2 ^ 32 }
+    requires accepted { (accepted ≡ accepted_in_all J.script) × (accepted < 2 ^ 32) }
     ensures run { IfOk result (λ ran. IsRun J.script ran.replies.items ran.disk) }
     ensures drawn { IfOk result (λ ran. AreDrawn J.script config.workers (map (λ list. list.items) ran.drawn.items)) }
 {
-    let room = accepted + 1;
-    let drawers = drawers::<J, C, L>(alloc, hall, &mut ends.source, config.workers(), room)?;
-    let slots = config.slots();
-    let (done, source) = with_workers::<J, C, L, R, S>(
-        rt, alloc, hall, script, stall, submitter, ends, drawers, slots,
-    )?;
+    let workers = config.workers();
+    let hall = Hall::<J, C, L, R, S>::new(rt, alloc, script, stall, queues);
+    let drawers = drawers(&hall, &mut ends.source, workers, accepted + 1)?;
+    let (done, source) = with_workers(&hall, submitter, ends, drawers)?;
     done.answer(hall.requests.finish(source))
 }
 
@@ -83,25 +73,20 @@ fn run_on<J: Run + Send + Sync, C: Line + Send + Sync, R: Threads + Wait + Sync,
 ) -> Result<Ran, RunFault>
     requires script { script.now ≡ J.script }
     requires queue { queue ≡ J.queue }
-    requires hardware { J.queue.hardware ≡ J.script.hardware }
-    requires slots { J.queue.gate.slots ≡ config.slots }
-    requires few { length script.now.lines < 2 ^ 32 }
-    requires completions { completions.id ≡ C.id }
+    requires suits { Suits J.script config.slots J.queue }
     requires room { completions.room ≡ (if accepted == 0 then 1 else accepted) }
-    requires collector { (collector.queue ≡ completions.id) × (collector.given ≡ 0) }
+    requires collector { (completions.id ≡ C.id) × (collector.queue ≡ C.id) × (collector.given ≡ 0) }
     requires start { IsAt J.script J.queue 0 submitter }
-    requires accepted { accepted ≡ accepted_in_all J.script }
-    requires few_accepted { accepted < 2 ^ 32 }
-    requires some { 0 < length tags.items }
-    requires tags { All (λ t. (t.queue ≡ J.queue) × (t.entered ≡ false)) tags.items }
+    requires accepted { (accepted ≡ accepted_in_all J.script) × (accepted < 2 ^ 32) }
+    requires tags { AreFreeTags J.queue tags.items }
     ensures run { IfOk result (λ ran. IsRun J.script ran.replies.items ran.disk) }
     ensures drawn { IfOk result (λ ran. AreDrawn J.script config.workers (map (λ list. list.items) ran.drawn.items)) }
 {
     let workers = config.workers();
-    let (hall, source) = Hall::<J, C>::new(rt, alloc, queue, tags, completions, workers)?;
+    let (queues, source) = Queues::<J, C>::new(rt, alloc, queue, tags, completions, workers)?;
     let ends = Ends { source, collector };
     run_in::<J, C, Brand, R, S>(
-        rt, alloc, &hall, script, config, stall, submitter, ends, accepted,
+        rt, alloc, script, config, stall, &queues, submitter, ends, accepted,
     )
 }
 
@@ -116,14 +101,7 @@ fn run_as<J: Run + Send + Sync, R: Threads + Wait + Sync, S: Stall>(
 ) -> Result<Ran, RunFault>
     requires script { script.now ≡ J.script }
     requires queue { parts.0 ≡ J.queue }
-    requires hardware { J.queue.hardware ≡ J.script.hardware }
-    requires slots { J.queue.gate.slots ≡ config.slots }
-    requires few { length script.now.lines < 2 ^ 32 }
-    requires freezer { IsFollowing J.queue 0 parts.1 }
-    requires mode { parts.1.mode ≡ mode_of (start_queue script.now).mode }
-    requires count { length parts.2.items ≡ config.tags }
-    requires some { 0 < length parts.2.items }
-    requires tags { All (λ t. (t.queue ≡ J.queue) × (t.entered ≡ false)) parts.2.items }
+    requires new { IsNewQueue J.script config J.queue parts.1 parts.2.items }
     ensures run { IfOk result (λ ran. IsRun J.script ran.replies.items ran.disk) }
     ensures drawn { IfOk result (λ ran. AreDrawn J.script config.workers (map (λ list. list.items) ran.drawn.items)) }
 {

@@ -1,25 +1,22 @@
 //! The thread that submits and collects.
-ghost use Rattle.std.specs.Prelude.{◌≡◌, ℕ, List, ◌+◌, ◌<◌, ◌≤◌, ◌^◌, false, [], IfOk, OnOk, OnErr, Some, None, length};
+ghost use Rattle.std.specs.Prelude.{◌≡◌, ◌+◌, ◌<◌, IfOk, OnOk, Some, None, length};
 ghost use Rattle.blk_script.specs.Texts.{reply_line};
-ghost use Rattle.freeze_queue.specs.Queue.{QueueFacts};
-ghost use Rattle.script_meaning.specs.Queue.{start_queue};
 ghost use Rattle.script_meaning.specs.Script.{Meant};
-ghost use Rattle.script_meaning.specs.Requests.{accepted_at, accepted_before, accepted_in_all, queue_at};
-ghost use Rattle.blk_workers.specs.Progress.{AreAwaited, AreEndsOf, AreHandedOver, IsAt, IsCounted, IsEnd, IsFollowing, IsRun};
+ghost use Rattle.script_meaning.specs.Requests.{accepted_at, accepted_in_all};
+ghost use Rattle.blk_workers.specs.Progress.{HasCollected, HasPassed, HasTaken, IsAt, IsAtStartWith, IsCollecting, IsEnd, IsReplyNext, IsRequestNext, IsRun, MayTake, StayOwn, StaysAwaited};
 ghost use Rattle.run_desk.specs.Desk.{MayPass, Stands, is_owed, owed_count};
-ghost use Rattle.blk_workers.specs.Following.{mode_of};
-ghost use Rattle.run_desk.specs.Requests.{IsQueueAt, IsReplyLine};
+ghost use Rattle.run_desk.specs.Requests.{IsReplyLine};
 ghost use Rattle.run_desk.specs.Span.{ClashesWithNone};
 
 use crate::collecting::{collect_all, collect_some};
 use crate::fault::RunFault;
 use crate::following::{follow, freeze};
-use crate::handing::{Accepted, Ends, hand_over};
+use crate::hall::Hall;
+use crate::handing::{Accepted, Ends, hand_over, must_wait};
 use crate::job::Completion;
 use crate::naming::{Line, Run};
 use crate::ran::Ran;
 use crate::stall::{Point, Stall};
-use crate::worker::Hall;
 use blk_script::render;
 use freeze_queue::Freezer;
 use ram_disk::Disk;
@@ -55,7 +52,7 @@ fn settle(
     requires reply { IsReplyLine script.now (length desk.old.replies) (reply_line (number, reply.now)) }
     ensures stands { OnOk result (Stands script.now desk.new.replies desk.new.disk desk.new.span) }
     ensures lines { OnOk result (length desk.new.replies ≡ length desk.old.replies + 1) }
-    ensures awaited { OnOk result ((given : ℕ) (collected : List ℕ) → given ≡ accepted_before script.now (length desk.old.replies) → AreAwaited script.now desk.old.replies given collected → AreAwaited script.now desk.new.replies given collected) }
+    ensures awaited { OnOk result (StaysAwaited script.now desk.old.replies desk.new.replies) }
 {
     let Ok(text) = render(alloc, number, reply) else {
         return Err(RunFault::Memory);
@@ -71,7 +68,7 @@ impl Submitter {
         script: &Script,
         freezer: Freezer,
     ) -> Result<Submitter, RunFault>
-        ensures { IfOk result (λ s. (queue : QueueFacts) → IsFollowing queue 0 freezer → freezer.mode ≡ mode_of (start_queue script.now).mode → IsAt script.now queue 0 s) }
+        ensures { IfOk result (IsAtStartWith script.now freezer) }
     {
         let Ok(disk) = Disk::new(alloc, script.disk()) else {
             return Err(RunFault::Memory);
@@ -115,229 +112,135 @@ impl Submitter {
     }
 
     // Drains the queue, and opens it again, before an accepted request that has to wait.
-    fn make_way<J: Run, C: Line, R: Wait, S: Stall>(
+    fn make_way<J: Run, C: Line, L: Line, R: Wait, S: Stall>(
         &mut self,
-        rt: &R,
-        hall: &Hall<J, C>,
-        script: &Script,
-        stall: &S,
+        hall: &Hall<'_, J, C, L, R, S>,
         collector: &mut Collector<Completion<J>>,
         request: &Request,
     ) -> Result<(), RunFault>
-        requires script { script.now ≡ J.script }
-        requires queue { hall.now.queue ≡ J.queue }
-        requires hardware { J.queue.hardware ≡ J.script.hardware }
         requires at { IsAt J.script J.queue (length self.old.desk.replies) self.old }
-        requires own { collector.old.queue ≡ hall.now.completions.id }
-        requires awaited { AreAwaited J.script self.old.desk.replies collector.old.given collector.old.collected }
-        requires few { length self.old.desk.replies < 2 ^ 40 }
-        requires accepted { accepted_at script.now (length self.old.desk.replies) ≡ Some request.now }
-        ensures awaited { AreAwaited J.script self.new.desk.replies collector.new.given collector.new.collected }
-        ensures collector { collector.new ≡ record collector.old { collected = collector.new.collected } }
-        ensures stands { Stands script.now self.new.desk.replies self.new.desk.disk self.new.desk.span }
-        ensures lines { length self.new.desk.replies ≡ length self.old.desk.replies }
-        ensures state { self.new.state ≡ self.old.state }
-        ensures accepted { self.new.accepted ≡ self.old.accepted }
-        ensures apart { OnOk result (ClashesWithNone script.now (is_owed self.new.desk.replies) request.now) }
-        ensures follows { IsFollowing J.queue (length self.old.desk.replies + 1) self.new.freezer }
-        ensures mode { self.new.freezer.mode ≡ mode_of self.new.state.mode }
+        requires collecting { IsCollecting J.script C.id self.old.desk collector.old }
+        requires accepted { accepted_at J.script (length self.old.desk.replies) ≡ Some request.now }
+        ensures collected { HasCollected J.script J.queue C.id self.old self.new collector.old collector.new }
+        ensures apart { OnOk result (ClashesWithNone J.script (is_owed self.new.desk.replies) request.now) }
     {
-        collect_some(
-            rt,
-            &hall.completions,
-            collector,
-            script,
-            &mut self.desk,
-            hall.tags.room(),
-        )?;
-        if !self.desk.must_wait(script, request) {
+        collect_some(hall, collector, &mut self.desk)?;
+        if !must_wait(hall, &self.desk, request) {
             return Ok(());
         }
-        self.drain(rt, hall, script, stall, collector)?;
+        self.drain(hall, collector)?;
+        let queue = hall.queue;
         let lines = self.desk.replies.len() + 1;
-        follow(&mut self.freezer, &hall.queue, &self.state, lines);
+        follow(&mut self.freezer, queue, &self.state, lines);
         Ok(())
     }
 
     // Hands over the accepted request of the next line, after which the script's queue is `next`.
-    fn submit<J: Run, C: Line, R: Wait, S: Stall>(
+    fn submit<J: Run, C: Line, L: Line, R: Wait, S: Stall>(
         &mut self,
-        rt: &R,
-        alloc: Global,
-        hall: &Hall<J, C>,
-        script: &Script,
-        stall: &S,
+        hall: &Hall<'_, J, C, L, R, S>,
         ends: &mut Ends<J, C>,
         next: QueueState,
         request: Request,
     ) -> Result<(), RunFault>
-        requires script { script.now ≡ J.script }
-        requires queue { hall.now.queue ≡ J.queue }
-        requires hardware { J.queue.hardware ≡ J.script.hardware }
-        requires slot { 0 < J.queue.gate.slots }
-        requires completions { hall.now.completions.id ≡ C.id }
-        requires own { AreEndsOf hall.now.requests.id hall.now.completions.id ends.old.source ends.old.collector }
-        requires handed_over { AreHandedOver J.script (length self.old.desk.replies) self.old.desk.replies ends.old.source ends.old.collector }
-        requires at { IsAt J.script J.queue (length self.old.desk.replies) self.old }
-        requires few { length self.old.desk.replies + 1 < 2 ^ 32 }
-        requires accepted { accepted_at script.now (length self.old.desk.replies) ≡ Some request }
-        requires next { IsQueueAt J.script (length self.old.desk.replies + 1) next }
-        requires mode { next.mode ≡ self.old.state.mode }
-        ensures at { OnOk result (IsAt J.script J.queue (length self.old.desk.replies + 1) self.new) }
-        ensures handed_over { OnOk result (AreHandedOver J.script (length self.old.desk.replies + 1) self.new.desk.replies ends.new.source ends.new.collector) }
-        ensures source { ends.new.source ≡ record ends.old.source { pushed = ends.new.source.pushed } }
-        ensures collector { ends.new.collector.queue ≡ ends.old.collector.queue }
-        ensures own { self.new.freezer.queue ≡ J.queue }
+        requires taken { HasTaken J.script J.queue L.id C.id (length self.old.desk.replies) self.old ends.old.source ends.old.collector }
+        requires next { IsRequestNext J.script (length self.old.desk.replies) request self.old.state next }
+        ensures taken { OnOk result (HasTaken J.script J.queue L.id C.id (length self.old.desk.replies + 1) self.new ends.new.source ends.new.collector) }
+        ensures kept { StayOwn J.queue ends.old.source ends.new.source self.new.freezer }
     {
         let accepted = Accepted {
             request,
             number: self.accepted,
             limits: self.state.limits(),
         };
-        self.make_way(rt, hall, script, stall, &mut ends.collector, &request)?;
+        self.make_way(hall, &mut ends.collector, &request)?;
         let desk = &mut self.desk;
-        hand_over(rt, alloc, hall, script, stall, desk, ends, accepted)?;
+        hand_over(hall, desk, ends, accepted)?;
         self.accepted += 1;
         self.state = next;
         Ok(())
     }
 
     // Drains the queue, which it freezes where it isn't frozen, and collects all completions. A new span begins.
-    fn drain<J: Run, C: Line, R: Wait, S: Stall>(
+    fn drain<J: Run, C: Line, L: Line, R: Wait, S: Stall>(
         &mut self,
-        rt: &R,
-        hall: &Hall<J, C>,
-        script: &Script,
-        stall: &S,
+        hall: &Hall<'_, J, C, L, R, S>,
         collector: &mut Collector<Completion<J>>,
     ) -> Result<(), RunFault>
-        requires script { script.now ≡ J.script }
-        requires queue { hall.now.queue ≡ J.queue }
         requires at { IsAt J.script J.queue (length self.old.desk.replies) self.old }
-        requires own { collector.old.queue ≡ hall.now.completions.id }
-        requires awaited { AreAwaited J.script self.old.desk.replies collector.old.given collector.old.collected }
-        requires few { length self.old.desk.replies < 2 ^ 40 }
-        ensures awaited { AreAwaited J.script self.new.desk.replies collector.new.given collector.new.collected }
-        ensures collector { collector.new ≡ record collector.old { collected = collector.new.collected } }
-        ensures stands { Stands script.now self.new.desk.replies self.new.desk.disk self.new.desk.span }
-        ensures lines { length self.new.desk.replies ≡ length self.old.desk.replies }
-        ensures state { self.new.state ≡ self.old.state }
-        ensures accepted { self.new.accepted ≡ self.old.accepted }
+        requires collecting { IsCollecting J.script C.id self.old.desk collector.old }
+        ensures collected { HasCollected J.script J.queue C.id self.old self.new collector.old collector.new }
         ensures none_owed { OnOk result (owed_count self.new.desk.replies ≡ 0) }
-        ensures follows { IsFollowing J.queue (length self.old.desk.replies + 1) self.new.freezer }
-        ensures mode { self.new.freezer.mode ≡ self.old.freezer.mode }
     {
         let lines = self.desk.replies.len();
-        if freeze(rt, &mut self.freezer, &hall.queue, lines) {
-            stall.at(self.accepted, Point::Drained);
+        if freeze(hall.rt, &mut self.freezer, hall.queue, lines) {
+            hall.stall.at(self.accepted, Point::Drained);
         }
-        collect_all(rt, &hall.completions, collector, script, &mut self.desk)?;
-        self.desk.begin_span(script);
+        collect_all(hall, collector, &mut self.desk)?;
+        self.desk.begin_span(hall.script);
         Ok(())
     }
 
     // Takes the next line, whose reply is there and after which the script's queue is `next`.
-    fn pass<J: Run, C: Line>(
+    fn pass<J: Run, C: Line, L: Line, R, S>(
         &mut self,
-        alloc: Global,
-        hall: &Hall<J, C>,
-        script: &Script,
+        hall: &Hall<'_, J, C, L, R, S>,
         next: QueueState,
         number: u32,
         reply: &Reply,
     ) -> Result<(), RunFault>
-        requires script { script.now ≡ J.script }
-        requires queue { hall.now.queue ≡ J.queue }
-        requires hardware { J.queue.hardware ≡ J.script.hardware }
-        requires stands { Stands script.now self.old.desk.replies self.old.desk.disk self.old.desk.span }
-        requires follows { IsFollowing J.queue (length self.old.desk.replies + 1) self.old.freezer }
-        requires counted { IsCounted J.script (length self.old.desk.replies) self.old.accepted }
-        requires refused { accepted_at script.now (length self.old.desk.replies) ≡ None }
-        requires passes { MayPass script.now self.old.desk.replies }
-        requires reply { IsReplyLine script.now (length self.old.desk.replies) (reply_line (number, reply.now)) }
-        requires next { IsQueueAt J.script (length self.old.desk.replies + 1) next }
-        ensures at { OnOk result (IsAt J.script J.queue (length self.old.desk.replies + 1) self.new) }
-        ensures awaited { OnOk result ((given : ℕ) (collected : List ℕ) → given ≡ accepted_before J.script (length self.old.desk.replies) → AreAwaited J.script self.old.desk.replies given collected → AreAwaited J.script self.new.desk.replies given collected) }
+        requires may_take { MayTake J.script J.queue self.old }
+        requires passes { MayPass J.script self.old.desk.replies }
+        requires next { IsReplyNext J.script self.old.desk.replies number reply.now next }
+        ensures passed { OnOk result (HasPassed J.script J.queue self.old self.new) }
         ensures own { self.new.freezer.queue ≡ J.queue }
     {
-        settle(alloc, script, &mut self.desk, number, reply)?;
+        settle(hall.alloc, hall.script, &mut self.desk, number, reply)?;
         let lines = self.desk.replies.len();
-        follow(&mut self.freezer, &hall.queue, &next, lines);
+        follow(&mut self.freezer, hall.queue, &next, lines);
         self.state = next;
         Ok(())
     }
 
     // Takes the next line.
-    fn take_next<J: Run, C: Line, R: Wait, S: Stall>(
+    fn take_next<J: Run, C: Line, L: Line, R: Wait, S: Stall>(
         &mut self,
-        rt: &R,
-        alloc: Global,
-        hall: &Hall<J, C>,
-        script: &Script,
-        stall: &S,
+        hall: &Hall<'_, J, C, L, R, S>,
         ends: &mut Ends<J, C>,
     ) -> Result<(), RunFault>
-        requires script { script.now ≡ J.script }
-        requires queue { hall.now.queue ≡ J.queue }
-        requires hardware { J.queue.hardware ≡ J.script.hardware }
-        requires slot { 0 < J.queue.gate.slots }
-        requires completions { hall.now.completions.id ≡ C.id }
-        requires own { AreEndsOf hall.now.requests.id hall.now.completions.id ends.old.source ends.old.collector }
-        requires handed_over { AreHandedOver J.script (length self.old.desk.replies) self.old.desk.replies ends.old.source ends.old.collector }
-        requires at { IsAt J.script J.queue (length self.old.desk.replies) self.old }
-        requires more { length self.old.desk.replies < length script.now.lines }
-        requires few { length script.now.lines < 2 ^ 32 }
-        ensures at { OnOk result (IsAt J.script J.queue (length self.old.desk.replies + 1) self.new) }
-        ensures handed_over { OnOk result (AreHandedOver J.script (length self.old.desk.replies + 1) self.new.desk.replies ends.new.source ends.new.collector) }
-        ensures source { ends.new.source ≡ record ends.old.source { pushed = ends.new.source.pushed } }
-        ensures collector { ends.new.collector.queue ≡ ends.old.collector.queue }
-        ensures own { self.new.freezer.queue ≡ J.queue }
+        requires taken { HasTaken J.script J.queue L.id C.id (length self.old.desk.replies) self.old ends.old.source ends.old.collector }
+        requires more { length self.old.desk.replies < length J.script.lines }
+        ensures taken { OnOk result (HasTaken J.script J.queue L.id C.id (length self.old.desk.replies + 1) self.new ends.new.source ends.new.collector) }
+        ensures kept { StayOwn J.queue ends.old.source ends.new.source self.new.freezer }
     {
-        let line = &script.lines()[self.desk.replies.len()];
+        let line = &hall.script.lines()[self.desk.replies.len()];
         let mut next = self.state;
         match next.take(&line.what) {
-            Outcome::Accepted(request) => {
-                self.submit(rt, alloc, hall, script, stall, ends, next, request)
-            }
+            Outcome::Accepted(request) => { self.submit(hall, ends, next, request) }
             Outcome::Drained(reply) => {
-                self.drain(rt, hall, script, stall, &mut ends.collector)?;
-                self.pass(alloc, hall, script, next, line.number, &reply)
+                self.drain(hall, &mut ends.collector)?;
+                self.pass(hall, next, line.number, &reply)
             }
-            Outcome::Replied(reply) => { self.pass(alloc, hall, script, next, line.number, &reply) }
+            Outcome::Replied(reply) => { self.pass(hall, next, line.number, &reply) }
         }
     }
 
     /// Takes all lines, and drains the queue at the end.
-    pub(crate) fn submit_all<J: Run, C: Line, R: Wait, S: Stall>(
+    pub(crate) fn submit_all<J: Run, C: Line, L: Line, R: Wait, S: Stall>(
         &mut self,
-        rt: &R,
-        alloc: Global,
-        hall: &Hall<J, C>,
-        script: &Script,
-        stall: &S,
+        hall: &Hall<'_, J, C, L, R, S>,
         ends: &mut Ends<J, C>,
     ) -> Result<(), RunFault>
-        requires script { script.now ≡ J.script }
-        requires queue { hall.now.queue ≡ J.queue }
-        requires hardware { J.queue.hardware ≡ J.script.hardware }
-        requires slot { 0 < J.queue.gate.slots }
-        requires few { length script.now.lines < 2 ^ 32 }
-        requires completions { hall.now.completions.id ≡ C.id }
-        requires own { AreEndsOf hall.now.requests.id hall.now.completions.id ends.old.source ends.old.collector }
-        requires fresh { (ends.old.source.pushed ≡ 0) × (ends.old.source.marks ≡ 0) × (ends.old.collector.given ≡ 0) }
-        requires start { IsAt J.script J.queue 0 self.old }
-        ensures stands { OnOk result (Stands J.script self.new.desk.replies self.new.desk.disk self.new.desk.span) }
-        ensures lines { OnOk result (length self.new.desk.replies ≡ length J.script.lines) }
-        ensures none_owed { OnOk result (owed_count self.new.desk.replies ≡ 0) }
+        requires start { HasTaken J.script J.queue L.id C.id 0 self.old ends.old.source ends.old.collector }
+        ensures end { OnOk result (IsEnd J.script self.new) }
         ensures pushed { OnOk result (ends.new.source ≡ record ends.old.source { pushed = accepted_in_all J.script }) }
-        ensures source { ends.new.source ≡ record ends.old.source { pushed = ends.new.source.pushed } }
-        ensures own { self.new.freezer.queue ≡ J.queue }
+        ensures kept { StayOwn J.queue ends.old.source ends.new.source self.new.freezer }
     {
-        for position in 0..script.lines().len() {
+        for position in 0..hall.script.lines().len() {
             let _ = position;
-            self.take_next(rt, alloc, hall, script, stall, ends)?;
+            self.take_next(hall, ends)?;
         }
-        self.drain(rt, hall, script, stall, &mut ends.collector)
+        self.drain(hall, &mut ends.collector)
     }
 
     /// Waits until no request is under way any more, whether or not its answer is collected.

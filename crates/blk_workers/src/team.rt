@@ -1,43 +1,40 @@
 //! The workers of a run: how they are started, led, ended and waited for.
-ghost use Rattle.std.specs.Prelude.{◌≡◌, ◌+◌, ◌-◌, ◌<◌, ◌≤◌, ◌^◌, [], All, IfOk, IfSome, OnOk, length, vec_capacity};
+ghost use Rattle.std.specs.Prelude.{◌≡◌, ◌+◌, ◌-◌, ◌<◌, ◌≤◌, All, IfOk, IfSome, OnOk, length, vec_capacity};
 ghost use Rattle.run_queues.specs.Requests.{all_parts};
 ghost use Rattle.script_meaning.specs.Requests.{accepted_in_all};
-ghost use Rattle.blk_workers.specs.Progress.{AreBack, AreNewEnds, IsAt, IsEnd, IsNewDrawer};
+ghost use Rattle.blk_workers.specs.Progress.{AreBack, AreNewEnds, AreOut, IsAt, IsEnd, IsLed, IsNewDrawer};
 
 use crate::fault::RunFault;
+use crate::hall::Hall;
 use crate::handing::Ends;
 use crate::job::Job;
 use crate::naming::{Line, Run};
 use crate::stall::Stall;
 use crate::submitter::Submitter;
-use crate::worker::{Back, Hall, work};
+use crate::worker::{Back, work};
 use run_queues::{Drawer, Source};
-use script_meaning::Script;
-use std::alloc::{AllocError, Global};
+use std::alloc::AllocError;
 use std::sync::Wait;
 use std::thread;
 use std::thread::{JoinHandle, Scope, Threads};
 
 /// The right to draw for each worker, with room for all that it may draw.
-pub(crate) fn drawers<J: Run, C: Line, L: Line>(
-    alloc: Global,
-    hall: &Hall<J, C>,
+pub(crate) fn drawers<J: Run, C: Line, L: Line, R, S>(
+    hall: &Hall<'_, J, C, L, R, S>,
     source: &mut Source<Job<J, C>>,
     workers: u32,
     room: usize,
 ) -> Result<Vec<Drawer<Job<J, C>>>, AllocError>
-    requires line { hall.now.requests.id ≡ L.id }
-    requires own { source.old.queue ≡ hall.now.requests.id }
+    requires own { source.old.queue ≡ L.id }
     requires parts { source.old.parts ≡ all_parts }
     requires few { workers ≤ 32 }
-    ensures count { IfOk result (λ ds. length ds.items ≡ workers) }
-    ensures drawers { IfOk result (λ ds. All (IsNewDrawer L.id room) ds.items) }
+    ensures drawers { IfOk result (λ ds. (length ds.items ≡ workers) × All (IsNewDrawer L.id room) ds.items) }
     ensures source { OnOk result (source.new ≡ record source.old { parts = all_parts - workers }) }
 {
-    let mut drawers = Vec::with_capacity(alloc, workers as usize)?;
+    let mut drawers = Vec::with_capacity(hall.alloc, workers as usize)?;
     for worker in 0..workers {
         let _ = worker;
-        drawers.push(hall.requests.drawer(alloc, source, room)?)?;
+        drawers.push(hall.requests.drawer(hall.alloc, source, room)?)?;
     }
     Ok(drawers)
 }
@@ -55,17 +52,16 @@ fn take_drawer<J: Run, C: Line, L: Line>(
 }
 
 // Puts an end mark for each worker that was started.
-fn end<J: Run, C: Line, R: Wait>(
-    rt: &R,
-    hall: &Hall<J, C>,
+fn end<J: Run, C: Line, L: Line, R: Wait, S>(
+    hall: &Hall<'_, J, C, L, R, S>,
     source: &mut Source<Job<J, C>>,
     started: usize,
 )
-    requires own { source.old.queue ≡ hall.now.requests.id }
+    requires own { source.old.queue ≡ L.id }
     ensures source { source.new ≡ record source.old { marks = source.old.marks + started } }
 {
     for _worker in 0..started {
-        hall.requests.end(rt, source);
+        hall.requests.end(hall.rt, source);
     }
 }
 
@@ -84,37 +80,27 @@ fn dismiss<J: Run, C: Line, L: Line, R: Threads>(
 
 // Submits and collects while so many workers work, and ends them. Where that fails, they are waited for too.
 fn lead<J: Run, C: Line, L: Line, R: Threads + Wait, S: Stall>(
-    rt: &R,
-    alloc: Global,
-    hall: &Hall<J, C>,
-    script: &Script,
-    stall: &S,
+    hall: &Hall<'_, J, C, L, R, S>,
     mut submitter: Submitter,
     ends: &mut Ends<J, C>,
     started: &mut Vec<JoinHandle<Back<J, C, L>>>,
     workers: usize,
 ) -> Result<Submitter, RunFault>
-    requires script { script.now ≡ J.script }
-    requires queue { hall.now.queue ≡ J.queue }
-    requires hardware { J.queue.hardware ≡ J.script.hardware }
-    requires slot { 0 < J.queue.gate.slots }
-    requires few { length script.now.lines < 2 ^ 32 }
-    requires completions { hall.now.completions.id ≡ C.id }
-    requires ends { AreNewEnds hall.now.requests.id hall.now.completions.id workers ends.old.source ends.old.collector }
+    requires ends { AreNewEnds L.id C.id workers ends.old.source ends.old.collector }
     requires start { IsAt J.script J.queue 0 submitter }
     ensures end { IfOk result (IsEnd J.script) }
     ensures source { OnOk result (ends.new.source ≡ record ends.old.source { pushed = accepted_in_all J.script; marks = workers }) }
     ensures started { OnOk result (started.new.items ≡ started.old.items) }
 {
-    let submitted = submitter.submit_all(rt, alloc, hall, script, stall, ends);
+    let submitted = submitter.submit_all(hall, ends);
     if submitted.is_err() {
-        submitter.give_up(rt, &hall.queue);
+        submitter.give_up(hall.rt, hall.queue);
     }
-    end(rt, hall, &mut ends.source, workers);
+    end(hall, &mut ends.source, workers);
     match submitted {
         Ok(()) => Ok(submitter),
         Err(why) => {
-            dismiss(rt, started);
+            dismiss(hall.rt, started);
             Err(why)
         }
     }
@@ -122,20 +108,13 @@ fn lead<J: Run, C: Line, L: Line, R: Threads + Wait, S: Stall>(
 
 // Waits for the workers, which were ended, and takes back their right to draw with what they drew. There is room for
 // their lists, so each of them is waited for.
-fn gather<J: Run, C: Line, L: Line, R: Threads>(
-    rt: &R,
-    hall: &Hall<J, C>,
+fn gather<J: Run, C: Line, L: Line, R: Threads, S>(
+    hall: &Hall<'_, J, C, L, R, S>,
     source: &mut Source<Job<J, C>>,
     mut workers: Vec<JoinHandle<Back<J, C, L>>>,
 )
-    requires line { hall.now.requests.id ≡ L.id }
-    requires own { source.old.queue ≡ hall.now.requests.id }
-    requires out { source.old.parts + length workers.items ≡ all_parts }
-    requires parts { 0 < source.old.parts }
-    requires some { 0 < length workers.items }
-    requires fresh { source.old.lists ≡ [] }
-    requires room { length workers.items ≤ source.old.room }
-    ensures back { AreBack hall.now.requests.id (length workers.items) source.new }
+    requires out { AreOut L.id (length workers.items) source.old }
+    ensures back { AreBack L.id (length workers.items) source.new }
     ensures pushed { source.new.pushed ≡ source.old.pushed }
 {
     for gathered in 0..workers.len() {
@@ -143,7 +122,7 @@ fn gather<J: Run, C: Line, L: Line, R: Threads>(
         let Some(worker) = workers.pop() else {
             break;
         };
-        let back = worker.join(rt);
+        let back = worker.join(hall.rt);
         let gathered = hall.requests.gather(source, back.into_drawer());
         prove!(gathered.is_ok());
     }
@@ -161,25 +140,15 @@ fn start<
     S: Stall,
 >(
     scope: &'s Scope<'s, &'e ()>,
-    rt: &'e R,
-    alloc: Global,
-    hall: &'e Hall<J, C>,
-    script: &'e Script,
-    stall: &'e S,
+    hall: &'e Hall<'e, J, C, L, R, S>,
     mut drawers: Vec<Drawer<Job<J, C>>>,
-    slots: u32,
     mut started: Vec<JoinHandle<Back<J, C, L>>>,
 ) -> Vec<JoinHandle<Back<J, C, L>>>
-    requires script { script.now ≡ J.script }
-    requires queue { hall.now.queue ≡ J.queue }
-    requires line { hall.now.requests.id ≡ L.id }
-    requires slots { (0 < slots) × (slots ≡ J.queue.gate.slots) }
-    requires completions { hall.now.completions.id ≡ C.id }
     requires drawers { All (IsNewDrawer L.id (accepted_in_all J.script + 1)) drawers.items }
     requires room { (length started.items ≡ 0) × (length drawers.items ≤ vec_capacity started) }
-    requires few { length script.now.lines < 2 ^ 32 }
     ensures few { length result.items ≤ length drawers.items }
 {
+    let slots = hall.queue.slots();
     let mut slot = 0;
     for worker in 0..drawers.len() {
         let _ = worker;
@@ -189,13 +158,8 @@ fn start<
         let worker = scope.spawn(
             move || -> Back<J, C, L>
                 requires slot { slot < J.queue.gate.slots }
-                requires script { script.now ≡ J.script }
-                requires queue { hall.now.queue ≡ J.queue }
-                requires completions { hall.now.completions.id ≡ C.id }
-                requires line { hall.now.requests.id ≡ L.id }
                 requires drawer { IsNewDrawer L.id (accepted_in_all J.script + 1) drawer }
-                requires few { length script.now.lines < 2 ^ 32 }
-            { work(rt, alloc, hall, script, stall, slot, drawer) },
+            { work(hall, slot, drawer) },
         );
         let Ok(worker) = worker else {
             break;
@@ -209,52 +173,29 @@ fn start<
 // Submits and collects while the workers work that were started, ends them, and takes back what they drew. `Thread`
 // where fewer were started than there are to be: then they are ended at once.
 fn lead_all<J: Run, C: Line, L: Line, R: Threads + Wait, S: Stall>(
-    rt: &R,
-    alloc: Global,
-    hall: &Hall<J, C>,
-    script: &Script,
-    stall: &S,
+    hall: &Hall<'_, J, C, L, R, S>,
     submitter: Submitter,
     mut ends: Ends<J, C>,
     mut started: Vec<JoinHandle<Back<J, C, L>>>,
     workers: usize,
 ) -> Result<(Submitter, Source<Job<J, C>>), RunFault>
-    requires script { script.now ≡ J.script }
-    requires queue { hall.now.queue ≡ J.queue }
-    requires line { hall.now.requests.id ≡ L.id }
-    requires hardware { J.queue.hardware ≡ J.script.hardware }
-    requires slot { 0 < J.queue.gate.slots }
-    requires few { length script.now.lines < 2 ^ 32 }
     requires start { IsAt J.script J.queue 0 submitter }
-    requires completions { hall.now.completions.id ≡ C.id }
-    requires ends { AreNewEnds hall.now.requests.id hall.now.completions.id workers ends.source ends.collector }
+    requires ends { AreNewEnds L.id C.id workers ends.source ends.collector }
     requires some { (0 < workers) × (workers ≤ 32) }
     requires started { length started.items ≤ workers }
-    ensures end { IfOk result (λ led. IsEnd J.script led.0) }
-    ensures back { IfOk result (λ led. AreBack hall.now.requests.id workers led.1) }
-    ensures pushed { IfOk result (λ led. led.1.pushed ≡ accepted_in_all J.script) }
+    ensures led { IfOk result (λ led. IsLed J.script L.id workers led.0 led.1) }
 {
     if started.len() < workers {
-        end(rt, hall, &mut ends.source, started.len());
-        dismiss(rt, &mut started);
+        end(hall, &mut ends.source, started.len());
+        dismiss(hall.rt, &mut started);
         return Err(RunFault::Thread);
     }
-    let submitter = lead(
-        rt,
-        alloc,
-        hall,
-        script,
-        stall,
-        submitter,
-        &mut ends,
-        &mut started,
-        workers,
-    )?;
+    let submitter = lead(hall, submitter, &mut ends, &mut started, workers)?;
     let Ends {
         mut source,
         collector: _,
     } = ends;
-    gather(rt, hall, &mut source, started);
+    gather(hall, &mut source, started);
     Ok((submitter, source))
 }
 
@@ -266,58 +207,32 @@ pub(crate) fn with_workers<
     R: Threads + Wait + Sync,
     S: Stall,
 >(
-    rt: &R,
-    alloc: Global,
-    hall: &Hall<J, C>,
-    script: &Script,
-    stall: &S,
+    hall: &Hall<'_, J, C, L, R, S>,
     submitter: Submitter,
     ends: Ends<J, C>,
     drawers: Vec<Drawer<Job<J, C>>>,
-    slots: u32,
 ) -> Result<(Submitter, Source<Job<J, C>>), RunFault>
-    requires script { script.now ≡ J.script }
-    requires queue { hall.now.queue ≡ J.queue }
-    requires line { hall.now.requests.id ≡ L.id }
-    requires hardware { J.queue.hardware ≡ J.script.hardware }
-    requires slots { (0 < slots) × (slots ≡ J.queue.gate.slots) }
-    requires few { length script.now.lines < 2 ^ 32 }
     requires start { IsAt J.script J.queue 0 submitter }
-    requires completions { hall.now.completions.id ≡ C.id }
-    requires ends { AreNewEnds hall.now.requests.id hall.now.completions.id (length drawers.items) ends.source ends.collector }
+    requires ends { AreNewEnds L.id C.id (length drawers.items) ends.source ends.collector }
     requires drawers { All (IsNewDrawer L.id (accepted_in_all J.script + 1)) drawers.items }
     requires some { (0 < length drawers.items) × (length drawers.items ≤ 32) }
-    ensures end { IfOk result (λ led. IsEnd J.script led.0) }
-    ensures back { IfOk result (λ led. AreBack hall.now.requests.id (length drawers.items) led.1) }
-    ensures pushed { IfOk result (λ led. led.1.pushed ≡ accepted_in_all J.script) }
+    ensures led { IfOk result (λ led. IsLed J.script L.id (length drawers.items) led.0 led.1) }
 {
     let workers = drawers.len();
-    let room: Vec<JoinHandle<Back<J, C, L>>> = Vec::with_capacity(alloc, workers)?;
+    let room: Vec<JoinHandle<Back<J, C, L>>> = Vec::with_capacity(hall.alloc, workers)?;
     thread::scope(
         thread::scope_env(),
-        rt,
+        hall.rt,
         move |scope| -> Result<(Submitter, Source<Job<J, C>>), RunFault>
-            requires script { script.now ≡ J.script }
-            requires queue { hall.now.queue ≡ J.queue }
-            requires line { hall.now.requests.id ≡ L.id }
-            requires hardware { J.queue.hardware ≡ J.script.hardware }
-            requires slots { (0 < slots) × (slots ≡ J.queue.gate.slots) }
-            requires few { length script.now.lines < 2 ^ 32 }
             requires start { IsAt J.script J.queue 0 submitter }
-            requires completions { hall.now.completions.id ≡ C.id }
-            requires ends { AreNewEnds hall.now.requests.id hall.now.completions.id workers ends.source ends.collector }
-            requires count { length drawers.items ≡ workers }
-            requires some { (0 < workers) × (workers ≤ 32) }
+            requires ends { AreNewEnds L.id C.id workers ends.source ends.collector }
             requires drawers { All (IsNewDrawer L.id (accepted_in_all J.script + 1)) drawers.items }
+            requires some { (length drawers.items ≡ workers) × (0 < workers) × (workers ≤ 32) }
             requires room { (length room.items ≡ 0) × (workers ≤ vec_capacity room) }
-            ensures end { IfOk result (λ led. IsEnd J.script led.0) }
-            ensures back { IfOk result (λ led. AreBack hall.entry.now.requests.id workers led.1) }
-            ensures pushed { IfOk result (λ led. led.1.pushed ≡ accepted_in_all J.script) }
+            ensures led { IfOk result (λ led. IsLed J.script L.id workers led.0 led.1) }
         {
-            let started = start(scope, rt, alloc, hall, script, stall, drawers, slots, room);
-            lead_all(
-                rt, alloc, hall, script, stall, submitter, ends, started, workers,
-            )
+            let started = start(scope, hall, drawers, room);
+            lead_all(hall, submitter, ends, started, workers)
         },
     )
 }

@@ -1,6 +1,8 @@
-pub mod Queue
-pub mod Readings
-pub mod AtTheGate
+-- What a tag and a freezer know, and what each call leaves, is said in queue_core; callers find it here too.
+pub use Rattle.queue_core.specs.Queue
+pub use Rattle.queue_core.specs.Readings
+pub use Rattle.queue_core.specs.AtTheGate
+pub use Rattle.queue_core.specs.Sets
 pub mod Entering
-pub mod Sets
+pub mod Waiting
 pub mod Removal

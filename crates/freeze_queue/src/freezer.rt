@@ -1,75 +1,33 @@
-//! The freezer: it freezes a queue, sets its limits and thaws it.
-ghost use Rattle.std.specs.Prelude.{◌≡◌, ◌+◌, ◌<◌, ◌≤◌, Bool, true, false, IfOk, OnOk, OnErr};
-ghost use Rattle.percpu_gate.specs.Seats.{fresh_control};
-ghost use Rattle.percpu_gate.specs.ControlCalls.{after_switch};
-ghost use Rattle.percpu_gate.specs.declared.mode.Mode.TheVariants.{Slots};
-ghost use Rattle.percpu_core.specs.declared.phase.Phase.TheVariants as phases;
-ghost use Rattle.percpu_core.specs.declared.start.Start.TheVariants.{Atomic};
-ghost use Rattle.queue_limits.specs.Words.{to_words};
+//! The freezer: it freezes a queue, waits until it is drained, sets its limits and thaws it.
+ghost use Rattle.std.specs.Prelude.{◌≡◌, ◌+◌, ◌<◌, Bool, true, IfOk, OnOk, OnErr};
 ghost use Rattle.percpu_gate.specs.declared.tried.Put.{Put};
 ghost use Rattle.percpu_gate.specs.Seats.{FindsZero};
-ghost use Rattle.freeze_queue.specs.Queue.{IsFreezer, first_freezer, after_freeze, after_look, after_mode, after_thaw, after_set, after_return, freeze_refusal, thaw_refusal, fault_of};
-ghost use Rattle.freeze_queue.specs.Sets.{LooksForDrained};
+ghost use Rattle.queue_core.specs.Queue.{IsFreezer, after_freeze, after_look, after_mode, after_thaw, after_set, freeze_refusal, thaw_refusal, fault_of};
+ghost use Rattle.queue_core.specs.Sets.{LooksForDrained};
+ghost use Rattle.freeze_queue.specs.Waiting.{wait_refusal};
 
-use crate::fault::FreezeFault;
-use crate::limit_words::{LIMIT_WORDS, store_words};
 use crate::queue::BlockQueue;
-use crate::tag::Tag;
-use crossbeam_utils::Backoff;
-use crossbeam_utils::sync::Parker;
-use percpu_gate::{Control, Mode};
-use queue_limits::Limits;
+use queue_core::{FreezeFault, Limits, Mode};
 use std::marker::Model;
 use std::sync::Wait;
-
-/// The most freezes that may be under way at once.
-pub const MOST_DEPTH: u32 = 1_000;
 
 /// The one freezer of a queue: it counts freezes, and sets the limits while the queue is drained.
 ///
 /// It moves between threads by ownership; [`SharedFreezer`](crate::SharedFreezer) shares it.
 #[derive(Drop)]
 pub struct Freezer {
-    control: Control<LIMIT_WORDS>,
-    depth: u32,
-    limits: Limits,
-    tags: u32,
-    sleeper: Parker,
+    pub(crate) core: queue_core::Freezer,
 }
 
 impl Model for Freezer {
-    ghost use Rattle.freeze_queue.specs.Queue.{FreezerFacts};
+    ghost use Rattle.queue_core.specs.Queue.{FreezerFacts};
 
     ghost Value = { FreezerFacts };
 
-    ghost use Rattle.freeze_queue.specs.Readings.{freezer_facts, Keeps};
-
-    ghost view = { λ f. freezer_facts f.control f.depth f.limits };
-
-    ghost invariant = { λ f. Keeps f.control.view f.control.wants f.depth f.limits f.tags };
+    ghost view = { λ f. f.core };
 }
 
 impl Freezer {
-    /// The freezer of a new queue, which counts on its slots.
-    pub(crate) fn new(
-        control: Control<LIMIT_WORDS>,
-        limits: Limits,
-        tags: u32,
-        sleeper: Parker,
-    ) -> Freezer
-        requires new { control ≡ after_switch Slots (fresh_control control.gate tags (to_words limits)) }
-        requires live { control.gate.start ≡ Atomic }
-        ensures { result ≡ first_freezer (record { gate = control.gate; hardware = limits.hardware }) limits tags }
-    {
-        Freezer {
-            control,
-            depth: 0,
-            limits,
-            tags,
-            sleeper,
-        }
-    }
-
     /// The freezes that aren't thawed yet: 0 to 1,000. The queue is live exactly where there is none. Linux:
     /// `mq_freeze_depth` (include/linux/blkdev.h).
     #[inline]
@@ -77,16 +35,7 @@ impl Freezer {
         ensures value { result ≡ self.now.depth }
         ensures kept { IsFreezer self.now }
     {
-        // The type's facts speak of the control too, so the clause needs it read.
-        let _ = &self.control;
-        self.depth
-    }
-
-    /// The tags that it hasn't taken back.
-    pub(crate) fn tags(&self) -> u32
-        ensures { result ≡ self.now.tags }
-    {
-        self.tags
+        self.core.depth()
     }
 
     /// The limits in force.
@@ -95,8 +44,7 @@ impl Freezer {
         ensures value { result ≡ self.now.limits }
         ensures kept { IsFreezer self.now }
     {
-        let _ = &self.control;
-        self.limits
+        self.core.limits()
     }
 
     /// Begins a freeze: the depth that this gives. The first one kills the gate, so that no tag enters from then
@@ -107,14 +55,10 @@ impl Freezer {
         ensures unchanged { OnErr result (self.new ≡ self.old) }
         ensures frozen { IfOk result (λ depth. (depth ≡ self.old.depth + 1) × (r : Put) × (self.new ≡ after_freeze r self.old)) }
     {
-        if self.depth >= MOST_DEPTH {
-            return Err(FreezeFault::DepthFull);
-        }
-        if self.depth == 0 && self.control.kill(&queue.gate).is_err() {
-            return Err(FreezeFault::WornOut);
-        }
-        self.depth += 1;
-        Ok(self.depth)
+        let frozen = self.core.start_freeze(&queue.core)?;
+        // Others may wait still for the drain of a freeze that was thawed before it was drained.
+        let _put = queue.tell(frozen.put);
+        Ok(frozen.depth)
     }
 
     /// Whether the queue is frozen and every tag has left, at this look. Once it was true it is true until the
@@ -126,7 +70,7 @@ impl Freezer {
         ensures known { self.old.drained ≡ true → result ≡ true }
         ensures frozen { result ≡ true → 0 < self.old.depth }
     {
-        self.control.is_zero(&queue.gate)
+        self.core.poll_drained(&queue.core)
     }
 
     /// Freezes, and waits until the queue is drained: the depth. Refuses DepthFull, WornOut. Linux:
@@ -138,24 +82,33 @@ impl Freezer {
         ensures frozen { IfOk result (λ depth. (depth ≡ self.old.depth + 1) × (r : Put) × (self.new ≡ after_look true (after_freeze r self.old))) }
     {
         let depth = self.start_freeze(queue)?;
-        self.wait_drained(rt, queue);
+        self.sleep_until_drained(rt, queue);
         Ok(depth)
     }
 
-    /// Waits until the queue is drained. A drain is often short, so it looks some times before it sleeps.
-    fn wait_drained<R: Wait>(&mut self, rt: &R, queue: &BlockQueue)
+    /// Waits until a frozen queue is drained: who freezes several queues starts all freezes first, and then waits for one
+    /// after the other. Refuses NotFrozen. Linux: `blk_mq_freeze_queue_wait` (block/blk-mq.c).
+    pub fn wait_drained<R: Wait>(&mut self, rt: &R, queue: &BlockQueue) -> Result<(), FreezeFault>
+        requires own { self.old.queue ≡ queue.now }
+        ensures refused { fault_of result ≡ wait_refusal self.old }
+        ensures unchanged { OnErr result (self.new ≡ self.old) }
+        ensures drained { OnOk result (self.new ≡ after_look true self.old) }
+    {
+        if self.depth() == 0 {
+            return Err(FreezeFault::NotFrozen);
+        }
+        self.sleep_until_drained(rt, queue);
+        Ok(())
+    }
+
+    /// Looks until the queue is drained, and sleeps between. A drain is often short, so it looks some times before it sleeps.
+    fn sleep_until_drained<R: Wait>(&mut self, rt: &R, queue: &BlockQueue)
         requires own { self.old.queue ≡ queue.now }
         ensures { self.new ≡ after_look true self.old }
     {
-        let backoff = Backoff::new();
-        for _ in rt.forever() {
+        for _ in queue.drained.tries(rt) {
             if self.poll_drained(queue) {
                 return;
-            }
-            if backoff.is_completed() {
-                self.sleeper.park(rt);
-            } else {
-                backoff.snooze();
             }
         }
         unreachable!()
@@ -170,25 +123,7 @@ impl Freezer {
         ensures unchanged { OnErr result (self.new ≡ self.old) }
         ensures set { OnOk result (self.new ≡ after_set limits self.old) }
     {
-        if self.depth == 0 {
-            return Err(FreezeFault::NotFrozen);
-        }
-        if !self.poll_drained(queue) {
-            return Err(FreezeFault::NotDrained);
-        }
-        self.store(queue, limits);
-        Ok(())
-    }
-
-    /// Stores the limits where the control knows that nothing is held.
-    fn store(&mut self, queue: &BlockQueue, limits: Limits)
-        requires own { self.old.queue ≡ queue.now }
-        requires hardware { limits.hardware ≡ self.old.queue.hardware }
-        requires drained { self.old.drained ≡ true }
-        ensures { self.new ≡ after_set limits self.old }
-    {
-        store_words(&mut self.control, &queue.gate, limits.to_words());
-        self.limits = limits;
+        self.core.set(&queue.core, limits)
     }
 
     /// Counts in this mode from now on; a frozen queue does once it is thawed. Depth and limits stay. Linux:
@@ -197,10 +132,7 @@ impl Freezer {
         requires own { self.old.queue ≡ queue.now }
         ensures { self.new ≡ after_mode mode self.old }
     {
-        let _switched = match mode {
-            Mode::Atomic => self.control.switch_to_atomic(&queue.gate),
-            Mode::Slots => self.control.switch_to_slots(&queue.gate),
-        };
+        self.core.mode(&queue.core, mode);
     }
 
     /// Ends a freeze: the depth that is left. The last thaw brings the gate back, drained or not. Refuses
@@ -213,53 +145,10 @@ impl Freezer {
         // Where the freezer knew the queue to be drained, the revival found it so: that drain is counted.
         ensures drained { IfOk result (λ depth. self.old.drained ≡ true → self.new ≡ after_thaw true self.old) }
     {
-        if self.depth == 0 {
-            return Err(FreezeFault::NotFrozen);
+        let thawed = self.core.thaw(&queue.core)?;
+        if thawed.live {
+            queue.wake_all(&self.core);
         }
-        if self.depth == 1 {
-            self.revive(queue);
-        } else {
-            self.depth -= 1;
-        }
-        Ok(self.depth)
-    }
-
-    /// Brings the gate back, and wakes those who wait to enter.
-    fn revive(&mut self, queue: &BlockQueue)
-        requires own { self.old.queue ≡ queue.now }
-        requires last { self.old.depth ≡ 1 }
-        ensures { (at_zero : Bool) × (self.new ≡ after_thaw at_zero self.old) × FindsZero queue.now.gate self.old.seat at_zero }
-    {
-        let _revived = self.control.resurrect(&queue.gate);
-        self.depth = 0;
-        queue.wake_submitters(&self.control);
-    }
-
-    /// Takes a tag back.
-    pub(crate) fn take_back(&mut self, queue: &BlockQueue, tag: Tag)
-        requires own { (self.old.queue ≡ queue.now) × (tag.queue ≡ queue.now) }
-        requires out { tag.entered ≡ false }
-        ensures { self.new ≡ after_return tag self.old }
-    {
-        self.control.retire(&queue.gate, tag.into_pass());
-        self.tags = self.tags.saturating_sub(1);
-    }
-
-    /// The control of a freezer that ends.
-    pub(crate) fn into_control(self) -> Control<LIMIT_WORDS>
-        ensures own { result.gate ≡ self.queue.gate }
-        ensures seat { result.view ≡ self.seat }
-        ensures dead { self.live ≡ false → result.view.standing.phase ≡ phases.Dead }
-        ensures counts { (result.view.standing.kills ≡ self.kills) × (result.view.releases ≡ self.releases) × (result.view.passes ≡ self.tags) }
-        ensures words { result.view.words ≡ to_words self.limits }
-    {
-        let Self {
-            control,
-            depth: _,
-            limits: _,
-            tags: _,
-            sleeper: _,
-        } = self;
-        control
+        Ok(thawed.depth)
     }
 }

@@ -1,31 +1,24 @@
-//! The queue: what tags enter and leave.
-ghost use Rattle.std.specs.Prelude.{◌≡◌, ◌+◌, ◌<◌, ◌≤◌, true, false, All, vec_len, replicate, Some, IfSome, IfOk};
+//! The queue: what tags enter and leave, and where threads wait for it.
+ghost use Rattle.std.specs.Prelude.{◌≡◌, ◌+◌, ◌<◌, ◌≤◌, true, false, replicate, Some, IfSome, IfOk};
 ghost use Rattle.percpu_core.specs.declared.limits.TheConstants.{SLOT_LIMIT};
-ghost use Rattle.percpu_core.specs.Phases.{is_live};
-ghost use Rattle.percpu_gate.specs.Seats.{fresh_pass};
-ghost use Rattle.freeze_queue.specs.declared.tag.Enter.TheVariants.{Entered, Again};
-ghost use Rattle.freeze_queue.specs.Queue.{IsQueue, first_tag, first_freezer, after_entering, after_refusal, after_leaving};
-ghost use Rattle.percpu_core.specs.Views.{count};
-ghost use Rattle.percpu_gate.specs.Calls.{is_refused, taken, LiveTryFinds};
-ghost use Rattle.freeze_queue.specs.AtTheGate.{AreInForce};
-ghost use Rattle.freeze_queue.specs.Readings.{IsTag};
-ghost use Rattle.freeze_queue.specs.Entering.{answered};
 ghost use Rattle.percpu_core.specs.declared.view.PassView.{PassView};
+ghost use Rattle.percpu_core.specs.Views.{count};
+ghost use Rattle.percpu_gate.specs.Calls.{is_refused, taken, has_zero, LiveTryFinds, TryFinds, TryMeets};
 ghost use Rattle.percpu_gate.specs.declared.tried.Tried.TheVariants.{Given};
+ghost use Rattle.queue_core.specs.declared.queue.TheConstants.{MOST_TAGS};
+ghost use Rattle.queue_core.specs.Queue.{IsQueue, first_tag, first_freezer, after_entering, after_refusal, after_leaving};
+ghost use Rattle.queue_core.specs.AtTheGate.{AreInForce, HoldsOff};
+ghost use Rattle.queue_core.specs.Readings.{IsTag};
+ghost use Rattle.freeze_queue.specs.declared.enter.Enter.TheVariants.{Entered, Again};
+ghost use Rattle.freeze_queue.specs.Entering.{answered};
 
+use crate::enter::Enter;
 use crate::freezer::Freezer;
-use crate::limit_words::LIMIT_WORDS;
-use crate::tag::{Enter, Tag};
-use crossbeam_utils::sync::{Parker, Unparker};
-use percpu_gate::{Control, Gate, Memory, Pass, Put, Start};
-use queue_limits::Limits;
-use std::alloc::{AllocError, Global};
+use queue_core::{Entry, Limits, Memory, Put, Tag};
+use std::alloc::Global;
 use std::marker::Model;
 use std::sync::Wait;
 use wait_queue::WaitQueue;
-
-/// The most tags of a queue.
-pub const MOST_TAGS: u32 = 63;
 
 /// A queue, its freezer and its tags.
 pub type NewQueue = (BlockQueue, Freezer, Vec<Tag>);
@@ -34,39 +27,21 @@ pub type NewQueue = (BlockQueue, Freezer, Vec<Tag>);
 /// `struct request_queue` (include/linux/blkdev.h).
 #[derive(Drop)]
 pub struct BlockQueue {
-    pub(crate) gate: Gate<LIMIT_WORDS>,
-    hardware: u32,
-    /// Wakes the freezer once the queue is drained.
-    drained: Unparker,
+    pub(crate) core: queue_core::BlockQueue,
+    /// Those who wait until the queue is drained. Linux: `mq_freeze_wq`, on which both wait.
+    pub(crate) drained: WaitQueue,
     /// Those who wait to enter.
-    thawed: WaitQueue,
+    pub(crate) thawed: WaitQueue,
 }
 
 impl Model for BlockQueue {
-    ghost use Rattle.freeze_queue.specs.Queue.{QueueFacts, IsQueue};
+    ghost use Rattle.queue_core.specs.Queue.{QueueFacts, IsQueue};
 
     ghost Value = { QueueFacts };
 
-    ghost view = { λ q. record { gate = q.gate; hardware = q.hardware } };
+    ghost view = { λ q. q.core };
 
-    ghost invariant = { λ q. IsQueue (record { gate = q.gate; hardware = q.hardware }) };
-}
-
-/// A tag for each of the new passes of a gate.
-fn make_tags(
-    alloc: Global,
-    gate: &Gate<LIMIT_WORDS>,
-    passes: Vec<Pass<LIMIT_WORDS>>,
-    hardware: u32,
-) -> Result<Vec<Tag>, AllocError>
-    requires new { All (λ p. p ≡ fresh_pass gate.now) passes.items }
-    ensures { IfOk result (λ made. made.items ≡ replicate (vec_len passes) (first_tag (record { gate = gate.now; hardware = hardware }))) }
-{
-    let mut tags = Vec::with_capacity(alloc, passes.len())?;
-    for pass in passes {
-        tags.push(Tag::new(pass, hardware))?;
-    }
-    Ok(tags)
+    ghost invariant = { λ q. IsQueue q.core };
 }
 
 impl BlockQueue {
@@ -79,20 +54,13 @@ impl BlockQueue {
         ensures freezer { IfOk result (λ q. q.1 ≡ first_freezer q.0 limits tags) }
         ensures tags { IfOk result (λ q. q.2.items ≡ replicate tags (first_tag q.0)) }
     {
-        let sleeper = Parker::new(alloc)?;
-        let drained = sleeper.unparker().clone()?;
-        let words = limits.to_words();
-        let (gate, mut control, passes) = Gate::new(alloc, slots, tags, Start::Atomic, words)?;
-        let _switched = control.switch_to_slots(&gate);
-        let hardware = limits.hw();
-        let made = make_tags(alloc, &gate, passes, hardware)?;
+        let (core, freezer, made) = queue_core::BlockQueue::new(alloc, limits, slots, tags)?;
         let queue = BlockQueue {
-            gate,
-            hardware,
-            drained,
+            core,
+            drained: WaitQueue::new(),
             thawed: WaitQueue::new(),
         };
-        Ok((queue, Freezer::new(control, limits, tags, sleeper), made))
+        Ok((queue, Freezer { core: freezer }, made))
     }
 
     /// The slots of the queue: 1 to 64.
@@ -101,22 +69,35 @@ impl BlockQueue {
         ensures value { result ≡ self.now.gate.slots }
         ensures kept { IsQueue self.now }
     {
-        // The type's facts speak of all fields, so the clause needs the whole queue read.
-        let _ = self.hardware;
-        self.gate.slots()
+        self.core.slots()
     }
 
-    /// Wakes those who wait to enter, once the control has brought the gate back: who is woken before that tries in vain,
-    /// and may sleep again when it lives.
-    pub(crate) fn wake_submitters(&self, control: &Control<LIMIT_WORDS>)
-        requires own { control.now.gate ≡ self.now.gate }
-        requires live { is_live control.now.view.standing.phase ≡ true }
+    /// Wakes those who wait for the drain where this drop was the last: they find the queue drained then.
+    #[inline]
+    pub(crate) fn tell(&self, put: Put) -> Put
+        ensures { result ≡ put }
     {
-        let _ = control;
+        if put == Put::Last {
+            self.drained.wake_all();
+        }
+        put
+    }
+
+    /// Wakes all who wait, once the freezer has brought the gate back: who is woken to enter before that tries in vain, and
+    /// may sleep again when it lives. Who waits for the drain of the freeze that is over finds none under way.
+    pub(crate) fn wake_all(&self, freezer: &queue_core::Freezer)
+        requires own { freezer.now.queue ≡ self.now }
+        requires live { freezer.now.live ≡ true }
+    {
+        let _ = freezer;
         self.thawed.wake_all();
+        self.drained.wake_all();
     }
 
     /// Enters unless the queue is frozen. Linux: `blk_queue_enter` with BLK_MQ_REQ_NOWAIT (block/blk-core.c).
+    ///
+    /// A refused try is counted for a moment, and so puts the drain off; in Linux `percpu_ref_tryget_live` looks at its
+    /// mark first and counts nothing then. `enter` tries ever less often.
     #[inline]
     pub fn try_enter(&self, tag: &mut Tag, slot: u32) -> Enter
         requires own { tag.old.queue ≡ self.now }
@@ -130,10 +111,35 @@ impl BlockQueue {
         // What Again found is of a step of this very call, also where the tag was refused before.
         ensures times { tag.new.seat.found_dead_times ≡ tag.old.seat.found_dead_times + count (is_refused (answered result)) }
     {
-        match tag.take(&self.gate, slot) {
-            Ok(()) => Enter::Entered,
-            Err(dropped) => {
-                let _put = dropped.wake(&self.drained);
+        match self.core.try_enter(tag, slot) {
+            Entry::Entered => Enter::Entered,
+            Entry::Refused(put) => {
+                let _put = self.tell(put);
+                Enter::Again
+            }
+        }
+    }
+
+    /// Enters a queue that may be frozen, to look at what is under way, unless it is drained. Until the tag leaves it
+    /// holds the drain off, and may read the limits. Linux: `percpu_ref_tryget` of `q_usage_counter`, as for timeouts and
+    /// for going over tags (block/blk-mq.c, block/blk-mq-tag.c).
+    #[inline]
+    pub fn try_enter_frozen(&self, tag: &mut Tag, slot: u32) -> Enter
+        requires own { tag.old.queue ≡ self.now }
+        requires slot { slot < self.now.gate.slots }
+        requires out { tag.old.entered ≡ false }
+        ensures entered { result ≡ Entered → tag.new ≡ after_entering tag.new.seat tag.old }
+        ensures again { result ≡ Again → (r : Put) × (tag.new ≡ after_refusal r tag.new.seat tag.old) × (tag.new.seat.found_zero ≡ true) }
+        ensures finds { TryFinds self.now.gate tag.old.seat (answered result) }
+        // Again found ZERO at the one addition of this very call, also where the tag was refused before.
+        ensures meets { TryMeets self.now.gate has_zero tag.old.seat tag.new.seat (is_refused (answered result)) }
+        ensures times { tag.new.seat.found_zero_times ≡ tag.old.seat.found_zero_times + count (is_refused (answered result)) }
+        ensures holds_off { HoldsOff tag.new }
+    {
+        match self.core.try_enter_frozen(tag, slot) {
+            Entry::Entered => Enter::Entered,
+            Entry::Refused(put) => {
+                let _put = self.tell(put);
                 Enter::Again
             }
         }
@@ -167,7 +173,7 @@ impl BlockQueue {
         requires entered { tag.old.entered ≡ true }
         ensures { tag.new ≡ after_leaving result tag.old }
     {
-        tag.put(&self.gate, slot).wake(&self.drained)
+        self.tell(self.core.leave(tag, slot))
     }
 
     /// The limits in force, for an entered tag: the same at each call until it leaves, in whichever threads the
@@ -182,20 +188,6 @@ impl BlockQueue {
         ensures same { IfSome tag.old.limits (λ l. result ≡ l) }
         ensures hardware { result.hardware ≡ self.now.hardware }
     {
-        Limits::from_words(self.hardware, tag.words(&self.gate))
-    }
-
-    /// The gate of a queue that ends.
-    pub(crate) fn into_gate(self) -> Gate<LIMIT_WORDS>
-        ensures own { result ≡ self.gate }
-        ensures kept { IsQueue self }
-    {
-        let Self {
-            gate,
-            hardware: _,
-            drained: _,
-            thawed: _,
-        } = self;
-        gate
+        self.core.limits(tag)
     }
 }

@@ -1,15 +1,13 @@
 //! The removal of a queue.
-ghost use Rattle.std.specs.Prelude.{◌≡◌, ◌≤◌, ◌+◌, All, vec_len, length, sum_by, true, false, IfOk, IfErr, OnOk, OnErr};
+ghost use Rattle.std.specs.Prelude.{◌≡◌, ◌≤◌, ◌+◌, All, vec_len, true, false, IfOk, IfErr};
 ghost use Rattle.queue_limits.specs.Words.{to_words};
-ghost use Rattle.freeze_queue.specs.Queue.{fault_of, remove_refusal};
-ghost use Rattle.freeze_queue.specs.Removal.{why_of, AtTheEnd, IsFrozenToEnd, kills_after, ReleasesAdd};
+ghost use Rattle.queue_core.specs.Queue.{remove_refusal};
+ghost use Rattle.queue_core.specs.Removal.{AtTheEnd, kills_after, ReleasesAdd};
+ghost use Rattle.freeze_queue.specs.Removal.{why_of};
 
-use crate::fault::FreezeFault;
 use crate::freezer::Freezer;
-use crate::limit_words::LIMIT_WORDS;
 use crate::queue::BlockQueue;
-use crate::tag::Tag;
-use percpu_gate::Final;
+use queue_core::{Final, FreezeFault, LIMIT_WORDS, Tag};
 
 /// A queue that may not end comes back with its freezer and tags, all as they were.
 #[derive(Drop)]
@@ -20,50 +18,12 @@ pub struct RemoveFault {
     pub tags: Vec<Tag>,
 }
 
-/// Takes all tags back from a frozen queue, and ends it.
-fn end(mut freezer: Freezer, queue: BlockQueue, tags: Vec<Tag>) -> Final<LIMIT_WORDS>
-    requires own { freezer.queue ≡ queue }
-    requires tags { All (λ t. t.queue ≡ queue) tags.items }
-    requires out { All (λ t. t.entered ≡ false) tags.items }
-    requires frozen { freezer.live ≡ false }
-    requires all { freezer.tags ≤ vec_len tags }
-    ensures dead { result.dead ≡ true }
-    ensures kills { result.kills ≡ freezer.kills }
-    ensures words { result.words ≡ to_words freezer.limits }
-    ensures drained { AtTheEnd queue.gate result }
-    ensures drains { result.releases ≡ freezer.seat.zeros_cleared + 1 }
-    ensures at_most { result.releases ≤ result.kills }
-    ensures releases { length tags.items ≡ freezer.tags → result.releases ≡ freezer.releases + sum_by (λ t. t.releases) tags.items }
-{
-    for tag in tags {
-        freezer.take_back(&queue, tag);
-    }
-    match queue.into_gate().exit(freezer.into_control()) {
-        Ok(left) => left,
-        Err(_) => unreachable!(),
-    }
-}
-
 impl Freezer {
-    /// Freezes a queue that is to end, unless it is frozen already. Refuses WornOut.
-    fn freeze_to_end(&mut self, queue: &BlockQueue) -> Result<(), FreezeFault>
-        requires own { self.old.queue ≡ queue.now }
-        ensures refused { fault_of result ≡ remove_refusal self.old self.old.tags }
-        ensures unchanged { OnErr result (self.new ≡ self.old) }
-        ensures frozen { OnOk result (IsFrozenToEnd self.old self.new) }
-    {
-        if self.depth() > 0 {
-            return Ok(());
-        }
-        self.start_freeze(queue)?;
-        Ok(())
-    }
-
     /// Ends a queue that no tag has entered, with all its tags: kills a live gate, takes the tags back and ends
     /// the gate. Refuses TagsOut where tags are missing, WornOut. Linux: `blk_mq_destroy_queue`
     /// (block/blk-mq.c).
     pub fn remove(
-        mut self,
+        self,
         queue: BlockQueue,
         tags: Vec<Tag>,
     ) -> Result<Final<LIMIT_WORDS>, RemoveFault>
@@ -81,26 +41,26 @@ impl Freezer {
         ensures at_most { IfOk result (λ left. left.releases ≤ left.kills) }
         ensures releases { IfOk result (λ left. ReleasesAdd self tags.items left.releases) }
     {
-        let missing = (self.tags() as usize).saturating_sub(tags.len());
-        if missing > 0 {
-            let why = FreezeFault::TagsOut(missing as u32);
-            let freezer = self;
-            return Err(RemoveFault {
-                why,
-                freezer,
-                queue,
-                tags,
-            });
+        let Self { core: freezer } = self;
+        let BlockQueue {
+            core,
+            drained,
+            thawed,
+        } = queue;
+        match freezer.remove(core, tags) {
+            Ok(left) => Ok(left),
+            Err(fault) => Err(RemoveFault {
+                why: fault.why,
+                freezer: Freezer {
+                    core: fault.freezer,
+                },
+                queue: BlockQueue {
+                    core: fault.queue,
+                    drained,
+                    thawed,
+                },
+                tags: fault.tags,
+            }),
         }
-        if let Err(why) = self.freeze_to_end(&queue) {
-            let freezer = self;
-            return Err(RemoveFault {
-                why,
-                freezer,
-                queue,
-                tags,
-            });
-        }
-        Ok(end(self, queue, tags))
     }
 }

@@ -7,78 +7,36 @@
 //! `tools/picture bench` reads.
 #![tactic(auto)]
 
-ghost use Rattle.std.specs.Prelude.{◌≡◌, ◌≤◌, ℕ, Bool};
+ghost use Rattle.std.specs.Prelude.{◌≤◌};
 
-mod fault;
 mod form;
 mod race;
 mod rounds;
 mod runs;
 mod table;
 
-use fault::Fault;
+use bench_parts::{Fault, Most, Task, processors, requested};
 use form::FORMS;
 use race::run_race;
 use runs::time_race;
+use std::env;
 use std::io::IsTerminal;
 use std::process::ExitCode;
 use std::rt::Env;
 use std::sync::Wait;
 use std::thread::Threads;
 use std::time::{Clock, CpuClock};
-use std::{env, thread};
 use table::{CSV_HEAD, CsvLine, HEADS, Line};
 
-/// What the words after the program's name ask for.
-#[derive(Clone, Copy, Debug, PartialEq, Eq)]
-enum Task {
-    Show,
-    Time {
-        threads: u32,
-        rounds: u64,
-        is_csv: bool,
-    },
-    /// On 1, 2, 4 .. threads.
-    TimeAll {
-        rounds: u64,
-        is_csv: bool,
-    },
-    Usage,
-}
+/// The most threads at once, and the most rounds of each.
+const MOST: Most = Most {
+    threads: 64,
+    times: 1_000_000_000,
+};
 
-/// 1 to 1,000,000,000 rounds, on 1 to 64 threads where their number comes before.
-fn timing(words: &[String], is_csv: bool) -> Task
-    ensures one { (threads rounds : ℕ) (is_csv : Bool) → result ≡ Task.Time threads rounds is_csv → (1 ≤ threads) × (threads ≤ 64) × (1 ≤ rounds) × (rounds ≤ 1000000000) }
-    ensures all { (rounds : ℕ) (is_csv : Bool) → result ≡ Task.TimeAll rounds is_csv → (1 ≤ rounds) × (rounds ≤ 1000000000) }
-{
-    match words {
-        [rounds] => match rounds.parse::<u64>() {
-            Ok(rounds @ 1..=1_000_000_000) => Task::TimeAll { rounds, is_csv },
-            _ => Task::Usage,
-        },
-        [threads, rounds] => match (threads.parse::<u32>(), rounds.parse::<u64>()) {
-            (Ok(threads @ 1..=64), Ok(rounds @ 1..=1_000_000_000)) => Task::Time {
-                threads,
-                rounds,
-                is_csv,
-            },
-            _ => Task::Usage,
-        },
-        _ => Task::Usage,
-    }
-}
-
-/// What the words ask for.
-fn requested(words: &[String]) -> Task
-    ensures one { (threads rounds : ℕ) (is_csv : Bool) → result ≡ Task.Time threads rounds is_csv → (1 ≤ threads) × (threads ≤ 64) × (1 ≤ rounds) × (rounds ≤ 1000000000) }
-    ensures all { (rounds : ℕ) (is_csv : Bool) → result ≡ Task.TimeAll rounds is_csv → (1 ≤ rounds) × (rounds ≤ 1000000000) }
-{
-    match words {
-        [] => Task::Show,
-        [first, numbers @ ..] if first.as_str() == "--csv" => timing(numbers, true),
-        _ => timing(words, false),
-    }
-}
+/// How the program is called.
+const USAGE: &str =
+    "gate_bench, or gate_bench [--csv] [THREADS] ROUNDS: up to 64 threads of 1,000,000,000 rounds each";
 
 /// A round of each form on two threads at once.
 fn show<R: Threads + Wait + Sync + Clock + CpuClock + Print + AllocGlobal>(
@@ -142,8 +100,7 @@ fn time_all<R: Threads + Wait + Sync + Clock + CpuClock + Print + Eprint + Alloc
     is_csv: bool,
     is_told: bool,
 ) -> Result<(), Fault> {
-    let processors = thread::available_parallelism(rt)?.get().min(64) as u32;
-    for threads in 1..=processors {
+    for threads in 1..=processors(rt, MOST.threads)? {
         if threads.is_power_of_two() {
             time(rt, threads, rounds, is_csv, is_told)?;
         }
@@ -157,21 +114,21 @@ fn run<R: Threads + Wait + Sync + Clock + CpuClock + Print + Eprint + Env + Allo
     is_told: bool,
 ) -> Result<(), Fault> {
     let words: Vec<String> = env::args(rt)?.skip(1).collect(rt.alloc())?;
-    match requested(&words) {
+    match requested(&words, MOST) {
         Task::Show => show(rt),
         Task::Time {
             threads,
-            rounds,
+            times,
             is_csv,
         } => {
             head(rt, is_csv)?;
-            time(rt, threads, rounds, is_csv, is_told)
+            time(rt, threads, times, is_csv, is_told)
         }
-        Task::TimeAll { rounds, is_csv } => {
+        Task::TimeAll { times, is_csv } => {
             head(rt, is_csv)?;
-            time_all(rt, rounds, is_csv, is_told)
+            time_all(rt, times, is_csv, is_told)
         }
-        Task::Usage => Err(Fault::Usage),
+        Task::Usage => Err(Fault::Usage(USAGE)),
     }
 }
 

@@ -2,14 +2,14 @@
 ghost use Rattle.std.specs.Prelude.{◌≡◌, ◌≤◌};
 ghost use Rattle.percpu_gate.specs.Calls.{holding};
 
-use crate::fault::Fault;
 use crate::form::Form;
 use crate::rounds::{
     through_arc, through_counter, through_gate, through_mutex, through_rwlock, through_shard,
 };
+use bench_parts::{Fault, nanoseconds};
 use crossbeam_utils::CachePadded;
 use crossbeam_utils::sync::ShardedLock;
-use percpu_core::{Memory, Start};
+use percpu_core::Start;
 use percpu_gate::{Gate, Pass};
 use std::alloc::{AllocError, Global};
 use std::sync::atomic::{AtomicU32, AtomicU64, Ordering};
@@ -29,11 +29,13 @@ fn race_on_gate<R: Threads + Sync>(
     slots: u32,
     threads: u32,
     rounds: u64,
-) -> Result<Entered, Memory>
+) -> Result<Entered, Fault>
     requires slots { (1 ≤ slots) × (slots ≤ 64) }
     requires threads { (1 ≤ threads) × (threads ≤ 64) }
 {
-    let (gate, _control, passes) = Gate::<0>::new(alloc, slots, threads, start, [])?;
+    let Ok((gate, _control, passes)) = Gate::<0>::new(alloc, slots, threads, start, []) else {
+        return Err(Fault::Memory);
+    };
     let next = AtomicU32::new(0);
     let (gate, next) = (&gate, &next);
     let run = move |pass: Pass<0>| -> u64
@@ -102,13 +104,13 @@ pub fn run_race<R: Threads + Wait + Sync + Clock + CpuClock>(
         Form::SharedWord => race_on_gate(rt, alloc, Start::Atomic, threads, threads, rounds)?,
         _ => race_on_one(rt, alloc, form, threads as usize, rounds)?,
     };
-    let clock = start.elapsed(rt)?.as_nanos();
-    let processor = rt.process_cpu_time()?.saturating_sub(used).as_nanos();
+    let clock = nanoseconds(start.elapsed(rt)?);
+    let processor = nanoseconds(rt.process_cpu_time()?.saturating_sub(used));
     Ok(Race {
         entered: entered
             .iter()
             .fold(0u64, |all, entered| all.saturating_add(*entered)),
-        clock: u64::try_from(clock).unwrap_or(u64::MAX),
-        processor: u64::try_from(processor).unwrap_or(u64::MAX),
+        clock,
+        processor,
     })
 }

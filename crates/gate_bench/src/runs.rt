@@ -1,9 +1,9 @@
 //! Several runs of one race, since what else runs on the machine only ever makes one longer.
 ghost use Rattle.std.specs.Prelude.{◌≤◌};
 
-use crate::fault::Fault;
 use crate::form::Form;
 use crate::race::run_race;
+use bench_parts::{Fault, median};
 use std::io;
 use std::sync::Wait;
 use std::thread::Threads;
@@ -24,7 +24,7 @@ impl Figures {
         taken.sort_unstable();
         Figures {
             least: taken[0],
-            middle: taken[RUNS / 2],
+            middle: median(&taken),
         }
     }
 }

@@ -1,35 +1,8 @@
 //! The lines of the table, for a reader and for a program.
 use crate::form::Form;
 use crate::runs::Timed;
+use bench_parts::{Column, Hundredths};
 use std::fmt;
-
-/// A number with two decimals, kept in hundredths.
-#[derive(Clone, Copy, Debug, PartialEq, Eq)]
-struct Hundredths(u128);
-
-impl Hundredths {
-    /// `above` of `below`, or 0 where that is nothing.
-    fn of(above: u64, below: u128) -> Hundredths {
-        Hundredths((u128::from(above) * 100).checked_div(below).unwrap_or(0))
-    }
-}
-
-impl fmt::Display for Hundredths {
-    fn fmt<W: fmt::Write>(&self, f: &mut fmt::Formatter<W>) -> fmt::Result {
-        write!(f, "{}.{:02}", self.0 / 100, self.0 % 100)
-    }
-}
-
-/// The same at the right of a column of the table.
-#[derive(Clone, Copy, Debug, PartialEq, Eq)]
-struct Column(Hundredths);
-
-impl fmt::Display for Column {
-    fn fmt<W: fmt::Write>(&self, f: &mut fmt::Formatter<W>) -> fmt::Result {
-        let Column(Hundredths(number)) = *self;
-        write!(f, "{:>9}.{:02}", number / 100, number % 100)
-    }
-}
 
 /// The two lines above the table.
 pub const HEADS: [&str; 2] = [

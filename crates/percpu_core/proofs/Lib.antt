@@ -27,6 +27,7 @@ pub mod WorldSteps
 pub mod HeldByAll
 -- runs of any length, what holds after them, and the moves of the plain counter
 pub mod Runs
+pub mod Sameness
 pub mod EveryRun
 pub mod Moves
 pub mod Endings

@@ -18,7 +18,7 @@
 //! step is one event of the machine in `percpu_core`, and the rule of the words is that machine's laws, so
 //! they hold between any two steps, whichever threads make the calls. A call's contract speaks of what its
 //! seat knows: `view.standing.held` of a pass is what it holds, `view.standing.phase` of the control where it
-//! stands. docs/GATE.md tells the gate's life, the crate `gate_trials` has rows of calls
+//! stands. docs/GATE.md tells the gate's life, the crate `trials_gate` has rows of calls
 //! and their answers, `uses` how a caller reasons.
 //!
 //! A gate that counts on slots has one for each processor, or for each thread: a count that finds its slot open costs

@@ -7,6 +7,7 @@ ghost use Rattle.percpu_core.specs.declared.phase.Phase.TheVariants as phases;
 ghost use Rattle.percpu_core.specs.declared.start.Start.TheVariants.{Atomic};
 ghost use Rattle.queue_limits.specs.Words.{to_words};
 ghost use Rattle.percpu_gate.specs.declared.tried.Put.{Put};
+ghost use Rattle.percpu_gate.specs.declared.tried.Put.TheVariants.{NotLast};
 ghost use Rattle.percpu_gate.specs.Seats.{FindsZero};
 ghost use Rattle.queue_core.specs.Queue.{IsFreezer, first_freezer, after_freeze, after_look, after_mode, after_thaw, after_set, after_return, freeze_refusal, thaw_refusal, fault_of};
 ghost use Rattle.queue_core.specs.Sets.{LooksForDrained};
@@ -116,6 +117,8 @@ impl Freezer {
         ensures refused { fault_of result ≡ freeze_refusal self.old }
         ensures unchanged { OnErr result (self.new ≡ self.old) }
         ensures frozen { IfOk result (λ f. (f.depth ≡ self.old.depth + 1) × (self.new ≡ after_freeze f.put self.old)) }
+        // Only the kill drops a reference: a nested freeze is never told that it was the last.
+        ensures nested { IfOk result (λ f. 0 < self.old.depth → f.put ≡ NotLast) }
     {
         if self.depth >= MOST_DEPTH {
             return Err(FreezeFault::DepthFull);

@@ -1,7 +1,7 @@
 -- What a list of commands to a device is.
 use Rattle.std.specs.Prelude.{◌≡◌, ℕ, ◌+◌, Option, Some, None, Result, Ok, Err, List, [], ◌∷◌, map}
-use Rattle.freeze_queue.specs.declared.tag.Enter.{Enter}
-use Rattle.freeze_queue.specs.declared.tag.Enter.TheVariants.{Entered, Again}
+use Rattle.freeze_queue.specs.declared.enter.Enter.{Enter}
+use Rattle.freeze_queue.specs.declared.enter.Enter.TheVariants.{Entered, Again}
 use Rattle.uses.specs.declared.cutting.Command.{Command}
 
 -- how many sectors each moves

@@ -1,14 +1,12 @@
 use Rattle.std.proofs.Common.{◌≡◌, length}
-use Rattle.blk_workers.specs.Progress.{AreAwaited}
-use Rattle.run_desk.specs.Desk.{Stands}
+use Rattle.blk_workers.specs.Progress.{IsCollecting}
 use Rattle.blk_workers.proofs.collecting.collect_all.Given as goal
 
 abbrev pub invariant-loop : goal.invariant-loop
 invariant-loop g l = record {
   goes_on : (goal.iterator-loop g).can_next l.iterator';
   is_finite : (goal.iterator-loop g).is_finite l.iterator';
-  stands : Stands l.script l.desk.replies l.desk.disk l.desk.span;
+  collecting : IsCollecting g.J.Run.script g.C.Line.id l.desk l.collector;
   lines : length l.desk.replies ≡ length l.initial.desk.replies;
-  awaited : AreAwaited l.script l.desk.replies l.collector.given l.collector.collected;
   collector : l.collector ≡ record l.initial.collector { collected = l.collector.collected };
 }

@@ -1,4 +1,4 @@
-use Rattle.std.proofs.Common.{◌∙◌, sym, subst}
+use Rattle.std.proofs.Common.{◌∙◌, ap, sym, subst}
 use Rattle.run_queues.specs.Parts.{CollectorFacts}
 use Rattle.blk_workers.specs.Progress.{AreAwaited}
 use Rattle.blk_workers.proofs.Awaited.{same_but_collected}
@@ -6,15 +6,22 @@ use Rattle.blk_workers.proofs.collecting.collect_some.Goals as goal
 
 pub loop-preserved : goal.loop-preserved
 loop-preserved g c = record {
-  stands = c.take.ensures.stands;
+  collecting = record {
+    stands = c.take.ensures.stands;
+    own = ap (λ (k : CollectorFacts). k.queue) c.in-Some.ensures.collected ∙ c.loop.invariant.collecting.own;
+    awaited =
+        subst (λ (k : CollectorFacts). AreAwaited g.J.Run.script c.take.new.desk.replies k.given k.collected) (sym c.in-Some.ensures.collected)
+        (c.take.ensures.awaited c.loop.collector.given c.loop.collector.collected c.loop.invariant.collecting.awaited);
+  };
   lines = c.take.ensures.lines ∙ c.loop.invariant.lines;
-  awaited =
-      subst (λ (k : CollectorFacts). AreAwaited c.args.script.now c.take.new.desk.replies k.given k.collected) (sym c.in-Some.ensures.collected)
-      (c.take.ensures.awaited c.loop.collector.given c.loop.collector.collected c.loop.invariant.awaited);
   collector = same_but_collected c.args.collector.now c.loop.collector c.try_collect.new.collector _ c.loop.invariant.collector c.in-Some.ensures.collected;
 }
 
-pub returns-in_err-take-clause-awaited : goal.returns-in_err-take-clause-awaited
-returns-in_err-take-clause-awaited g c =
-    subst (λ (k : CollectorFacts). AreAwaited c.args.script.now c.take.new.desk.replies k.given k.collected) (sym c.in-Some.ensures.collected)
-    (c.take.ensures.awaited c.loop.collector.given c.loop.collector.collected c.loop.invariant.awaited)
+pub returns-in_err-take-clause-collecting : goal.returns-in_err-take-clause-collecting
+returns-in_err-take-clause-collecting g c = record {
+  stands = c.take.ensures.stands;
+  own = ap (λ (k : CollectorFacts). k.queue) c.in-Some.ensures.collected ∙ c.loop.invariant.collecting.own;
+  awaited =
+      subst (λ (k : CollectorFacts). AreAwaited g.J.Run.script c.take.new.desk.replies k.given k.collected) (sym c.in-Some.ensures.collected)
+      (c.take.ensures.awaited c.loop.collector.given c.loop.collector.collected c.loop.invariant.collecting.awaited);
+}

@@ -3,21 +3,18 @@ use Rattle.blk_workers.specs.Progress.{AreAwaited}
 use Rattle.run_desk.specs.Desk.{is_owed, owed_count}
 use Rattle.run_desk.specs.Requests.{IsAcceptedAt}
 use Rattle.blk_workers.proofs.Awaited.{awaited_fewer, awaited_taken}
-use Rattle.run_desk.proofs.NextLines.{moved}
 use Rattle.run_desk.proofs.Places.{count_set}
 use Rattle.blk_workers.proofs.collecting.take.Goals as goal
 
 pub returns-in_default-clause-awaited : goal.returns-in_default-clause-awaited
-returns-in_default-clause-awaited g c = λ given collected awaited. awaited_fewer c.args.script.now c.args.desk.now.replies given c.args.done.number collected awaited
+returns-in_default-clause-awaited g c = λ given collected awaited. awaited_fewer g.J.Run.script c.args.desk.now.replies given c.args.done.number collected awaited
 
 pub returns-clause-awaited : goal.returns-clause-awaited
 returns-clause-awaited g c = λ given collected awaited.
     let here = c.into_parts-position.result.0 in
-    let at : IsAcceptedAt c.args.script.now c.args.done.number here =
-    moved (λ s p. IsAcceptedAt s c.args.done.number p) c.args.script.now g.J.Run.script here c.args.done.position c.requires.script c.into_parts-position.ensures.position c.into_parts-position.ensures.request
-    in
-    subst (λ replies. AreAwaited c.args.script.now replies given (collected ++ c.args.done.number ∷ [])) (sym c.take.ensures.taken)
-    (awaited_taken c.args.script.now c.args.desk.now.replies given c.args.done.number here (Some c.in-Some.answer.text.items) collected at awaited)
+    let at : IsAcceptedAt g.J.Run.script c.args.done.number here = subst (IsAcceptedAt g.J.Run.script c.args.done.number) (sym c.into_parts-position.ensures.position) c.into_parts-position.ensures.request in
+    subst (λ replies. AreAwaited g.J.Run.script replies given (collected ++ c.args.done.number ∷ [])) (sym c.take.ensures.taken)
+    (awaited_taken g.J.Run.script c.args.desk.now.replies given c.args.done.number here (Some c.in-Some.answer.text.items) collected at awaited)
 
 pub returns-clause-filled : goal.returns-clause-filled
 returns-clause-filled g c =

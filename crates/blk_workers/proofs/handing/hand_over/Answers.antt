@@ -1,45 +1,67 @@
-use Rattle.std.proofs.Common.{◌≡◌, ◌∙◌, ◌+◌, ◌++◌, ◌∷◌, [], ap, sym, subst, true, length, is_some, Some, None}
+use Rattle.std.proofs.Common.{◌≡◌, ◌∙◌, ◌+◌, ◌++◌, ◌∷◌, [], ap, sym, subst, true, length, is_some, None}
+use Rattle.std.proofs.lemmas.List.{length-append}
 use Rattle.script_meaning.specs.Script.{Meant}
-use Rattle.blk_workers.specs.Progress.{AreAwaited}
-use Rattle.blk_workers.proofs.Awaited.{awaited_submitted}
-use Rattle.run_desk.proofs.Numbering.{counts_request}
 use Rattle.script_meaning.specs.Requests.{accepted_at, accepted_before}
 use Rattle.run_queues.specs.Parts.{CollectorFacts, DutyFacts, SourceFacts}
-use Rattle.run_desk.specs.Requests.{IsDue}
-use Rattle.run_desk.proofs.NextLines.{due_at, moved}
+use Rattle.run_desk.specs.Desk.{Stands, is_owed}
+use Rattle.run_desk.specs.Requests.{IsDue, found_at}
+use Rattle.run_desk.specs.Span.{ClashesWithNone}
+use Rattle.run_desk.proofs.NextLines.{due_at}
+use Rattle.run_desk.proofs.Numbering.{counts_request}
+use Rattle.blk_workers.specs.Progress.{AreAwaited}
+use Rattle.blk_workers.proofs.Awaited.{awaited_submitted}
 use Rattle.blk_workers.proofs.handing.hand_over.Goals as goal
 
+pub found-requires-clause-apart : goal.found-requires-clause-apart
+found-requires-clause-apart g c = subst (λ (s : Meant). ClashesWithNone s (is_owed c.args.desk.now.replies) c.args.accepted.request) (sym c.hall.invariant.its_script) c.requires.ready.apart
+
+pub submit-requires-clause-apart : goal.submit-requires-clause-apart
+submit-requires-clause-apart g c = subst (λ (s : Meant). ClashesWithNone s (is_owed c.args.desk.now.replies) c.args.accepted.request) (sym c.hall.invariant.its_script) c.requires.ready.apart
+
 pub new-job-requires : goal.new-job-requires
-new-job-requires g c = record {
-  own = c.entered-tag.ensures.own;
-  entered = c.entered-tag.ensures.entered;
-  limits = c.args.accepted.limits;
-  told = c.entered-tag.ensures.told;
-  may_tell = ap (λ (d : DutyFacts). d.queue) c.duty-duty.ensures.duty ∙ c.requires.completions;
-  numbered = record {
-    accepted = moved (λ s p. is_some (accepted_at s p) ≡ true) g.J.Run.script c.args.script.now c.len-position.result (length c.args.desk.now.replies) (sym c.requires.script) c.len-position.ensures (ap is_some c.requires.accepted);
-    count = ap (accepted_before g.J.Run.script) c.len-position.ensures ∙ sym c.requires.number ∙ sym (ap (λ (d : DutyFacts). d.number) c.duty-duty.ensures.duty);
-  };
-  due = moved (λ s p. IsDue s p c.args.accepted.limits c.in_ok-found.found.items) g.J.Run.script c.args.script.now c.len-position.result (length c.args.desk.now.replies) (sym c.requires.script) c.len-position.ensures
-      (due_at c.args.script.now (length c.args.desk.now.replies) c.args.accepted.request c.args.accepted.limits c.in_ok-found.found.items c.requires.accepted c.requires.limits c.in_ok-found.ensures);
-}
+new-job-requires g c =
+    let script = g.J.Run.script in
+    let here = length c.args.desk.now.replies in
+    let found = c.in_ok-found.found.items in
+    let ready = c.requires.ready in
+    record {
+      own = c.entered-tag.ensures.own;
+      entered = c.entered-tag.ensures.entered;
+      limits = c.args.accepted.limits;
+      told = c.entered-tag.ensures.told;
+      may_tell = ap (λ (d : DutyFacts). d.queue) c.duty-duty.ensures.duty ∙ c.hall.invariant.its_completions;
+      numbered = record {
+        accepted = subst (λ p. is_some (accepted_at script p) ≡ true) (sym c.len-position.ensures) (ap is_some ready.accepted);
+        count = ap (accepted_before script) c.len-position.ensures ∙ sym ready.number ∙ sym (ap (λ (d : DutyFacts). d.number) c.duty-duty.ensures.duty);
+      };
+      due = subst (λ p. IsDue script p c.args.accepted.limits found) (sym c.len-position.ensures)
+          (due_at script here c.args.accepted.request c.args.accepted.limits found ready.accepted ready.limits
+          (subst (λ (s : Meant). found ≡ found_at s here c.args.accepted.request) c.hall.invariant.its_script c.in_ok-found.ensures));
+    }
 
 pub returns-clause-handed_over : goal.returns-clause-handed_over
 returns-clause-handed_over g c =
     let old = c.args.desk.now.replies in
     let script = g.J.Run.script in
     let request = c.args.accepted.request in
-    let there : accepted_at script (length old) ≡ Some request = subst (λ (s : Meant). accepted_at s (length old) ≡ Some request) c.requires.script c.requires.accepted in
+    let there = c.requires.ready.accepted in
     let more = counts_request script (length old) request there in
     let handed = c.requires.handed_over in
     let mine : CollectorFacts = c.args.ends.now.collector in
     let given = c.duty-duty.ensures.collector in
+    let replies : length c.submit.new.self.replies ≡ length old + 1 = ap length c.in_ok-submit.ensures.owed ∙ length-append old (None ∷ []) in
     record {
-      requests = ap (λ (s : SourceFacts). s.pushed) c.push.ensures ∙ ap (λ n. n + 1) handed.requests ∙ sym more;
-      not_ended = ap (λ (s : SourceFacts). s.marks) c.push.ensures ∙ handed.not_ended;
-      duties = ap (λ (k : CollectorFacts). k.given) given ∙ ap (λ n. n + 1) handed.duties ∙ sym more;
-      awaited =
-          subst (λ replies. AreAwaited script replies c.duty-duty.new.collector.given c.duty-duty.new.collector.collected) (sym c.in_ok-submit.ensures.owed)
-          (subst (λ (k : CollectorFacts). AreAwaited script (old ++ None ∷ []) k.given k.collected) (sym given)
-          (awaited_submitted script old mine.given mine.collected request handed.duties there handed.awaited));
+      stands = subst (λ (s : Meant). Stands s c.submit.new.self.replies c.submit.new.self.disk c.submit.new.self.span) c.hall.invariant.its_script c.in_ok-submit.ensures.stands;
+      lines = replies;
+      all = record {
+        pushes = ap (λ (s : SourceFacts). s.queue) c.push.ensures ∙ handed.pushes;
+        collects = ap (λ (k : CollectorFacts). k.queue) given ∙ handed.collects;
+        pushed = ap (λ (s : SourceFacts). s.pushed) c.push.ensures ∙ ap (λ n. n + 1) handed.pushed ∙ sym more;
+        not_ended = ap (λ (s : SourceFacts). s.marks) c.push.ensures ∙ handed.not_ended;
+        duties = ap (λ (k : CollectorFacts). k.given) given ∙ ap (λ n. n + 1) handed.duties ∙ sym more;
+        awaited =
+            subst (λ replies. AreAwaited script replies c.duty-duty.new.collector.given c.duty-duty.new.collector.collected) (sym c.in_ok-submit.ensures.owed)
+            (subst (λ (k : CollectorFacts). AreAwaited script (old ++ None ∷ []) k.given k.collected) (sym given)
+            (awaited_submitted script old mine.given mine.collected request handed.duties there handed.awaited));
+      };
     }

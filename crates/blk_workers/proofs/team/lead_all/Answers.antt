@@ -8,11 +8,12 @@ gather-requires g c =
     let all : length c.args.started.items ≡ c.args.workers = omega (arith, c.requires.started, c.len.ensures, c.if-len-workers.false) in
     let started : length c.lead.new.started.items ≡ c.args.workers = ap length c.in_ok-submitter.ensures.started ∙ all in
     record {
-      line = c.requires.line;
-      own = ap (λ (s : SourceFacts). s.queue) led ∙ c.requires.ends.none_pushed.own;
-      out = ap (λ (s : SourceFacts). s.parts + length c.lead.new.started.items) led ∙ ap (λ n. c.args.ends.source.parts + n) started ∙ c.requires.ends.none_pushed.parts;
-      parts = omega (arith, ap (λ (s : SourceFacts). s.parts) led, c.requires.ends.none_pushed.parts, c.requires.some.1);
-      some = omega (arith, started, c.requires.some.0);
-      fresh = ap (λ (s : SourceFacts). s.lists) led ∙ c.requires.ends.none_pushed.no_lists;
-      room = omega (arith, started, ap (λ (s : SourceFacts). s.room) led, c.requires.ends.none_pushed.room);
+      out = record {
+        own = ap (λ (s : SourceFacts). s.queue) led ∙ c.requires.ends.none_pushed.own;
+        out = ap (λ (s : SourceFacts). s.parts + length c.lead.new.started.items) led ∙ ap (λ n. c.args.ends.source.parts + n) started ∙ c.requires.ends.none_pushed.parts;
+        parts = omega (arith, ap (λ (s : SourceFacts). s.parts) led, c.requires.ends.none_pushed.parts, c.requires.some.1);
+        some = omega (arith, started, c.requires.some.0);
+        no_lists = ap (λ (s : SourceFacts). s.lists) led ∙ c.requires.ends.none_pushed.no_lists;
+        room = omega (arith, started, ap (λ (s : SourceFacts). s.room) led, c.requires.ends.none_pushed.room);
+      };
     }

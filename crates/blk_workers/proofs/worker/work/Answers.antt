@@ -4,7 +4,6 @@ use Rattle.std.proofs.lemmas.List.Elements.{All-push}
 use Rattle.run_queues.specs.Numbers.{IsIncreasing}
 use Rattle.run_queues.specs.Parts.{DrawerFacts, after_draw}
 use Rattle.script_meaning.specs.Requests.{accepted_in_all}
-use Rattle.script_meaning.specs.Script.{Meant}
 use Rattle.run_desk.proofs.Numbering.{few_accepted, number_below}
 use Rattle.blk_workers.proofs.FewNumbers.{few_increasing}
 use Rattle.blk_workers.proofs.worker.work.Goals as goal
@@ -42,5 +41,4 @@ add-requires-clause-room g c =
     let below = subst (All (λ n. n < bound)) (sym longer) (All-push (λ n. n < bound) c.loop.drawer.drawn job.duty.number c.loop.invariant.4 less) in
     let few = few_increasing bound c.draw.new.drawer.drawn c.draw.ensures.increasing below in
     let one_more = ap length longer ∙ length-append c.loop.drawer.drawn (job.duty.number ∷ []) in
-    let lines = ap (λ (s : Meant). length s.lines) c.requires.script in
-    omega (arith, c.loop.invariant.5, one_more, few, few_accepted script, lines, c.requires.few)
+    omega (arith, c.loop.invariant.5, one_more, few, few_accepted script, c.hall.invariant.few_lines)

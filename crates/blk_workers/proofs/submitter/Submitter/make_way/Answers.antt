@@ -8,8 +8,8 @@ use Rattle.blk_workers.proofs.submitter.Submitter.make_way.Goals as goal
 
 pub follow-requires-clause-hardware : goal.follow-requires-clause-hardware
 follow-requires-clause-hardware g c =
-    ap (λ (q : Queue). q.limits.hardware) (c.in_ok-drain.ensures.state ∙ c.requires.at.state.is) ∙ hardware_at g.J.Run.script (length c.args.self.now.desk.replies) ∙ sym c.requires.hardware
-    ∙ sym (ap (λ (q : QueueFacts). q.hardware) c.requires.queue)
+    ap (λ (q : Queue). q.limits.hardware) (c.in_ok-drain.ensures.collected.state ∙ c.requires.at.state.is) ∙ hardware_at g.J.Run.script (length c.args.self.now.desk.replies) ∙ sym c.hall.invariant.hardware
+    ∙ sym (ap (λ (q : QueueFacts). q.hardware) c.hall.invariant.its_queue)
 
 pub returns-clause-apart : goal.returns-clause-apart
 returns-clause-apart g c = λ position first is accepted clash.

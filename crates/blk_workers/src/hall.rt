@@ -1,0 +1,124 @@
+//! What the threads of a run stand on.
+ghost use Rattle.std.specs.Prelude.{◌≡◌, IfOk, length};
+ghost use Rattle.run_queues.specs.Parts.{new_source};
+ghost use Rattle.blk_workers.specs.Halls.{IsHall};
+ghost use Rattle.blk_workers.specs.Progress.{AreFreeTags};
+
+use crate::fault::RunFault;
+use crate::job::{Completion, FreeTag, Job};
+use crate::naming::{Line, Run};
+use freeze_queue::{BlockQueue, Tag};
+use run_queues::{CompletionQueue, RequestQueue, Source, SpareQueue};
+use script_meaning::Script;
+use std::alloc::{AllocError, Global};
+use std::marker::{Model, PhantomData};
+use std::sync::Wait;
+
+/// The queues of a run: the one that requests enter, and those by which its threads hand requests, completions and free
+/// tags to one another.
+#[derive(Drop)]
+pub(crate) struct Queues<J: Run, C: Line> {
+    queue: BlockQueue,
+    requests: RequestQueue<Job<J, C>>,
+    completions: CompletionQueue<Completion<J>>,
+    tags: SpareQueue<FreeTag<J>>,
+}
+
+// A queue of these tags.
+fn free_tags<J: Run, R: Wait>(
+    rt: &R,
+    alloc: Global,
+    tags: Vec<Tag>,
+) -> Result<SpareQueue<FreeTag<J>>, AllocError>
+    requires { AreFreeTags J.queue tags.items }
+    ensures room { IfOk result (λ free. free ≡ length tags.items) }
+{
+    let free = SpareQueue::new(alloc, tags.len())?;
+    for tag in tags {
+        free.put(rt, FreeTag::new(Box::new(alloc, tag)?));
+    }
+    Ok(free)
+}
+
+impl<J: Run, C: Line> Queues<J, C> {
+    /// A run's queues, in which all tags are free, and the right to push requests. The room of both queues is taken here,
+    /// and that for the workers' lists.
+    pub(crate) fn new<R: Wait>(
+        rt: &R,
+        alloc: Global,
+        queue: BlockQueue,
+        tags: Vec<Tag>,
+        completions: CompletionQueue<Completion<J>>,
+        workers: u32,
+    ) -> Result<(Queues<J, C>, Source<Job<J, C>>), RunFault>
+        requires queue { queue ≡ J.queue }
+        requires tags { AreFreeTags J.queue tags.items }
+        ensures queue { IfOk result (λ made. made.0.queue ≡ queue) }
+        ensures rooms { IfOk result (λ made. (made.0.requests.room ≡ length tags.items) × (made.0.tags ≡ length tags.items)) }
+        ensures completions { IfOk result (λ made. made.0.completions ≡ completions) }
+        ensures source { IfOk result (λ made. made.1 ≡ new_source made.0.requests.id workers) }
+    {
+        let (requests, source) = RequestQueue::new(alloc, tags.len(), workers as usize)?;
+        let queues = Queues {
+            queue,
+            requests,
+            completions,
+            tags: free_tags(rt, alloc, tags)?,
+        };
+        Ok((queues, source))
+    }
+}
+
+/// What a run's threads stand on: the runtime, the allocator, the script, what holds the run at its points, and the run's
+/// queues.
+///
+/// The type keeps that the script and the queues are those which its parameters name, that the script's hardware is the
+/// queue's, and that the script's lines are few enough to be numbered.
+#[derive(Drop)]
+pub(crate) struct Hall<'a, J: Run, C: Line, L: Line, R, S> {
+    pub(crate) rt: &'a R,
+    pub(crate) alloc: Global,
+    pub(crate) script: &'a Script,
+    pub(crate) stall: &'a S,
+    pub(crate) queue: &'a BlockQueue,
+    pub(crate) requests: &'a RequestQueue<Job<J, C>>,
+    pub(crate) completions: &'a CompletionQueue<Completion<J>>,
+    pub(crate) tags: &'a SpareQueue<FreeTag<J>>,
+    of: PhantomData<L>,
+}
+
+impl<'a, J: Run, C: Line, L: Line, R, S> Model for Hall<'a, J, C, L, R, S> {
+    ghost use Rattle.std.specs.Prelude.{ℕ};
+    ghost use Rattle.blk_workers.specs.Halls.{IsHall};
+
+    ghost Value = { ℕ };
+
+    ghost view = { λ h. h.tags.now };
+
+    ghost invariant = { λ h. IsHall J.script J.queue L.id C.id h.script.now h.queue.now h.requests.now.id h.completions.now.id };
+}
+
+impl<'a, J: Run, C: Line, L: Line, R, S> Hall<'a, J, C, L, R, S> {
+    /// The hall of a run with these queues.
+    pub(crate) fn new(
+        rt: &'a R,
+        alloc: Global,
+        script: &'a Script,
+        stall: &'a S,
+        queues: &'a Queues<J, C>,
+    ) -> Hall<'a, J, C, L, R, S>
+        requires { IsHall J.script J.queue L.id C.id script.now queues.now.queue queues.now.requests.id queues.now.completions.id }
+    {
+        Hall {
+            rt,
+            alloc,
+            script,
+            stall,
+            queue: &queues.queue,
+            requests: &queues.requests,
+            completions: &queues.completions,
+            tags: &queues.tags,
+            of: PhantomData,
+        }
+    }
+}

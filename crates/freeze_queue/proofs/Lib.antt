@@ -1,5 +1,0 @@
-pub mod LimitWords
-pub mod SetLimits
-pub mod Thaws
-pub mod ToldLimits
-pub mod Emptied

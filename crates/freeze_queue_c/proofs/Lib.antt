@@ -1,0 +1,11 @@
+-- a tag's box, and the freezer's, as the lemmas on boxes see them
+pub mod TagBox
+pub mod FreezerBox
+-- a closed handle answers so
+pub mod Closed
+-- a freezer stays one of its queue
+pub mod Kept
+-- what a look tells of an open tag and an open freezer
+pub mod Looks
+-- what a queue that has ended leaves
+pub mod Finals

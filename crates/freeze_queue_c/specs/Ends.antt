@@ -1,0 +1,68 @@
+-- How a queue ends.
+use Rattle.std.specs.Prelude.{◌≡◌, ℕ, ◌+◌, ◌-◌, ◌≤◌, ◌⊎◌, true, Option, Some, None, length}
+use Rattle.queue_limits.specs.Words.{to_words}
+use Rattle.queue_core.specs.declared.fault.FreezeFault.{FreezeFault}
+use Rattle.queue_core.specs.declared.fault.FreezeFault.TheVariants.{TagsOut, WornOut}
+use Rattle.queue_core.specs.Queue.{remove_refusal}
+use Rattle.queue_core.specs.Removal.{AtTheEnd, kills_after, ReleasesAdd}
+use Rattle.freeze_queue_c.specs.declared.life.Final.{Final}
+use Rattle.freeze_queue_c.specs.declared.misuse.Misuse.TheVariants.{Memory, InUse}
+use Rattle.freeze_queue_c.specs.declared.refusal.Refusal.{Refusal}
+use Rattle.freeze_queue_c.specs.declared.refusal.Refusal.TheVariants.{OfQueue, OfMisuse}
+use Rattle.freeze_queue_c.specs.Numbers.{refusal_number}
+use Rattle.freeze_queue_c.specs.Opened.{FreezerOpened}
+use Rattle.freeze_queue_c.specs.PlainLimits.{as_bounds}
+
+-- why a queue may not end: tags that were given out aren't back, or the kill that it needs is refused
+abbrev pub end_refusal : FreezerOpened → Option FreezeFault
+end_refusal f = remove_refusal f.freezer (length f.waiting)
+
+-- what is left of a queue that has ended, with no release lost
+pub record IsFinal (f : FreezerOpened) (left : Final) : Type 0 where
+  pub dead : left.dead ≡ true
+  pub kills : left.kills ≡ kills_after f.freezer
+  pub limits : as_bounds left.limits ≡ f.freezer.limits
+  -- the count had reached zero
+  pub drained : AtTheEnd f.freezer.queue.gate (record { dead = left.dead; kills = left.kills; releases = left.releases; words = to_words f.freezer.limits })
+  -- each drain that a thaw ended had one release, and so had the last
+  pub drains : left.releases ≡ f.freezer.seat.zeros_cleared + 1
+  pub at_most : left.releases ≤ left.kills
+  pub releases : ReleasesAdd f.freezer f.waiting left.releases
+
+-- the tags that were given out and aren't back
+abbrev pub missing_tags : FreezerOpened → ℕ
+missing_tags f = f.freezer.tags - length f.waiting
+
+-- a queue has ended, which might, and this is left
+abbrev pub IsEnd : FreezerOpened → Final → Type 0
+IsEnd f left = (end_refusal f ≡ None) × IsFinal f left
+
+-- a queue that is refused is as it was, or gone for want of memory
+abbrev pub IsPutBack : FreezerOpened → FreezeFault → Option FreezerOpened → Refusal → Type 0
+IsPutBack f fault (Some back) why = (back ≡ f) × (why ≡ OfQueue fault)
+IsPutBack f fault None why = why ≡ OfMisuse Memory
+
+-- a queue that hasn't ended is as it was, refused for its reason or because somebody has a share of it; or gone for want of memory
+abbrev pub IsKeptAs : FreezerOpened → Option FreezerOpened → Refusal → Type 0
+IsKeptAs f (Some back) why = (back ≡ f) × ((why ≡ OfMisuse InUse) ⊎ ((fault : FreezeFault) × (end_refusal f ≡ Some fault) × (why ≡ OfQueue fault)))
+IsKeptAs f None why = why ≡ OfMisuse Memory
+
+-- somebody has a share of the queue, which is as it was; or it is gone, where there is no memory to put it back. No way of using handles leads there
+abbrev pub IsKept : FreezerOpened → Option FreezerOpened → ℕ → Type 0
+IsKept f new result = ((new ≡ Some f) × (result ≡ 45)) ⊎ ((new ≡ None) × (result ≡ 40))
+
+-- what putting such a queue back into its handle leaves, by the number that C is answered
+abbrev pub Restores : Option FreezerOpened → Refusal → Option FreezerOpened → ℕ → Type 0
+Restores None why new result = (new ≡ None) × (result ≡ refusal_number why)
+Restores (Some back) why new result = ((new ≡ Some back) × (result ≡ refusal_number why)) ⊎ ((new ≡ None) × (result ≡ 40))
+
+-- what ending a queue leaves: refused with everything as it was, or ended
+abbrev pub RemovesOpen : Option FreezeFault → FreezerOpened → Option FreezerOpened → Final → Final → ℕ → Type 0
+RemovesOpen (Some (TagsOut n)) f new there here result = (result ≡ 20) × (new ≡ Some f) × (here ≡ there)
+RemovesOpen (Some WornOut) f new there here result = (here ≡ there) × (((new ≡ Some f) × (result ≡ 21)) ⊎ IsKept f new result)
+RemovesOpen (Some why) f new there here result = ⊥
+RemovesOpen None f new there here result = ((new ≡ None) × (result ≡ 0) × IsFinal f here) ⊎ ((here ≡ there) × IsKept f new result)
+
+abbrev pub Removes : Option FreezerOpened → Option FreezerOpened → Final → Final → ℕ → Type 0
+Removes None new there here result = (result ≡ 32) × (new ≡ None) × (here ≡ there)
+Removes (Some f) new there here result = RemovesOpen (end_refusal f) f new there here result

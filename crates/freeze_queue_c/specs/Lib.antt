@@ -1,0 +1,11 @@
+pub mod Opened
+pub mod TagHolding
+pub mod FreezerHolding
+pub mod PlainLimits
+pub mod Numbers
+pub mod Ran
+pub mod TagCalls
+pub mod FreezerCalls
+pub mod Life
+pub mod Ends
+pub mod FirstPiece

@@ -1,0 +1,138 @@
+//! The numbers that C is answered, and what is written for it.
+ghost use Rattle.std.specs.Prelude.{◌≡◌, ◌≤◌, ◌+◌};
+ghost use Rattle.queue_core.specs.Queue.{fault_number};
+ghost use Rattle.freeze_queue_c.specs.Numbers.{number_of, queue_number, done_number, entry_number, put_number};
+ghost use Rattle.freeze_queue_c.specs.Ran.{written};
+ghost use Rattle.freeze_queue_c.specs.FreezerCalls.{begun_number, thawed_number, begun_depth, thawed_depth, depth_written};
+
+use crate::begun::Begun;
+use crate::misuse::Misuse;
+use crate::plain_limits::PlainLimits;
+use crate::refusal::Refusal;
+use queue_core::{Entry, FreezeFault, Put, Thawed};
+
+fn put_number(put: Put) -> u32
+    ensures number { result ≡ put_number put }
+    ensures small { result ≤ 1 }
+{
+    match put {
+        Put::NotLast => 0,
+        Put::Last => 1,
+    }
+}
+
+/// What an attempt to enter answers: 0 where it did; where it didn't, 2, or 3 where that was the last drop.
+pub fn of_entry(answer: Result<Entry, Misuse>) -> u32
+    ensures { result ≡ number_of entry_number answer }
+{
+    match answer {
+        Ok(Entry::Entered) => 0,
+        Ok(Entry::Refused(put)) => 2 + put_number(put),
+        Err(why) => why.number(),
+    }
+}
+
+/// What leaving answers: 0, or 1 where that was the last drop.
+pub fn of_put(answer: Result<Put, Misuse>) -> u32
+    ensures { result ≡ number_of put_number answer }
+{
+    match answer {
+        Ok(put) => put_number(put),
+        Err(why) => why.number(),
+    }
+}
+
+/// 0 where all went well.
+pub fn of_unit(answer: Result<(), Misuse>) -> u32
+    ensures { result ≡ number_of (λ _. 0) answer }
+{
+    match answer {
+        Ok(()) => 0,
+        Err(why) => why.number(),
+    }
+}
+
+/// 0 where it is done.
+pub fn of_done(answer: Result<(), Refusal>) -> u32
+    ensures { result ≡ done_number answer }
+{
+    match answer {
+        Ok(()) => 0,
+        Err(why) => why.number(),
+    }
+}
+
+/// 0 where the limits are set.
+pub fn of_set(answer: Result<Result<(), Refusal>, Misuse>) -> u32
+    ensures { result ≡ number_of done_number answer }
+{
+    match answer {
+        Ok(done) => of_done(done),
+        Err(why) => why.number(),
+    }
+}
+
+/// Writes what was read. 0 where all went well.
+pub fn write(answer: Result<u32, Misuse>, here: &mut u32) -> u32
+    ensures number { result ≡ number_of (λ _. 0) answer }
+    ensures written { here.new ≡ written answer here.old }
+{
+    match answer {
+        Ok(value) => {
+            *here = value;
+            0
+        }
+        Err(why) => why.number(),
+    }
+}
+
+/// Writes limits. 0 where all went well.
+pub fn write_limits(answer: Result<PlainLimits, Misuse>, here: &mut PlainLimits) -> u32
+    ensures number { result ≡ number_of (λ _. 0) answer }
+    ensures written { here.new ≡ written answer here.old }
+{
+    match answer {
+        Ok(limits) => {
+            *here = limits;
+            0
+        }
+        Err(why) => why.number(),
+    }
+}
+
+/// A refusal of the queue: 16 more than its number.
+fn of_fault(why: FreezeFault) -> u32
+    ensures { result ≡ 16 + fault_number why }
+{
+    16 + u32::from(why.number())
+}
+
+/// Writes the depth of a freeze. 0 where it has begun, 4 where the queue is drained already.
+pub fn write_begun(answer: Result<Result<Begun, FreezeFault>, Misuse>, depth: &mut u32) -> u32
+    ensures number { result ≡ number_of (queue_number begun_number) answer }
+    ensures written { depth.new ≡ depth_written begun_depth answer depth.old }
+{
+    match answer {
+        Ok(Ok(begun)) => {
+            *depth = begun.depth;
+            if begun.drained { 4 } else { 0 }
+        }
+        Ok(Err(why)) => of_fault(why),
+        Err(why) => why.number(),
+    }
+}
+
+/// Writes the depth that a thaw leaves. 0 where the queue is frozen still, 5 where it is live again.
+pub fn write_thawed(answer: Result<Result<Thawed, FreezeFault>, Misuse>, depth: &mut u32) -> u32
+    ensures number { result ≡ number_of (queue_number thawed_number) answer }
+    ensures written { depth.new ≡ depth_written thawed_depth answer depth.old }
+{
+    match answer {
+        Ok(Ok(thawed)) => {
+            *depth = thawed.depth;
+            if thawed.live { 5 } else { 0 }
+        }
+        Ok(Err(why)) => of_fault(why),
+        Err(why) => why.number(),
+    }
+}

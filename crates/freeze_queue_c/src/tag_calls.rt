@@ -1,0 +1,67 @@
+//! The calls of a tag. A closed handle answers Closed.
+ghost use Rattle.freeze_queue_c.specs.Numbers.{entry_number, put_number};
+ghost use Rattle.freeze_queue_c.specs.Ran.{Answers, Writes};
+ghost use Rattle.freeze_queue_c.specs.TagCalls.{enter_misuse, leave_misuse, limits_misuse, TriedToEnter, TriedToLookIn, HasLeft, ToldLimits};
+
+use crate::misuse::Misuse;
+use crate::number::{of_entry, of_put, write_limits};
+use crate::plain_limits::PlainLimits;
+use crate::tag_handle::TagHandle;
+
+/// Enters unless the queue is frozen: 0. Else 2, or 3 where this drained the queue: then the freezer is to be woken. Linux:
+/// `blk_queue_enter` with BLK_MQ_REQ_NOWAIT (block/blk-core.c).
+#[tactic(auto, using(crate::proofs::Closed::closed_answers))]
+#[unsafe(no_mangle)]
+pub extern "C" fn freeze_queue_try_enter(tag: &mut TagHandle, slot: u32) -> u32
+    ensures { Answers entry_number (enter_misuse slot) (TriedToEnter slot) tag.old.held.tag tag.new.held.tag result }
+{
+    let Some(mut open) = tag.take() else {
+        return of_entry(Err(Misuse::Closed));
+    };
+    let answer = open.try_enter(slot);
+    tag.put_back(open);
+    of_entry(answer)
+}
+
+/// Enters a queue that may be frozen, to look at what is under way, unless it is drained. Answers as `try_enter`. Linux:
+/// `percpu_ref_tryget` of `q_usage_counter`, as for timeouts (block/blk-mq.c).
+#[tactic(auto, using(crate::proofs::Closed::closed_answers))]
+#[unsafe(no_mangle)]
+pub extern "C" fn freeze_queue_try_enter_frozen(tag: &mut TagHandle, slot: u32) -> u32
+    ensures { Answers entry_number (enter_misuse slot) TriedToLookIn tag.old.held.tag tag.new.held.tag result }
+{
+    let Some(mut open) = tag.take() else {
+        return of_entry(Err(Misuse::Closed));
+    };
+    let answer = open.try_enter_frozen(slot);
+    tag.put_back(open);
+    of_entry(answer)
+}
+
+/// Leaves. 1 where the queue is drained by it: then the freezer is to be woken. Linux: `blk_queue_exit` (block/blk-core.c).
+#[tactic(auto, using(crate::proofs::Closed::closed_answers))]
+#[unsafe(no_mangle)]
+pub extern "C" fn freeze_queue_leave(tag: &mut TagHandle, slot: u32) -> u32
+    ensures { Answers put_number (leave_misuse slot) HasLeft tag.old.held.tag tag.new.held.tag result }
+{
+    let Some(mut open) = tag.take() else {
+        return of_put(Err(Misuse::Closed));
+    };
+    let answer = open.leave(slot);
+    tag.put_back(open);
+    of_put(answer)
+}
+
+/// Writes the limits in force, for a tag that is in: the same until it leaves.
+#[tactic(auto, using(crate::proofs::Closed::closed_writes))]
+#[unsafe(no_mangle)]
+pub extern "C" fn freeze_queue_limits_of(tag: &mut TagHandle, limits: &mut PlainLimits) -> u32
+    ensures { Writes limits_misuse ToldLimits tag.old.held.tag tag.new.held.tag limits.old limits.new result }
+{
+    let Some(mut open) = tag.take() else {
+        return write_limits(Err(Misuse::Closed), limits);
+    };
+    let answer = open.limits();
+    tag.put_back(open);
+    write_limits(answer, limits)
+}

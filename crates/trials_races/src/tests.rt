@@ -1,0 +1,192 @@
+//! How many moments a race has, and how many ends. The numbers of the first three are counted by hand, in the comments;
+//! those and the others are what tests/races/search.py finds, which knows docs/GATE.md and nothing of these crates. Its worlds
+//! have the names of the tests.
+
+use percpu_core::{Memory, SLOT_LIMIT, Start};
+use race_calls::{Asked, ControlCall, Count, Mode, PassCall};
+use race_search::{all_moments, ends};
+use race_world::{PassCalls, Race};
+use std::alloc::{AllocError, Global};
+use std::test::Fail;
+
+const TRY: PassCall = PassCall::Counts {
+    slot: 0,
+    count: Count::Try,
+};
+
+const LIVE: PassCall = PassCall::Counts {
+    slot: 0,
+    count: Count::TryLive,
+};
+
+const PUT: PassCall = PassCall::Counts {
+    slot: 0,
+    count: Count::Put(1),
+};
+
+// A pass for each list of calls.
+fn passes_of(alloc: Global, calls: &[&[PassCall]]) -> Result<Vec<PassCalls>, AllocError> {
+    let mut passes = Vec::new(alloc);
+    for of_pass in calls {
+        passes.push(PassCalls::new(of_pass.to_vec(alloc)?))?;
+    }
+    Ok(passes)
+}
+
+// How many moments the race has, and how many ends; none where the gate would be beyond its limits.
+fn count_of(
+    alloc: Global,
+    slots: u32,
+    start: Start,
+    calls: &[&[PassCall]],
+    control: &[ControlCall],
+) -> Result<(usize, usize), Memory> {
+    let passes = passes_of(alloc, calls)?;
+    if slots < 1 || slots > SLOT_LIMIT || passes.is_empty() || passes.len() > 64 {
+        return Ok((0, 0));
+    }
+    let race = Race::new(
+        slots,
+        start,
+        0,
+        Vec::new(alloc),
+        passes,
+        control.to_vec(alloc)?,
+    );
+    let moments = all_moments(alloc, &race)?;
+    let ends = ends(alloc, &race, &moments)?;
+    Ok((moments.as_slice().len(), ends.len()))
+}
+
+// Nobody makes a call: the first moment is the last.
+#[test]
+fn nothing(rt: HostRuntime) -> Result<(), Fail> {
+    let none: [PassCall; 0] = [];
+    assert_eq!(rt;
+        count_of(rt.alloc(), 1, Start::Atomic, &[&none], &[])?,
+        (1, 1)
+    );
+    Ok(())
+}
+
+// The slot is closed, so the try looks and adds: before, between and after.
+#[test]
+fn one_try(rt: HostRuntime) -> Result<(), Fail> {
+    assert_eq!(rt;
+        count_of(rt.alloc(), 1, Start::Atomic, &[&[LIVE]], &[])?,
+        (3, 1)
+    );
+    Ok(())
+}
+
+// Each of the two is at one of these three, whatever the other does, and the shared word counts those that are through.
+#[test]
+fn two_tries(rt: HostRuntime) -> Result<(), Fail> {
+    assert_eq!(rt;
+        count_of(rt.alloc(), 1, Start::Atomic, &[&[LIVE], &[LIVE]], &[])?,
+        (9, 1)
+    );
+    Ok(())
+}
+
+#[test]
+fn removal(rt: HostRuntime) -> Result<(), Fail> {
+    assert_eq!(rt;
+        count_of(
+            rt.alloc(),
+            1,
+            Start::Atomic,
+            &[&[LIVE, PUT]],
+            &[ControlCall::Kill]
+        )?,
+        (39, 4)
+    );
+    Ok(())
+}
+
+#[test]
+fn removal_on_slots(rt: HostRuntime) -> Result<(), Fail> {
+    assert_eq!(rt;
+        count_of(
+            rt.alloc(),
+            1,
+            Start::Slots,
+            &[&[LIVE, PUT]],
+            &[ControlCall::Kill]
+        )?,
+        (61, 4)
+    );
+    Ok(())
+}
+
+#[test]
+fn two_kills(rt: HostRuntime) -> Result<(), Fail> {
+    let control = [ControlCall::Kill, ControlCall::Resurrect, ControlCall::Kill];
+    assert_eq!(rt;
+        count_of(rt.alloc(), 1, Start::Atomic, &[&[TRY, PUT]], &control)?,
+        (125, 7)
+    );
+    Ok(())
+}
+
+#[test]
+fn another_slot(rt: HostRuntime) -> Result<(), Fail> {
+    let put = PassCall::Counts {
+        slot: 1,
+        count: Count::Put(1),
+    };
+    let try_there = PassCall::Counts {
+        slot: 1,
+        count: Count::Try,
+    };
+    let calls: [&[PassCall]; 2] = [&[LIVE, put], &[try_there]];
+    assert_eq!(rt;
+        count_of(rt.alloc(), 2, Start::Slots, &calls, &[ControlCall::Kill])?,
+        (309, 6)
+    );
+    Ok(())
+}
+
+#[test]
+fn switch(rt: HostRuntime) -> Result<(), Fail> {
+    let get = PassCall::Counts {
+        slot: 0,
+        count: Count::Get(2),
+    };
+    let put = PassCall::Counts {
+        slot: 0,
+        count: Count::Put(3),
+    };
+    let control = [
+        ControlCall::SwitchTo(Mode::Atomic),
+        ControlCall::SwitchTo(Mode::Slots),
+        ControlCall::Kill,
+        ControlCall::Reinit,
+    ];
+    assert_eq!(rt;
+        count_of(rt.alloc(), 1, Start::Slots, &[&[LIVE, get, put]], &control)?,
+        (266, 8)
+    );
+    Ok(())
+}
+
+#[test]
+fn asks(rt: HostRuntime) -> Result<(), Fail> {
+    let calls = [
+        TRY,
+        PassCall::Asks(Asked::Front),
+        PassCall::Asks(Asked::Zero),
+        PUT,
+    ];
+    let control = [
+        ControlCall::MarkDead,
+        ControlCall::IsZero,
+        ControlCall::Reinit,
+        ControlCall::Kill,
+    ];
+    assert_eq!(rt;
+        count_of(rt.alloc(), 1, Start::Dead, &[&calls], &control)?,
+        (227, 11)
+    );
+    Ok(())
+}

@@ -1,0 +1,259 @@
+/* Each call of the queue's library, and each number that it may answer, but for want of memory (refused.c) and a queue
+ * that is worn out, which takes 2^40 freezes. A call that is refused writes nothing. */
+#include "freeze_queue.h"
+
+#include <stdio.h>
+#include <string.h>
+
+static int failures;
+
+static void is(const char *call, uint64_t answer, uint64_t want, int line)
+{
+    if (answer == want)
+        return;
+    fprintf(stderr, "line %d: %s answers %lu, not %lu\n", line, call, (unsigned long)answer, (unsigned long)want);
+    failures++;
+}
+
+#define IS(call, want) is(#call, call, FREEZE_QUEUE_##want, __LINE__)
+#define TELLS(value, want) is(#value, value, want, __LINE__)
+
+static const freeze_queue_limits plain = {.hardware = 8, .max = 0, .chunk = 0, .physical = 1};
+static freeze_queue_final last;
+static freeze_queue_limits told = {7, 7, 7, 7};
+static uint32_t number = 7;
+
+static void is_unwritten(int line)
+{
+    is("what is written", number == 7 && told.hardware == 7 && told.max == 7 && told.chunk == 7 && told.physical == 7, true,
+       line);
+    is("what is left", last.kills, 0, line);
+}
+
+static void closed_handles(void)
+{
+    freeze_queue_freezer freezer = {0};
+    freeze_queue_tag tag = {0};
+    IS(freeze_queue_next_tag(&freezer, &tag), CLOSED);
+    IS(freeze_queue_give_tag_back(&freezer, &tag), CLOSED);
+    IS(freeze_queue_remove(&freezer, &last), CLOSED);
+    TELLS(freeze_queue_tag_number(&tag), 0);
+    TELLS(freeze_queue_freezer_number(&freezer), 0);
+    IS(freeze_queue_try_enter(&tag, 0), CLOSED);
+    IS(freeze_queue_try_enter_frozen(&tag, 0), CLOSED);
+    IS(freeze_queue_leave(&tag, 0), CLOSED);
+    IS(freeze_queue_limits_of(&tag, &told), CLOSED);
+    IS(freeze_queue_start_freeze(&freezer, &number), CLOSED);
+    TELLS(freeze_queue_poll_drained(&freezer), false);
+    IS(freeze_queue_set(&freezer, &plain), CLOSED);
+    IS(freeze_queue_set(&freezer, &(freeze_queue_limits){0}), CLOSED);
+    IS(freeze_queue_thaw(&freezer, &number), CLOSED);
+    IS(freeze_queue_mode(&freezer, 9), CLOSED);
+    IS(freeze_queue_depth(&freezer, &number), CLOSED);
+    IS(freeze_queue_limits_in_force(&freezer, &told), CLOSED);
+    freeze_queue_free_tag(&tag);
+    freeze_queue_free_freezer(&freezer);
+    is_unwritten(__LINE__);
+}
+
+/* Limits that are refused, in the order in which the refusals come: each of these breaks all later rules too. */
+static const struct { freeze_queue_limits limits; uint32_t want; } wrong[] = {
+    {{0, 1, 65536, 0}, FREEZE_QUEUE_HARDWARE_RANGE},
+    {{65536, 65537, 65536, 0}, FREEZE_QUEUE_HARDWARE_RANGE},
+    {{UINT32_MAX, 0, 0, 1}, FREEZE_QUEUE_HARDWARE_RANGE},
+    {{8, 9, 65536, 0}, FREEZE_QUEUE_ABOVE_HARDWARE},
+    {{65535, UINT32_MAX, 0, 1}, FREEZE_QUEUE_ABOVE_HARDWARE},
+    {{8, 8, 65536, 0}, FREEZE_QUEUE_CHUNK_TOO_LARGE},
+    {{8, 0, UINT32_MAX, 1}, FREEZE_QUEUE_CHUNK_TOO_LARGE},
+    {{8, 0, 65535, 0}, FREEZE_QUEUE_BAD_PHYSICAL},
+    {{8, 0, 65535, 3}, FREEZE_QUEUE_BAD_PHYSICAL},
+    {{8, 0, 0, 65536}, FREEZE_QUEUE_BAD_PHYSICAL},
+    {{8, 0, 0, 0x80000000}, FREEZE_QUEUE_BAD_PHYSICAL},
+};
+enum { WRONG = sizeof wrong / sizeof *wrong };
+
+static void refused_limits(freeze_queue_freezer *freezer)
+{
+    freeze_queue_freezer closed = {0};
+    for (int i = 0; i < WRONG; i++) {
+        TELLS(freeze_queue_new(&closed, &wrong[i].limits, 0, 64), wrong[i].want);
+        TELLS(freeze_queue_set(freezer, &wrong[i].limits), wrong[i].want);
+        TELLS(freeze_queue_first_piece(&wrong[i].limits, 0, 0, &number), wrong[i].want);
+    }
+    TELLS(closed.is_open, false);
+    IS(freeze_queue_set(freezer, &(freeze_queue_limits){9, 0, 0, 1}), OTHER_HARDWARE);
+    IS(freeze_queue_first_piece(&plain, 0, 0, &number), RANGE);
+    IS(freeze_queue_first_piece(&plain, (uint64_t)1 << 33, 1, &number), RANGE);
+    IS(freeze_queue_first_piece(&plain, UINT64_MAX, 1, &number), RANGE);
+    is_unwritten(__LINE__);
+    IS(freeze_queue_first_piece(&plain, ((uint64_t)1 << 33) - 1, 1, &number), OK);
+    TELLS(number, 1);
+    number = 7;
+}
+
+static void a_tag(freeze_queue_freezer *freezer, freeze_queue_tag *tag)
+{
+    IS(freeze_queue_try_enter(tag, 2), SLOT);
+    IS(freeze_queue_try_enter_frozen(tag, UINT32_MAX), SLOT);
+    IS(freeze_queue_leave(tag, 2), SLOT);
+    IS(freeze_queue_leave(tag, 0), NOT_ENTERED_TAG);
+    IS(freeze_queue_limits_of(tag, &told), NOT_ENTERED_TAG);
+    IS(freeze_queue_try_enter(tag, 1), OK);
+    IS(freeze_queue_try_enter(tag, 0), ENTERED);
+    IS(freeze_queue_try_enter_frozen(tag, 0), ENTERED);
+    IS(freeze_queue_try_enter(tag, 2), SLOT);
+    IS(freeze_queue_leave(tag, 2), SLOT);
+    IS(freeze_queue_give_tag_back(freezer, tag), ENTERED);
+    TELLS(tag->is_open, true);
+    is_unwritten(__LINE__);
+    IS(freeze_queue_leave(tag, 0), OK);
+    IS(freeze_queue_leave(tag, 0), NOT_ENTERED_TAG);
+    IS(freeze_queue_try_enter_frozen(tag, 0), OK);
+    IS(freeze_queue_leave(tag, 1), OK);
+}
+
+static void set_and_look(freeze_queue_freezer *freezer, uint32_t max)
+{
+    const freeze_queue_limits limits = {8, max, 5, 2};
+    IS(freeze_queue_set(freezer, &limits), OK);
+    IS(freeze_queue_limits_in_force(freezer, &told), OK);
+    TELLS(told.max, max ? max : 8);
+    TELLS(told.chunk, 5);
+    TELLS(told.physical, 2);
+    told = (freeze_queue_limits){7, 7, 7, 7};
+}
+
+/* A freeze with a tag in, one more on it, and a look under a freeze. */
+static void a_freeze(freeze_queue_freezer *freezer, freeze_queue_tag *tag, freeze_queue_tag *other)
+{
+    IS(freeze_queue_set(freezer, &plain), NOT_FROZEN);
+    IS(freeze_queue_thaw(freezer, &number), NOT_FROZEN);
+    TELLS(freeze_queue_poll_drained(freezer), false);
+    is_unwritten(__LINE__);
+    IS(freeze_queue_try_enter(tag, 0), OK);
+    IS(freeze_queue_start_freeze(freezer, &number), OK);
+    TELLS(number, 1);
+    TELLS(freeze_queue_poll_drained(freezer), false);
+    IS(freeze_queue_set(freezer, &plain), NOT_DRAINED);
+    IS(freeze_queue_try_enter(other, 0), NOT_ENTERED);
+    IS(freeze_queue_try_enter_frozen(other, 0), OK);
+    IS(freeze_queue_leave(tag, 1), OK);
+    IS(freeze_queue_leave(other, 0), LAST);
+    IS(freeze_queue_try_enter_frozen(other, 0), NOT_ENTERED);
+    TELLS(freeze_queue_poll_drained(freezer), true);
+    set_and_look(freezer, 3);
+    set_and_look(freezer, 0);
+    IS(freeze_queue_start_freeze(freezer, &number), DRAINED);
+    TELLS(number, 2);
+    IS(freeze_queue_thaw(freezer, &number), OK);
+    TELLS(number, 1);
+    IS(freeze_queue_try_enter(tag, 0), NOT_ENTERED);
+    IS(freeze_queue_thaw(freezer, &number), LIVE_AGAIN);
+    TELLS(number, 0);
+    IS(freeze_queue_depth(freezer, &number), OK);
+    TELLS(number, 0);
+}
+
+/* A freeze that is thawed with a tag in: of it nobody is told. */
+static void a_thaw_in_between(freeze_queue_freezer *freezer, freeze_queue_tag *tag)
+{
+    IS(freeze_queue_try_enter(tag, 0), OK);
+    IS(freeze_queue_start_freeze(freezer, &number), OK);
+    IS(freeze_queue_thaw(freezer, &number), LIVE_AGAIN);
+    IS(freeze_queue_leave(tag, 0), OK);
+    IS(freeze_queue_mode(freezer, FREEZE_QUEUE_ATOMIC), OK);
+    IS(freeze_queue_mode(freezer, 2), MODE);
+    IS(freeze_queue_start_freeze(freezer, &number), DRAINED);
+    IS(freeze_queue_mode(freezer, FREEZE_QUEUE_SLOTS), OK);
+    for (uint32_t depth = 2; depth <= FREEZE_QUEUE_MOST_DEPTH; depth++) {
+        IS(freeze_queue_start_freeze(freezer, &number), DRAINED);
+        TELLS(number, depth);
+    }
+    number = 7;
+    IS(freeze_queue_start_freeze(freezer, &number), DEPTH_FULL);
+    TELLS(number, 7);
+    for (uint32_t depth = FREEZE_QUEUE_MOST_DEPTH; depth > 1; depth--)
+        IS(freeze_queue_thaw(freezer, &number), OK);
+    TELLS(number, 1);
+}
+
+/* Numbers from 0 to 50: which are refused, misuse, or tell a drain, and a text for each that is an answer. */
+static void numbers(void)
+{
+    static const char *const none = "no answer of a queue";
+    for (uint32_t n = 0; n <= 50; n++) {
+        bool is_answer = n <= 5 || (n >= 17 && n <= 21) || (n >= 25 && n <= 30) || (n >= 32 && n <= 42) || n == 45;
+        TELLS(freeze_queue_is_misuse(n), n >= 32);
+        TELLS(freeze_queue_is_refused(n), n >= 16);
+        TELLS(freeze_queue_is_drained(n), n == 1 || n == 3 || n == 4);
+        TELLS(strcmp(freeze_queue_text(n), none) != 0, is_answer);
+        for (uint32_t other = 0; is_answer && other < n; other++)
+            TELLS(strcmp(freeze_queue_text(n), freeze_queue_text(other)) != 0, true);
+    }
+}
+
+static void two_queues(freeze_queue_freezer *freezer, freeze_queue_tag *tag)
+{
+    freeze_queue_freezer other = {0};
+    freeze_queue_tag others = {0};
+    freeze_queue_final left;
+    IS(freeze_queue_new(&other, &plain, 64, 63), OK);
+    TELLS(freeze_queue_freezer_number(&other) > freeze_queue_freezer_number(freezer), true);
+    IS(freeze_queue_next_tag(&other, &others), OK);
+    TELLS(freeze_queue_tag_number(&others), freeze_queue_freezer_number(&other));
+    IS(freeze_queue_give_tag_back(freezer, &others), OTHER_QUEUE);
+    IS(freeze_queue_give_tag_back(&other, tag), OTHER_QUEUE);
+    IS(freeze_queue_try_enter(&others, 63), OK);
+    IS(freeze_queue_give_tag_back(freezer, &others), OTHER_QUEUE);
+    IS(freeze_queue_leave(&others, 0), OK);
+    IS(freeze_queue_remove(&other, &left), TAGS_OUT);
+    IS(freeze_queue_give_tag_back(&other, &others), OK);
+    TELLS(others.is_open, false);
+    IS(freeze_queue_remove(&other, &left), OK); /* from live */
+    TELLS(left.kills == 1 && left.releases == 1 && left.dead && left.limits.max == 8, true);
+    TELLS(other.is_open, false);
+}
+
+static void ends(freeze_queue_freezer *freezer, freeze_queue_tag *tag, freeze_queue_tag *other)
+{
+    IS(freeze_queue_remove(freezer, &last), TAGS_OUT);
+    is_unwritten(__LINE__);
+    IS(freeze_queue_give_tag_back(freezer, tag), OK);
+    IS(freeze_queue_give_tag_back(freezer, tag), CLOSED);
+    IS(freeze_queue_next_tag(freezer, tag), OK); /* the same one again */
+    IS(freeze_queue_next_tag(freezer, tag), OPEN);
+    IS(freeze_queue_give_tag_back(freezer, tag), OK);
+    IS(freeze_queue_remove(freezer, &last), TAGS_OUT);
+    IS(freeze_queue_give_tag_back(freezer, other), OK);
+    IS(freeze_queue_remove(freezer, &last), OK);
+    TELLS(last.dead, true);
+    TELLS(last.kills, 3);
+    TELLS(last.releases, 2);
+}
+
+int main(void)
+{
+    freeze_queue_freezer freezer = {0};
+    freeze_queue_tag tag = {0}, other = {0}, none = {0};
+    closed_handles();
+    numbers();
+    IS(freeze_queue_new(&freezer, &plain, 0, 1), SIZE);
+    IS(freeze_queue_new(&freezer, &plain, 65, 1), SIZE);
+    IS(freeze_queue_new(&freezer, &plain, 1, 0), SIZE);
+    IS(freeze_queue_new(&freezer, &plain, 1, 64), SIZE);
+    IS(freeze_queue_new(&freezer, &plain, 2, 2), OK);
+    IS(freeze_queue_new(&freezer, &(freeze_queue_limits){0}, 0, 0), OPEN);
+    IS(freeze_queue_next_tag(&freezer, &tag), OK);
+    IS(freeze_queue_next_tag(&freezer, &tag), OPEN);
+    IS(freeze_queue_next_tag(&freezer, &other), OK);
+    IS(freeze_queue_next_tag(&freezer, &none), NO_TAG);
+    IS(freeze_queue_give_tag_back(&freezer, &none), CLOSED);
+    refused_limits(&freezer);
+    a_tag(&freezer, &tag);
+    a_freeze(&freezer, &tag, &other);
+    a_thaw_in_between(&freezer, &tag);
+    two_queues(&freezer, &tag);
+    number = 7;
+    ends(&freezer, &tag, &other);
+    return failures != 0;
+}

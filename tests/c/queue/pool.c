@@ -1,0 +1,177 @@
+/* A pool of tags: filled and emptied with each refusal, searched from each place, waited for with deadlines, and taken by
+ * more threads than it has tags, each of which writes plain memory of the tag that it has. Words: turns, threads. */
+#define _POSIX_C_SOURCE 200809L
+#include "freeze_queue_pool.h"
+
+#include <sched.h>
+#include <stdio.h>
+#include <stdlib.h>
+
+enum { MOST = 16, TAGS = 3 };
+
+static int failures;
+
+static void is(const char *call, uint64_t answer, uint64_t want, int line)
+{
+    if (answer == want)
+        return;
+    fprintf(stderr, "line %d: %s answers %lu, not %lu\n", line, call, (unsigned long)answer, (unsigned long)want);
+    failures++;
+}
+
+#define IS(call, want) is(#call, call, FREEZE_QUEUE_##want, __LINE__)
+#define TELLS(value, want) is(#value, value, want, __LINE__)
+
+static freeze_queue_freezer freezer, other, closed;
+static freeze_queue_pool pool;
+static long turns, uses[TAGS]; /* uses: plain, of each tag */
+
+static uint32_t place_of(freeze_queue_tag *tag) { return (uint32_t)((freeze_queue_pooled *)(void *)tag - pool.tags); }
+
+static void filled_and_emptied(void)
+{
+    freeze_queue_tag out = {0};
+    freeze_queue_final last;
+    IS(freeze_queue_pool_empty(&pool, &freezer), CLOSED);
+    IS(freeze_queue_pool_fill(&pool, &closed, 1), CLOSED);
+    IS(freeze_queue_pool_fill(&pool, &freezer, 0), SIZE);
+    IS(freeze_queue_pool_fill(&pool, &freezer, 64), SIZE);
+    IS(freeze_queue_pool_fill(&pool, &freezer, TAGS + 1), NO_TAG); /* those that it gave are back */
+    IS(freeze_queue_next_tag(&freezer, &out), OK);
+    IS(freeze_queue_pool_fill(&pool, &freezer, TAGS), NO_TAG);
+    IS(freeze_queue_give_tag_back(&freezer, &out), OK);
+    IS(freeze_queue_pool_fill(&pool, &freezer, TAGS), OK);
+    IS(freeze_queue_pool_fill(&pool, &freezer, TAGS), OPEN);
+    IS(freeze_queue_pool_empty(&pool, &other), OTHER_QUEUE);
+    freeze_queue_tag *tag = freeze_queue_pool_take(&pool, 1);
+    TELLS(place_of(tag), 1);
+    IS(freeze_queue_pool_empty(&pool, &freezer), TAGS_OUT);
+    IS(freeze_queue_try_enter(tag, 0), OK);
+    freeze_queue_pool_give(&pool, tag);
+    IS(freeze_queue_pool_empty(&pool, &freezer), ENTERED); /* and keeps two */
+    TELLS(pool.count, 2);
+    tag = freeze_queue_pool_take(&pool, 1);
+    IS(freeze_queue_leave(tag, 0), OK);
+    IS(freeze_queue_pool_empty(&pool, &freezer), TAGS_OUT);
+    freeze_queue_pool_give(&pool, tag);
+    IS(freeze_queue_pool_empty(&pool, &freezer), OK);
+    IS(freeze_queue_remove(&other, &last), OK);
+    /* the greatest */
+    IS(freeze_queue_new(&other, &(freeze_queue_limits){8, 0, 0, 1}, 1, FREEZE_QUEUE_MOST_TAGS), OK);
+    IS(freeze_queue_pool_fill(&pool, &other, FREEZE_QUEUE_MOST_TAGS), OK);
+    for (uint32_t i = 0; i < FREEZE_QUEUE_MOST_TAGS; i++)
+        TELLS(place_of(freeze_queue_pool_take(&pool, 40)), (40 + i) % FREEZE_QUEUE_MOST_TAGS);
+    TELLS(freeze_queue_pool_take(&pool, 62) == NULL, true);
+    for (uint32_t i = 0; i < FREEZE_QUEUE_MOST_TAGS; i++)
+        freeze_queue_pool_give(&pool, &pool.tags[i].tag);
+    TELLS(place_of(freeze_queue_pool_take(&pool, UINT32_MAX)), UINT32_MAX % FREEZE_QUEUE_MOST_TAGS);
+    TELLS(freeze_queue_pool_take(&(freeze_queue_pool){0}, 5) == NULL, true); /* not filled */
+    freeze_queue_pool_give(&pool, &pool.tags[UINT32_MAX % FREEZE_QUEUE_MOST_TAGS].tag);
+    IS(freeze_queue_pool_empty(&pool, &other), OK);
+}
+
+static void *gives_later(void *tag)
+{
+    struct timespec at = freeze_queue_deadline(20000000);
+    while (clock_nanosleep(CLOCK_MONOTONIC, TIMER_ABSTIME, &at, NULL)) {}
+    freeze_queue_pool_give(&pool, tag);
+    return NULL;
+}
+
+static void waits_for_one(void)
+{
+    struct timespec past = {0, 0}, soon = freeze_queue_deadline(20000000), late = freeze_queue_deadline(20000000000);
+    freeze_queue_tag *tags[TAGS];
+    pthread_t thread;
+    for (int i = 0; i < TAGS; i++)
+        TELLS((tags[i] = freeze_queue_pool_take_waiting(&pool, 0, &past)) != NULL, true);
+    TELLS(freeze_queue_pool_take_waiting(&pool, 0, &past) == NULL, true);
+    TELLS(freeze_queue_pool_take_waiting(&pool, 0, &soon) == NULL, true);
+    if (pthread_create(&thread, NULL, gives_later, tags[1]))
+        exit(2);
+    TELLS(freeze_queue_pool_take_waiting(&pool, 0, &late) == tags[1], true);
+    pthread_join(thread, NULL);
+    for (int i = 0; i < TAGS; i++)
+        freeze_queue_pool_give(&pool, tags[i]);
+    TELLS(pool.waiting, 0);
+}
+
+static void *use(void *of)
+{
+    uint32_t number = (uint32_t)(uintptr_t)of;
+    long done = 0;
+    while (done < turns) {
+        struct timespec soon = freeze_queue_deadline(1000);
+        freeze_queue_tag *tag = done % 5 == 0   ? freeze_queue_pool_take(&pool, number)
+                                : done % 5 == 1 ? freeze_queue_pool_take_waiting(&pool, number, &soon)
+                                                : freeze_queue_pool_take_waiting(&pool, number, NULL);
+        if (tag == NULL)
+            continue;
+        uses[place_of(tag)]++; /* before it enters: so the pool alone hands it on */
+        if (freeze_queue_try_enter(tag, number % 2) || freeze_queue_leave(tag, number % 2))
+            abort();
+        freeze_queue_pool_give(&pool, tag);
+        done++;
+    }
+    return NULL;
+}
+
+static void used_by(uint32_t threads)
+{
+    pthread_t users[MOST];
+    for (uint32_t i = 0; i < threads; i++)
+        if (pthread_create(&users[i], NULL, use, (void *)(uintptr_t)i))
+            exit(2);
+    for (uint32_t i = 0; i < threads; i++)
+        pthread_join(users[i], NULL);
+    TELLS((uint64_t)(uses[0] + uses[1] + uses[2]), (uint64_t)turns * threads);
+}
+
+/* Two threads and one tag, in turn: each waits for the other to have had the tag before it asks again, so a wake that is
+ * lost isn't made good by the next. */
+static long done[2];
+
+static void *take_in_turn(void *of)
+{
+    uintptr_t me = (uintptr_t)of;
+    for (long turn = 1; turn <= turns; turn++) {
+        freeze_queue_tag *tag = freeze_queue_pool_take_waiting(&pool, 0, NULL);
+        __atomic_store_n(&done[me], turn, __ATOMIC_SEQ_CST);
+        freeze_queue_pool_give(&pool, tag);
+        while (__atomic_load_n(&done[1 - me], __ATOMIC_SEQ_CST) < turn)
+            sched_yield();
+    }
+    return NULL;
+}
+
+static void in_turn(void)
+{
+    pthread_t other;
+    if (pthread_create(&other, NULL, take_in_turn, (void *)(uintptr_t)1))
+        exit(2);
+    take_in_turn((void *)(uintptr_t)0);
+    pthread_join(other, NULL);
+    TELLS((uint64_t)(done[0] + done[1]), 2 * (uint64_t)turns);
+}
+
+int main(int argc, char **argv)
+{
+    const freeze_queue_limits limits = {8, 0, 0, 1};
+    freeze_queue_final last;
+    turns = argc > 1 ? atol(argv[1]) : 10000;
+    uint32_t threads = argc > 2 ? (uint32_t)atol(argv[2]) : 6;
+    if (threads > MOST || freeze_queue_new(&freezer, &limits, 2, TAGS) || freeze_queue_new(&other, &limits, 1, 1))
+        return 1;
+    filled_and_emptied();
+    IS(freeze_queue_pool_fill(&pool, &freezer, TAGS), OK);
+    waits_for_one();
+    used_by(threads);
+    IS(freeze_queue_pool_empty(&pool, &freezer), OK);
+    IS(freeze_queue_pool_fill(&pool, &freezer, 1), OK);
+    in_turn();
+    IS(freeze_queue_pool_empty(&pool, &freezer), OK);
+    IS(freeze_queue_remove(&freezer, &last), OK);
+    IS(freeze_queue_remove(&other, &last), OK);
+    printf("%s\n", failures ? "FAILED" : "as many");
+    return failures != 0;
+}

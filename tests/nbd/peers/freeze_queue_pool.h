@@ -1,0 +1,165 @@
+/* What the plugin calls of the queue, with the same names and answers, over something else, so that the same source is
+ * built over it: a lock that each request holds for reading and a freeze for writing, of the kind that RWLOCK names
+ * (PTHREAD_RWLOCK_PREFER_READER_NP, ..), or, where RWLOCK isn't defined, nothing at all. */
+#ifndef PEER_FREEZE_QUEUE_POOL_H
+#define PEER_FREEZE_QUEUE_POOL_H
+
+#include <freeze_queue.h>
+#include <pthread.h>
+#include <sys/eventfd.h>
+#include <time.h>
+#include <unistd.h>
+
+typedef struct freeze_queue_waits {
+    pthread_rwlock_t lock;
+    uint32_t depth; /* of the control's thread alone, which holds the lock while it isn't 0 */
+} freeze_queue_waits;
+
+typedef struct freeze_queue_pool {
+    freeze_queue_tag tag; /* one for all */
+} freeze_queue_pool;
+
+__attribute__((weak)) freeze_queue_limits peer_limits; /* in force */
+
+/* ---- Made and ended ---- */
+
+static inline uint32_t peer_new(const freeze_queue_limits *limits)
+{
+    uint32_t piece;
+    peer_limits = *limits;
+    if (peer_limits.max == 0)
+        peer_limits.max = peer_limits.hardware;
+    return freeze_queue_first_piece(limits, 0, 1, &piece);
+}
+
+static inline int freeze_queue_waits_init(freeze_queue_waits *waits, freeze_queue_freezer *freezer)
+{
+    (void)freezer, (void)waits;
+#ifdef RWLOCK
+    pthread_rwlockattr_t kind;
+    pthread_rwlockattr_init(&kind);
+    pthread_rwlockattr_setkind_np(&kind, RWLOCK);
+    return pthread_rwlock_init(&waits->lock, &kind);
+#else
+    return 0;
+#endif
+}
+
+#define freeze_queue_new(freezer, limits, slots, tags) peer_new(limits)
+#define freeze_queue_pool_fill(pool, freezer, count) FREEZE_QUEUE_OK
+#define freeze_queue_pool_empty(pool, freezer) FREEZE_QUEUE_OK
+#define freeze_queue_remove(freezer, last) ((last)->kills = 0, FREEZE_QUEUE_OK)
+#define freeze_queue_waits_destroy(waits) ((void)(waits))
+
+/* ---- Requests ---- */
+
+static inline struct timespec freeze_queue_deadline(uint64_t nanoseconds)
+{
+    struct timespec at;
+    clock_gettime(CLOCK_MONOTONIC, &at);
+    nanoseconds += (uint64_t)at.tv_nsec;
+    at.tv_sec += (time_t)(nanoseconds / 1000000000);
+    at.tv_nsec = (long)(nanoseconds % 1000000000);
+    return at;
+}
+
+static inline uint32_t freeze_queue_waits_try_enter(freeze_queue_waits *waits, freeze_queue_tag *tag, uint32_t slot)
+{
+    (void)waits, (void)tag, (void)slot;
+#ifdef RWLOCK
+    return pthread_rwlock_tryrdlock(&waits->lock) == 0 ? FREEZE_QUEUE_OK : FREEZE_QUEUE_NOT_ENTERED;
+#else
+    return FREEZE_QUEUE_OK;
+#endif
+}
+
+static inline uint32_t freeze_queue_waits_enter(freeze_queue_waits *waits, freeze_queue_tag *tag, uint32_t slot,
+                                                const struct timespec *deadline)
+{
+    (void)tag, (void)slot;
+    return pthread_rwlock_clockrdlock(&waits->lock, CLOCK_MONOTONIC, deadline) == 0 ? FREEZE_QUEUE_OK
+                                                                                    : FREEZE_QUEUE_TIMED_OUT;
+}
+
+static inline uint32_t freeze_queue_waits_leave(freeze_queue_waits *waits, freeze_queue_tag *tag, uint32_t slot)
+{
+    (void)waits, (void)tag, (void)slot;
+#ifdef RWLOCK
+    pthread_rwlock_unlock(&waits->lock);
+#endif
+    return FREEZE_QUEUE_OK;
+}
+
+static inline freeze_queue_tag *freeze_queue_pool_take(freeze_queue_pool *pool, uint32_t hint)
+{
+    (void)hint;
+    return &pool->tag;
+}
+
+static inline uint32_t peer_limits_of(const freeze_queue_tag *tag, freeze_queue_limits *limits)
+{
+    (void)tag;
+    *limits = peer_limits;
+    return FREEZE_QUEUE_OK;
+}
+
+#define freeze_queue_pool_take_waiting(pool, hint, deadline) ((void)(deadline), &(pool)->tag)
+#define freeze_queue_pool_give(pool, tag) ((void)(tag))
+#define freeze_queue_limits_of peer_limits_of
+
+/* ---- The control ---- */
+
+static inline uint32_t freeze_queue_waits_freeze(freeze_queue_waits *waits, const struct timespec *deadline)
+{
+    (void)deadline;
+#ifdef RWLOCK
+    if (waits->depth == 0)
+        pthread_rwlock_wrlock(&waits->lock);
+#endif
+    waits->depth++;
+    return FREEZE_QUEUE_OK;
+}
+
+static inline uint32_t freeze_queue_waits_thaw(freeze_queue_waits *waits)
+{
+    if (waits->depth == 0)
+        return FREEZE_QUEUE_NOT_FROZEN;
+    waits->depth--;
+#ifdef RWLOCK
+    if (waits->depth == 0)
+        pthread_rwlock_unlock(&waits->lock);
+#endif
+    return FREEZE_QUEUE_OK;
+}
+
+static inline uint32_t freeze_queue_waits_set(freeze_queue_waits *waits, const freeze_queue_limits *limits)
+{
+    (void)waits;
+    return peer_new(limits);
+}
+
+static inline uint32_t freeze_queue_waits_change(freeze_queue_waits *waits, const freeze_queue_limits *limits,
+                                                 const struct timespec *deadline)
+{
+    (void)freeze_queue_waits_freeze(waits, deadline);
+    uint32_t refused = freeze_queue_waits_set(waits, limits);
+    (void)freeze_queue_waits_thaw(waits);
+    return refused;
+}
+
+static inline uint32_t freeze_queue_waits_depth(const freeze_queue_waits *waits, uint32_t *depth)
+{
+    *depth = waits->depth;
+    return FREEZE_QUEUE_OK;
+}
+
+static inline uint32_t freeze_queue_waits_limits(const freeze_queue_waits *waits, freeze_queue_limits *limits)
+{
+    (void)waits;
+    *limits = peer_limits;
+    return FREEZE_QUEUE_OK;
+}
+
+#define freeze_queue_waits_mode(waits, mode) ((mode) <= FREEZE_QUEUE_ATOMIC ? FREEZE_QUEUE_OK : FREEZE_QUEUE_MODE)
+
+#endif

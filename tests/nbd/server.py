@@ -1,0 +1,137 @@
+"""nbdkit with the plugin, in a folder of its own, and its control."""
+
+import os
+import signal
+import socket
+import subprocess
+import tempfile
+import time
+
+import nbd
+
+STARTS_WITHIN = 20.0  # seconds; under a sanitizer too
+
+
+# A sanitizer's report leaves the status to nbdkit: the report is looked at.
+QUIET = {name: "exitcode=0" for name in ("ASAN_OPTIONS", "LSAN_OPTIONS", "TSAN_OPTIONS")}
+
+
+def faults(told, plugin):
+    """The parts of a sanitizer's report that tell of the plugin. (nbdkit may end before it frees its connections.)"""
+    leaks = [part for part in told.split("\n\n") if " leak of " in part and plugin in part]
+    return leaks + [line for line in told.split("\n") if "runtime error:" in line or "WARNING: Thread" in line
+                    or ("ERROR: " in line and "Sanitizer" in line and "LeakSanitizer" not in line)]
+
+
+class Control:
+    """A connection to the control's socket."""
+
+    def __init__(self, path):
+        self.at = socket.socket(socket.AF_UNIX)
+        try:
+            self.at.connect(path)
+        except OSError:
+            self.at.close()
+            raise
+        self.replies = self.at.makefile("r", encoding="ascii")
+
+    def ask(self, line):
+        self.at.sendall(line.encode() + b"\n")
+        return self.replies.readline().rstrip("\n")
+
+    def need(self, line, reply):
+        found = self.ask(line)
+        assert found == reply, f"{line!r} is answered {found!r}, not {reply!r}"
+
+    def close(self):
+        self.replies.close()
+        self.at.close()
+
+
+class Server:
+    """Serves until its end; what is left then is told by its status and what it wrote to standard error."""
+
+    def __init__(self, plugin, *parameters):
+        self.plugin = os.path.basename(plugin)
+        self.folder = tempfile.TemporaryDirectory()
+        self.socket = os.path.join(self.folder.name, "nbd")
+        self.control_path = os.path.join(self.folder.name, "control")
+        self.watched = os.path.join(self.folder.name, "watched")
+        self.uri = f"nbd+unix:///?socket={self.socket}"
+        self.errors = open(os.path.join(self.folder.name, "errors"), "w+b")
+        command = ["nbdkit", "-f", "-U", self.socket, plugin, f"control={self.control_path}", *parameters]
+        sanitizer = {"LD_PRELOAD": os.environ["PRELOAD"], **QUIET} if os.environ.get("PRELOAD") else {}
+        given = {**os.environ, **sanitizer, "WATCHED": self.watched}
+        self.process = subprocess.Popen(command, stderr=self.errors, env=given)
+        self.clients = []
+        self.wait_for_control()
+
+    def wait_for_control(self):
+        """Until the control listens, as nbdkit did before it."""
+        late = time.monotonic() + STARTS_WITHIN
+        while True:
+            assert self.process.poll() is None, self.told()
+            assert time.monotonic() < late, "the server doesn't start"
+            try:
+                return self.control().close()
+            except OSError:
+                time.sleep(0.01)
+
+    def told(self):
+        self.errors.flush()
+        with open(self.errors.name, encoding="utf-8", errors="replace") as file:
+            return file.read()
+
+    def control(self):
+        return Control(self.control_path)
+
+    def client(self):
+        """A connection, which is let go before the end: nbdkit waits for a client that sends nothing."""
+        client = nbd.NBD()
+        client.connect_unix(self.socket)
+        self.clients.append(client)
+        return client
+
+    def drop(self, client):
+        """Cuts a client's connection, in the middle of what it does."""
+        self.clients.remove(client)
+        with socket.socket(fileno=os.dup(client.aio_get_fd())) as connection:
+            connection.shutdown(socket.SHUT_RDWR)
+
+    def processor_time(self):
+        """Seconds that the server's threads took so far."""
+        with open(f"/proc/{self.process.pid}/stat", encoding="ascii") as file:
+            fields = file.read().rpartition(")")[2].split()
+        return (int(fields[11]) + int(fields[12])) / os.sysconf("SC_CLK_TCK")
+
+    def end(self, within=20.0):
+        """Sends SIGTERM, and gives the seconds until the server ended, which has to be with status 0."""
+        for client in self.clients:
+            client.shutdown()
+        began = time.monotonic()
+        self.process.send_signal(signal.SIGTERM)
+        try:
+            status = self.process.wait(within)
+        except subprocess.TimeoutExpired:
+            self.process.kill()
+            self.process.wait()
+            raise AssertionError(f"the server doesn't end within {within} seconds") from None
+        took = time.monotonic() - began
+        told = self.told()
+        self.errors.close()
+        assert status == 0, f"the server ended with status {status}: {told}"
+        assert not faults(told, self.plugin), told
+        assert "queue: " not in told, told  # what the queue refuses at the end, as where a tag is out
+        assert not os.path.exists(self.control_path), "the control's socket stays"
+        self.folder.cleanup()
+        return took
+
+    def __enter__(self):
+        return self
+
+    def __exit__(self, failed, *_):
+        if failed and self.process.poll() is None:
+            self.process.kill()
+            self.process.wait()
+        elif failed is None:
+            self.end()

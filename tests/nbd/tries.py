@@ -1,0 +1,337 @@
+"""What clients that nobody here wrote see of the plugin: tries.py PLUGIN NAME tries one thing, and fails by its status."""
+
+import errno
+import os
+import random
+import signal
+import socket
+import subprocess
+import sys
+import tempfile
+import threading
+import time
+from contextlib import ExitStack, closing
+
+import nbd
+
+from pieces import pieces, watched
+from server import Server
+
+MIB = 1 << 20
+SETTINGS = ["max_sectors 1", "chunk_sectors 3", "max_sectors 7", "physical_sectors 8", "max_sectors 128",
+            "chunk_sectors 0", "physical_sectors 1", "chunk_sectors 64", "max_sectors 0", "mode atomic", "mode slots"]
+
+
+def run(*words, **more):
+    return subprocess.run(words, check=True, stdout=subprocess.PIPE, timeout=120, **more).stdout
+
+
+def done(clients, cookies, within=20.0):
+    """Waits until each client's request is done, and gives the errno of each, 0 for success."""
+    found, late = [], time.monotonic() + within
+    for client, cookie in zip(clients, cookies):
+        try:
+            while not client.aio_command_completed(cookie):
+                assert time.monotonic() < late, "a request isn't answered"
+                client.poll(100)
+            found.append(0)
+        except nbd.Error as refused:
+            found.append(refused.errnum)
+    return found
+
+
+def fio(server, jobs, seconds=None, **options):
+    """fio on so many connections, each on a mebibyte of its own. A timed one goes over it again and again, so it has one
+    request under way at a time: two that overlap would race for the disk's bytes, as the thread sanitizer tells."""
+    depth = "1" if seconds else "4"
+    given = {"rw": "randrw", "bs": "4k", "size": "1m", "offset_increment": "1m", "iodepth": depth, **options}
+    timed = ["--time_based", f"--runtime={seconds}"] if seconds else []
+    return ["fio", "--name=try", "--ioengine=nbd", f"--uri={server.uri}", "--thread", "--group_reporting",
+            "--randrepeat=0", "--verify_state_save=0", f"--numjobs={jobs}", *timed,
+            *(f"--{name}={value}" for name, value in given.items())]
+
+
+class Changing(threading.Thread):
+    """Changes settings until it is told to end, and a thousand times at least."""
+
+    def __init__(self, server, least):
+        super().__init__()
+        self.control, self.least, self.changed, self.enough = server.control(), least, 0, False
+        self.wrong = []
+
+    def run(self):
+        while not self.enough or self.changed < self.least:
+            setting = SETTINGS[self.changed % len(SETTINGS)]
+            line = setting if setting.startswith("mode") else f"set {setting}"
+            reply = self.control.ask(line)
+            if reply != "ok":
+                self.wrong.append((line, reply))
+                return
+            self.changed += 1
+        self.control.close()
+
+
+def while_settings_change(server, command, least=1000):
+    """Runs a command while settings change."""
+    changing = Changing(server, least)
+    changing.start()
+    try:
+        run(*command)
+    finally:
+        changing.enough = True
+        changing.join()
+    assert not changing.wrong, changing.wrong
+    assert changing.changed >= least, changing.changed
+
+
+# ---- What is served ----
+
+
+def told(plugin):
+    """nbdinfo shows the limits that NBD has."""
+    with Server(plugin, "size=8M", "physical_sectors=8", "max_sectors=16") as server:
+        shown = run("nbdinfo", server.uri).decode()
+        for line in ("export-size: 8388608 (8M)", "block_size_minimum: 512", "block_size_preferred: 4096",
+                     "block_size_maximum: 33553920", "can_multi_conn: true"):
+            assert line in shown, (line, shown)
+        client = server.client()
+        client.set_strict_mode(0)
+        for count, place in ((512, 100), (100, 512)):
+            assert done([client], [client.aio_pread(nbd.Buffer(count), place)]) == [errno.EINVAL]
+
+
+def refused_parameters(plugin):
+    """A server that can't be what it is asked to be doesn't start, and says why."""
+    wrong = {"slots=65": "slots or tags", "tags=64": "slots or tags", "max_sectors=65536": "more sectors",
+             "physical_sectors=3": "power of two", "hardware_sectors=0": "hardware limit", "size=1000": "size",
+             "chunk_sectors=65536": "chunk", "nowait=perhaps": "perhaps", "sectors=4": "no such parameter",
+             "control=/nowhere/at/all": "control"}
+    for parameter, why in wrong.items():
+        with tempfile.TemporaryDirectory() as folder:
+            tried = subprocess.run(["nbdkit", "-f", "-U", f"{folder}/nbd", plugin, parameter], timeout=20, check=False,
+                                   stderr=subprocess.PIPE)
+        assert tried.returncode != 0, parameter
+        assert why in tried.stderr.decode(), (parameter, tried.stderr)
+
+
+def copies(plugin):
+    """What nbdcopy brings in it takes out, while settings change."""
+    with Server(plugin, "size=32M") as server, tempfile.TemporaryDirectory() as folder:
+        given, taken = f"{folder}/given", f"{folder}/taken"
+        with open(given, "wb") as file:
+            file.write(random.Random(1).randbytes(32 * MIB))
+        while_settings_change(server, ["nbdcopy", given, server.uri], 100)
+        while_settings_change(server, ["nbdcopy", server.uri, taken], 100)
+        run("cmp", given, taken)
+
+
+def patterns(plugin):
+    """qemu-io's patterns, at places that are no sector's, and zeros and trims."""
+    with Server(plugin, "size=4M", "max_sectors=3", "chunk_sectors=5", "physical_sectors=2") as server:
+        steps = ["write -P 0xa1 0 1M", "write -P 0xb2 1000 3000", "read -P 0xb2 1000 3000", "read -P 0xa1 0 1000",
+                 "read -P 0xa1 4000 1000000", "write -z 64k 64k", "read -P 0 64k 64k", "discard 512k 4k",
+                 "read -P 0 512k 4k", "read -P 0xa1 516k 8k", "write -P 0xc3 4194000 304", "read -P 0xc3 4194000 304",
+                 "flush"]
+        shown = run("qemu-io", "-f", "raw", *(word for step in steps for word in ("-c", step)), server.uri).decode()
+        assert "verification failed" not in shown and "error" not in shown, shown
+
+
+# ---- Many clients ----
+
+
+def verified(plugin):
+    """fio finds what it wrote, with 1 to 16 connections, while a thousand settings change."""
+    with Server(plugin, "size=16M") as server:
+        for jobs in (1, 4, 16):
+            while_settings_change(server, fio(server, jobs, verify="crc32c"))
+
+
+def hundred(plugin):
+    """A hundred connections at once, each with a request under way before the first is answered."""
+    with Server(plugin, "size=1M") as server:
+        control, clients = server.control(), [server.client() for _ in range(100)]
+        control.need("freeze", "depth 1")
+        blocks = [bytearray([number] * 4096) for number in range(100)]
+        cookies = [client.aio_pwrite(nbd.Buffer.from_bytearray(block), number * 8192)
+                   for number, (client, block) in enumerate(zip(clients, blocks))]
+        control.need("thaw", "depth 0")
+        assert done(clients, cookies) == [0] * 100
+        for number in range(100):
+            assert clients[99 - number].pread(4096, number * 8192) == blocks[number], number
+        control.close()
+
+
+def frozen_second(plugin):
+    """Sixteen clients wait through a freeze of a second, and all are answered after the thaw."""
+    with Server(plugin, "size=1M", "tags=8") as server:
+        control, clients = server.control(), [server.client() for _ in range(16)]
+        control.need("freeze", "depth 1")
+        cookies = [client.aio_pread(nbd.Buffer(4096), 0) for client in clients]
+        began = time.monotonic()
+        while time.monotonic() < began + 1:
+            for client, cookie in zip(clients, cookies):
+                client.poll(1)
+                assert not client.aio_command_completed(cookie), "a request passed a frozen queue"
+        control.need("set max_sectors 1", "ok")
+        control.need("thaw", "depth 0")
+        assert done(clients, cookies, 2.0) == [0] * 16
+        assert control.ask("stat").startswith("stat reads 16 writes 0 again 0 eio 0 depth 0 max 1 ")
+        control.close()
+
+
+def held_still(plugin):
+    """What is frozen is drained when that is answered: under load counts hold still then, and limits are set."""
+    with Server(plugin, "size=16M", "max_sectors=1") as server:
+        load = subprocess.Popen(fio(server, 8, 20, bs="512k"), stdout=subprocess.DEVNULL, stderr=subprocess.DEVNULL)
+        control = server.control()
+        while control.ask("stat").split()[2] in ("0", "1"):
+            time.sleep(0.02)
+        try:
+            for _ in range(20):
+                control.need("freeze", "depth 1")
+                counted = control.ask("stat")
+                control.need("set max_sectors 1", "ok")
+                time.sleep(0.02)
+                control.need("stat", counted)
+                control.need("thaw", "depth 0")
+        finally:
+            load.send_signal(signal.SIGINT)  # fio ends what it began
+            load.wait()
+        control.close()
+
+
+def refused_at_once(plugin):
+    """With nowait a request that comes to a frozen queue is refused at once, and counted."""
+    with Server(plugin, "size=1M", "nowait=true", "tags=1") as server:
+        control, client = server.control(), server.client()
+        control.need("freeze", "depth 1")
+        for _ in range(3):
+            assert done([client], [client.aio_pread(nbd.Buffer(512), 0)], 2.0) == [errno.EINVAL]  # NBD has no EAGAIN
+        assert "Resource temporarily unavailable" in server.told()
+        assert control.ask("stat").startswith("stat reads 0 writes 0 again 3 eio 0 depth 1 ")
+        control.need("thaw", "depth 0")
+        client.pread(512, 0)
+        control.close()
+
+
+def gone(plugin):
+    """A client that goes while its request waits leaves its tag, the only one, to others; so does one that is killed."""
+    with Server(plugin, "size=64M", "tags=1") as server:
+        control, leaving = server.control(), server.client()
+        control.need("freeze", "depth 1")
+        leaving.aio_pread(nbd.Buffer(512), 0)
+        leaving.poll(50)
+        server.drop(leaving)
+        time.sleep(0.5)  # its request is looked after every 50 milliseconds
+        control.need("thaw", "depth 0")
+        assert control.ask("stat").startswith("stat reads 0 "), "a request was done that nobody waits for"
+        copying = subprocess.Popen(["nbdcopy", "/dev/zero", server.uri], stderr=subprocess.DEVNULL)
+        time.sleep(0.1)
+        copying.kill()
+        copying.wait()
+        others = [server.client() for _ in range(4)]
+        assert done(others, [other.aio_pread(nbd.Buffer(512), 0) for other in others]) == [0] * 4
+        control.need("freeze", "depth 1")
+        control.need("thaw", "depth 0")
+        control.close()
+
+
+# ---- The control ----
+
+
+def lines(plugin):
+    """Faults in their order, as docs/FORMATS.md has them, and how lines are cut."""
+    with Server(plugin, "size=1M", "hardware_sectors=64") as server:
+        control = server.control()
+        for line, reply in (
+            ("stat", "stat reads 0 writes 0 again 0 eio 0 depth 0 max 64 chunk 0 physical 1 mode slots"),
+            ("read 0 1", "unknown word"), ("freeze now", "extra word"), ("set", "missing word"),
+            ("set x", "missing word"), ("set x y", "unknown word"), ("set max_sectors 4 4 4", "extra word"),
+            ("set max_sectors -1", "bad number"), ("set max_sectors 000000000000000000004", "bad number"),
+            ("set max_sectors 00000000000000000004", "ok"), ("set max_sectors 4294967296", "out of range"),
+            ("set max_sectors 65", "EINVAL"), ("set max_sectors 0", "ok"), ("set chunk_sectors 65536", "EINVAL"),
+            (" set\tchunk_sectors  65535\r", "ok"), ("set physical_sectors 0", "EINVAL"),
+            ("set physical_sectors 32768", "ok"), ("mode", "missing word"), ("mode quick", "unknown word"),
+            ("mode atomic", "ok"), ("thaw", "not frozen"), ("freeze", "depth 1"), ("set max_sectors 4294967295", "EINVAL"),
+            ("set max_sectors 7", "ok"), ("thaw", "depth 0"), ("# nothing\n\n \t\nstat",
+             "stat reads 0 writes 0 again 0 eio 0 depth 0 max 7 chunk 65535 physical 32768 mode atomic"),
+        ):
+            control.need(line, reply)
+        for depth in range(1, 1001):
+            control.need("freeze", f"depth {depth}")
+        control.need("freeze", "depth full")
+        for depth in range(999, -1, -1):
+            control.need("thaw", f"depth {depth}")
+        control.close()
+
+
+def clients_of_the_control(plugin):
+    """Lines in parts, and without an end; a line that is too long; more clients than there may be."""
+    with Server(plugin, "size=1M") as server:
+        with closing(server.control()) as first:
+            for part in (b"fre", b"eze\nth", b"aw\nthaw"):
+                first.at.sendall(part)
+                time.sleep(0.02)
+            first.at.shutdown(socket.SHUT_WR)
+            assert first.replies.read() == "depth 1\ndepth 0\nnot frozen\n"
+        with closing(server.control()) as long:
+            long.at.sendall(b"#" * 255)
+            assert long.at.recv(1) == b"", "a line that is too long"
+        with ExitStack() as many:
+            connected = [many.enter_context(closing(server.control())) for _ in range(16)]
+            connected[-1].need("thaw", "not frozen")
+            with closing(server.control()) as extra:
+                assert extra.at.recv(1) == b"", "a client too many is let in"
+        time.sleep(0.05)
+        with closing(server.control()) as last:
+            last.need("thaw", "not frozen")
+
+
+# ---- The end ----
+
+
+def ended(plugin):
+    """SIGTERM under load ends the server within a second, and so it does while clients wait at a frozen queue."""
+    for frozen in (False, True):
+        server = Server(plugin, "size=16M")
+        loading = subprocess.Popen(fio(server, 8, 20), stdout=subprocess.DEVNULL, stderr=subprocess.DEVNULL)
+        control = server.control()
+        while control.ask("stat").split()[2] in ("0", "1"):
+            time.sleep(0.02)
+        if frozen:
+            control.need("freeze", "depth 1")
+        try:
+            took = server.end()
+        finally:
+            loading.kill()
+            loading.wait()
+        control.close()
+        assert took < 1 or os.environ.get("PRELOAD"), f"the end took {took} seconds"
+
+
+def one_setting(plugin):
+    """No request is cut by two settings: each has the pieces of the limits that were in force all along."""
+    two, count = cut_by_two(plugin)
+    assert count > 1000, count
+    assert two == 0, f"{two} of {count} requests are cut by two settings"
+
+
+def two_settings(plugin):
+    """Where nothing stands in the queue's place requests are cut by two settings: so the try above sees them."""
+    two, count = cut_by_two(plugin)
+    assert two > 0, f"none of {count} requests"
+
+
+def cut_by_two(plugin):
+    """How many requests were cut by two settings, and how many there were."""
+    with Server(plugin, "size=16M") as server:
+        while_settings_change(server, fio(server, 8, 1, bs="64k"))
+        two = count = 0
+        for start, length, found, first, last in watched(server.watched):
+            count += 1
+            two += first != last or found != pieces(start, length, first)
+    return two, count
+
+
+if __name__ == "__main__":
+    globals()[sys.argv[2]](sys.argv[1])

@@ -1,0 +1,55 @@
+/* Writes down by which limits each request was cut, a line each, into the file that WATCHED names in the environment:
+ *
+ *     START COUNT PIECES MAX CHUNK PHYSICAL MAX CHUNK PHYSICAL
+ *
+ * the pieces joined by +, and the limits in force at its first piece and, read anew, after its last one. */
+#include <fcntl.h>
+#include <inttypes.h>
+#include <stdio.h>
+#include <stdlib.h>
+#include <string.h>
+
+/* Of the request that a thread does: the limits at its first piece, and its line so far. */
+static _Thread_local struct {
+    freeze_queue_limits first;
+    FILE *line;
+    char *text;
+    size_t length;
+} watched;
+
+static inline void need(bool holds)
+{
+    if (!holds)
+        abort();
+}
+
+/* Ends the line, and writes it in one go, since other threads write theirs. */
+static inline void write_down(const freeze_queue_limits *last)
+{
+    const freeze_queue_limits *first = &watched.first;
+    fprintf(watched.line, " %u %u %u %u %u %u\n", first->max, first->chunk, first->physical, last->max, last->chunk,
+            last->physical);
+    need(fclose(watched.line) == 0);
+    int file = open(getenv("WATCHED"), O_WRONLY | O_APPEND | O_CREAT | O_CLOEXEC, 0600);
+    need(write(file, watched.text, watched.length) == (ssize_t)watched.length);
+    close(file);
+    free(watched.text);
+}
+
+static inline void watch_piece(freeze_queue_tag *tag, const request *wanted, const freeze_queue_limits *limits,
+                               uint64_t start, uint32_t piece)
+{
+    if (start == wanted->start) {
+        watched.first = *limits;
+        watched.line = open_memstream(&watched.text, &watched.length);
+        need(watched.line != NULL);
+        fprintf(watched.line, "%" PRIu64 " %u %u", wanted->start, wanted->count, piece);
+    } else {
+        fprintf(watched.line, "+%u", piece);
+    }
+    if (start + piece < wanted->start + wanted->count)
+        return;
+    freeze_queue_limits last = {0};
+    need(freeze_queue_limits_of(tag, &last) == FREEZE_QUEUE_OK);
+    write_down(&last);
+}

@@ -1,0 +1,61 @@
+# What the Makefiles of the libraries for C have in common. What rt lib proves and builds of a crate, the kit's C part and
+# library/NAME.c become one static library and one shared object, which show NAME_* alone. Of the Makefile that includes
+# this:
+#
+#   NAME      the library's, as in libNAME.a; CRATE, the crate's that is built
+#   HEADERS   the headers in include/, without .h; of each a man page is made, in section 3
+#   HIDDEN    the symbols of NAME_* that library/NAME.c alone calls
+#   SAYS      what pkg-config says of it
+#
+#   make                             builds both, in out/c
+#   make install PREFIX=/usr/local   puts there the headers, both, NAME.pc and the pages; DESTDIR goes before it
+PREFIX ?= /usr/local
+OBJCOPY ?= objcopy
+AWK ?= awk
+AT = $(DESTDIR)$(PREFIX)
+COMMON = ../../tools/c_library
+
+# The kit is the folder above the one that has rt.
+KIT = $(patsubst %/bin/,%,$(dir $(realpath $(shell command -v rt))))
+PROVED = out/lib$(CRATE).a
+# What that is made from: this crate and those that it stands on, as crates.txt has them.
+CRATES := $(shell ../../tools/crates_below $(CRATE) | sed 's/:.*//')
+SOURCES = $(shell find $(CRATES:%=../%) -name out -prune -o \( -name '*.rt' -o -name '*.antt' \) -print)
+INCLUDED = $(HEADERS:%=include/%.h)
+PAGES = $(HEADERS:%=out/c/%.3)
+
+all: out/c/lib$(NAME).a out/c/lib$(NAME).so.1 $(PAGES)
+
+$(PROVED): ../../crates.txt $(SOURCES)
+	rt lib
+	touch $@
+
+out/c/$(NAME).o: $(PROVED) library/$(NAME).c $(INCLUDED)
+	mkdir -p out/c
+	$(CC) -std=c11 -O2 -fPIC -Wall -Wextra -Werror -Iinclude -c library/$(NAME).c -o out/c/numbers.o
+	$(LD) -r -o $@ out/c/numbers.o --whole-archive $(PROVED) $(KIT)/c/liblibc_c.a
+	$(OBJCOPY) --wildcard --keep-global-symbol='$(NAME)_*' $@
+	$(OBJCOPY) $(HIDDEN:%=--localize-symbol=%) $@
+
+out/c/lib$(NAME).a: out/c/$(NAME).o
+	rm -f $@
+	$(AR) rcs $@ $<
+
+out/c/lib$(NAME).so.1: out/c/$(NAME).o
+	$(CC) -shared -Wl,-soname,lib$(NAME).so.1 -Wl,-z,defs -o $@ $<
+
+out/c/%.3: include/%.h $(COMMON)/man_page
+	mkdir -p out/c
+	$(AWK) -v name=$* -v library=$(NAME) -f $(COMMON)/man_page $< >$@
+
+install: all
+	install -d $(AT)/include $(AT)/lib/pkgconfig $(AT)/share/man/man3
+	install -m 644 $(INCLUDED) $(AT)/include
+	install -m 644 out/c/lib$(NAME).a $(AT)/lib
+	install -m 755 out/c/lib$(NAME).so.1 $(AT)/lib
+	ln -sf lib$(NAME).so.1 $(AT)/lib/lib$(NAME).so
+	sed 's|@PREFIX@|$(PREFIX)|; s|@NAME@|$(NAME)|; s|@SAYS@|$(SAYS)|' $(COMMON)/library.pc.in \
+		>$(AT)/lib/pkgconfig/$(NAME).pc
+	install -m 644 $(PAGES) $(AT)/share/man/man3
+
+.PHONY: all install

@@ -1,0 +1,56 @@
+"""The tables of the crates, held against crates.txt: each crate has its line, in that order, with what it stands on."""
+
+import os
+import re
+
+ROW = re.compile(r"\| \[?`(\w+)`.*\| ([^|]*)\|$")
+
+# Of what crates.txt names, the kit's crates for numbers and faults are left out.
+UNNAMED = {"thiserror", "memchr", "hex", "itoa"}
+
+
+def crates_of(root):
+    """The crates of crates.txt in their order, with what each stands on."""
+    crates = {}
+    with open(os.path.join(root, "crates.txt"), encoding="utf-8") as file:
+        for line in file:
+            head, colon, below = line.split("#")[0].partition(":")
+            if colon:
+                crates[head.split()[0]] = set(below.split()) - UNNAMED
+    return crates
+
+
+def rows_of(text):
+    """The first table of a page whose lines name crates: each one's number, its crate, and its last column."""
+    rows = []
+    for number, line in enumerate(text.splitlines(), 1):
+        if found := ROW.match(line):
+            rows.append((number, found[1], set(re.findall(r"`(\w+)`", found[2]))))
+        elif rows and not line.startswith("|"):
+            break
+    return rows
+
+
+def hold_table(crates, rows, has_below):
+    """What lags behind in a table, as the number of a line and why; the last line tells what is missing at the end."""
+    wanted = list(crates)
+    for (number, name, below), crate in zip(rows, wanted):
+        if name != crate:
+            yield number, f"crates.txt has {crate} here"
+            return
+        if has_below and below != crates[name]:
+            yield number, f"crates.txt has other crates below {name}: {', '.join(sorted(below ^ crates[name]))}"
+    for name in wanted[len(rows) :]:
+        yield rows[-1][0] if rows else 1, f"the table lacks {name}"
+
+
+def hold_tables(root):
+    """How many lines hold, and what lags behind: of the map, and of the pages' table, which leaves out crates of tests."""
+    crates, passed, told = crates_of(root), 0, []
+    promising = {name: below for name, below in crates.items() if not name.startswith("trials_")}
+    for page, wanted, has_below in (("docs/ARCHITECTURE.md", crates, True), ("docs/PROMISES.md", promising, False)):
+        with open(os.path.join(root, page), encoding="utf-8") as file:
+            rows = rows_of(file.read())
+        behind = [f"{page}:{number}: {why}" for number, why in hold_table(wanted, rows, has_below)]
+        passed, told = passed + len(rows) - len(behind), told + behind
+    return passed, told
