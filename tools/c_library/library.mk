@@ -27,7 +27,7 @@ PAGES = $(HEADERS:%=out/c/%.3)
 all: out/c/lib$(NAME).a out/c/lib$(NAME).so.1 $(PAGES)
 
 $(PROVED): ../../crates.txt $(SOURCES)
-	rt lib
+	$(COMMON)/prove $(CRATE)
 	touch $@
 
 out/c/$(NAME).o: $(PROVED) library/$(NAME).c $(INCLUDED)
