@@ -1,5 +1,5 @@
 /*
- * The queue, for C: requests enter and leave by many threads, and it can be frozen to change its limits. C11 and C++.
+ * The queue, for C: requests enter and leave by many threads, and it can be frozen to change its limits. C99, C11 and C++.
  *
  * A queue stands before a device that takes so many sectors in one command. Each request enters with a tag
  * (try_enter), reads the limits under it (limits_of), cuts itself into pieces by them (first_piece), and leaves
@@ -117,10 +117,12 @@ typedef struct freeze_queue_final {
     freeze_queue_limits limits;
 } freeze_queue_final;
 
+#if defined(__cplusplus) || __STDC_VERSION__ >= 201112L
 static_assert(sizeof(freeze_queue_freezer) == 16, "a handle is two words");
 static_assert(sizeof(freeze_queue_tag) == 16, "a handle is two words");
 static_assert(sizeof(freeze_queue_limits) == 16, "as the library has it");
 static_assert(sizeof(freeze_queue_final) == 40, "as the library has it");
+#endif
 
 /* How a live queue counts: on slots, which is quick where each thread has one, or on one shared word. */
 enum { FREEZE_QUEUE_SLOTS = 0, FREEZE_QUEUE_ATOMIC = 1 };
@@ -190,14 +192,13 @@ FREEZE_QUEUE_MUST_USE uint32_t freeze_queue_new(freeze_queue_freezer *freezer, c
 FREEZE_QUEUE_MUST_USE uint32_t freeze_queue_next_tag(freeze_queue_freezer *freezer, freeze_queue_tag *tag);
 
 /* Takes a tag back that hasn't entered, live or frozen, for next_tag to give again, and closes its handle. Needs no
- * memory. CLOSED, OTHER_QUEUE, ENTERED. (NO_MEMORY stands in its contract, with everything as it was, and isn't seen, since
- * new makes the place of each tag.) */
+ * memory. CLOSED, OTHER_QUEUE, ENTERED. */
 FREEZE_QUEUE_MUST_USE uint32_t freeze_queue_give_tag_back(freeze_queue_freezer *freezer, freeze_queue_tag *tag);
 
 /* Ends a queue, live or frozen, whose tags were all given back, but for those that nobody asked for, writes what is left
- * of it, and closes the handle. Needs no memory. CLOSED, TAGS_OUT, WORN_OUT. (And IN_USE and NO_MEMORY, if somebody else
- * had a share of the queue, as no use of handles leads to: IN_USE leaves everything as it was, NO_MEMORY takes the
- * freezer.)
+ * of it, and closes the handle. CLOSED, TAGS_OUT, WORN_OUT. (And IN_USE, if somebody else had a share of the queue, as no
+ * use of handles leads to.) What ends a queue needs no memory, nor do CLOSED and TAGS_OUT; WORN_OUT and IN_USE take what
+ * they freed once more, and where that is refused the freezer is gone, as by free_freezer: NO_MEMORY.
  * Linux: blk_mq_destroy_queue. */
 FREEZE_QUEUE_MUST_USE uint32_t freeze_queue_remove(freeze_queue_freezer *freezer, freeze_queue_final *last);
 

@@ -1,6 +1,6 @@
 /*
- * A pool of a queue's tags: threads take them and give them back with no lock and no allocation. C11 and C++ by GCC or
- * Clang, all of it inline, over freeze_queue_wait.h. Nothing of it is proved.
+ * A pool of a queue's tags: threads take them and give them back with no lock and no allocation. C99, C11 and C++ by GCC
+ * or Clang, all of it inline, over freeze_queue_wait.h. Nothing of it is proved.
  *
  * For programs whose requests end on other threads than they begin on, or whose threads come and go: a request takes a
  * tag, enters with it, goes where it likes, leaves with it and gives it back. Threads that end what they begin may keep a

@@ -1,6 +1,6 @@
 /*
- * Waiting at a queue, for pthreads: entering that waits for the thaw, and freezing that waits for the drain. C11 and C++,
- * all of it inline, over freeze_queue.h. Nothing of it is proved.
+ * Waiting at a queue, for pthreads: entering that waits for the thaw, and freezing that waits for the drain. C99, C11 and
+ * C++, all of it inline, over freeze_queue.h. Nothing of it is proved.
  *
  * A freeze_queue_waits has the freezer of a queue, a mutex under which the freezer's calls are made, and two condition
  * variables. Who enters a live queue, or leaves it, touches none of them: that costs what try_enter and leave cost. The
@@ -35,6 +35,7 @@
  *  - leave by freeze_queue_waits_leave, and try by freeze_queue_waits_try_enter, or call freeze_queue_waits_tell yourself
  *    where freeze_queue_is_drained says so of an answer;
  *  - no call of this header under waits->lock, which they lock;
+ *  - the tags are of the queue of waits: one of another waits for the wrong thaw, and wakes nobody;
  *  - the freezer stays open while others wait: remove the queue, and then destroy waits, once no thread is in a call of
  *    this header, as when its tags were handed back.
  */
@@ -69,14 +70,17 @@ typedef struct freeze_queue_waits {
     int live_event;
 } freeze_queue_waits;
 
-/* The time so many nanoseconds from now. */
+/* The time so many nanoseconds from now, however many: the greatest number is some 584 years. */
 static inline struct timespec freeze_queue_deadline(uint64_t nanoseconds)
 {
     struct timespec at;
     clock_gettime(CLOCK_MONOTONIC, &at);
-    nanoseconds += (uint64_t)at.tv_nsec;
     at.tv_sec += (time_t)(nanoseconds / 1000000000);
-    at.tv_nsec = (long)(nanoseconds % 1000000000);
+    at.tv_nsec += (long)(nanoseconds % 1000000000);
+    if (at.tv_nsec >= 1000000000) {
+        at.tv_sec++;
+        at.tv_nsec -= 1000000000;
+    }
     return at;
 }
 

@@ -42,6 +42,7 @@ static void filled_and_emptied(void)
     IS(freeze_queue_give_tag_back(&freezer, &out), OK);
     IS(freeze_queue_pool_fill(&pool, &freezer, TAGS), OK);
     IS(freeze_queue_pool_fill(&pool, &freezer, TAGS), OPEN);
+    IS(freeze_queue_pool_fill(&pool, &closed, 0), OPEN); /* before other refusals */
     IS(freeze_queue_pool_empty(&pool, &other), OTHER_QUEUE);
     freeze_queue_tag *tag = freeze_queue_pool_take(&pool, 1);
     TELLS(place_of(tag), 1);

@@ -1,0 +1,313 @@
+/* The waits of a queue by a script, on one thread (scripted.h): each wake, each look before and after a sleep, the events
+ * after each call, and that the freezer's calls are made under the lock, while who enters a live queue or leaves it takes
+ * none. */
+#define _POSIX_C_SOURCE 200809L
+#include "freeze_queue.h"
+#include "scripted.h"
+
+#include <poll.h>
+
+static freeze_queue_freezer freezer;
+static freeze_queue_tag tags[3];
+static long freezes;        /* how often one was begun */
+static uint32_t set_refuses; /* what the next set answers, in place of setting; 0: it sets */
+static bool is_last;        /* the next try that is refused lets the first tag leave before it answers */
+
+/* The freezer's calls, under the lock alone. */
+static freeze_queue_freezer *under_lock(freeze_queue_freezer *of, long freeze)
+{
+    need(locked != NULL, "a call of the freezer is made without the lock");
+    freezes += freeze;
+    return of;
+}
+
+static uint32_t sets_or_not(freeze_queue_freezer *of, const freeze_queue_limits *limits)
+{
+    uint32_t refused = set_refuses;
+    set_refuses = 0;
+    return refused ? refused : freeze_queue_set(of, limits);
+}
+
+/* What of both is told LAST is told to the try. */
+static uint32_t tries(freeze_queue_tag *tag, uint32_t slot)
+{
+    uint32_t answer = freeze_queue_try_enter(tag, slot);
+    if (answer != FREEZE_QUEUE_NOT_ENTERED || !is_last)
+        return answer;
+    is_last = false;
+    need(freeze_queue_leave(&tags[0], 0) == FREEZE_QUEUE_LAST, "the first tag isn't the last");
+    return FREEZE_QUEUE_NOT_ENTERED_LAST;
+}
+
+#define freeze_queue_start_freeze(of, depth) freeze_queue_start_freeze(under_lock(of, 1), depth)
+#define freeze_queue_poll_drained(of) freeze_queue_poll_drained(under_lock(of, 0))
+#define freeze_queue_set(of, limits) sets_or_not(under_lock(of, 0), limits)
+#define freeze_queue_thaw(of, depth) freeze_queue_thaw(under_lock(of, 0), depth)
+#define freeze_queue_mode(of, mode) freeze_queue_mode(under_lock(of, 0), mode)
+#define freeze_queue_depth(of, depth) freeze_queue_depth(under_lock(of, 0), depth)
+#define freeze_queue_limits_in_force(of, limits) freeze_queue_limits_in_force(under_lock(of, 0), limits)
+#define freeze_queue_try_enter tries
+#include "freeze_queue_wait.h"
+
+static freeze_queue_waits waits;
+static const struct timespec soon = {1, 0};
+static freeze_queue_limits limits = {.hardware = 64, .max = 8, .chunk = 0, .physical = 1};
+
+static bool is_readable(int event)
+{
+    struct pollfd polled = {.fd = event, .events = POLLIN};
+    return poll(&polled, 1, 0) == 1;
+}
+
+/* What both events show. */
+static void shows(bool live, bool drained, int line)
+{
+    is("the live event", is_readable(waits.live_event), live, line);
+    is("the drained event", is_readable(waits.drained_event), drained, line);
+}
+
+#define SHOWS(live, drained) shows(live, drained, __LINE__)
+
+static uint32_t depth_now(void)
+{
+    uint32_t depth = UINT32_MAX;
+    IS(freeze_queue_waits_depth(&waits, &depth), OK);
+    return depth;
+}
+
+/* ---- What acts while somebody sleeps ---- */
+
+static void leaves(int tag, bool is_the_last)
+{
+    long before = locks;
+    IS(freeze_queue_waits_leave(&waits, &tags[tag], 0), OK);
+    TELLS(locks - before, is_the_last);
+}
+static void first_leaves(void)
+{
+    SHOWS(false, false);
+    leaves(0, false);
+    SHOWS(false, false);
+}
+static void first_leaves_last(void) { leaves(0, true); }
+static void second_leaves_last(void) { leaves(1, true); }
+static void second_enters(void)
+{
+    IS(freeze_queue_waits_enter(&waits, &tags[1], 0, NULL), OK);
+}
+static void third_is_refused(void) { IS(freeze_queue_waits_try_enter(&waits, &tags[2], 0), NOT_ENTERED); }
+static void thaws(void) { IS(freeze_queue_waits_thaw(&waits), LIVE_AGAIN); }
+static void thaws_one_of_two(void)
+{
+    SHOWS(false, true);
+    IS(freeze_queue_waits_thaw(&waits), OK);
+    SHOWS(false, true);
+}
+static void begins_a_freeze(void) { IS(freeze_queue_waits_begin_freeze(&waits), DRAINED); }
+static void thaws_and_freezes(void)
+{
+    thaws();
+    SHOWS(true, false);
+    begins_a_freeze();
+    SHOWS(false, true);
+}
+static void freezes_too(void)
+{
+    IS(freeze_queue_waits_freeze(&waits, NULL), OK);
+    TELLS(depth_now(), 2);
+}
+static void thaws_untold(void)
+{
+    uint32_t depth;
+    locked = &waits.lock;
+    IS(freeze_queue_thaw(&freezer, &depth), LIVE_AGAIN);
+    locked = NULL;
+}
+static void first_leaves_untold(void) { IS(freeze_queue_leave(&tags[0], 0), LAST); }
+
+/* ---- Who waits ---- */
+
+/* The queue is live, before and after. */
+static void nobody_waits(void)
+{
+    long before = locks;
+    IS(freeze_queue_waits_enter(&waits, &tags[0], 0, NULL), OK);
+    IS(freeze_queue_waits_try_enter(&waits, &tags[1], 1), OK);
+    IS(freeze_queue_waits_leave(&waits, &tags[0], 0), OK);
+    IS(freeze_queue_waits_leave(&waits, &tags[1], 1), OK);
+    IS(freeze_queue_waits_leave(&waits, &tags[1], 1), NOT_ENTERED_TAG);
+    IS(freeze_queue_waits_enter(&waits, &tags[0], 9, NULL), SLOT);
+    TELLS(locks - before, 0);
+    SHOWS(true, false);
+}
+
+static void waits_for_the_drain(void)
+{
+    IS(freeze_queue_waits_enter(&waits, &tags[0], 0, NULL), OK);
+    IS(freeze_queue_waits_enter(&waits, &tags[1], 0, NULL), OK);
+    acts(wakes_by_itself, first_leaves, second_leaves_last);
+    IS(freeze_queue_waits_freeze(&waits, NULL), OK);
+    TELLS(have_acted() && freeze_queue_waits_is_drained(&waits), true);
+    SHOWS(false, true);
+    acts(thaws, NULL, NULL);
+    second_enters();
+    SHOWS(true, false);
+    acts(wakes_by_itself, second_leaves_last, NULL);
+    IS(freeze_queue_waits_freeze(&waits, &soon), OK);
+    acts(wakes_by_itself, thaws, NULL);
+    IS(freeze_queue_waits_enter(&waits, &tags[1], 0, &soon), OK);
+    acts(NULL, NULL, NULL);
+    leaves(1, false);
+    /* A refused try is the last. */
+    IS(freeze_queue_waits_enter(&waits, &tags[0], 0, NULL), OK);
+    is_last = true;
+    acts(third_is_refused, NULL, NULL);
+    IS(freeze_queue_waits_freeze(&waits, NULL), OK);
+    thaws();
+}
+
+/* Both freezers are woken by one leaving. */
+static void two_wait_for_the_drain(void)
+{
+    IS(freeze_queue_waits_enter(&waits, &tags[0], 0, NULL), OK);
+    acts(freezes_too, first_leaves_last, NULL);
+    IS(freeze_queue_waits_freeze(&waits, NULL), OK);
+    thaws_one_of_two();
+    thaws();
+    SHOWS(true, false);
+}
+
+static void waits_for_the_thaw(void)
+{
+    begins_a_freeze();
+    acts(wakes_by_itself, thaws_and_freezes, thaws);
+    IS(freeze_queue_waits_enter(&waits, &tags[0], 0, NULL), OK);
+    TELLS(have_acted(), true);
+    leaves(0, false);
+    /* both of two are let in by one thaw */
+    begins_a_freeze();
+    acts(second_enters, thaws, NULL);
+    IS(freeze_queue_waits_enter(&waits, &tags[0], 0, NULL), OK);
+    leaves(0, false);
+    leaves(1, false);
+    /* it thaws before the lock is taken: who looks needn't sleep */
+    begins_a_freeze();
+    before_lock = thaws;
+    acts(NULL, NULL, NULL);
+    IS(freeze_queue_waits_enter(&waits, &tags[0], 0, NULL), OK);
+    leaves(0, false);
+}
+
+/* The thaw is seen, and a freeze comes before the next try. */
+static void freezes_after_the_look(void) { after_unlock = begins_a_freeze; }
+static void thaws_and_is_frozen_later(void)
+{
+    thaws();
+    freezes_after_the_look();
+}
+
+static void is_frozen_before_the_next_try(void)
+{
+    begins_a_freeze();
+    acts(thaws_and_is_frozen_later, thaws, NULL);
+    IS(freeze_queue_waits_enter(&waits, &tags[0], 0, NULL), OK);
+    TELLS(have_acted(), true);
+    leaves(0, false);
+}
+
+/* ---- Deadlines ---- */
+
+static void deadlines_pass(void)
+{
+    begins_a_freeze();
+    acts(wakes_by_itself, NULL, NULL);
+    IS(freeze_queue_waits_enter(&waits, &tags[0], 0, &soon), TIMED_OUT);
+    IS(freeze_queue_waits_leave(&waits, &tags[0], 0), NOT_ENTERED_TAG);
+    acts(thaws_untold, NULL, NULL); /* whoever tells of it comes later: a last look */
+    IS(freeze_queue_waits_enter(&waits, &tags[0], 0, &soon), OK);
+    acts(first_leaves_untold, NULL, NULL);
+    IS(freeze_queue_waits_freeze(&waits, &soon), OK);
+    thaws();
+    IS(freeze_queue_waits_enter(&waits, &tags[0], 0, NULL), OK);
+    acts(NULL, NULL, NULL);
+    long before = broadcasts;
+    IS(freeze_queue_waits_freeze(&waits, &soon), TIMED_OUT);
+    TELLS(broadcasts - before, 1); /* of those who wait to enter */
+    TELLS(depth_now(), 0);
+    SHOWS(true, false);
+    IS(freeze_queue_waits_begin_freeze(&waits), OK);
+    SHOWS(false, false);
+    IS(freeze_queue_waits_freeze(&waits, &soon), TIMED_OUT);
+    TELLS(depth_now(), 1);
+    SHOWS(false, false);
+    leaves(0, true);
+    SHOWS(false, true);
+    thaws();
+}
+
+/* ---- Changes ---- */
+
+static uint32_t max_now(void)
+{
+    freeze_queue_limits now = {.hardware = 0, .max = 0, .chunk = 0, .physical = 0};
+    IS(freeze_queue_waits_limits(&waits, &now), OK);
+    return now.max;
+}
+
+static void changes(void)
+{
+    freeze_queue_limits next = limits;
+    next.max = 5;
+    IS(freeze_queue_waits_enter(&waits, &tags[0], 0, NULL), OK);
+    acts(first_leaves_last, NULL, NULL);
+    IS(freeze_queue_waits_change(&waits, &next, NULL), OK);
+    TELLS(have_acted(), true);
+    TELLS(max_now(), 5);
+    SHOWS(true, false);
+    long before = freezes;
+    next.max = 65;
+    IS(freeze_queue_waits_change(&waits, &next, NULL), ABOVE_HARDWARE);
+    next.hardware = 65;
+    IS(freeze_queue_waits_change(&waits, &next, NULL), OTHER_HARDWARE);
+    TELLS(freezes - before, 0);
+    /* a set that is refused, and a drain that comes too late: it is live again, with the limits that it had */
+    next.hardware = 64;
+    next.max = 6;
+    set_refuses = FREEZE_QUEUE_NOT_DRAINED;
+    IS(freeze_queue_waits_change(&waits, &next, NULL), NOT_DRAINED);
+    SHOWS(true, false);
+    IS(freeze_queue_waits_enter(&waits, &tags[0], 0, NULL), OK);
+    acts(NULL, NULL, NULL);
+    IS(freeze_queue_waits_change(&waits, &next, &soon), TIMED_OUT);
+    leaves(0, false);
+    TELLS(max_now(), 5);
+    TELLS(depth_now(), 0);
+    IS(freeze_queue_waits_mode(&waits, FREEZE_QUEUE_ATOMIC), OK);
+    IS(freeze_queue_waits_set(&waits, &next), NOT_FROZEN);
+}
+
+int main(void)
+{
+    freeze_queue_final last;
+    if (freeze_queue_new(&freezer, &limits, 2, 3) || freeze_queue_waits_init(&waits, &freezer) ||
+        freeze_queue_waits_open_events(&waits))
+        return 1;
+    for (int i = 0; i < 3; i++)
+        IS(freeze_queue_next_tag(&freezer, &tags[i]), OK);
+    SHOWS(true, false);
+    nobody_waits();
+    waits_for_the_drain();
+    two_wait_for_the_drain();
+    waits_for_the_thaw();
+    is_frozen_before_the_next_try();
+    deadlines_pass();
+    changes();
+    for (int i = 0; i < 3; i++)
+        IS(freeze_queue_give_tag_back(&freezer, &tags[i]), OK);
+    IS(freeze_queue_remove(&freezer, &last), OK);
+    IS(freeze_queue_waits_begin_freeze(&waits), CLOSED);
+    SHOWS(false, false); /* no queue is live, or drained */
+    freeze_queue_waits_destroy(&waits);
+    printf("%s\n", failures ? "FAILED" : "as the script has it");
+    return failures != 0;
+}

@@ -1,0 +1,126 @@
+/* Included before freeze_queue_wait.h or freeze_queue_pool.h: their locks and conditions are watched, with one thread and
+ * a script. Where a call would sleep, the next of the script acts as another thread would, and has to wake it; where one
+ * would lock or unlock, others may act before or after. So each wake and each look is tried in an order that is the same
+ * each time, and a wake that is lost is told at once. */
+#ifndef SCRIPTED_H
+#define SCRIPTED_H
+#include <errno.h>
+#include <pthread.h>
+#include <stdbool.h>
+#include <stdint.h>
+#include <stdio.h>
+#include <stdlib.h>
+#include <time.h>
+
+typedef void (*scripted_act)(void);
+
+static int failures;
+static scripted_act script[8], before_lock, after_unlock; /* the script ends with NULL */
+static int next_act;
+static pthread_mutex_t *locked;   /* the one lock that is held */
+static long locks, broadcasts;    /* how often one was taken, and how often all who sleep were woken */
+static struct sleeper {
+    pthread_cond_t *on;
+    pthread_mutex_t *lock;
+    bool woken;
+    struct sleeper *outer;
+} *asleep; /* the last one first */
+
+static void is(const char *what, uint64_t value, uint64_t want, int line)
+{
+    if (value == want)
+        return;
+    fprintf(stderr, "line %d: %s is %lu, not %lu\n", line, what, (unsigned long)value, (unsigned long)want);
+    failures++;
+}
+
+#define IS(call, want) is(#call, call, FREEZE_QUEUE_##want, __LINE__)
+#define TELLS(value, want) is(#value, (uint64_t)(value), want, __LINE__)
+
+static void need(bool holds, const char *what)
+{
+    if (holds)
+        return;
+    fprintf(stderr, "%s\n", what);
+    exit(1);
+}
+
+/* What acts while the next call sleeps, one after another until it is woken. */
+static void acts(scripted_act first, scripted_act second, scripted_act third)
+{
+    const scripted_act all[] = {first, second, third, NULL};
+    for (int i = 0; i < 4; i++)
+        script[i] = all[i];
+    next_act = 0;
+}
+
+/* Whether all of the script has acted. */
+static bool have_acted(void) { return script[next_act] == NULL; }
+
+static int run_once(scripted_act *slot)
+{
+    scripted_act act = *slot;
+    *slot = NULL;
+    if (act)
+        act();
+    return 0;
+}
+
+static int scripted_lock(pthread_mutex_t *lock)
+{
+    run_once(&before_lock);
+    need(locked == NULL, "a lock is taken while one is held");
+    locked = lock;
+    locks++;
+    return 0;
+}
+
+static int scripted_unlock(pthread_mutex_t *lock)
+{
+    need(locked == lock, "a lock is given up that isn't held");
+    locked = NULL;
+    return run_once(&after_unlock);
+}
+
+/* Who sleeps without end and isn't woken by the script is told of. */
+static int scripted_sleep(pthread_cond_t *on, pthread_mutex_t *lock, const struct timespec *deadline)
+{
+    struct sleeper me = {on, lock, false, asleep};
+    need(locked == lock, "sleeps by a lock that isn't held");
+    locked = NULL;
+    asleep = &me;
+    while (!me.woken && script[next_act])
+        script[next_act++]();
+    asleep = me.outer;
+    need(locked == NULL, "another thread kept the lock");
+    locked = lock;
+    need(me.woken || deadline != NULL, "sleeps for ever");
+    return me.woken ? 0 : ETIMEDOUT;
+}
+
+/* A broadcast wakes all who sleep, and a signal the one that has slept longest. */
+static int scripted_wake(pthread_cond_t *on, bool all)
+{
+    struct sleeper *oldest = NULL;
+    broadcasts += all;
+    for (struct sleeper *s = asleep; s; s = s->outer)
+        if (s->on == on && !s->woken) {
+            need(locked == s->lock, "wakes without the lock");
+            s->woken = all;
+            oldest = s;
+        }
+    if (oldest)
+        oldest->woken = true;
+    return 0;
+}
+
+/* Nobody woke it, and yet it wakes. */
+static void wakes_by_itself(void) { asleep->woken = true; }
+
+#define pthread_mutex_lock scripted_lock
+#define pthread_mutex_unlock scripted_unlock
+#define pthread_cond_wait(on, lock) scripted_sleep(on, lock, NULL)
+#define pthread_cond_timedwait scripted_sleep
+#define pthread_cond_broadcast(on) scripted_wake(on, true)
+#define pthread_cond_signal(on) scripted_wake(on, false)
+#endif

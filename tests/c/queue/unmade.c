@@ -1,0 +1,149 @@
+/* Each thing that waits and a pool are made of is refused in turn: the errno of the refusal is answered, and what was made
+ * before is ended. Each condition looks at CLOCK_MONOTONIC. */
+#define _POSIX_C_SOURCE 200809L
+#include "freeze_queue.h"
+
+#include <errno.h>
+#include <pthread.h>
+#include <stdio.h>
+#include <sys/eventfd.h>
+#include <time.h>
+#include <unistd.h>
+
+static int allowed = 1000; /* how many are made before one is refused */
+static int made;           /* and not ended */
+static int monotonic;      /* attributes that were set to that clock */
+
+/* Makes one more, or refuses it. */
+static int makes(int refusal)
+{
+    if (allowed-- == 0)
+        return refusal;
+    made++;
+    return 0;
+}
+
+static int ends(int done)
+{
+    made--;
+    return done;
+}
+
+static int sets_clock(pthread_condattr_t *attributes, clockid_t clock)
+{
+    if (allowed-- == 0)
+        return EINVAL;
+    monotonic += clock == CLOCK_MONOTONIC;
+    return pthread_condattr_setclock(attributes, clock);
+}
+
+static int opens(unsigned int count, int flags)
+{
+    if (makes(EMFILE) != 0) {
+        errno = EMFILE;
+        return -1;
+    }
+    return eventfd(count, flags);
+}
+
+#define pthread_mutex_init(lock, with) (makes(EAGAIN) ? EAGAIN : pthread_mutex_init(lock, with))
+#define pthread_mutex_destroy(lock) ends(pthread_mutex_destroy(lock))
+#define pthread_condattr_init(with) (makes(ENOMEM) ? ENOMEM : pthread_condattr_init(with))
+#define pthread_condattr_destroy(with) ends(pthread_condattr_destroy(with))
+#define pthread_condattr_setclock sets_clock
+#define pthread_cond_init(on, with) (makes(EBUSY) ? EBUSY : pthread_cond_init(on, with))
+#define pthread_cond_destroy(on) ends(pthread_cond_destroy(on))
+#define eventfd opens
+#define close(event) ends(close(event))
+#include "freeze_queue_pool.h"
+
+static int failures;
+
+static void is(const char *what, int64_t value, int64_t want, int line)
+{
+    if (value == want)
+        return;
+    fprintf(stderr, "line %d: %s is %ld, not %ld\n", line, what, (long)value, (long)want);
+    failures++;
+}
+
+#define TELLS(value, want) is(#value, value, want, __LINE__)
+
+static freeze_queue_freezer freezer;
+static freeze_queue_waits waits;
+static freeze_queue_pool pool;
+
+/* What waits are made of, in any order: a mutex, and two conditions of three steps each. */
+static void waits_are_made(void)
+{
+    int refusals[4] = {0}; /* of mutexes, of attributes, of clocks, of conditions */
+    for (int allow = 0; allow < 7; allow++) {
+        allowed = allow;
+        int refused = freeze_queue_waits_init(&waits, &freezer);
+        TELLS(made, 0);
+        TELLS(allowed, -1);
+        refusals[0] += refused == EAGAIN;
+        refusals[1] += refused == ENOMEM;
+        refusals[2] += refused == EINVAL;
+        refusals[3] += refused == EBUSY;
+    }
+    TELLS(refusals[0] == 1 && refusals[1] == 2 && refusals[2] == 2 && refusals[3] == 2, true);
+    allowed = 7;
+    monotonic = 0;
+    TELLS(freeze_queue_waits_init(&waits, &freezer), 0);
+    TELLS(allowed, 0);
+    TELLS(monotonic, 2);
+    TELLS(made, 3);
+}
+
+static void events_are_opened(void)
+{
+    for (allowed = 0; allowed < 2;) {
+        int allow = allowed;
+        TELLS(freeze_queue_waits_open_events(&waits), EMFILE);
+        TELLS(made, 3);
+        TELLS(waits.live_event == -1 && waits.drained_event == -1, true);
+        allowed = allow + 1;
+    }
+    TELLS(freeze_queue_waits_open_events(&waits), 0);
+    TELLS(waits.live_event >= 0 && waits.drained_event >= 0, true);
+    TELLS(made, 5);
+    freeze_queue_waits_destroy(&waits);
+    TELLS(made, 0);
+}
+
+static void a_pool_is_filled(void)
+{
+    freeze_queue_tag tag = {0};
+    for (int allow = 0; allow < 4; allow++) {
+        allowed = allow;
+        TELLS(freeze_queue_pool_fill(&pool, &freezer, 2), FREEZE_QUEUE_NO_MEMORY);
+        TELLS(made, 0);
+        TELLS(pool.count, 0);
+        for (int i = 0; i < 2; i++) { /* the queue has all tags back */
+            TELLS(freeze_queue_next_tag(&freezer, &tag), FREEZE_QUEUE_OK);
+            TELLS(freeze_queue_give_tag_back(&freezer, &tag), FREEZE_QUEUE_OK);
+        }
+    }
+    allowed = 4;
+    monotonic = 0;
+    TELLS(freeze_queue_pool_fill(&pool, &freezer, 2), FREEZE_QUEUE_OK);
+    TELLS(allowed, 0);
+    TELLS(monotonic, 1);
+    TELLS(freeze_queue_pool_empty(&pool, &freezer), FREEZE_QUEUE_OK);
+    TELLS(made, 0);
+}
+
+int main(void)
+{
+    const freeze_queue_limits limits = {8, 0, 0, 1};
+    freeze_queue_final last;
+    if (freeze_queue_new(&freezer, &limits, 1, 2))
+        return 1;
+    waits_are_made();
+    events_are_opened();
+    a_pool_is_filled();
+    TELLS(freeze_queue_remove(&freezer, &last), FREEZE_QUEUE_OK);
+    printf("%s\n", failures ? "FAILED" : "nothing is left");
+    return failures != 0;
+}
