@@ -1,8 +1,10 @@
 //! A freezer that threads share.
-ghost use Rattle.std.specs.Prelude.{◌≡◌, true, IfOk, IfSome, IfErr};
+ghost use Rattle.std.specs.Prelude.{◌≡◌, ◌+◌, true, IfOk, IfSome, IfErr, OnErr};
 ghost use Rattle.std.specs.Sync.Mutex.{mutex_guard_value};
+ghost use Rattle.percpu_gate.specs.declared.tried.Put.{Put};
 ghost use Rattle.queue_core.specs.declared.fault.FreezeFault.TheVariants.{NotFrozen};
-ghost use Rattle.freeze_queue.specs.Waiting.{CanRefuse};
+ghost use Rattle.queue_core.specs.Queue.{after_freeze, after_look, freeze_refusal, fault_of};
+ghost use Rattle.freeze_queue.specs.Waiting.{CanRefuse, wait_refusal};
 
 use crate::freezer::Freezer;
 use crate::queue::BlockQueue;
@@ -20,6 +22,31 @@ pub struct Pair<'q> {
     pub freezer: Freezer,
     pub queue: &'q BlockQueue,
     ghost together: { freezer.queue ≡ queue.now },
+}
+
+/// What a shared freezer does under its lock. No clause names what a lock keeps, so each is a call of its own, which says
+/// exactly what it leaves there.
+impl Pair<'_> {
+    /// Begins a freeze: the depth. Refuses DepthFull, WornOut.
+    fn start_freeze(&mut self) -> Result<u32, FreezeFault>
+        ensures refused { fault_of result ≡ freeze_refusal self.old.freezer }
+        ensures unchanged { OnErr result (self.new.freezer ≡ self.old.freezer) }
+        ensures frozen { IfOk result (λ depth. (depth ≡ self.old.freezer.depth + 1) × (r : Put) × (self.new.freezer ≡ after_freeze r self.old.freezer)) }
+    {
+        self.freezer.start_freeze(self.queue)
+    }
+
+    /// Whether the queue is drained, at one look. Refuses NotFrozen.
+    fn look(&mut self) -> Result<bool, FreezeFault>
+        ensures refused { fault_of result ≡ wait_refusal self.old.freezer }
+        ensures unchanged { OnErr result (self.new.freezer ≡ self.old.freezer) }
+        ensures looked { IfOk result (λ drained. self.new.freezer ≡ after_look drained self.old.freezer) }
+    {
+        if self.freezer.depth() == 0 {
+            return Err(FreezeFault::NotFrozen);
+        }
+        Ok(self.freezer.poll_drained(self.queue))
+    }
 }
 
 /// A freezer that threads share by a lock. Linux: `mq_freeze_lock` (include/linux/blkdev.h).
@@ -58,9 +85,7 @@ impl<'q> SharedFreezer<'q> {
     fn start_freeze<R: Wait>(&self, rt: &R) -> Result<u32, FreezeFault>
         ensures { IfErr result CanRefuse }
     {
-        let mut guard = self.lock(rt);
-        let pair = &mut *guard;
-        pair.freezer.start_freeze(pair.queue)
+        self.lock(rt).start_freeze()
     }
 
     /// Waits until the queue is drained, in the same way, and gives its lock. Refuses NotFrozen, also where others have
@@ -84,11 +109,7 @@ impl<'q> SharedFreezer<'q> {
         ensures drained { IfOk result (λ found. IfSome found (λ guard. (mutex_guard_value guard).freezer.drained ≡ true)) }
     {
         let mut guard = self.lock(rt);
-        let pair = &mut *guard;
-        if pair.freezer.depth() == 0 {
-            return Err(FreezeFault::NotFrozen);
-        }
-        if pair.freezer.poll_drained(pair.queue) {
+        if guard.look()? {
             return Ok(Some(guard));
         }
         Ok(None)
