@@ -32,8 +32,10 @@ pub enum Task {
 /// 1 to so many times, on 1 to so many threads where their number comes before.
 fn timing(words: &[String], most: Most, is_csv: bool) -> Task
     ensures one { (threads times : ℕ) (csv : Bool) → result ≡ Task.Time threads times csv
-        → (1 ≤ threads) × (threads ≤ most.threads) × (1 ≤ times) × (times ≤ most.times) × (csv ≡ is_csv) }
-    ensures all { (times : ℕ) (csv : Bool) → result ≡ Task.TimeAll times csv → (1 ≤ times) × (times ≤ most.times) × (csv ≡ is_csv) }
+        → (1 ≤ threads) × (threads ≤ most.threads) × (1 ≤ times) × (times ≤ most.times) }
+    ensures all { (times : ℕ) (csv : Bool) → result ≡ Task.TimeAll times csv → (1 ≤ times) × (times ≤ most.times) }
+    ensures table { (threads times : ℕ) (csv : Bool) → result ≡ Task.Time threads times csv → csv ≡ is_csv }
+    ensures table_of_all { (times : ℕ) (csv : Bool) → result ≡ Task.TimeAll times csv → csv ≡ is_csv }
     ensures not_shown { result ≢ Task.Show }
 {
     match words {

@@ -1,5 +1,7 @@
 -- What a list of commands to a device is.
 use Rattle.std.specs.Prelude.{◌≡◌, ℕ, ◌+◌, Option, Some, None, Result, Ok, Err, List, [], ◌∷◌, map}
+use Rattle.percpu_gate.specs.declared.tried.Tried.{Tried}
+use Rattle.freeze_queue.specs.Entering.{answered}
 use Rattle.freeze_queue.specs.declared.enter.Enter.{Enter}
 use Rattle.freeze_queue.specs.declared.enter.Enter.TheVariants.{Entered, Again}
 use Rattle.uses.specs.declared.cutting.Command.{Command}
@@ -18,3 +20,7 @@ abbrev pub entering : {A E : Type 0} → Result (Option A) E → Enter
 entering (Ok (Some made)) = Entered
 entering (Ok None) = Again
 entering (Err why) = Entered
+
+-- what that attempt found at the gate
+abbrev pub found : {A E : Type 0} → Result (Option A) E → Tried
+found made = answered (entering made)

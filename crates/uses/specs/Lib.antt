@@ -1,4 +1,6 @@
--- Commands: the commands of a request. Removal: what a request and a removal were told. Settings: what a change of limits leaves.
+-- Commands: the commands of a request. Removal: what a request and a removal were told. Racing: what the threads of a race hand to one
+-- another. Settings: what a change of limits leaves.
 pub mod Commands
+pub mod Racing
 pub mod Removal
 pub mod Settings

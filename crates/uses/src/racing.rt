@@ -4,6 +4,7 @@ ghost use Rattle.percpu_core.specs.declared.phase.Phase.TheVariants.{Dead};
 ghost use Rattle.percpu_core.specs.Starts.{starts_dead};
 ghost use Rattle.percpu_gate.specs.Calls.{holding, released, LiveTryFinds};
 ghost use Rattle.percpu_gate.specs.ControlCalls.{kill_refusal};
+ghost use Rattle.uses.specs.Racing.{IsIdle, IsServedBy, HasOnePass, MayKill};
 ghost use Rattle.uses.specs.Removal.{told, tried};
 
 use crate::removal::{Served, remove, serve};
@@ -53,7 +54,8 @@ pub fn race<R: Threads>(rt: &R, gate: Gate<1>, pass: Pass<1>, control: Control<1
     requires slots { 0 < gate.slots }
     requires idle { (pass.view.standing ≡ holding 0) × (pass.view.releases ≡ 0) }
     requires live { kill_refusal control.view.standing.phase control.view.standing.kills ≡ None }
-    requires new { (starts_dead gate.start ≡ false) × (control.view.passes ≡ 1) × (control.view.releases ≡ 0) × (control.view.zeros_cleared ≡ 0) }
+    requires passes { control.view.passes ≡ 1 }
+    requires new { (starts_dead gate.start ≡ false) × (control.view.releases ≡ 0) × (control.view.zeros_cleared ≡ 0) }
     ensures once { told result.served + released result.removed ≡ 1 }
     // The request was done where a live gate let it in, and one that isn't found the device removed.
     ensures finds { LiveTryFinds gate 0 pass.view (tried result.served) }
@@ -62,12 +64,12 @@ pub fn race<R: Threads>(rt: &R, gate: Gate<1>, pass: Pass<1>, control: Control<1
     let ((mut control, removed), (pass, served)) = thread::join(
         rt,
         move || -> (Control<1>, Put)
-            requires { (control.gate ≡ shared.now) × (kill_refusal control.view.standing.phase control.view.standing.kills ≡ None) × (control.view.passes ≡ 1) × (control.view.releases ≡ 0) × (control.view.zeros_cleared ≡ 0) }
-            ensures { (result.0.gate ≡ shared.entry.now) × (result.0.view.passes ≡ 1) × (result.0.view.standing.phase ≡ Dead) × (result.0.view.releases ≡ released result.1) × (result.0.view.zeros_cleared ≡ 0) }
+            requires { HasOnePass shared.now control 0 × MayKill control }
+            ensures { HasOnePass shared.entry.now result.0 (released result.1) × (result.0.view.standing.phase ≡ Dead) }
         { removed_by(shared, control) },
         move || -> (Pass<1>, Served)
-            requires { (pass.gate ≡ shared.now) × (0 < shared.now.slots) × (pass.view.standing ≡ holding 0) × (pass.view.releases ≡ 0) }
-            ensures { (result.0.gate ≡ shared.entry.now) × (result.0.view.standing ≡ holding 0) × (result.0.view.releases ≡ told result.1) × LiveTryFinds shared.entry.now 0 pass.view (tried result.1) }
+            requires { IsIdle shared.now pass 0 × (0 < shared.now.slots) }
+            ensures { IsServedBy shared.entry.now pass.view result.0 result.1 }
         { served_by(shared, pass) },
     );
     control.retire(&gate, pass);

@@ -2,10 +2,9 @@
 ghost use Rattle.std.specs.Prelude.{◌≡◌, ◌+◌, ◌<◌, ◌^◌, true, false, Some, IfOk, IfSome, OnOk, OnErr};
 ghost use Rattle.percpu_core.specs.Views.{count as one_if};
 ghost use Rattle.percpu_gate.specs.Calls.{is_refused, taken, LiveTryFinds};
-ghost use Rattle.freeze_queue.specs.Entering.{answered};
 ghost use Rattle.freeze_queue.specs.Queue.{fault_of, freeze_refusal};
 ghost use Rattle.freeze_queue.specs.Readings.{IsTag};
-ghost use Rattle.uses.specs.Commands.{lengths, entering, AreInARow};
+ghost use Rattle.uses.specs.Commands.{lengths, found, AreInARow};
 ghost use Rattle.uses.specs.Settings.{IsCutByLimits, IsChanged, WereReadInside, EndsWithOneTry, is_made};
 
 use crate::cutting::{Command, commands};
@@ -33,10 +32,10 @@ pub fn submit(
     ensures own { tag.new.queue ≡ queue.now }
     ensures entered { tag.new.entered ≡ is_made result }
     // None says that the attempt to enter found the queue frozen, commands that it found it live; so does a refusal of memory.
-    ensures finds { LiveTryFinds queue.now.gate slot tag.old.seat (answered (entering result)) }
+    ensures finds { LiveTryFinds queue.now.gate slot tag.old.seat (found result) }
     // It is one attempt, and what it found was found by a step of this call.
-    ensures counted { tag.new.seat.live_given ≡ tag.old.seat.live_given + taken (answered (entering result)) }
-    ensures times { tag.new.seat.found_dead_times ≡ tag.old.seat.found_dead_times + one_if (is_refused (answered (entering result))) }
+    ensures counted { tag.new.seat.live_given ≡ tag.old.seat.live_given + taken (found result) }
+    ensures times { tag.new.seat.found_dead_times ≡ tag.old.seat.found_dead_times + one_if (is_refused (found result)) }
     ensures row { IfOk result (λ made. IfSome made (λ made. AreInARow start made.items)) }
     ensures split { IfOk result (λ made. IfSome made (λ made. IsCutByLimits tag.new start count (lengths made.items))) }
 {

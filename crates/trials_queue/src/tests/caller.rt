@@ -1,8 +1,7 @@
 //! How a caller reasons: from the contracts of the public calls alone.
 ghost use Rattle.std.specs.Prelude.{◌≡◌, ◌<◌, true, false, OnOk, IfOk, Some};
 ghost use Rattle.std.specs.Thread.{IsSync};
-ghost use Rattle.percpu_core.specs.declared.view.PassView.{PassView};
-ghost use Rattle.freeze_queue.specs.AtTheGate.{AreInForce, Stood};
+ghost use Rattle.trials_queue.specs.Changes.{AreWhatWasSet};
 
 use crate::tests::fixture::with_one_tag;
 use freeze_queue::{BlockQueue, FreezeFault, Freezer, Tag, in_force_are_set};
@@ -58,7 +57,7 @@ fn reads_what_was_set<R: Wait>(
     ensures own { (freezer.new.queue ≡ queue.now) × (tag.new.queue ≡ queue.now) }
     ensures entered { OnOk result (tag.new.entered ≡ true) }
     ensures told { IfOk result (λ told. tag.new.limits ≡ Some told) }
-    ensures new { IfOk result (λ told. (seat : PassView) × (found : AreInForce queue.now.gate queue.now.hardware seat told) × (Stood freezer.new found.moment.views → told ≡ limits)) }
+    ensures new { IfOk result (λ told. AreWhatWasSet queue.now freezer.new limits told) }
 {
     change_limits(rt, queue, freezer, limits)?;
     queue.enter(rt, tag, 0);

@@ -1,6 +1,7 @@
 //! Several who wait to enter, and one thaw.
 ghost use Rattle.std.specs.Prelude.{◌≡◌, ◌<◌, true, false};
 ghost use Rattle.std.specs.Thread.{IsSync};
+ghost use Rattle.trials_queue.specs.Tags.{IsOut};
 
 use crate::tests::fixture::three_of;
 use crate::tests::turns::{dawdle, wait_for};
@@ -124,9 +125,9 @@ fn run_rounds<R: Threads + Wait + Abort + Sync>(
     tags: (Tag, Tag, Tag),
     freezer: Freezer,
 ) -> u64
-    requires own { (tags.0.queue ≡ queue.now) × (tags.1.queue ≡ queue.now) × (tags.2.queue ≡ queue.now) × (freezer.queue ≡ queue.now) }
+    requires own { freezer.queue ≡ queue.now }
     requires slot { 0 < queue.now.gate.slots }
-    requires out { (tags.0.entered ≡ false) × (tags.1.entered ≡ false) × (tags.2.entered ≡ false) }
+    requires out { IsOut queue.now tags.0 × IsOut queue.now tags.1 × IsOut queue.now tags.2 }
 {
     let (first, second, third) = tags;
     let rounds = Rounds {
@@ -138,10 +139,10 @@ fn run_rounds<R: Threads + Wait + Abort + Sync>(
     let (done, ()) = thread::join(
         rt,
         move || -> u64
-            requires { IsSync R.row × (third.queue ≡ queue.now) × (0 < queue.now.gate.slots) × (third.entered ≡ false) × (freezer.queue ≡ queue.now) }
+            requires { IsSync R.row × IsOut queue.now third × (0 < queue.now.gate.slots) × (freezer.queue ≡ queue.now) }
         { enter_and_thaw(rt, queue, third, freezer, shared) },
         move || -> ()
-            requires { IsSync R.row × (first.queue ≡ queue.now) × (second.queue ≡ queue.now) × (0 < queue.now.gate.slots) × (first.entered ≡ false) × (second.entered ≡ false) }
+            requires { IsSync R.row × IsOut queue.now first × IsOut queue.now second × (0 < queue.now.gate.slots) }
         { enter_by_two(rt, queue, first, second, shared) },
     );
     done

@@ -1,6 +1,7 @@
 //! A freezer that sleeps, and a try that is refused whose drop is the last.
 ghost use Rattle.std.specs.Prelude.{◌≡◌, ◌<◌, true, false};
 ghost use Rattle.std.specs.Thread.{IsSync};
+ghost use Rattle.trials_queue.specs.Tags.{IsOut};
 
 use crate::tests::fixture::with_two_tags;
 use crate::tests::turns::wait_for;
@@ -154,9 +155,9 @@ fn run_rounds<R: Threads + Wait + Abort + Sync>(
     freezer: Freezer,
     tags: (Tag, Tag),
 ) -> u64
-    requires own { (freezer.queue ≡ queue.now) × (tags.0.queue ≡ queue.now) × (tags.1.queue ≡ queue.now) }
+    requires own { freezer.queue ≡ queue.now }
     requires slots { 1 < queue.now.gate.slots }
-    requires out { (tags.0.entered ≡ false) × (tags.1.entered ≡ false) }
+    requires out { IsOut queue.now tags.0 × IsOut queue.now tags.1 }
 {
     let rounds = Rounds {
         inside: AtomicU64::new(0),
@@ -171,7 +172,7 @@ fn run_rounds<R: Threads + Wait + Abort + Sync>(
             requires { IsSync R.row × (freezer.queue ≡ queue.now) }
         { freeze_while_inside(rt, queue, freezer, shared) },
         move || -> u64
-            requires { IsSync R.row × (tags.0.queue ≡ queue.now) × (tags.1.queue ≡ queue.now) × (1 < queue.now.gate.slots) × (tags.0.entered ≡ false) × (tags.1.entered ≡ false) }
+            requires { IsSync R.row × IsOut queue.now tags.0 × IsOut queue.now tags.1 × (1 < queue.now.gate.slots) }
         { leave_and_try(rt, queue, tags, shared) },
     );
     by_refusals

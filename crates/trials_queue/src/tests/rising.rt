@@ -1,6 +1,7 @@
 //! Limits whose max only rises, under threads that enter, read them and leave.
 ghost use Rattle.std.specs.Prelude.{◌≡◌, ◌<◌, ◌≤◌, IfOk, true, false};
 ghost use Rattle.std.specs.Thread.{IsSync};
+ghost use Rattle.trials_queue.specs.Tags.{IsOut, ReadAlike};
 
 use crate::tests::fixture::{remove_three, three_of};
 use freeze_queue::{BlockQueue, Final, Freezer, LIMIT_WORDS, Mode, Tag};
@@ -68,7 +69,7 @@ fn read_rounds<R: Wait>(rt: &R, queue: &BlockQueue, mut tag: Tag, slot: u32) -> 
     requires own { tag.queue ≡ queue.now }
     requires slot { slot < queue.now.gate.slots }
     requires out { tag.entered ≡ false }
-    ensures { (result.0.queue ≡ queue.now) × (result.0.entered ≡ false) × (result.1.equal ≡ true) }
+    ensures { ReadAlike queue.now result.0 result.1.equal }
 {
     let mut seen = Seen {
         equal: true,
@@ -125,14 +126,14 @@ fn read_and_raise<R: Threads + Wait + Sync>(
     requires slot { 0 < queue.now.gate.slots }
     requires out { tag.entered ≡ false }
     requires hardware { queue.now.hardware ≡ HARDWARE }
-    ensures tag { (result.0.0.queue ≡ queue.now) × (result.0.0.entered ≡ false) × (result.0.1.equal ≡ true) }
+    ensures tag { ReadAlike queue.now result.0.0 result.0.1.equal }
     ensures freezer { result.1.0.queue ≡ queue.now }
 {
     thread::join(
         rt,
         move || -> (Tag, Seen)
-            requires { IsSync R.row × (tag.queue ≡ queue.now) × (0 < queue.now.gate.slots) × (tag.entered ≡ false) }
-            ensures { (result.0.queue ≡ queue.entry.now) × (result.0.entered ≡ false) × (result.1.equal ≡ true) }
+            requires { IsSync R.row × IsOut queue.now tag × (0 < queue.now.gate.slots) }
+            ensures { ReadAlike queue.entry.now result.0 result.1.equal }
         { read_rounds(rt, queue, tag, 0) },
         move || -> (Freezer, u32)
             requires { (freezer.queue ≡ queue.now) × (queue.now.hardware ≡ HARDWARE) }
@@ -152,18 +153,18 @@ fn read_by_two<R: Threads + Wait + Sync>(
     requires own { (second.queue ≡ queue.now) × (third.queue ≡ queue.now) }
     requires slot { slot < queue.now.gate.slots }
     requires out { (second.entered ≡ false) × (third.entered ≡ false) }
-    ensures second { (result.0.0.queue ≡ queue.now) × (result.0.0.entered ≡ false) × (result.0.1.equal ≡ true) }
-    ensures third { (result.1.0.queue ≡ queue.now) × (result.1.0.entered ≡ false) × (result.1.1.equal ≡ true) }
+    ensures second { ReadAlike queue.now result.0.0 result.0.1.equal }
+    ensures third { ReadAlike queue.now result.1.0 result.1.1.equal }
 {
     thread::join(
         rt,
         move || -> (Tag, Seen)
-            requires { IsSync R.row × (second.queue ≡ queue.now) × (slot < queue.now.gate.slots) × (second.entered ≡ false) }
-            ensures { (result.0.queue ≡ queue.entry.now) × (result.0.entered ≡ false) × (result.1.equal ≡ true) }
+            requires { IsSync R.row × IsOut queue.now second × (slot < queue.now.gate.slots) }
+            ensures { ReadAlike queue.entry.now result.0 result.1.equal }
         { read_rounds(rt, queue, second, slot) },
         move || -> (Tag, Seen)
-            requires { (third.queue ≡ queue.now) × (0 < queue.now.gate.slots) × (third.entered ≡ false) }
-            ensures { (result.0.queue ≡ queue.entry.now) × (result.0.entered ≡ false) × (result.1.equal ≡ true) }
+            requires { IsOut queue.now third × (0 < queue.now.gate.slots) }
+            ensures { ReadAlike queue.entry.now result.0 result.1.equal }
         { read_rounds(rt, queue, third, 0) },
     )
 }
@@ -177,24 +178,25 @@ fn all_four<R: Threads + Wait + Sync>(
     freezer: Freezer,
     switches: bool,
 ) -> (((Tag, Seen), (Freezer, u32)), ((Tag, Seen), (Tag, Seen)))
-    requires own { (tags.0.queue ≡ queue.now) × (tags.1.queue ≡ queue.now) × (tags.2.queue ≡ queue.now) × (freezer.queue ≡ queue.now) }
+    requires own { freezer.queue ≡ queue.now }
     requires slot { slot < queue.now.gate.slots }
-    requires out { (tags.0.entered ≡ false) × (tags.1.entered ≡ false) × (tags.2.entered ≡ false) }
+    requires out { IsOut queue.now tags.0 × IsOut queue.now tags.1 × IsOut queue.now tags.2 }
     requires hardware { queue.now.hardware ≡ HARDWARE }
-    ensures own { (result.0.0.0.queue ≡ queue.now) × (result.1.0.0.queue ≡ queue.now) × (result.1.1.0.queue ≡ queue.now) × (result.0.1.0.queue ≡ queue.now) }
-    ensures out { (result.0.0.0.entered ≡ false) × (result.1.0.0.entered ≡ false) × (result.1.1.0.entered ≡ false) }
-    ensures equal { (result.0.0.1.equal ≡ true) × (result.1.0.1.equal ≡ true) × (result.1.1.1.equal ≡ true) }
+    ensures first { ReadAlike queue.now result.0.0.0 result.0.0.1.equal }
+    ensures freezer { result.0.1.0.queue ≡ queue.now }
+    ensures second { ReadAlike queue.now result.1.0.0 result.1.0.1.equal }
+    ensures third { ReadAlike queue.now result.1.1.0 result.1.1.1.equal }
 {
     let (first, second, third) = tags;
     thread::join(
         rt,
         move || -> ((Tag, Seen), (Freezer, u32))
-            requires { IsSync R.row × (first.queue ≡ queue.now) × (0 < queue.now.gate.slots) × (first.entered ≡ false) × (freezer.queue ≡ queue.now) × (queue.now.hardware ≡ HARDWARE) }
-            ensures { (result.0.0.queue ≡ queue.entry.now) × (result.0.0.entered ≡ false) × (result.0.1.equal ≡ true) × (result.1.0.queue ≡ queue.entry.now) }
+            requires { IsSync R.row × IsOut queue.now first × (0 < queue.now.gate.slots) × (freezer.queue ≡ queue.now) × (queue.now.hardware ≡ HARDWARE) }
+            ensures { ReadAlike queue.entry.now result.0.0 result.0.1.equal × (result.1.0.queue ≡ queue.entry.now) }
         { read_and_raise(rt, queue, first, freezer, switches) },
         move || -> ((Tag, Seen), (Tag, Seen))
-            requires { IsSync R.row × (second.queue ≡ queue.now) × (third.queue ≡ queue.now) × (slot < queue.now.gate.slots) × (second.entered ≡ false) × (third.entered ≡ false) }
-            ensures { (result.0.0.queue ≡ queue.entry.now) × (result.0.0.entered ≡ false) × (result.0.1.equal ≡ true) × (result.1.0.queue ≡ queue.entry.now) × (result.1.0.entered ≡ false) × (result.1.1.equal ≡ true) }
+            requires { IsSync R.row × IsOut queue.now second × IsOut queue.now third × (slot < queue.now.gate.slots) }
+            ensures { ReadAlike queue.entry.now result.0.0 result.0.1.equal × ReadAlike queue.entry.now result.1.0 result.1.1.equal }
         { read_by_two(rt, queue, second, third, slot) },
     )
 }
@@ -218,9 +220,9 @@ fn rise<R: Threads + Wait + Sync>(
     freezer: Freezer,
     switches: bool,
 ) -> Left
-    requires own { (tags.0.queue ≡ queue) × (tags.1.queue ≡ queue) × (tags.2.queue ≡ queue) × (freezer.queue ≡ queue) }
+    requires own { freezer.queue ≡ queue }
     requires slot { slot < queue.gate.slots }
-    requires out { (tags.0.entered ≡ false) × (tags.1.entered ≡ false) × (tags.2.entered ≡ false) }
+    requires out { IsOut queue tags.0 × IsOut queue tags.1 × IsOut queue tags.2 }
     requires hardware { queue.hardware ≡ HARDWARE }
 {
     let (one, two) = all_four(rt, &queue, tags, slot, freezer, switches);

@@ -1,6 +1,7 @@
 //! Two queues that are frozen together, each with a request under way: both freezes start before either drain is waited for.
 ghost use Rattle.std.specs.Prelude.{◌≡◌, ◌<◌, true, false};
 ghost use Rattle.std.specs.Thread.{IsSync};
+ghost use Rattle.trials_queue.specs.Tags.{IsIn};
 
 use crate::tests::fixture::{enter, is_drained, leave, start_freeze, with_one_tag};
 use crate::tests::turns::wait_for;
@@ -134,7 +135,7 @@ fn freeze_while_leaving<R: Threads + Wait + Abort + Sync>(
             requires { IsSync R.row × (freezers.0.queue ≡ first.now) × (freezers.1.queue ≡ second.now) }
         { freeze_both(rt, first, second, freezers, frozen) },
         move || -> (Put, Put)
-            requires { (tags.0.queue ≡ first.now) × (0 < first.now.gate.slots) × (tags.1.queue ≡ second.now) × (0 < second.now.gate.slots) × (tags.0.entered ≡ true) × (tags.1.entered ≡ true) }
+            requires { IsIn first.now tags.0 × (0 < first.now.gate.slots) × IsIn second.now tags.1 × (0 < second.now.gate.slots) }
         { leave_both(rt, first, second, tags, frozen) },
     )
 }

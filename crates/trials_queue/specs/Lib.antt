@@ -1,0 +1,3 @@
+-- Tags: what the tests' threads hand to one another. Changes: what is read after a change of limits.
+pub mod Tags
+pub mod Changes
