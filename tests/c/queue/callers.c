@@ -27,18 +27,20 @@ static void is(const char *what, uint64_t value, uint64_t want, int line)
 
 /* ---- Answers ---- */
 
-/* Each name of the header, its number, which programs keep, and a word that is to be read of it. */
-#define NAMED(name, number, word) {#name, FREEZE_QUEUE_##name, number, word}
-static const struct { const char *name; uint32_t is, number; const char *word; } answers[] = {
-    NAMED(OK, 0, "done"), NAMED(LAST, 1, "drained"), NAMED(NOT_ENTERED, 2, "entered"),
-    NAMED(NOT_ENTERED_LAST, 3, "drained"), NAMED(DRAINED, 4, "drained"), NAMED(LIVE_AGAIN, 5, "live"),
-    NAMED(DEPTH_FULL, 17, "1000"), NAMED(NOT_FROZEN, 18, "frozen"), NAMED(NOT_DRAINED, 19, "drained"),
-    NAMED(TAGS_OUT, 20, "tags"), NAMED(WORN_OUT, 21, "2^40"), NAMED(ABOVE_HARDWARE, 25, "hardware"),
-    NAMED(CHUNK_TOO_LARGE, 26, "chunk"), NAMED(HARDWARE_RANGE, 27, "hardware"), NAMED(BAD_PHYSICAL, 28, "physical"),
-    NAMED(OTHER_HARDWARE, 29, "hardware"), NAMED(TIMED_OUT, 30, "deadline"), NAMED(CLOSED, 32, "closed"),
-    NAMED(OPEN, 33, "open"), NAMED(SLOT, 34, "slot"), NAMED(ENTERED, 35, "entered"), NAMED(NOT_ENTERED_TAG, 36, "entered"),
-    NAMED(OTHER_QUEUE, 37, "queue"), NAMED(SIZE, 38, "slots"), NAMED(NO_TAG, 39, "tag"), NAMED(NO_MEMORY, 40, "memory"),
-    NAMED(MODE, 41, "mode"), NAMED(RANGE, 42, "2^33"), NAMED(IN_USE, 45, "in use"),
+/* Each name of the header, its number, which programs keep, and words of what it says, which tell it from each other. */
+#define NAMED(name, number, words) {#name, FREEZE_QUEUE_##name, number, words}
+static const struct { const char *name; uint32_t is, number; const char *words; } answers[] = {
+    NAMED(OK, 0, "done"), NAMED(LAST, 1, "done, and"), NAMED(NOT_ENTERED, 2, "isn't entered"),
+    NAMED(NOT_ENTERED_LAST, 3, "isn't entered, and"), NAMED(DRAINED, 4, "drained already"),
+    NAMED(LIVE_AGAIN, 5, "live again"), NAMED(DEPTH_FULL, 17, "1000"), NAMED(NOT_FROZEN, 18, "isn't frozen"),
+    NAMED(NOT_DRAINED, 19, "isn't drained"), NAMED(TAGS_OUT, 20, "aren't given back"), NAMED(WORN_OUT, 21, "2^40"),
+    NAMED(ABOVE_HARDWARE, 25, "more sectors than"), NAMED(CHUNK_TOO_LARGE, 26, "chunk"),
+    NAMED(HARDWARE_RANGE, 27, "outside 1 to 65535"), NAMED(BAD_PHYSICAL, 28, "power of two"),
+    NAMED(OTHER_HARDWARE, 29, "isn't the queue's"), NAMED(TIMED_OUT, 30, "deadline"), NAMED(CLOSED, 32, "closed"),
+    NAMED(OPEN, 33, "is open"), NAMED(SLOT, 34, "no such slot"), NAMED(ENTERED, 35, "has entered"),
+    NAMED(NOT_ENTERED_TAG, 36, "hasn't entered"), NAMED(OTHER_QUEUE, 37, "another queue"), NAMED(SIZE, 38, "slots or tags"),
+    NAMED(NO_TAG, 39, "was given out"), NAMED(NO_MEMORY, 40, "memory"), NAMED(MODE, 41, "no such mode"),
+    NAMED(RANGE, 42, "2^33"), NAMED(IN_USE, 45, "in use"),
 };
 
 /* A text fits into a line of a log, behind a colon. */
@@ -56,7 +58,9 @@ static void answers_are_named(void)
     for (size_t i = 0; i < sizeof answers / sizeof answers[0]; i++) {
         const char *text = freeze_queue_text(answers[i].is);
         TELLS(answers[i].is, answers[i].number);
-        TELLS(is_plain(text) && strstr(text, answers[i].word) != NULL, true);
+        TELLS(is_plain(text) && strstr(text, answers[i].words) != NULL, true);
+        for (size_t j = 0; j < i; j++)
+            TELLS(strstr(text, answers[j].words) && strstr(freeze_queue_text(answers[j].is), answers[i].words), false);
         TELLS(freeze_queue_is_refused(answers[i].is), i >= 6);
         TELLS(freeze_queue_is_misuse(answers[i].is), i >= 17);
     }

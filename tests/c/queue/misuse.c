@@ -1,5 +1,5 @@
-/* Each call of the queue's library, and each number that it may answer, but for want of memory (refused.c), and for a queue
- * that is worn out or in use (inside.c). A call that is refused writes nothing. */
+/* Each call of the queue's library, and each number that it may answer, but for want of memory (refused.c), for a queue that
+ * is worn out or in use (inside.c), and for a try that drains the queue (told_once.c). A call that is refused writes nothing. */
 #include "freeze_queue.h"
 
 #include <stdio.h>
