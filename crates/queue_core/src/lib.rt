@@ -33,6 +33,8 @@ mod limit_words;
 mod queue;
 mod remove;
 mod tag;
+#[cfg(test)]
+mod tests;
 
 pub use fault::FreezeFault;
 pub use freezer::{Freezer, Frozen, MOST_DEPTH, Thawed};
