@@ -1,5 +1,5 @@
-/* Each call of the library, and each number that it may answer, but for want of memory (refused.c) and a gate that is
- * worn out, which takes 2^40 kills. A call that is refused writes nothing. */
+/* Each call of the library, and each number that it may answer, but for want of memory (refused.c), and for a gate that is
+ * worn out or in use (inside.c). A call that is refused writes nothing. */
 #include "percpu_gate.h"
 
 #include <stdio.h>

@@ -1,5 +1,5 @@
 /*
- * The gate, for C: references counted by many threads, a kill, and a revival. C11 and C++.
+ * The gate, for C: references counted by many threads, a kill, and a revival. C99, C11 and C++.
  *
  * A gate guards what may go away while requests run on it, as a device. Each request counts itself in (try_get_live)
  * and out (put). Who removes the device kills the gate: no new request is let in, and the last put of all answers
@@ -97,9 +97,11 @@ typedef struct percpu_gate_final {
     uint64_t words[PERCPU_GATE_WORD_COUNT];
 } percpu_gate_final;
 
+#if defined(__cplusplus) || __STDC_VERSION__ >= 201112L
 static_assert(sizeof(percpu_gate_control) == 16, "a handle is two words");
 static_assert(sizeof(percpu_gate_pass) == 16, "a handle is two words");
 static_assert(sizeof(percpu_gate_final) == 88, "as the library has it");
+#endif
 
 /* How a gate starts: counting on slots, on the shared word alone, or dead and at zero. */
 enum { PERCPU_GATE_SLOTS = 0, PERCPU_GATE_ATOMIC = 1, PERCPU_GATE_DEAD = 2 };

@@ -1,55 +1,11 @@
 /* By the queue's own memory, which no program may read or write. WORN_OUT, after 2^40 freezes, and IN_USE, where somebody
  * else has a share of the queue: no use of handles leads there, or none in a day, so the counts are written here. And that
- * a call counts on the slot that it is given, which no answer tells. Each word is found by its values, as the one of the
- * queue's blocks that follows what is counted. (Linked with --wrap=malloc and free, so that the blocks are known, and one
- * can be refused.) */
+ * a call counts on the slot that it is given, which no answer tells. */
 #include "freeze_queue.h"
 
-#include <stdio.h>
-#include <stdlib.h>
-#include <string.h>
+#include "../inside.h"
 
-void *__real_malloc(size_t size);
-void __real_free(void *at);
-
-enum { BLOCKS = 64, ROUNDS = 12345 };
-
-static struct { uint64_t *at; size_t words; } blocks[BLOCKS];
-static long allowed = -1; /* none refused */
-
-void *__wrap_malloc(size_t size)
-{
-    if (allowed == 0)
-        return NULL;
-    if (allowed > 0)
-        allowed--;
-    void *at = __real_malloc(size);
-    for (int i = 0; at && i < BLOCKS; i++)
-        if (blocks[i].at == NULL) {
-            blocks[i].at = at;
-            blocks[i].words = size / 8;
-            break;
-        }
-    return at;
-}
-
-void __wrap_free(void *at)
-{
-    for (int i = 0; at && i < BLOCKS; i++)
-        if (blocks[i].at == at)
-            blocks[i].at = NULL;
-    __real_free(at);
-}
-
-static int failures;
-
-static void is(const char *what, uint64_t value, uint64_t want, int line)
-{
-    if (value == want)
-        return;
-    fprintf(stderr, "line %d: %s is %lu, not %lu\n", line, what, (unsigned long)value, (unsigned long)want);
-    failures++;
-}
+enum { ROUNDS = 12345 };
 
 #define IS(call, want) is(#call, call, FREEZE_QUEUE_##want, __LINE__)
 #define TELLS(value, want) is(#value, (uint64_t)(value), want, __LINE__)
@@ -59,45 +15,6 @@ static freeze_queue_freezer freezer;
 static freeze_queue_tag tags[3];
 static freeze_queue_final last;
 static uint32_t depth;
-
-/* The words that were as told at each look so far. */
-static uint64_t *found[4096];
-static size_t count;
-
-static void first_look(uint64_t value)
-{
-    count = 0;
-    for (int i = 0; i < BLOCKS; i++)
-        for (size_t word = 0; blocks[i].at && word < blocks[i].words; word++)
-            if (blocks[i].at[word] == value && count < sizeof found / sizeof *found)
-                found[count++] = &blocks[i].at[word];
-}
-
-static void look_again(uint64_t value)
-{
-    size_t left = 0;
-    for (size_t i = 0; i < count; i++)
-        if (*found[i] == value)
-            found[left++] = found[i];
-    count = left;
-}
-
-/* The one that is left. */
-static uint64_t *the_word(const char *of)
-{
-    if (count == 1)
-        return found[0];
-    fprintf(stderr, "%zu words may be the count of %s\n", count, of);
-    exit(1);
-}
-
-static long blocks_now(void)
-{
-    long now = 0;
-    for (int i = 0; i < BLOCKS; i++)
-        now += blocks[i].at != NULL;
-    return now;
-}
 
 /* Frozen and thawed so often, and drained by a tag's leaving and by the freeze in turn. */
 static void freeze_so_often(int times)

@@ -1,0 +1,92 @@
+/* Included by tests that look into the memory of a library, or write there, as no program may. Linked with --wrap=malloc and
+ * free, they know the blocks that the library has, and can refuse one. A word is found by its values, as the one of the
+ * blocks that follows what is counted. */
+#ifndef INSIDE_H
+#define INSIDE_H
+#include <stdbool.h>
+#include <stdint.h>
+#include <stdio.h>
+#include <stdlib.h>
+#include <string.h>
+
+void *__real_malloc(size_t size);
+void __real_free(void *at);
+
+enum { BLOCKS = 64 };
+
+static struct { uint64_t *at; size_t words; } blocks[BLOCKS];
+static long allowed = -1; /* none refused */
+
+void *__wrap_malloc(size_t size)
+{
+    if (allowed == 0)
+        return NULL;
+    if (allowed > 0)
+        allowed--;
+    void *at = __real_malloc(size);
+    for (int i = 0; at && i < BLOCKS; i++)
+        if (blocks[i].at == NULL) {
+            blocks[i].at = at;
+            blocks[i].words = size / 8;
+            break;
+        }
+    return at;
+}
+
+void __wrap_free(void *at)
+{
+    for (int i = 0; at && i < BLOCKS; i++)
+        if (blocks[i].at == at)
+            blocks[i].at = NULL;
+    __real_free(at);
+}
+
+static int failures;
+
+static void is(const char *what, uint64_t value, uint64_t want, int line)
+{
+    if (value == want)
+        return;
+    fprintf(stderr, "line %d: %s is %lu, not %lu\n", line, what, (unsigned long)value, (unsigned long)want);
+    failures++;
+}
+
+/* The words that were as told at each look so far. */
+static uint64_t *found[4096];
+static size_t count;
+
+static void first_look(uint64_t value)
+{
+    count = 0;
+    for (int i = 0; i < BLOCKS; i++)
+        for (size_t word = 0; blocks[i].at && word < blocks[i].words; word++)
+            if (blocks[i].at[word] == value && count < sizeof found / sizeof *found)
+                found[count++] = &blocks[i].at[word];
+}
+
+static void look_again(uint64_t value)
+{
+    size_t left = 0;
+    for (size_t i = 0; i < count; i++)
+        if (*found[i] == value)
+            found[left++] = found[i];
+    count = left;
+}
+
+/* The one that is left. */
+static uint64_t *the_word(const char *of)
+{
+    if (count == 1)
+        return found[0];
+    fprintf(stderr, "%zu words may be the count of %s\n", count, of);
+    exit(1);
+}
+
+static long blocks_now(void)
+{
+    long now = 0;
+    for (int i = 0; i < BLOCKS; i++)
+        now += blocks[i].at != NULL;
+    return now;
+}
+#endif
