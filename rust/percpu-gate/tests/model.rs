@@ -2,78 +2,23 @@
 //! front and its guarded words. Each answer, and each call of `on_last`, is what the model says. `PERCPU_GATE_CALLS` and
 //! `PERCPU_GATE_SEED` change how many calls, and which.
 use percpu_gate::{
-    Control, ExitError, Final, Gate, GetError, HandedBack, KillError, Killed, NewError, NextPassError, OwnedReference,
-    Pass, Phase, Reference, ReinitError, ResurrectError, RetireError, Revived, SlotError, Start, StoreError,
-    TryGetError, Word,
+    Control, ExitError, Final, Gate, GetError, HandedBack, NewError, NextPassError, OwnedReference, Pass, Reference,
+    RetireError, SlotError, Start, TryGetError,
 };
 use std::env;
 use std::mem;
 use std::sync::Arc;
 use std::sync::atomic::{AtomicU64, Ordering};
 
+#[path = "model/controls.rs"]
+mod controls;
+#[path = "model/counter.rs"]
+mod counter;
+
+use counter::Counter;
+
 const CONTROLS: usize = 3;
 const SEATS: usize = 12;
-
-/// What a user of a gate means by it.
-#[derive(Clone, Debug, Default)]
-struct Counter {
-    slots: u32,
-    /// Passes that were not given yet, and that were given and not retired.
-    waiting: u32,
-    out: u32,
-    held: u64,
-    killed: bool,
-    released: bool,
-    on_slots: bool,
-    front: u64,
-    kills: u64,
-    /// Releases: all that were told, and those that the control knows of.
-    told: u64,
-    known: u64,
-    words: [u64; 8],
-}
-
-impl Counter {
-    fn new(slots: u32, passes: u32, start: Start, words: [u64; 8]) -> Counter {
-        let dead = start == Start::Dead;
-        Counter {
-            slots,
-            waiting: passes,
-            killed: dead,
-            released: dead,
-            on_slots: start != Start::Atomic,
-            front: u64::from(dead),
-            words,
-            ..Counter::default()
-        }
-    }
-
-    /// Whether somebody is told now that he was the last.
-    fn tells(&mut self) -> bool {
-        let last = self.killed && self.held == 0 && !self.released;
-        self.released |= last;
-        self.told += u64::from(last);
-        last
-    }
-
-    fn drops(&mut self) -> bool {
-        self.held -= 1;
-        self.tells()
-    }
-
-    fn revives(&mut self) {
-        (self.killed, self.released) = (false, false);
-        self.front += 1;
-    }
-
-    fn phase(&self) -> Phase {
-        match (self.killed, self.on_slots) {
-            (true, _) => Phase::Dead,
-            (false, true) => Phase::LiveOnSlots,
-            (false, false) => Phase::LiveAtomic,
-        }
-    }
-}
 
 /// A gate that was made: its model, and what its `on_last` counts.
 struct Made {
@@ -323,83 +268,6 @@ impl Run {
         assert_eq!((pass.is_dying(), pass.is_zero()), (counter.killed, counter.released));
         assert_eq!((pass.front(), pass.gate_number()), (counter.front, *number));
         assert!(pass.slot() < counter.slots);
-    }
-
-    fn kill(&mut self, c: usize) {
-        let confirms = self.chance(2);
-        let Some((gate, control)) = &mut self.controls[c] else { return };
-        let mut confirmed = None;
-        let killed = if confirms { control.kill_and_confirm(|front| confirmed = Some(front)) } else { control.kill() };
-        let counter = &mut self.made[*gate].counter;
-        if counter.killed {
-            assert_eq!((killed, confirmed), (Err(KillError::AlreadyDead), None));
-            return;
-        }
-        counter.killed = true;
-        (counter.kills, counter.front) = (counter.kills + 1, counter.front + 1);
-        assert_eq!(confirmed, confirms.then_some(counter.front));
-        let told = counter.tells();
-        counter.known += u64::from(told);
-        assert_eq!(killed, Ok(if told { Killed::AtZero } else { Killed::WhileHeld }));
-    }
-
-    fn revive(&mut self, c: usize) {
-        let from_zero = self.chance(2);
-        let Some((gate, control)) = &mut self.controls[c] else { return };
-        let counter = &mut self.made[*gate].counter;
-        if from_zero {
-            let want = match (counter.killed, counter.released) {
-                (false, _) => Err(ReinitError::NotDead),
-                (true, false) => Err(ReinitError::NotZero),
-                (true, true) => Ok(()),
-            };
-            assert_eq!(control.reinit(), want);
-            if want.is_err() {
-                return;
-            }
-        } else {
-            let found = if counter.released { Revived::FromZero } else { Revived::WhileHeld };
-            let want = if counter.killed { Ok(found) } else { Err(ResurrectError::NotDead) };
-            assert_eq!(control.resurrect(), want);
-            if want.is_err() {
-                return;
-            }
-        }
-        counter.revives();
-    }
-
-    fn switch(&mut self, c: usize) {
-        let on_slots = self.chance(2);
-        let Some((gate, control)) = &mut self.controls[c] else { return };
-        if on_slots {
-            control.switch_to_slots();
-        } else {
-            control.switch_to_atomic();
-        }
-        self.made[*gate].counter.on_slots = on_slots;
-    }
-
-    fn store(&mut self, c: usize) {
-        let (which, value) = (self.below(8), u64::from(self.below(1_000_000)));
-        let Some((gate, control)) = &mut self.controls[c] else { return };
-        let counter = &mut self.made[*gate].counter;
-        let want = match (counter.killed, counter.released) {
-            (false, _) => Err(StoreError::NotDead),
-            (true, false) => Err(StoreError::NotZero),
-            (true, true) => Ok(()),
-        };
-        assert_eq!(control.store_word(Word::new(which).unwrap(), value), want);
-        if want.is_ok() {
-            counter.words[which as usize] = value;
-        }
-    }
-
-    fn ask(&self, c: usize) {
-        let Some((gate, control)) = &self.controls[c] else { return };
-        let Made { counter, number, .. } = &self.made[*gate];
-        assert_eq!((control.phase(), control.is_zero()), (counter.phase(), counter.released));
-        assert_eq!((control.kills(), control.releases()), (counter.kills, counter.known));
-        assert_eq!((control.words(), control.gate_number()), (counter.words, *number));
     }
 
     fn call(&mut self) {

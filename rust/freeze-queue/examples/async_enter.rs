@@ -1,0 +1,84 @@
+//! Requests that enter by futures, with no runtime: one thread has 60 of them, and polls those that were woken, while
+//! another freezes the queue, changes its limits and thaws it. Whoever is refused sleeps by its waker alone.
+use freeze_queue::{EnterError, Limits, Queue, Tag};
+use std::error::Error;
+use std::future::Future;
+use std::pin::Pin;
+use std::sync::{Arc, mpsc};
+use std::task::{Context, Wake, Waker};
+use std::thread;
+
+const TASKS: usize = 60;
+const REQUESTS: u32 = 200;
+const CHANGES: u32 = 500;
+
+/// Puts its task's number into the line of those to be polled.
+struct Polled {
+    task: usize,
+    line: mpsc::Sender<usize>,
+}
+
+impl Wake for Polled {
+    fn wake(self: Arc<Self>) {
+        // Where the line is gone each task is done.
+        let _ = self.line.send(self.task);
+    }
+}
+
+/// Sends requests, and says how many sectors that were. After each it lets others have their turn.
+async fn submit(queue: &Queue, tag: &mut Tag) -> Result<u64, EnterError> {
+    let mut sent = 0;
+    for _ in 0..REQUESTS {
+        let request = queue.enter_async(tag).await?;
+        sent += request.pieces(0, 100).expect("they are few").map(|piece| u64::from(piece.sectors)).sum::<u64>();
+        drop(request);
+        let mut is_first = true;
+        std::future::poll_fn(|context| {
+            context.waker().wake_by_ref();
+            if std::mem::take(&mut is_first) { std::task::Poll::Pending } else { std::task::Poll::Ready(()) }
+        })
+        .await;
+    }
+    Ok(sent)
+}
+
+/// Polls each task that was woken, until all are done: what they sent.
+fn run<'f>(tasks: impl Iterator<Item = Pin<Box<dyn Future<Output = Result<u64, EnterError>> + 'f>>>) -> u64 {
+    let (line, woken) = mpsc::channel();
+    let mut tasks: Vec<_> = tasks.map(Some).collect();
+    let wakers: Vec<Waker> =
+        (0..tasks.len()).map(|task| Arc::new(Polled { task, line: line.clone() }).into()).collect();
+    wakers.iter().for_each(Waker::wake_by_ref);
+    let (mut sent, mut left) = (0, tasks.len());
+    while left > 0 {
+        let number = woken.recv().expect("the line is here");
+        let Some(task) = &mut tasks[number] else { continue };
+        if let std::task::Poll::Ready(done) = task.as_mut().poll(&mut Context::from_waker(&wakers[number])) {
+            sent += done.expect("the device stays");
+            tasks[number] = None;
+            left -= 1;
+        }
+    }
+    sent
+}
+
+fn main() -> Result<(), Box<dyn Error>> {
+    let queue = Queue::new(Limits::of_hardware(64), 1, 60)?;
+    let mut tags = (0..TASKS).map(|_| queue.next_tag(0)).collect::<Result<Vec<Tag>, _>>()?;
+    let sent = thread::scope(|threads| {
+        threads.spawn(|| {
+            for change in 0..CHANGES {
+                let frozen = queue.freeze().expect("nobody else freezes");
+                frozen.set(Limits { max: 1 + change % 64, ..Limits::of_hardware(64) }).expect("they are limits");
+            }
+        });
+        run(tags.iter_mut().map(|tag| Box::pin(submit(&queue, tag)) as Pin<Box<dyn Future<Output = _>>>))
+    });
+    println!("{TASKS} tasks sent {sent} sectors");
+    for tag in tags {
+        queue.give_back(tag)?;
+    }
+    let last = queue.remove()?; // which freezes it once more
+    println!("frozen {} times, at most {} sectors", last.kills, last.limits.max);
+    Ok(())
+}

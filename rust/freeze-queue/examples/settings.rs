@@ -1,0 +1,55 @@
+//! Limits that change under four submitters: each request is cut by the limits of one setting, which hold still from its
+//! entering to its leaving. The main thread freezes the queue, sets them and thaws it, a thousand times.
+use freeze_queue::{Limits, Queue, Tag};
+use std::error::Error;
+use std::thread;
+
+const REQUESTS: u64 = 20_000;
+const CHANGES: u32 = 1000;
+const SECTORS: u32 = 100;
+
+/// Of a setting the chunk is four times the most of a piece, or there is none: so a request of two settings would show.
+fn setting(of: u32) -> Limits {
+    let max = 1 + of % 64;
+    Limits { max, chunk: if of.is_multiple_of(3) { 0 } else { 4 * max }, ..Limits::of_hardware(64) }
+}
+
+fn is_one_setting(limits: &Limits) -> bool {
+    limits.chunk == 0 || limits.chunk == 4 * limits.max
+}
+
+/// How many sectors were sent, and how many times something was wrong.
+fn submit(queue: &Queue, tag: &mut Tag) -> (u64, u64) {
+    let (mut sent, mut wrong) = (0, 0);
+    for number in 0..REQUESTS {
+        let request = queue.enter(tag).expect("the queue stays");
+        wrong += u64::from(!is_one_setting(request.limits()));
+        for piece in request.pieces(number * u64::from(SECTORS), SECTORS).expect("they are few") {
+            wrong += u64::from(piece.sectors > request.limits().max);
+            sent += u64::from(piece.sectors); // here the command goes to the device
+        }
+    }
+    (sent, wrong)
+}
+
+fn main() -> Result<(), Box<dyn Error>> {
+    let queue = Queue::new(setting(63), 4, 4)?;
+    let mut tags = (0..4).map(|slot| queue.next_tag(slot)).collect::<Result<Vec<Tag>, _>>()?;
+    thread::scope(|threads| {
+        let submitters: Vec<_> = tags.iter_mut().map(|tag| threads.spawn(|| submit(&queue, tag))).collect();
+        for change in 0..CHANGES {
+            queue.freeze().expect("nobody else freezes").set(setting(change)).expect("it is a setting");
+        }
+        for (number, thread) in submitters.into_iter().enumerate() {
+            let (sent, wrong) = thread.join().expect("each request is sent");
+            println!("thread {number}: {sent} sectors, {wrong} wrong");
+        }
+    });
+    for tag in tags {
+        queue.give_back(tag)?;
+    }
+    let last = queue.remove()?; // which freezes it once more
+    println!("frozen {} times, drained {} times", last.kills, last.releases);
+    println!("at most {} sectors, chunks of {}", last.limits.max, last.limits.chunk);
+    Ok(())
+}

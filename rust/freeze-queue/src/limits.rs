@@ -1,0 +1,100 @@
+//! Limits, and how a range of sectors is cut by them.
+use crate::answer::Answer;
+use crate::errors::{LimitsError, PiecesError};
+use crate::library::first_piece;
+use crate::pieces::Pieces;
+
+/// Limits of a device, in sectors of 512 bytes. Linux: `struct queue_limits` (include/linux/blkdev.h).
+///
+/// A queue keeps them as they are given, but for a `max` of 0, for which it has `hardware`.
+///
+/// ```
+/// use freeze_queue::Limits;
+///
+/// let limits = Limits { max: 8, chunk: 128, ..Limits::of_hardware(64) };
+/// assert_eq!(limits, Limits { hardware: 64, max: 8, chunk: 128, physical: 1 });
+/// ```
+#[derive(Clone, Copy, Debug, PartialEq, Eq, Hash)]
+#[repr(C)]
+pub struct Limits {
+    /// What the hardware takes in one command: 1 to 65,535, and one number for the whole life of a queue.
+    pub hardware: u32,
+    /// The most that is sent in one command: 1 to `hardware`; 0 asks for `hardware`.
+    pub max: u32,
+    /// No piece crosses a multiple of this: up to 65,535; 0 for none.
+    pub chunk: u32,
+    /// The physical block, with which a piece ends where it can: a power of two from 1 to 32,768.
+    pub physical: u32,
+}
+
+impl Limits {
+    /// Limits of a device that takes so many sectors in a command, and knows no others.
+    ///
+    /// ```
+    /// # use freeze_queue::Limits;
+    /// let all = Limits { hardware: 64, max: 64, chunk: 0, physical: 1 };
+    /// assert_eq!(Limits::of_hardware(64), all);
+    /// ```
+    #[must_use]
+    pub const fn of_hardware(sectors: u32) -> Limits {
+        Limits { hardware: sectors, max: sectors, chunk: 0, physical: 1 }
+    }
+
+    /// Whether a queue takes these limits: to be asked before a freeze, so that nobody waits for limits that are refused.
+    /// Linux: `blk_validate_limits` (block/blk-settings.c).
+    ///
+    /// # Errors
+    ///
+    /// [`LimitsError`] has each; where several apply, the first of `HardwareRange`, `AboveHardware`, `ChunkTooLarge` and
+    /// `BadPhysical`.
+    ///
+    /// # Examples
+    ///
+    /// ```
+    /// # use freeze_queue::{Limits, LimitsError};
+    /// let limits = Limits::of_hardware(64);
+    /// assert_eq!(limits.check(), Ok(()));
+    /// assert_eq!(Limits { max: 65, ..limits }.check(), Err(LimitsError::AboveHardware));
+    /// ```
+    pub fn check(&self) -> Result<(), LimitsError> {
+        match first_piece(self, 0, 1) {
+            Ok(_) => Ok(()),
+            Err(answer) => Err(LimitsError::of(answer).unwrap_or_else(|| answer.is_a_bug("first_piece"))),
+        }
+    }
+
+    /// The pieces of the `count` sectors from `start` on, in order: each within these limits. Who has entered a queue has
+    /// them by its limits in force ([`Entered::pieces`](crate::Entered::pieces)). Linux: `get_max_io_size`
+    /// (block/blk-merge.c).
+    ///
+    /// # Errors
+    ///
+    /// [`PiecesError::Limits`], or else [`PiecesError::TooFar`].
+    ///
+    /// # Examples
+    ///
+    /// ```
+    /// # use freeze_queue::{Limits, Piece};
+    /// let limits = Limits { chunk: 8, ..Limits::of_hardware(64) };
+    /// let pieces: Vec<Piece> = limits.pieces(6, 6)?.collect();
+    /// assert_eq!(pieces, [Piece { start: 6, sectors: 2 }, Piece { start: 8, sectors: 4 }]);
+    /// # Ok::<(), Box<dyn std::error::Error>>(())
+    /// ```
+    pub fn pieces(&self, start: u64, count: u32) -> Result<Pieces<'_>, PiecesError> {
+        self.check()?;
+        Ok(Pieces::of(self, start, count)?)
+    }
+}
+
+impl LimitsError {
+    /// Which refusal of limits an answer is, if it is one.
+    pub(crate) fn of(answer: Answer) -> Option<LimitsError> {
+        match answer {
+            Answer::HARDWARE_RANGE => Some(LimitsError::HardwareRange),
+            Answer::ABOVE_HARDWARE => Some(LimitsError::AboveHardware),
+            Answer::CHUNK_TOO_LARGE => Some(LimitsError::ChunkTooLarge),
+            Answer::BAD_PHYSICAL => Some(LimitsError::BadPhysical),
+            _ => None,
+        }
+    }
+}

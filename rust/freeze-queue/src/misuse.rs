@@ -1,0 +1,399 @@
+//! What doesn't compile: each misuse that the C library's header forbids or answers by a number, and that the types here
+//! exclude. Each stands behind the same lines without it, which do compile, and has the compiler's number for it.
+//!
+//! # A tag that enters twice
+//!
+//! `ENTERED`:
+//!
+//! ```
+//! # use freeze_queue::{Limits, Queue};
+//! # let queue = Queue::new(Limits::of_hardware(64), 2, 2).unwrap();
+//! # let mut tag = queue.next_tag(0).unwrap();
+//! drop(queue.enter(&mut tag).unwrap());
+//! drop(queue.enter(&mut tag).unwrap());
+//! ```
+//! ```compile_fail,E0499
+//! # use freeze_queue::{Limits, Queue};
+//! # let queue = Queue::new(Limits::of_hardware(64), 2, 2).unwrap();
+//! # let mut tag = queue.next_tag(0).unwrap();
+//! let one = queue.enter(&mut tag).unwrap();
+//! let other = queue.enter(&mut tag).unwrap();
+//! drop(one);
+//! ```
+//!
+//! # A tag on two threads
+//!
+//! "One call at a time on a handle":
+//!
+//! ```
+//! # use freeze_queue::{Limits, Queue};
+//! # let queue = Queue::new(Limits::of_hardware(64), 2, 2).unwrap();
+//! # use std::thread;
+//! # let mut tag = queue.next_tag(0).unwrap();
+//! thread::scope(|threads| {
+//!     threads.spawn(|| drop(queue.enter(&mut tag)));
+//! });
+//! ```
+//! ```compile_fail,E0499
+//! # use freeze_queue::{Limits, Queue};
+//! # let queue = Queue::new(Limits::of_hardware(64), 2, 2).unwrap();
+//! # use std::thread;
+//! # let mut tag = queue.next_tag(0).unwrap();
+//! thread::scope(|threads| {
+//!     threads.spawn(|| drop(queue.enter(&mut tag)));
+//!     threads.spawn(|| drop(queue.enter(&mut tag)));
+//! });
+//! ```
+//!
+//! # A request that two threads look at
+//!
+//! ```
+//! # use freeze_queue::{Limits, Queue};
+//! # let queue = Queue::new(Limits::of_hardware(64), 2, 2).unwrap();
+//! # use std::thread;
+//! # let mut tag = queue.next_tag(0).unwrap();
+//! let request = queue.enter(&mut tag).unwrap();
+//! thread::scope(|threads| {
+//!     threads.spawn(move || request.limits().max);
+//! });
+//! ```
+//! ```compile_fail,E0277
+//! # use freeze_queue::{Limits, Queue};
+//! # let queue = Queue::new(Limits::of_hardware(64), 2, 2).unwrap();
+//! # use std::thread;
+//! # let mut tag = queue.next_tag(0).unwrap();
+//! let request = queue.enter(&mut tag).unwrap();
+//! thread::scope(|threads| {
+//!     threads.spawn(|| request.limits().max);
+//! });
+//! ```
+//!
+//! # A handle that is copied
+//!
+//! "Never copy one":
+//!
+//! ```
+//! # use freeze_queue::{Limits, Queue};
+//! # let queue = Queue::new(Limits::of_hardware(64), 2, 2).unwrap();
+//! let mut tag = queue.next_tag(0).unwrap();
+//! let mut moved = tag;
+//! drop(queue.enter(&mut moved));
+//! ```
+//! ```compile_fail,E0382
+//! # use freeze_queue::{Limits, Queue};
+//! # let queue = Queue::new(Limits::of_hardware(64), 2, 2).unwrap();
+//! let mut tag = queue.next_tag(0).unwrap();
+//! let mut moved = tag;
+//! drop(queue.enter(&mut moved));
+//! drop(queue.enter(&mut tag));
+//! ```
+//! ```compile_fail,E0599
+//! # use freeze_queue::{Limits, Queue};
+//! # let queue = Queue::new(Limits::of_hardware(64), 2, 2).unwrap();
+//! let mut tag = queue.next_tag(0).unwrap();
+//! let copied = tag.clone();
+//! ```
+//!
+//! # Limits that are used after leaving
+//!
+//! `NOT_ENTERED_TAG`, and limits that don't hold still:
+//!
+//! ```
+//! # use freeze_queue::{Limits, Queue};
+//! # let queue = Queue::new(Limits::of_hardware(64), 2, 2).unwrap();
+//! # let mut tag = queue.next_tag(0).unwrap();
+//! let request = queue.enter(&mut tag).unwrap();
+//! let limits = request.limits();
+//! assert_eq!(limits.max, 64);
+//! drop(request);
+//! ```
+//! ```compile_fail,E0505
+//! # use freeze_queue::{Limits, Queue};
+//! # let queue = Queue::new(Limits::of_hardware(64), 2, 2).unwrap();
+//! # let mut tag = queue.next_tag(0).unwrap();
+//! let request = queue.enter(&mut tag).unwrap();
+//! let limits = request.limits();
+//! drop(request);
+//! assert_eq!(limits.max, 64);
+//! ```
+//! ```compile_fail,E0382
+//! # use freeze_queue::{Limits, Queue};
+//! # let queue = Queue::new(Limits::of_hardware(64), 2, 2).unwrap();
+//! # let mut tag = queue.next_tag(0).unwrap();
+//! let request = queue.enter(&mut tag).unwrap();
+//! drop(request);
+//! assert_eq!(request.limits().max, 64);
+//! ```
+//!
+//! # Pieces that are cut after leaving
+//!
+//! ```
+//! # use freeze_queue::{Limits, Queue};
+//! # let queue = Queue::new(Limits::of_hardware(64), 2, 2).unwrap();
+//! # let mut tag = queue.next_tag(0).unwrap();
+//! let request = queue.enter(&mut tag).unwrap();
+//! let pieces = request.pieces(0, 100).unwrap();
+//! assert_eq!(pieces.count(), 2);
+//! drop(request);
+//! ```
+//! ```compile_fail,E0505
+//! # use freeze_queue::{Limits, Queue};
+//! # let queue = Queue::new(Limits::of_hardware(64), 2, 2).unwrap();
+//! # let mut tag = queue.next_tag(0).unwrap();
+//! let request = queue.enter(&mut tag).unwrap();
+//! let pieces = request.pieces(0, 100).unwrap();
+//! drop(request);
+//! assert_eq!(pieces.count(), 2);
+//! ```
+//!
+//! # A request that leaves twice
+//!
+//! `NOT_ENTERED_TAG`:
+//!
+//! ```
+//! # use freeze_queue::{Limits, Queue};
+//! # let queue = Queue::new(Limits::of_hardware(64), 2, 2).unwrap();
+//! # let mut tag = queue.next_tag(0).unwrap();
+//! let request = queue.enter(&mut tag).unwrap();
+//! drop(request);
+//! ```
+//! ```compile_fail,E0382
+//! # use freeze_queue::{Limits, Queue};
+//! # let queue = Queue::new(Limits::of_hardware(64), 2, 2).unwrap();
+//! # let mut tag = queue.next_tag(0).unwrap();
+//! let request = queue.enter(&mut tag).unwrap();
+//! drop(request);
+//! drop(request);
+//! ```
+//! ```compile_fail,E0382
+//! # use freeze_queue::{Limits, Queue};
+//! # let queue = Queue::new(Limits::of_hardware(64), 2, 2).unwrap();
+//! # use std::sync::Arc;
+//! # let queue = Arc::new(queue);
+//! let request = queue.enter_owned(queue.next_tag(0).unwrap()).unwrap();
+//! request.leave();
+//! request.leave();
+//! ```
+//!
+//! # A request that outlives its queue or its tag
+//!
+//! ```
+//! # use freeze_queue::{Limits, Queue};
+//! # let queue = Queue::new(Limits::of_hardware(64), 2, 2).unwrap();
+//! # use std::{sync::Arc, thread};
+//! # let queue = Arc::new(queue);
+//! let request = queue.enter_owned(queue.next_tag(0).unwrap()).unwrap();
+//! thread::spawn(move || drop(request));
+//! ```
+//! ```compile_fail,E0597
+//! # use freeze_queue::{Limits, Queue};
+//! # let queue = Queue::new(Limits::of_hardware(64), 2, 2).unwrap();
+//! # use std::thread;
+//! # let mut tag = queue.next_tag(0).unwrap();
+//! let request = queue.enter(&mut tag).unwrap();
+//! thread::spawn(move || drop(request));
+//! ```
+//! ```compile_fail,E0505
+//! # use freeze_queue::{Limits, Queue};
+//! # let queue = Queue::new(Limits::of_hardware(64), 2, 2).unwrap();
+//! # let mut tag = queue.next_tag(0).unwrap();
+//! let request = queue.enter(&mut tag).unwrap();
+//! drop(tag);
+//! drop(request);
+//! ```
+//! ```compile_fail,E0505
+//! # use freeze_queue::{Limits, Queue};
+//! # let queue = Queue::new(Limits::of_hardware(64), 2, 2).unwrap();
+//! # let mut tag = queue.next_tag(0).unwrap();
+//! let request = queue.enter(&mut tag).unwrap();
+//! drop(queue);
+//! drop(request);
+//! ```
+//!
+//! # Tags that are swapped, or change their slot, under a request
+//!
+//! ```
+//! # use freeze_queue::{Limits, Queue};
+//! # let queue = Queue::new(Limits::of_hardware(64), 2, 2).unwrap();
+//! # use std::mem;
+//! let (mut one, mut other) = (queue.next_tag(0).unwrap(), queue.next_tag(1).unwrap());
+//! let mut request = queue.enter(&mut one).unwrap();
+//! request.use_slot(1).unwrap();
+//! drop(request);
+//! mem::swap(&mut one, &mut other);
+//! ```
+//! ```compile_fail,E0499
+//! # use freeze_queue::{Limits, Queue};
+//! # let queue = Queue::new(Limits::of_hardware(64), 2, 2).unwrap();
+//! # use std::mem;
+//! let (mut one, mut other) = (queue.next_tag(0).unwrap(), queue.next_tag(1).unwrap());
+//! let request = queue.enter(&mut one).unwrap();
+//! mem::swap(&mut one, &mut other);
+//! drop(request);
+//! ```
+//! ```compile_fail,E0499
+//! # use freeze_queue::{Limits, Queue};
+//! # let queue = Queue::new(Limits::of_hardware(64), 2, 2).unwrap();
+//! # let mut tag = queue.next_tag(0).unwrap();
+//! let request = queue.enter(&mut tag).unwrap();
+//! tag.use_slot(1).unwrap();
+//! drop(request);
+//! ```
+//!
+//! # A tag that is given back under its request, or used after it
+//!
+//! `ENTERED`, `CLOSED`:
+//!
+//! ```
+//! # use freeze_queue::{Limits, Queue};
+//! # let queue = Queue::new(Limits::of_hardware(64), 2, 2).unwrap();
+//! # let mut tag = queue.next_tag(0).unwrap();
+//! let request = queue.enter(&mut tag).unwrap();
+//! drop(request);
+//! queue.give_back(tag).unwrap();
+//! ```
+//! ```compile_fail,E0505
+//! # use freeze_queue::{Limits, Queue};
+//! # let queue = Queue::new(Limits::of_hardware(64), 2, 2).unwrap();
+//! # let mut tag = queue.next_tag(0).unwrap();
+//! let request = queue.enter(&mut tag).unwrap();
+//! queue.give_back(tag).unwrap();
+//! drop(request);
+//! ```
+//! ```compile_fail,E0382
+//! # use freeze_queue::{Limits, Queue};
+//! # let queue = Queue::new(Limits::of_hardware(64), 2, 2).unwrap();
+//! # let mut tag = queue.next_tag(0).unwrap();
+//! queue.give_back(tag).unwrap();
+//! drop(queue.enter(&mut tag));
+//! ```
+//!
+//! # A tag that is used while a future waits with it
+//!
+//! ```
+//! # use freeze_queue::{Limits, Queue};
+//! # let queue = Queue::new(Limits::of_hardware(64), 2, 2).unwrap();
+//! # let mut tag = queue.next_tag(0).unwrap();
+//! let entering = queue.enter_async(&mut tag);
+//! drop(entering);
+//! drop(queue.enter(&mut tag));
+//! ```
+//! ```compile_fail,E0499
+//! # use freeze_queue::{Limits, Queue};
+//! # let queue = Queue::new(Limits::of_hardware(64), 2, 2).unwrap();
+//! # let mut tag = queue.next_tag(0).unwrap();
+//! let entering = queue.enter_async(&mut tag);
+//! drop(queue.enter(&mut tag));
+//! drop(entering);
+//! ```
+//!
+//! # Limits that are set on a live queue
+//!
+//! `NOT_FROZEN`, `NOT_DRAINED`:
+//!
+//! ```
+//! # use freeze_queue::{Limits, Queue};
+//! # let queue = Queue::new(Limits::of_hardware(64), 2, 2).unwrap();
+//! let frozen = queue.freeze().unwrap();
+//! frozen.set(Limits::of_hardware(64)).unwrap();
+//! ```
+//! ```compile_fail,E0599
+//! # use freeze_queue::{Limits, Queue};
+//! # let queue = Queue::new(Limits::of_hardware(64), 2, 2).unwrap();
+//! queue.set(Limits::of_hardware(64)).unwrap();
+//! ```
+//! ```compile_fail,E0382
+//! # use freeze_queue::{Limits, Queue};
+//! # let queue = Queue::new(Limits::of_hardware(64), 2, 2).unwrap();
+//! let frozen = queue.freeze().unwrap();
+//! drop(frozen);
+//! frozen.set(Limits::of_hardware(64)).unwrap();
+//! ```
+//!
+//! # A freeze that is thawed twice
+//!
+//! `NOT_FROZEN`:
+//!
+//! ```
+//! # use freeze_queue::{Limits, Queue};
+//! # let queue = Queue::new(Limits::of_hardware(64), 2, 2).unwrap();
+//! let frozen = queue.freeze().unwrap();
+//! drop(frozen);
+//! ```
+//! ```compile_fail,E0382
+//! # use freeze_queue::{Limits, Queue};
+//! # let queue = Queue::new(Limits::of_hardware(64), 2, 2).unwrap();
+//! let frozen = queue.freeze().unwrap();
+//! drop(frozen);
+//! drop(frozen);
+//! ```
+//! ```compile_fail,E0382
+//! # use freeze_queue::{Limits, Queue};
+//! # let queue = Queue::new(Limits::of_hardware(64), 2, 2).unwrap();
+//! let frozen = queue.freeze().unwrap();
+//! frozen.mark_dying();
+//! drop(frozen);
+//! ```
+//!
+//! # A queue that is removed while it is used, or used after it
+//!
+//! `CLOSED`, "a handle stays where it is until each call on it has returned":
+//!
+//! ```
+//! # use freeze_queue::{Limits, Queue};
+//! # let queue = Queue::new(Limits::of_hardware(64), 2, 2).unwrap();
+//! let frozen = queue.freeze().unwrap();
+//! drop(frozen);
+//! queue.remove().unwrap();
+//! ```
+//! ```compile_fail,E0505
+//! # use freeze_queue::{Limits, Queue};
+//! # let queue = Queue::new(Limits::of_hardware(64), 2, 2).unwrap();
+//! let frozen = queue.freeze().unwrap();
+//! queue.remove().unwrap();
+//! drop(frozen);
+//! ```
+//! ```compile_fail,E0505
+//! # use freeze_queue::{Limits, Queue};
+//! # let queue = Queue::new(Limits::of_hardware(64), 2, 2).unwrap();
+//! # let mut tag = queue.next_tag(0).unwrap();
+//! let request = queue.enter(&mut tag).unwrap();
+//! queue.remove().unwrap();
+//! drop(request);
+//! ```
+//! ```compile_fail,E0505
+//! # use freeze_queue::{Limits, Queue};
+//! # let queue = Queue::new(Limits::of_hardware(64), 2, 2).unwrap();
+//! # let mut tag = queue.next_tag(0).unwrap();
+//! let entering = queue.enter_async(&mut tag);
+//! queue.remove().unwrap();
+//! drop(entering);
+//! ```
+//! ```compile_fail,E0382
+//! # use freeze_queue::{Limits, Queue};
+//! # let queue = Queue::new(Limits::of_hardware(64), 2, 2).unwrap();
+//! queue.remove().unwrap();
+//! queue.depth();
+//! ```
+//!
+//! # A handle or a freeze that is made by hand
+//!
+//! ```compile_fail,E0451
+//! # use freeze_queue::{Limits, Queue};
+//! # let queue = Queue::new(Limits::of_hardware(64), 2, 2).unwrap();
+//! # use freeze_queue::Tag;
+//! let forged = Tag { slot: 64, ..queue.next_tag(0).unwrap() };
+//! ```
+//! ```compile_fail,E0451
+//! # use freeze_queue::{Limits, Queue};
+//! # let queue = Queue::new(Limits::of_hardware(64), 2, 2).unwrap();
+//! # use freeze_queue::Frozen;
+//! let forged = Frozen { queue: &queue };
+//! ```
+//! ```compile_fail,E0451
+//! # use freeze_queue::{Limits, Queue};
+//! # let queue = Queue::new(Limits::of_hardware(64), 2, 2).unwrap();
+//! # use freeze_queue::Entered;
+//! # let mut tag = queue.next_tag(0).unwrap();
+//! let forged = Entered { queue: &queue, tag: &mut tag, limits: queue.limits() };
+//! ```

@@ -1,0 +1,24 @@
+//! What calls tell.
+use crate::limits::Limits;
+
+/// What is left of a queue that was removed.
+///
+/// ```
+/// use freeze_queue::{Limits, Queue};
+///
+/// let queue = Queue::new(Limits::of_hardware(64), 1, 1)?;
+/// drop(queue.freeze()?);
+/// let last = queue.remove()?;
+/// assert_eq!((last.kills, last.releases), (2, 2)); // the removal freezes a live queue once more
+/// assert_eq!(last.limits, Limits::of_hardware(64));
+/// # Ok::<(), Box<dyn std::error::Error>>(())
+/// ```
+#[derive(Clone, Copy, Debug, PartialEq, Eq, Hash)]
+pub struct Final {
+    /// How often it was frozen from live.
+    pub kills: u64,
+    /// How often it was drained, that somebody was told of.
+    pub releases: u64,
+    /// Its limits.
+    pub limits: Limits,
+}

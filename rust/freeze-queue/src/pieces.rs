@@ -1,0 +1,80 @@
+//! The pieces of a range.
+use crate::errors::RangeError;
+use crate::library::first_piece;
+use crate::limits::Limits;
+use std::iter::FusedIterator;
+
+/// Where sectors end: each lies below this.
+const SECTORS: u64 = 1 << 33;
+
+/// A piece of a range, for one command to the device.
+///
+/// ```
+/// use freeze_queue::{Limits, Piece};
+///
+/// let limits = Limits::of_hardware(4);
+/// let first = limits.pieces(10, 6)?.next();
+/// assert_eq!(first, Some(Piece { start: 10, sectors: 4 }));
+/// # Ok::<(), Box<dyn std::error::Error>>(())
+/// ```
+#[derive(Clone, Copy, Debug, PartialEq, Eq, Hash)]
+pub struct Piece {
+    /// Its first sector.
+    pub start: u64,
+    /// How many sectors it has, 1 or more.
+    pub sectors: u32,
+}
+
+/// The pieces of a range, in order: one after the other they are the range.
+///
+/// Each is as long as the limits allow: all that is left, where they allow it; else up to the last end of a physical block
+/// that they allow, or as much as they allow where none ends there. No sector, no piece.
+///
+/// ```
+/// use freeze_queue::Limits;
+///
+/// let limits = Limits { physical: 4, ..Limits::of_hardware(7) };
+/// let lengths: Vec<u32> = limits.pieces(0, 17)?.map(|piece| piece.sectors).collect();
+/// assert_eq!(lengths, [4, 4, 4, 5]);
+/// # Ok::<(), Box<dyn std::error::Error>>(())
+/// ```
+#[derive(Clone, Debug)]
+#[must_use = "it is an iterator"]
+pub struct Pieces<'l> {
+    /// Limits that a queue takes.
+    limits: &'l Limits,
+    start: u64,
+    left: u32,
+}
+
+impl<'l> Pieces<'l> {
+    /// Of limits that a queue takes, and a range below 2^33.
+    pub(crate) fn of(limits: &'l Limits, start: u64, count: u32) -> Result<Pieces<'l>, RangeError> {
+        match start.checked_add(u64::from(count)) {
+            Some(end) if end <= SECTORS => Ok(Pieces { limits, start, left: count }),
+            _ => Err(RangeError::TooFar),
+        }
+    }
+}
+
+impl Iterator for Pieces<'_> {
+    type Item = Piece;
+
+    fn next(&mut self) -> Option<Piece> {
+        if self.left == 0 {
+            return None;
+        }
+        let first = first_piece(self.limits, self.start, self.left);
+        let sectors = first.unwrap_or_else(|answer| answer.is_a_bug("first_piece"));
+        let piece = Piece { start: self.start, sectors };
+        self.start += u64::from(sectors);
+        self.left -= sectors;
+        Some(piece)
+    }
+
+    fn size_hint(&self) -> (usize, Option<usize>) {
+        (usize::from(self.left > 0), usize::try_from(self.left).ok())
+    }
+}
+
+impl FusedIterator for Pieces<'_> {}

@@ -1,0 +1,301 @@
+//! A queue: made and ended, its tags, and what it is asked.
+use crate::answer::Answer;
+use crate::errors::{GiveBackError, LimitsError, NewError, NextTagError, RemoveError};
+use crate::handed_back::HandedBack;
+use crate::library::FreezerHandle;
+use crate::limits::Limits;
+use crate::outcomes::Final;
+use crate::tag::Tag;
+use crate::waits::Waits;
+use std::fmt;
+use std::num::NonZeroU32;
+
+mod enters;
+mod freezes;
+
+/// How the header numbers the modes of counting.
+const ON_SLOTS: u32 = 0;
+const ATOMIC: u32 = 1;
+
+/// A queue, which requests enter and leave by many threads, and which can be frozen to change its limits.
+///
+/// Threads share it by `&`, or by an `Arc`. A request that enters a live queue or leaves it takes no lock and waits for
+/// nobody. A queue that is dropped frees what it has; one that is [removed](Queue::remove) tells what is left of it.
+///
+/// ```
+/// use freeze_queue::{Limits, Queue};
+/// use std::thread;
+///
+/// let queue = Queue::new(Limits::of_hardware(64), 2, 2)?;
+/// let mut tags = [queue.next_tag(0)?, queue.next_tag(1)?]; // each on a slot of its own
+/// thread::scope(|threads| {
+///     for tag in &mut tags {
+///         threads.spawn(|| {
+///             let request = queue.enter(tag).unwrap();
+///             request.pieces(0, 100).unwrap().for_each(|piece| assert!(piece.sectors <= 64));
+///         });
+///     }
+///     let frozen = queue.freeze().unwrap(); // no request is under way
+///     frozen.set(Limits { max: 8, ..Limits::of_hardware(64) }).unwrap();
+/// });
+/// # Ok::<(), Box<dyn std::error::Error>>(())
+/// ```
+pub struct Queue {
+    /// What each request reads, and nobody writes.
+    number: u64,
+    slots: NonZeroU32,
+    pub(crate) waits: Waits,
+}
+
+impl Queue {
+    /// Slots of a queue at most.
+    ///
+    /// ```
+    /// assert_eq!(freeze_queue::Queue::MOST_SLOTS, 64);
+    /// ```
+    pub const MOST_SLOTS: u32 = 64;
+
+    /// Tags of a queue at most.
+    ///
+    /// ```
+    /// assert_eq!(freeze_queue::Queue::MOST_TAGS, 63);
+    /// ```
+    pub const MOST_TAGS: u32 = 63;
+
+    /// Freezes at most that aren't thawed yet.
+    ///
+    /// ```
+    /// assert_eq!(freeze_queue::Queue::MOST_DEPTH, 1000);
+    /// ```
+    pub const MOST_DEPTH: u32 = 1000;
+
+    /// Makes a live queue of these limits that counts on 1 to 64 slots, with 1 to 63 tags. Linux: `blk_mq_alloc_queue`.
+    ///
+    /// # Errors
+    ///
+    /// [`NewError::Limits`], [`NewError::Size`] or [`NewError::NoMemory`].
+    ///
+    /// # Examples
+    ///
+    /// ```
+    /// use freeze_queue::{Limits, NewError, Queue};
+    ///
+    /// let queue = Queue::new(Limits::of_hardware(64), 4, 4)?;
+    /// assert_eq!(queue.limits().max, 64);
+    /// assert_eq!(Queue::new(Limits::of_hardware(64), 65, 4).unwrap_err(), NewError::Size);
+    /// # Ok::<(), Box<dyn std::error::Error>>(())
+    /// ```
+    pub fn new(limits: Limits, slots: u32, tags: u32) -> Result<Queue, NewError> {
+        let made = FreezerHandle::new(&limits, slots, tags);
+        match (made, NonZeroU32::new(slots)) {
+            (Ok(freezer), Some(slots)) => Ok(Queue { number: freezer.number(), slots, waits: Waits::of(freezer) }),
+            (Ok(_), None) | (Err(Answer::SIZE), _) => Err(NewError::Size),
+            (Err(Answer::NO_MEMORY), _) => Err(NewError::NoMemory),
+            (Err(other), _) => Err(LimitsError::of(other).unwrap_or_else(|| other.is_a_bug("new")).into()),
+        }
+    }
+
+    /// Gives a tag that is out of use, new or given back, which counts on this slot, from 0 on. The queue may be frozen.
+    ///
+    /// # Errors
+    ///
+    /// [`NextTagError::NoSlot`], [`NextTagError::NoTag`] or [`NextTagError::NoMemory`].
+    ///
+    /// # Examples
+    ///
+    /// ```
+    /// # use freeze_queue::{Limits, NextTagError, Queue};
+    /// # let queue = Queue::new(Limits::of_hardware(64), 1, 1)?;
+    /// let tag = queue.next_tag(0)?;
+    /// assert_eq!(queue.next_tag(0).unwrap_err(), NextTagError::NoTag);
+    /// queue.give_back(tag)?;
+    /// assert!(queue.next_tag(0).is_ok());
+    /// # Ok::<(), Box<dyn std::error::Error>>(())
+    /// ```
+    pub fn next_tag(&self, slot: u32) -> Result<Tag, NextTagError> {
+        if slot >= self.slots.get() {
+            return Err(NextTagError::NoSlot);
+        }
+        let mut held = self.waits.lock();
+        match held.freezer.next_tag() {
+            Ok(handle) => Ok(Tag::on_slot(handle, slot, self.slots, held.seats.seat())),
+            Err(Answer::NO_TAG) => Err(NextTagError::NoTag),
+            Err(Answer::NO_MEMORY) => Err(NextTagError::NoMemory),
+            Err(other) => other.is_a_bug("next_tag"),
+        }
+    }
+
+    /// Takes a tag back, for [`next_tag`](Queue::next_tag) to give again. The queue may be frozen. Needs no memory.
+    ///
+    /// # Errors
+    ///
+    /// [`GiveBackError::OtherQueue`] or [`GiveBackError::StillEntered`]. They hand the tag back. (`StillEntered` is of a
+    /// request that was forgotten: one that is there borrows its tag.)
+    ///
+    /// # Examples
+    ///
+    /// ```
+    /// # use freeze_queue::{GiveBackError, Limits, Queue};
+    /// # let queue = Queue::new(Limits::of_hardware(64), 1, 1)?;
+    /// let other = Queue::new(Limits::of_hardware(64), 1, 1)?;
+    /// let tag = queue.next_tag(0)?;
+    /// let refused = other.give_back(tag).unwrap_err();
+    /// assert_eq!(refused.reason, GiveBackError::OtherQueue);
+    /// queue.give_back(refused.value)?;
+    /// # Ok::<(), Box<dyn std::error::Error>>(())
+    /// ```
+    #[expect(clippy::result_large_err, reason = "a refusal hands the tag back")]
+    pub fn give_back(&self, mut tag: Tag) -> Result<(), HandedBack<Tag, GiveBackError>> {
+        let mut held = self.waits.lock();
+        let reason = match held.freezer.give_tag_back(&mut tag.handle) {
+            Answer::OK => {
+                let forgotten = held.seats.free(tag.seat);
+                drop(held);
+                drop(forgotten);
+                return Ok(());
+            }
+            Answer::OTHER_QUEUE => GiveBackError::OtherQueue,
+            Answer::ENTERED => GiveBackError::StillEntered,
+            other => other.is_a_bug("give_tag_back"),
+        };
+        Err(HandedBack { value: tag, reason })
+    }
+
+    /// Ends a queue, live or frozen, whose tags were all given back, but for those that nobody asked for. Needs no memory.
+    /// Linux: `blk_mq_destroy_queue`.
+    ///
+    /// # Errors
+    ///
+    /// [`RemoveError::TagsOut`] or [`RemoveError::WornOut`]. They hand the queue back.
+    ///
+    /// # Examples
+    ///
+    /// ```
+    /// # use freeze_queue::{Limits, Queue, RemoveError};
+    /// let queue = Queue::new(Limits::of_hardware(64), 1, 1)?;
+    /// let tag = queue.next_tag(0)?;
+    /// let refused = queue.remove().unwrap_err();
+    /// assert_eq!(refused.reason, RemoveError::TagsOut);
+    /// let queue = refused.value;
+    /// queue.give_back(tag)?;
+    /// assert_eq!(queue.remove()?.limits, Limits::of_hardware(64));
+    /// # Ok::<(), Box<dyn std::error::Error>>(())
+    /// ```
+    #[expect(clippy::result_large_err, reason = "a refusal hands the queue back")]
+    pub fn remove(mut self) -> Result<Final, HandedBack<Queue, RemoveError>> {
+        let reason = match self.waits.alone().freezer.remove() {
+            Ok(last) => return Ok(Final { kills: last.kills, releases: last.releases, limits: last.limits }),
+            Err(Answer::TAGS_OUT) => RemoveError::TagsOut,
+            Err(Answer::WORN_OUT) => RemoveError::WornOut,
+            Err(other) => other.is_a_bug("remove"),
+        };
+        Err(HandedBack { value: self, reason })
+    }
+
+    /// Counts on one shared word from now on, a frozen queue once it is thawed. Linux: `percpu_ref_switch_to_atomic_sync`
+    /// of `q_usage_counter`.
+    ///
+    /// ```
+    /// # use freeze_queue::{Limits, Queue};
+    /// # let queue = Queue::new(Limits::of_hardware(64), 4, 4)?;
+    /// queue.switch_to_atomic();
+    /// # Ok::<(), Box<dyn std::error::Error>>(())
+    /// ```
+    pub fn switch_to_atomic(&self) {
+        self.waits.lock().freezer.mode(ATOMIC).is_done("mode");
+    }
+
+    /// Counts on slots from now on, as a queue does that is made; a frozen queue once it is thawed. Linux:
+    /// `percpu_ref_switch_to_percpu` of `q_usage_counter`.
+    ///
+    /// ```
+    /// # use freeze_queue::{Limits, Queue};
+    /// # let queue = Queue::new(Limits::of_hardware(64), 4, 4)?;
+    /// queue.switch_to_slots();
+    /// # Ok::<(), Box<dyn std::error::Error>>(())
+    /// ```
+    pub fn switch_to_slots(&self) {
+        self.waits.lock().freezer.mode(ON_SLOTS).is_done("mode");
+    }
+
+    /// The limits, as they were at a moment of the call. (Who has entered has those that hold still.)
+    ///
+    /// ```
+    /// # use freeze_queue::{Limits, Queue};
+    /// let queue = Queue::new(Limits { max: 0, ..Limits::of_hardware(64) }, 1, 1)?;
+    /// assert_eq!(queue.limits(), Limits::of_hardware(64));
+    /// # Ok::<(), Box<dyn std::error::Error>>(())
+    /// ```
+    #[must_use]
+    pub fn limits(&self) -> Limits {
+        self.waits.lock().freezer.limits()
+    }
+
+    /// The freezes that weren't thawed yet, at a moment of the call; 0 of a live queue. Linux: `mq_freeze_depth`.
+    ///
+    /// ```
+    /// # use freeze_queue::{Limits, Queue};
+    /// # let queue = Queue::new(Limits::of_hardware(64), 1, 1)?;
+    /// let frozen = queue.freeze()?;
+    /// assert_eq!(queue.depth(), 1);
+    /// drop(frozen);
+    /// assert_eq!(queue.depth(), 0);
+    /// # Ok::<(), Box<dyn std::error::Error>>(())
+    /// ```
+    #[must_use]
+    pub fn depth(&self) -> u32 {
+        self.waits.lock().freezer.depth()
+    }
+
+    /// Whether the queue is frozen and drained, at a moment of the call. Linux: `percpu_ref_is_zero` in
+    /// `blk_mq_freeze_queue_wait`.
+    ///
+    /// ```
+    /// # use freeze_queue::{Limits, Queue};
+    /// # let queue = Queue::new(Limits::of_hardware(64), 1, 1)?;
+    /// assert!(!queue.is_drained());
+    /// let _frozen = queue.freeze()?;
+    /// assert!(queue.is_drained());
+    /// # Ok::<(), Box<dyn std::error::Error>>(())
+    /// ```
+    #[must_use]
+    pub fn is_drained(&self) -> bool {
+        self.waits.lock().freezer.is_drained()
+    }
+
+    /// Whether its device is gone: [`Frozen::mark_dying`](crate::Frozen::mark_dying). Linux: `blk_queue_dying`.
+    ///
+    /// ```
+    /// # use freeze_queue::{Limits, Queue};
+    /// # let queue = Queue::new(Limits::of_hardware(64), 1, 1)?;
+    /// queue.freeze()?.mark_dying();
+    /// assert!(queue.is_dying());
+    /// # Ok::<(), Box<dyn std::error::Error>>(())
+    /// ```
+    #[must_use]
+    pub fn is_dying(&self) -> bool {
+        self.waits.is_dying()
+    }
+
+    /// Its number, from 1 on, which no other queue has.
+    ///
+    /// ```
+    /// # use freeze_queue::{Limits, Queue};
+    /// let here = Queue::new(Limits::of_hardware(64), 1, 1)?;
+    /// let there = Queue::new(Limits::of_hardware(64), 1, 1)?;
+    /// assert_ne!(here.number(), there.number());
+    /// # Ok::<(), Box<dyn std::error::Error>>(())
+    /// ```
+    #[inline]
+    #[must_use]
+    pub fn number(&self) -> u64 {
+        self.number
+    }
+}
+
+impl fmt::Debug for Queue {
+    /// Its number alone, since the rest is under its lock.
+    fn fmt(&self, f: &mut fmt::Formatter<'_>) -> fmt::Result {
+        f.debug_struct("Queue").field("number", &self.number).finish_non_exhaustive()
+    }
+}

@@ -1,0 +1,315 @@
+//! Misuses that compile: each is refused by an error, or does what its documentation says. (Those that don't compile
+//! stand in src/misuse.rs.) An answer that the types exclude would panic as a bug of the crate, and fail the test.
+use freeze_queue::{
+    EnterError, EnterFrozenError, FreezeTimeoutError, GiveBackError, Limits, OwnedEntered, Queue, RemoveError, Tag,
+    TryEnterError, TryFreezeError,
+};
+use std::cell::RefCell;
+use std::mem::{self, ManuallyDrop};
+use std::panic::{AssertUnwindSafe, catch_unwind};
+use std::pin::Pin;
+use std::rc::Rc;
+use std::sync::atomic::{AtomicU64, Ordering};
+use std::sync::{Arc, Mutex, mpsc};
+use std::task::{Context, Poll, Wake, Waker};
+use std::thread;
+use std::time::Duration;
+
+const LIMITS: Limits = Limits { hardware: 64, max: 32, chunk: 128, physical: 8 };
+
+fn with_tags() -> (Queue, Tag, Tag) {
+    let queue = Queue::new(LIMITS, 2, 2).unwrap();
+    let (tag, other) = (queue.next_tag(0).unwrap(), queue.next_tag(1).unwrap());
+    (queue, tag, other)
+}
+
+fn panics<T>(call: impl FnOnce() -> T) -> bool {
+    catch_unwind(AssertUnwindSafe(call)).is_err()
+}
+
+/// A request that is forgotten has entered for ever: its tag is refused, and the queue never drains.
+#[test]
+fn a_request_is_forgotten() {
+    let (queue, mut tag, mut other) = with_tags();
+    mem::forget(queue.enter(&mut tag).unwrap());
+    assert_eq!(queue.enter(&mut tag).unwrap_err(), EnterError::StillEntered);
+    assert_eq!(queue.try_enter(&mut tag).unwrap_err(), TryEnterError::StillEntered);
+    assert_eq!(queue.try_enter_frozen(&mut tag).unwrap_err(), EnterFrozenError::StillEntered);
+    assert!(queue.enter(&mut other).is_ok());
+    assert_eq!(queue.try_freeze().unwrap_err(), TryFreezeError::NotDrained);
+    assert_eq!(queue.freeze_timeout(Duration::from_millis(5)).unwrap_err(), FreezeTimeoutError::TimedOut);
+    let refused = queue.give_back(tag).unwrap_err();
+    assert_eq!(refused.reason, GiveBackError::StillEntered);
+    drop(refused);
+    queue.give_back(other).unwrap();
+    assert_eq!(queue.remove().unwrap_err().reason, RemoveError::TagsOut);
+}
+
+/// A forgotten owned request takes its tag along, and a share of its queue, into nowhere.
+#[test]
+fn an_owned_request_is_forgotten() {
+    let (queue, tag, _other) = with_tags();
+    let queue = Arc::new(queue);
+    mem::forget(queue.enter_owned(tag).unwrap());
+    assert_eq!(queue.try_freeze().unwrap_err(), TryFreezeError::NotDrained);
+    assert!(Arc::into_inner(queue).is_none());
+}
+
+/// A freeze that is forgotten is never thawed: nested ones come and go, and the queue can be removed.
+#[test]
+fn a_freeze_is_forgotten() {
+    let (queue, mut tag, other) = with_tags();
+    mem::forget(queue.freeze().unwrap());
+    drop(queue.freeze().unwrap());
+    assert_eq!((queue.depth(), queue.is_drained(), queue.is_dying()), (1, true, false));
+    assert_eq!(queue.try_enter(&mut tag).unwrap_err(), TryEnterError::Frozen);
+    queue.give_back(tag).unwrap();
+    queue.give_back(other).unwrap();
+    assert_eq!(queue.remove().unwrap().kills, 1);
+}
+
+/// Tags of two queues are swapped: each is of its own queue still.
+#[test]
+fn tags_of_two_queues_are_swapped() {
+    let ((here, mut one, _one), (there, mut other, _other)) = (with_tags(), with_tags());
+    mem::swap(&mut one, &mut other);
+    assert_eq!((one.queue_number(), other.queue_number()), (there.number(), here.number()));
+    assert_eq!(here.enter(&mut one).unwrap_err(), EnterError::OtherQueue);
+    let request = there.enter(&mut one).unwrap();
+    assert!(here.try_freeze().is_ok());
+    assert_eq!(there.try_freeze().unwrap_err(), TryFreezeError::NotDrained);
+    drop(request);
+    there.give_back(here.give_back(one).unwrap_err().value).unwrap();
+}
+
+/// Queues are swapped while none is borrowed: a tag goes with the one that it is of.
+#[test]
+fn queues_are_swapped() {
+    let ((mut here, mut tag, _one), (mut there, _other, _more)) = (with_tags(), with_tags());
+    mem::swap(&mut here, &mut there);
+    assert_eq!(here.enter(&mut tag).unwrap_err(), EnterError::OtherQueue);
+    assert!(there.enter(&mut tag).is_ok());
+}
+
+/// The queue goes first: a tag of it can only be dropped.
+#[test]
+fn the_queue_is_dropped_first() {
+    let (queue, mut tag, other) = with_tags();
+    drop(queue);
+    let stranger = Queue::new(LIMITS, 2, 2).unwrap();
+    assert_eq!(stranger.enter(&mut tag).unwrap_err(), EnterError::OtherQueue);
+    assert_eq!(stranger.give_back(other).unwrap_err().reason, GiveBackError::OtherQueue);
+}
+
+/// A tag that is dropped is out for ever, and its place is given to no other.
+#[test]
+fn a_tag_is_dropped() {
+    let (queue, tag, other) = with_tags();
+    drop(tag);
+    assert!(queue.next_tag(0).is_err());
+    queue.give_back(other).unwrap();
+    let last = queue.next_tag(0).unwrap();
+    queue.give_back(last).unwrap();
+    assert_eq!(queue.remove().unwrap_err().reason, RemoveError::TagsOut);
+}
+
+/// A thread that panics while its request is under way leaves as it unwinds, and one that has frozen thaws.
+#[test]
+fn threads_panic() {
+    let (queue, mut tag, mut other) = with_tags();
+    let queue = Arc::new(queue);
+    let (its, also) = (Arc::clone(&queue), Arc::clone(&queue));
+    let entered = thread::spawn(move || {
+        let _request = its.enter(&mut tag).unwrap();
+        panic!("as the test wants");
+    });
+    assert!(entered.join().is_err());
+    let froze = thread::spawn(move || {
+        let _frozen = also.freeze().unwrap();
+        panic!("as the test wants");
+    });
+    assert!(froze.join().is_err());
+    assert!(queue.enter(&mut other).is_ok());
+    assert!(queue.try_freeze().is_ok());
+}
+
+/// Requests travel through channels, and leave on threads that never saw their queue, after all else let it go.
+#[test]
+fn requests_travel() {
+    let (queue, tag, other) = with_tags();
+    let queue = Arc::new(queue);
+    let (send, receive) = mpsc::channel();
+    for tag in [tag, other] {
+        send.send(queue.enter_owned(tag).unwrap()).unwrap();
+    }
+    drop((queue, send));
+    let ends = |request: OwnedEntered| thread::spawn(move || request.leave().slot()).join().unwrap();
+    assert_eq!(receive.into_iter().map(ends).collect::<Vec<_>>(), [0, 1]);
+}
+
+/// Requests leave and freezes thaw in any order.
+#[test]
+fn guards_are_dropped_in_any_order() {
+    let (queue, mut tag, mut other) = with_tags();
+    let (one, kept) = (queue.enter(&mut tag).unwrap(), ManuallyDrop::new(queue.enter(&mut other).unwrap()));
+    drop(one);
+    assert_eq!(kept.limits().max, 32);
+    drop(ManuallyDrop::into_inner(kept));
+    let mut freezes: Vec<_> = (0..5).map(|_| queue.freeze().unwrap()).collect();
+    for at in [2, 0, 2, 1] {
+        drop(freezes.remove(at));
+        assert!(queue.is_drained());
+    }
+    freezes.swap_remove(0).set(Limits { max: 1, ..LIMITS }).unwrap();
+    assert_eq!((queue.depth(), queue.limits().max), (0, 1));
+}
+
+/// A request leaks through a cycle: entered for ever, as one that is forgotten.
+#[test]
+fn a_request_leaks_in_a_cycle() {
+    struct Node(RefCell<Option<Rc<Node>>>, #[expect(dead_code, reason = "it is held")] OwnedEntered);
+    let (queue, tag, _other) = with_tags();
+    let queue = Arc::new(queue);
+    let node = Rc::new(Node(RefCell::new(None), queue.enter_owned(tag).unwrap()));
+    *node.0.borrow_mut() = Some(Rc::clone(&node));
+    drop(node);
+    assert_eq!(queue.try_freeze().unwrap_err(), TryFreezeError::NotDrained);
+}
+
+/// A waker that comes back to the queue, on the thread that thaws it: no lock is held then.
+struct ComesBack {
+    queue: Arc<Queue>,
+    tags: Mutex<Vec<Tag>>,
+    woken: AtomicU64,
+}
+
+impl Wake for ComesBack {
+    fn wake(self: Arc<Self>) {
+        self.woken.fetch_add(1, Ordering::SeqCst);
+        assert!(self.queue.depth() == 0);
+        let mut tag = self.tags.lock().unwrap().pop().unwrap();
+        drop(self.queue.enter(&mut tag).unwrap());
+        self.queue.give_back(tag).unwrap();
+        drop(self.queue.freeze().unwrap());
+    }
+}
+
+#[test]
+fn a_waker_comes_back_to_the_queue() {
+    let (queue, mut tag, other) = with_tags();
+    let queue = Arc::new(queue);
+    let comes_back =
+        Arc::new(ComesBack { queue: Arc::clone(&queue), tags: Mutex::new(vec![other]), woken: AtomicU64::new(0) });
+    let waker = Waker::from(Arc::clone(&comes_back));
+    let frozen = queue.freeze().unwrap();
+    let mut entering = queue.enter_async(&mut tag);
+    assert!(Pin::new(&mut entering).poll(&mut Context::from_waker(&waker)).is_pending());
+    drop(frozen);
+    assert_eq!(comes_back.woken.load(Ordering::SeqCst), 1);
+    assert!(matches!(Pin::new(&mut entering).poll(&mut Context::from_waker(&waker)), Poll::Ready(Ok(_))));
+}
+
+/// A waker whose last share has a tag, which comes back to the queue where it is dropped: as a future is cancelled, noted
+/// anew, or its tag is given back.
+struct GivesBack(Arc<Queue>, Mutex<Option<Tag>>, Arc<AtomicU64>);
+
+impl Wake for GivesBack {
+    fn wake(self: Arc<Self>) {}
+}
+
+impl Drop for GivesBack {
+    fn drop(&mut self) {
+        self.0.give_back(self.1.lock().unwrap().take().unwrap()).unwrap();
+        self.2.fetch_add(1, Ordering::SeqCst);
+    }
+}
+
+#[test]
+fn a_waker_gives_a_tag_back_where_it_is_dropped() {
+    let queue = Arc::new(Queue::new(LIMITS, 1, 8).unwrap());
+    let dropped = Arc::new(AtomicU64::new(0));
+    let waker = || {
+        let tag = queue.next_tag(0).unwrap();
+        Waker::from(Arc::new(GivesBack(Arc::clone(&queue), Mutex::new(Some(tag)), Arc::clone(&dropped))))
+    };
+    let mut tag = queue.next_tag(0).unwrap();
+    let frozen = queue.freeze().unwrap();
+    let mut entering = queue.enter_async(&mut tag);
+    assert!(Pin::new(&mut entering).poll(&mut Context::from_waker(&waker())).is_pending());
+    assert!(Pin::new(&mut entering).poll(&mut Context::from_waker(&waker())).is_pending());
+    assert_eq!(dropped.load(Ordering::SeqCst), 1);
+    drop(entering);
+    assert_eq!(dropped.load(Ordering::SeqCst), 2);
+    let mut entering = queue.enter_async(&mut tag);
+    assert!(Pin::new(&mut entering).poll(&mut Context::from_waker(&waker())).is_pending());
+    mem::forget(entering);
+    queue.give_back(tag).unwrap();
+    assert_eq!(dropped.load(Ordering::SeqCst), 3);
+    drop(frozen);
+    let queue = Arc::into_inner(queue).unwrap();
+    assert_eq!(queue.remove().unwrap().kills, 1 + 1);
+}
+
+/// A waker that panics: the others are woken, the queue is thawed, and the panic goes on.
+struct Panics;
+
+impl Wake for Panics {
+    fn wake(self: Arc<Self>) {
+        panic!("as the test wants");
+    }
+}
+
+struct Counts(AtomicU64);
+
+impl Wake for Counts {
+    fn wake(self: Arc<Self>) {
+        self.0.fetch_add(1, Ordering::SeqCst);
+    }
+}
+
+#[test]
+fn a_waker_panics() {
+    let queue = Queue::new(LIMITS, 1, 3).unwrap();
+    let mut tags: Vec<Tag> = (0..3).map(|_| queue.next_tag(0).unwrap()).collect();
+    let counts = Arc::new(Counts(AtomicU64::new(0)));
+    let wakers = [Arc::clone(&counts).into(), Arc::new(Panics).into(), Arc::clone(&counts).into()];
+    let frozen = queue.freeze().unwrap();
+    let mut entering: Vec<_> = tags.iter_mut().map(|tag| queue.enter_async(tag)).collect();
+    for (future, waker) in entering.iter_mut().zip(&wakers) {
+        assert!(Pin::new(future).poll(&mut Context::from_waker(waker)).is_pending());
+    }
+    assert!(panics(|| drop(frozen)));
+    assert_eq!((counts.0.load(Ordering::SeqCst), queue.depth()), (2, 0));
+    let future = entering.first_mut().unwrap();
+    assert!(Pin::new(future).poll(&mut Context::from_waker(Waker::noop())).is_ready());
+    assert!(queue.try_freeze().is_ok());
+}
+
+/// A waker that panics where the thaw is part of a panic already: it isn't a second one, which would abort.
+#[test]
+fn a_waker_panics_while_a_thread_does() {
+    let (queue, mut tag, _other) = with_tags();
+    let mut entering = queue.enter_async(&mut tag);
+    let frozen = queue.freeze().unwrap();
+    let waker = Waker::from(Arc::new(Panics));
+    assert!(Pin::new(&mut entering).poll(&mut Context::from_waker(&waker)).is_pending());
+    let unwound = panics(move || {
+        let _frozen = frozen;
+        panic!("as the test wants");
+    });
+    assert!(unwound && queue.depth() == 0);
+}
+
+/// A future that is polled once it is done says so, and has entered nothing more.
+#[test]
+fn a_future_is_polled_once_it_is_done() {
+    let (queue, mut tag, _other) = with_tags();
+    let mut entering = queue.enter_async(&mut tag);
+    let mut context = Context::from_waker(Waker::noop());
+    let Poll::Ready(Ok(request)) = Pin::new(&mut entering).poll(&mut context) else { panic!("it is live") };
+    assert!(panics(|| Pin::new(&mut entering).poll(&mut context).is_ready()));
+    drop(entering);
+    drop(request);
+    assert!(queue.try_freeze().is_ok());
+    assert!(queue.enter(&mut tag).is_ok());
+}

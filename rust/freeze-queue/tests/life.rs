@@ -1,0 +1,334 @@
+//! Each call on one thread: what it tells, each refusal, and that a refusal leaves everything as it was.
+use freeze_queue::{
+    EnterError, EnterFrozenError, EnterTimeoutError, Final, FreezeError, FreezeTimeoutError, GiveBackError, Limits,
+    LimitsError, NewError, NextTagError, OwnedEntered, Piece, PiecesError, Queue, RangeError, RemoveError, SetError,
+    SlotError, Tag, TryEnterError, TryFreezeError,
+};
+use std::error::Error;
+use std::mem;
+use std::sync::Arc;
+use std::time::{Duration, Instant};
+
+const LIMITS: Limits = Limits { hardware: 64, max: 32, chunk: 128, physical: 8 };
+
+fn queue(slots: u32, tags: u32) -> Queue {
+    Queue::new(LIMITS, slots, tags).unwrap()
+}
+
+fn with_tag() -> (Queue, Tag) {
+    let queue = queue(2, 2);
+    let tag = queue.next_tag(0).unwrap();
+    (queue, tag)
+}
+
+#[test]
+fn sizes() {
+    for (slots, tags) in [(0, 1), (65, 1), (1, 0), (1, 64), (u32::MAX, u32::MAX)] {
+        assert_eq!(Queue::new(LIMITS, slots, tags).unwrap_err(), NewError::Size);
+    }
+    for (slots, tags) in [(1, 1), (64, 63), (1, 63), (64, 1)] {
+        let queue = queue(slots, tags);
+        let mut all: Vec<Tag> = (0..tags).map(|i| queue.next_tag(i % slots).unwrap()).collect();
+        assert_eq!(queue.next_tag(slots).unwrap_err(), NextTagError::NoSlot);
+        assert_eq!(queue.next_tag(0).unwrap_err(), NextTagError::NoTag);
+        let requests: Vec<_> = all.iter_mut().map(|tag| queue.enter(tag).unwrap()).collect();
+        assert_eq!(queue.try_freeze().unwrap_err(), TryFreezeError::NotDrained);
+        drop(requests);
+        assert!(queue.try_freeze().is_ok());
+        for tag in all {
+            queue.give_back(tag).unwrap();
+        }
+        let last = queue.remove().unwrap(); // the freeze that wasn't drained, the one that was, and its own
+        assert_eq!(last, Final { kills: 3, releases: 2, limits: LIMITS });
+    }
+}
+
+/// Refusals of limits, in the order in which they apply; the same of a queue that is made, of a set and of pieces.
+#[test]
+fn limits_that_are_refused() {
+    let wanted = [
+        (Limits { hardware: 0, ..LIMITS }, LimitsError::HardwareRange),
+        (Limits { hardware: 65_536, max: 65_537, ..LIMITS }, LimitsError::HardwareRange),
+        (Limits { max: 65, chunk: 65_536, ..LIMITS }, LimitsError::AboveHardware),
+        (Limits { chunk: 65_536, physical: 3, ..LIMITS }, LimitsError::ChunkTooLarge),
+        (Limits { physical: 0, ..LIMITS }, LimitsError::BadPhysical),
+        (Limits { physical: 3, ..LIMITS }, LimitsError::BadPhysical),
+        (Limits { physical: 65_536, ..LIMITS }, LimitsError::BadPhysical),
+    ];
+    let queue = queue(1, 1);
+    let frozen = queue.freeze().unwrap();
+    for (limits, why) in wanted {
+        assert_eq!(limits.check(), Err(why));
+        assert_eq!(Queue::new(limits, 0, 0).unwrap_err(), NewError::Limits(why));
+        assert_eq!(limits.pieces(1 << 40, 1).unwrap_err(), PiecesError::Limits(why));
+        assert_eq!(frozen.set(limits), Err(SetError::Limits(why)));
+    }
+    assert_eq!(frozen.set(Limits { hardware: 63, ..LIMITS }), Err(SetError::OtherHardware));
+    assert_eq!(queue.limits(), LIMITS);
+    let most = Limits { hardware: 65_535, max: 65_535, chunk: 65_535, physical: 32_768 };
+    assert_eq!(Queue::new(most, 1, 1).unwrap().limits(), most);
+    let least = Limits { hardware: 1, max: 0, chunk: 0, physical: 1 };
+    assert_eq!(Queue::new(least, 1, 1).unwrap().limits(), Limits { max: 1, ..least });
+    assert_eq!(Limits::of_hardware(9), Limits { hardware: 9, max: 9, chunk: 0, physical: 1 });
+}
+
+fn lengths(limits: Limits, start: u64, count: u32) -> Vec<u32> {
+    limits.pieces(start, count).unwrap().map(|piece| piece.sectors).collect()
+}
+
+/// Worked by hand.
+#[test]
+fn pieces() {
+    assert_eq!(lengths(Limits { chunk: 8, ..Limits::of_hardware(64) }, 6, 6), [2, 4]);
+    assert_eq!(lengths(Limits { max: 4, chunk: 8, ..LIMITS }, 6, 6), [2, 4]);
+    assert_eq!(lengths(Limits { max: 12, chunk: 0, ..LIMITS }, 3, 40), [5, 8, 8, 8, 11]);
+    assert_eq!(lengths(Limits { max: 5, chunk: 0, ..LIMITS }, 0, 12), [5, 3, 4]);
+    assert_eq!(lengths(LIMITS, 0, 0), []);
+    let last: Vec<Piece> = LIMITS.pieces((1 << 33) - 3, 3).unwrap().collect();
+    assert_eq!(last, [Piece { start: (1 << 33) - 3, sectors: 3 }]);
+    for (start, count) in [((1 << 33) - 3, 4), (1 << 33, 1), (u64::MAX, 1), (u64::MAX, u32::MAX), ((1 << 33) + 1, 0)] {
+        assert_eq!(LIMITS.pieces(start, count).unwrap_err(), PiecesError::TooFar);
+    }
+    assert_eq!(LIMITS.pieces(1 << 33, 0).unwrap().count(), 0);
+    let mut pieces = LIMITS.pieces(0, 33).unwrap();
+    assert_eq!(pieces.size_hint(), (1, Some(33)));
+    assert_eq!(pieces.clone().count(), 2);
+    pieces.next();
+    pieces.next();
+    assert_eq!((pieces.size_hint(), pieces.next(), pieces.next()), ((0, Some(0)), None, None));
+    let all = Limits::of_hardware(65_535);
+    let sum: u64 = all.pieces(0, u32::MAX).unwrap().map(|piece| u64::from(piece.sectors)).sum();
+    assert_eq!((all.pieces(0, u32::MAX).unwrap().count(), sum), (65_537, u64::from(u32::MAX)));
+}
+
+#[test]
+fn a_request() {
+    let (queue, mut tag) = with_tag();
+    let request = queue.enter(&mut tag).unwrap();
+    assert_eq!((request.limits(), queue.depth()), (&LIMITS, 0));
+    let pieces: Vec<Piece> = request.pieces(120, 20).unwrap().collect();
+    assert_eq!(pieces, [Piece { start: 120, sectors: 8 }, Piece { start: 128, sectors: 12 }]);
+    assert_eq!(request.pieces(1 << 33, 1).unwrap_err(), RangeError::TooFar);
+    assert!(!queue.is_drained());
+    drop(request);
+    assert!(queue.try_enter(&mut tag).is_ok());
+    assert!(queue.try_enter_frozen(&mut tag).is_ok());
+    assert!(queue.enter_timeout(&mut tag, Duration::ZERO).is_ok());
+    assert!(queue.enter_timeout(&mut tag, Duration::MAX).is_ok());
+    queue.give_back(tag).unwrap();
+    assert_eq!(queue.remove().unwrap(), Final { kills: 1, releases: 1, limits: LIMITS });
+}
+
+#[test]
+fn a_freeze() {
+    let (queue, mut tag) = with_tag();
+    let other = Limits { max: 8, chunk: 0, ..LIMITS };
+    let frozen = queue.freeze().unwrap();
+    assert_eq!((queue.depth(), queue.is_drained()), (1, true));
+    assert_eq!(queue.try_enter(&mut tag).unwrap_err(), TryEnterError::Frozen);
+    assert_eq!(queue.enter_timeout(&mut tag, Duration::ZERO).unwrap_err(), EnterTimeoutError::TimedOut);
+    assert_eq!(queue.try_enter_frozen(&mut tag).unwrap_err(), EnterFrozenError::Drained);
+    frozen.set(other).unwrap();
+    assert_eq!(queue.limits(), other);
+    let nested = queue.try_freeze().unwrap();
+    drop(frozen);
+    assert_eq!((queue.depth(), queue.is_drained()), (1, true));
+    assert_eq!(queue.try_enter(&mut tag).unwrap_err(), TryEnterError::Frozen);
+    nested.set(Limits { max: 0, ..other }).unwrap();
+    drop(nested);
+    assert_eq!((queue.depth(), queue.is_drained()), (0, false));
+    assert_eq!(queue.enter(&mut tag).unwrap().limits(), &Limits { max: 64, ..other });
+}
+
+#[test]
+fn a_freeze_while_a_request_is_under_way() {
+    let (queue, mut tag) = with_tag();
+    let mut other = queue.next_tag(1).unwrap();
+    let request = queue.enter(&mut tag).unwrap();
+    assert_eq!(queue.try_freeze().unwrap_err(), TryFreezeError::NotDrained);
+    assert_eq!(queue.freeze_timeout(Duration::ZERO).unwrap_err(), FreezeTimeoutError::TimedOut);
+    let began = Instant::now();
+    assert_eq!(queue.freeze_timeout(Duration::from_millis(30)).unwrap_err(), FreezeTimeoutError::TimedOut);
+    assert!(began.elapsed() >= Duration::from_millis(30));
+    assert_eq!((queue.depth(), queue.is_drained()), (0, false));
+    assert!(queue.enter(&mut other).is_ok());
+    drop(request);
+    assert!(queue.freeze_timeout(Duration::ZERO).is_ok());
+    let frozen = queue.freeze_timeout(Duration::MAX).unwrap();
+    let began = Instant::now();
+    let late = queue.enter_timeout(&mut tag, Duration::from_millis(30));
+    assert_eq!(late.unwrap_err(), EnterTimeoutError::TimedOut);
+    assert!(began.elapsed() >= Duration::from_millis(30));
+    drop(frozen);
+}
+
+#[test]
+fn as_many_freezes_as_there_are() {
+    let queue = queue(1, 1);
+    let all: Vec<_> = (0..Queue::MOST_DEPTH).map(|_| queue.freeze().unwrap()).collect();
+    assert_eq!(queue.freeze().unwrap_err(), FreezeError::DepthFull);
+    assert_eq!(queue.try_freeze().unwrap_err(), TryFreezeError::DepthFull);
+    assert_eq!(queue.freeze_timeout(Duration::ZERO).unwrap_err(), FreezeTimeoutError::DepthFull);
+    assert_eq!(queue.depth(), 1000);
+    drop(all);
+    assert_eq!((queue.depth(), queue.remove().unwrap().kills), (0, 2));
+}
+
+#[test]
+fn a_device_that_is_gone() {
+    let (queue, mut tag) = with_tag();
+    assert!(!queue.is_dying());
+    queue.freeze().unwrap().mark_dying();
+    assert_eq!((queue.is_dying(), queue.depth(), queue.is_drained()), (true, 1, true));
+    assert_eq!(queue.enter(&mut tag).unwrap_err(), EnterError::Dying);
+    assert_eq!(queue.try_enter(&mut tag).unwrap_err(), TryEnterError::Dying);
+    assert_eq!(queue.enter_timeout(&mut tag, Duration::MAX).unwrap_err(), EnterTimeoutError::Dying);
+    assert_eq!(queue.try_enter_frozen(&mut tag).unwrap_err(), EnterFrozenError::Drained);
+    queue.freeze().unwrap().set(Limits::of_hardware(64)).unwrap();
+    assert_eq!((queue.is_dying(), queue.depth()), (true, 1));
+    let another = queue.next_tag(1).unwrap();
+    queue.give_back(another).unwrap();
+    queue.give_back(tag).unwrap();
+    assert_eq!(queue.remove().unwrap(), Final { kills: 1, releases: 1, limits: Limits::of_hardware(64) });
+}
+
+#[test]
+fn tags_of_another_queue() {
+    let ((here, mut tag), there) = (with_tag(), queue(2, 2));
+    assert_eq!((tag.queue_number(), here.number() == there.number()), (here.number(), false));
+    assert_eq!(there.enter(&mut tag).unwrap_err(), EnterError::OtherQueue);
+    assert_eq!(there.try_enter(&mut tag).unwrap_err(), TryEnterError::OtherQueue);
+    assert_eq!(there.try_enter_frozen(&mut tag).unwrap_err(), EnterFrozenError::OtherQueue);
+    assert_eq!(there.enter_timeout(&mut tag, Duration::MAX).unwrap_err(), EnterTimeoutError::OtherQueue);
+    let there = Arc::new(there);
+    let refused = there.enter_owned(tag).unwrap_err();
+    assert_eq!(refused.reason, EnterError::OtherQueue);
+    let refused = there.try_enter_owned(refused.value).unwrap_err();
+    assert_eq!(refused.reason, TryEnterError::OtherQueue);
+    let refused = there.give_back(refused.value).unwrap_err();
+    assert_eq!(refused.reason, GiveBackError::OtherQueue);
+    here.give_back(refused.value).unwrap();
+    assert!(Arc::into_inner(there).unwrap().remove().is_ok());
+}
+
+#[test]
+fn slots() {
+    let (queue, mut tag) = with_tag();
+    assert_eq!(tag.slot(), 0);
+    assert_eq!(tag.use_slot(2), Err(SlotError::NoSlot));
+    let mut request = queue.enter(&mut tag).unwrap();
+    assert_eq!(request.use_slot(u32::MAX), Err(SlotError::NoSlot));
+    request.use_slot(1).unwrap();
+    drop(request);
+    assert_eq!(tag.slot(), 1);
+    let queue = Arc::new(queue);
+    let mut request = queue.enter_owned(tag).unwrap();
+    assert_eq!(request.use_slot(2), Err(SlotError::NoSlot));
+    request.use_slot(0).unwrap();
+    assert_eq!(request.leave().slot(), 0);
+    assert!(queue.try_freeze().is_ok());
+}
+
+#[test]
+fn a_request_that_takes_its_tag_along() {
+    let queue = Arc::new(queue(1, 1));
+    let request = queue.enter_owned(queue.next_tag(0).unwrap()).unwrap();
+    assert_eq!((request.limits(), Arc::strong_count(&queue)), (&LIMITS, 2));
+    assert_eq!(request.pieces(0, 65).unwrap().map(|piece| piece.sectors).collect::<Vec<_>>(), [32, 32, 1]);
+    assert_eq!(queue.try_freeze().unwrap_err(), TryFreezeError::NotDrained);
+    let tag = request.leave();
+    let frozen = queue.try_freeze().unwrap();
+    let refused = queue.try_enter_owned(tag).unwrap_err();
+    assert_eq!(refused.reason, TryEnterError::Frozen);
+    drop(frozen);
+    drop(queue.try_enter_owned(refused.value).unwrap()); // it leaves, and its tag is out for ever
+    assert!(queue.try_freeze().is_ok());
+    assert_eq!(Arc::into_inner(queue).unwrap().remove().unwrap_err().reason, RemoveError::TagsOut);
+}
+
+#[test]
+fn tags_come_and_go() {
+    let queue = queue(1, 1);
+    let frozen = queue.freeze().unwrap();
+    for _ in 0..200 {
+        let tag = queue.next_tag(0).unwrap();
+        assert_eq!(queue.next_tag(0).unwrap_err(), NextTagError::NoTag);
+        queue.give_back(tag).unwrap();
+    }
+    drop(frozen);
+    let queue = Arc::new(queue);
+    for _ in 0..200 {
+        let request = queue.enter_owned(queue.next_tag(0).unwrap()).unwrap();
+        queue.give_back(request.leave()).unwrap();
+    }
+}
+
+#[test]
+fn modes() {
+    let (queue, mut tag) = with_tag();
+    let request = queue.enter(&mut tag).unwrap();
+    queue.switch_to_atomic();
+    assert_eq!(queue.try_freeze().unwrap_err(), TryFreezeError::NotDrained);
+    drop(request);
+    drop(queue.freeze().unwrap());
+    queue.switch_to_slots();
+    queue.switch_to_slots();
+    assert!(queue.enter(&mut tag).is_ok());
+    let frozen = queue.freeze().unwrap();
+    queue.switch_to_atomic();
+    drop(frozen);
+    assert!(queue.enter(&mut tag).is_ok());
+}
+
+#[test]
+fn the_end() -> Result<(), Box<dyn Error>> {
+    let (queue, tag) = with_tag();
+    let number = queue.number();
+    let refused = queue.remove().unwrap_err();
+    assert_eq!((refused.reason, refused.value.number()), (RemoveError::TagsOut, number));
+    let queue = refused.value;
+    assert_eq!(queue.depth(), 0);
+    queue.give_back(tag)?;
+    mem::forget(queue.freeze()?); // stays frozen, and is drained
+    assert_eq!(queue.remove()?, Final { kills: 1, releases: 1, limits: LIMITS });
+    Ok(())
+}
+
+#[test]
+fn the_question_mark_drops_what_is_handed_back() {
+    fn removes(queue: Queue) -> Result<Final, RemoveError> {
+        Ok(queue.remove()?)
+    }
+    fn gives(queue: &Queue, tag: Tag) -> Result<(), GiveBackError> {
+        Ok(queue.give_back(tag)?)
+    }
+    fn enters(queue: &Arc<Queue>, tag: Tag) -> Result<(), EnterError> {
+        drop(queue.enter_owned(tag)?);
+        Ok(())
+    }
+    let (here, there) = (queue(1, 2), Arc::new(queue(1, 1)));
+    assert_eq!(gives(&there, here.next_tag(0).unwrap()), Err(GiveBackError::OtherQueue));
+    assert_eq!(enters(&there, here.next_tag(0).unwrap()), Err(EnterError::OtherQueue));
+    assert_eq!(removes(here), Err(RemoveError::TagsOut));
+}
+
+#[test]
+fn what_is_shown() {
+    let (queue, mut tag) = with_tag();
+    let number = queue.number();
+    assert_eq!(format!("{queue:?}"), format!("Queue {{ number: {number}, .. }}"));
+    let shown = format!("Tag {{ queue: {number}, slot: 0, .. }}");
+    assert_eq!(format!("{tag:?}"), shown);
+    assert_eq!(format!("{:?}", queue.enter(&mut tag).unwrap()), format!("Entered({shown})"));
+    assert_eq!(format!("{:?}", queue.freeze().unwrap()), format!("Frozen({queue:?})"));
+    assert!(format!("{:?}", queue.enter_async(&mut tag)).starts_with("EnterAsync { tag: Some(Tag {"));
+    let queue = Arc::new(queue);
+    assert_eq!(format!("{:?}", queue.enter_owned(tag).unwrap()), format!("OwnedEntered(Some({shown}))"));
+}
+
+#[test]
+fn sizes_in_memory() {
+    assert_eq!((align_of::<Tag>(), mem::size_of::<Tag>()), (128, 128));
+    assert_eq!(align_of::<Queue>(), 128);
+    assert!(mem::size_of::<OwnedEntered>() <= 256);
+}

@@ -1,0 +1,78 @@
+//! What tests of several files have in common.
+#![allow(dead_code, reason = "each file uses a part")]
+
+use freeze_queue::Limits;
+use std::env;
+use std::future::Future;
+use std::pin::pin;
+use std::sync::Arc;
+use std::sync::atomic::{AtomicU64, Ordering};
+use std::task::{Context, Poll, Wake, Waker};
+use std::thread::{self, Thread};
+use std::time::{Duration, Instant};
+
+pub const LIMITS: Limits = Limits { hardware: 64, max: 32, chunk: 128, physical: 8 };
+
+/// A number that the environment tells.
+pub fn told(name: &str, otherwise: u64) -> u64 {
+    env::var(name).ok().and_then(|told| told.parse().ok()).unwrap_or(otherwise)
+}
+
+/// Numbers that look random.
+pub struct Chance(pub u64);
+
+impl Chance {
+    pub fn below(&mut self, n: u32) -> u32 {
+        self.0 = self.0.wrapping_mul(6_364_136_223_846_793_005).wrapping_add(1_442_695_040_888_963_407);
+        u32::try_from(self.0 >> 33).unwrap() % n
+    }
+
+    pub fn one_in(&mut self, of: u32) -> bool {
+        self.below(of) == 0
+    }
+}
+
+struct Unparks(Thread);
+
+impl Wake for Unparks {
+    fn wake(self: Arc<Self>) {
+        self.0.unpark();
+    }
+}
+
+/// Polls a future on this thread, which is parked meanwhile.
+pub fn block_on<T>(future: impl Future<Output = T>) -> T {
+    let waker = Waker::from(Arc::new(Unparks(thread::current())));
+    let mut future = pin!(future);
+    loop {
+        match future.as_mut().poll(&mut Context::from_waker(&waker)) {
+            Poll::Ready(done) => return done,
+            Poll::Pending => thread::park(),
+        }
+    }
+}
+
+/// A waker that counts how often it is woken.
+#[derive(Default)]
+pub struct Woken(AtomicU64);
+
+impl Woken {
+    pub fn times(&self) -> u64 {
+        self.0.load(Ordering::SeqCst)
+    }
+}
+
+impl Wake for Woken {
+    fn wake(self: Arc<Self>) {
+        self.0.fetch_add(1, Ordering::SeqCst);
+    }
+}
+
+/// Waits until something is so, which comes about soon.
+pub fn until(what: &str, mut is_so: impl FnMut() -> bool) {
+    let began = Instant::now();
+    while !is_so() {
+        assert!(began.elapsed() < Duration::from_secs(60), "{what}");
+        thread::sleep(Duration::from_micros(100));
+    }
+}

@@ -1,0 +1,230 @@
+//! Who waits is woken: what is waited for comes about some milliseconds later, on another thread, and a wake that is lost
+//! is seen since nobody comes within a minute.
+use freeze_queue::{EnterError, EnterTimeoutError, FreezeTimeoutError, Limits, Queue, Tag, TryEnterError};
+use std::sync::atomic::{AtomicBool, AtomicU32, Ordering};
+use std::sync::mpsc::{self, RecvTimeoutError};
+use std::thread;
+use std::time::{Duration, Instant};
+
+mod shared;
+use shared::{LIMITS, block_on, until};
+
+const SOON: Duration = Duration::from_millis(20);
+const LONG: Duration = Duration::from_secs(60);
+
+/// Runs a test on a thread of its own, and fails where it has no end within a minute: as of a wake that is lost.
+fn ends(test: impl FnOnce() + Send + 'static) {
+    let (done, is_done) = mpsc::channel();
+    let runs = thread::spawn(move || {
+        test();
+        done.send(()).unwrap();
+    });
+    match is_done.recv_timeout(LONG) {
+        Err(RecvTimeoutError::Timeout) => panic!("it has no end: a wake is lost"),
+        _ => runs.join().unwrap(),
+    }
+}
+
+fn queue(tags: u32) -> (Queue, Vec<Tag>) {
+    let queue = Queue::new(LIMITS, 2, tags).unwrap();
+    let all = (0..tags).map(|tag| queue.next_tag(tag % 2).unwrap()).collect();
+    (queue, all)
+}
+
+#[test]
+fn a_thaw_wakes_all_who_enter() {
+    ends(|| {
+        let (queue, mut tags) = queue(6);
+        let (frozen, entered) = (queue.freeze().unwrap(), AtomicU32::new(0));
+        thread::scope(|threads| {
+            for (number, tag) in tags.iter_mut().enumerate() {
+                let (queue, entered) = (&queue, &entered);
+                threads.spawn(move || {
+                    match number % 3 {
+                        0 => drop(queue.enter(tag).unwrap()),
+                        1 => drop(queue.enter_timeout(tag, LONG * 60).unwrap()),
+                        _ => drop(block_on(queue.enter_async(tag)).unwrap()),
+                    }
+                    entered.fetch_add(1, Ordering::SeqCst);
+                });
+            }
+            thread::sleep(SOON);
+            let nested = queue.freeze().unwrap();
+            drop(frozen);
+            thread::sleep(SOON);
+            assert_eq!(entered.load(Ordering::SeqCst), 0);
+            drop(nested);
+        });
+        assert_eq!(entered.load(Ordering::SeqCst), 6);
+    });
+}
+
+#[test]
+fn the_end_of_a_device_wakes_all_who_enter() {
+    ends(|| {
+        let (queue, mut tags) = queue(6);
+        let frozen = queue.freeze().unwrap();
+        thread::scope(|threads| {
+            for (number, tag) in tags.iter_mut().enumerate() {
+                let queue = &queue;
+                threads.spawn(move || match number % 3 {
+                    0 => assert_eq!(queue.enter(tag).unwrap_err(), EnterError::Dying),
+                    1 => assert_eq!(queue.enter_timeout(tag, LONG * 60).unwrap_err(), EnterTimeoutError::Dying),
+                    _ => assert_eq!(block_on(queue.enter_async(tag)).unwrap_err(), EnterError::Dying),
+                });
+            }
+            thread::sleep(SOON);
+            frozen.mark_dying();
+        });
+    });
+}
+
+/// The last of two requests that leave wakes two who freeze.
+#[test]
+fn the_last_to_leave_wakes_all_who_freeze() {
+    ends(|| {
+        let (queue, mut tags) = queue(2);
+        let drained = AtomicU32::new(0);
+        let [one, other] = &mut tags[..] else { unreachable!() };
+        thread::scope(|threads| {
+            let (first, last) = (queue.enter(one).unwrap(), queue.enter(other).unwrap());
+            for _ in 0..2 {
+                threads.spawn(|| {
+                    let frozen = queue.freeze().unwrap();
+                    drained.fetch_add(1, Ordering::SeqCst);
+                    drop(frozen);
+                });
+            }
+            threads.spawn(|| {
+                let frozen = queue.freeze_timeout(LONG * 60).unwrap();
+                drained.fetch_add(1, Ordering::SeqCst);
+                drop(frozen);
+            });
+            until("three freeze", || queue.depth() == 3);
+            drop(first);
+            thread::sleep(SOON);
+            assert_eq!(drained.load(Ordering::SeqCst), 0);
+            drop(last);
+        });
+        assert_eq!((drained.load(Ordering::SeqCst), queue.depth()), (3, 0));
+    });
+}
+
+/// A freeze whose patience is at an end thaws: those who wait to enter are woken by that.
+#[test]
+fn a_late_freeze_wakes_those_who_enter() {
+    ends(|| {
+        let (queue, mut tags) = queue(4);
+        let (first, rest) = tags.split_first_mut().unwrap();
+        let request = queue.enter(first).unwrap();
+        thread::scope(|threads| {
+            let late = threads.spawn(|| queue.freeze_timeout(SOON * 4).map(drop));
+            until("it freezes", || queue.depth() == 1);
+            for (number, tag) in rest.iter_mut().enumerate() {
+                let queue = &queue;
+                threads.spawn(move || match number {
+                    0 => drop(queue.enter(tag).unwrap()),
+                    1 => drop(queue.enter_timeout(tag, LONG * 60).unwrap()),
+                    _ => drop(block_on(queue.enter_async(tag)).unwrap()),
+                });
+            }
+            assert_eq!(late.join().unwrap(), Err(FreezeTimeoutError::TimedOut));
+        });
+        drop(request);
+        assert_eq!(queue.depth(), 0);
+    });
+}
+
+/// One whose patience is at an end neither enters nor holds the drain off.
+#[test]
+fn a_late_request_leaves_nothing() {
+    ends(|| {
+        let (queue, mut tags) = queue(2);
+        let (first, rest) = tags.split_first_mut().unwrap();
+        let request = queue.enter(first).unwrap();
+        thread::scope(|threads| {
+            let freezes = threads.spawn(|| drop(queue.freeze().unwrap()));
+            until("it freezes", || queue.depth() == 1);
+            let began = Instant::now();
+            let late = queue.enter_timeout(&mut rest[0], SOON);
+            assert_eq!(late.unwrap_err(), EnterTimeoutError::TimedOut);
+            assert!(began.elapsed() >= SOON && !freezes.is_finished());
+            drop(request);
+            freezes.join().unwrap();
+        });
+        assert!(queue.enter(&mut rest[0]).is_ok());
+    });
+}
+
+/// The drop of an owned request, and of one that looked at a frozen queue, wake who freezes as well.
+#[test]
+fn other_guards_wake_who_freezes() {
+    ends(|| {
+        let (queue, mut tags) = queue(3);
+        let queue = std::sync::Arc::new(queue);
+        let mut frozen_too = tags.pop().unwrap();
+        for how in 0..3 {
+            let request = queue.enter_owned(tags.pop().unwrap_or_else(|| queue.next_tag(0).unwrap())).unwrap();
+            thread::scope(|threads| {
+                let freezes = threads.spawn(|| drop(queue.freeze().unwrap()));
+                until("it freezes", || queue.depth() == 1);
+                let looks = queue.try_enter_frozen(&mut frozen_too).unwrap();
+                if how == 0 {
+                    drop(request);
+                } else {
+                    queue.give_back(request.leave()).unwrap();
+                }
+                thread::sleep(SOON);
+                assert!(!freezes.is_finished());
+                drop(looks);
+            });
+        }
+    });
+}
+
+/// Entering goes on while others' refused tries come and go: each of them may be the one that is told of the drain.
+#[test]
+fn refused_tries_tell_of_the_drain() {
+    ends(|| {
+        let (queue, mut tags) = queue(4);
+        let over = AtomicBool::new(false);
+        thread::scope(|threads| {
+            for (number, tag) in tags.iter_mut().enumerate() {
+                let (queue, over) = (&queue, &over);
+                threads.spawn(move || {
+                    while !over.load(Ordering::SeqCst) {
+                        if number % 2 == 0 {
+                            let _ = queue.try_enter(tag).map(drop);
+                        } else {
+                            let _ = queue.try_enter_frozen(tag).map(drop);
+                        }
+                    }
+                });
+            }
+            for change in 0..3000 {
+                queue.freeze().unwrap().set(Limits { max: 1 + change % 64, ..LIMITS }).unwrap();
+            }
+            over.store(true, Ordering::SeqCst);
+        });
+        assert!(queue.remove().unwrap_err().value.depth() == 0);
+    });
+}
+
+/// What a thread that waits to enter isn't given: a tag of it that it has entered with, or another's queue, at once.
+#[test]
+fn refusals_that_no_thaw_ends_come_at_once() {
+    ends(|| {
+        let ((here, mut tags), (there, _tags)) = (queue(1), queue(1));
+        let (_frozen, _also) = (here.freeze().unwrap(), there.freeze().unwrap());
+        let tag = &mut tags[0];
+        assert_eq!(there.enter(tag).unwrap_err(), EnterError::OtherQueue);
+        assert_eq!(block_on(there.enter_async(tag)).unwrap_err(), EnterError::OtherQueue);
+        assert_eq!(here.try_enter(tag).unwrap_err(), TryEnterError::Frozen);
+    });
+    ends(|| {
+        let (queue, mut tags) = queue(1);
+        std::mem::forget(queue.enter(&mut tags[0]).unwrap());
+        assert_eq!(queue.enter(&mut tags[0]).unwrap_err(), EnterError::StillEntered);
+        assert_eq!(block_on(queue.enter_async(&mut tags[0])).unwrap_err(), EnterError::StillEntered);
+    });
+}

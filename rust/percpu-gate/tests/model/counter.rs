@@ -1,0 +1,63 @@
+//! The model: the plain counter of docs/GATE.md.
+use percpu_gate::{Phase, Start};
+
+/// What a user of a gate means by it.
+#[derive(Clone, Debug, Default)]
+pub struct Counter {
+    pub slots: u32,
+    /// Passes that were not given yet, and that were given and not retired.
+    pub waiting: u32,
+    pub out: u32,
+    pub held: u64,
+    pub killed: bool,
+    pub released: bool,
+    pub on_slots: bool,
+    pub front: u64,
+    pub kills: u64,
+    /// Releases: all that were told, and those that the control knows of.
+    pub told: u64,
+    pub known: u64,
+    pub words: [u64; 8],
+}
+
+impl Counter {
+    pub fn new(slots: u32, passes: u32, start: Start, words: [u64; 8]) -> Counter {
+        let dead = start == Start::Dead;
+        Counter {
+            slots,
+            waiting: passes,
+            killed: dead,
+            released: dead,
+            on_slots: start != Start::Atomic,
+            front: u64::from(dead),
+            words,
+            ..Counter::default()
+        }
+    }
+
+    /// Whether somebody is told now that he was the last.
+    pub fn tells(&mut self) -> bool {
+        let last = self.killed && self.held == 0 && !self.released;
+        self.released |= last;
+        self.told += u64::from(last);
+        last
+    }
+
+    pub fn drops(&mut self) -> bool {
+        self.held -= 1;
+        self.tells()
+    }
+
+    pub fn revives(&mut self) {
+        (self.killed, self.released) = (false, false);
+        self.front += 1;
+    }
+
+    pub fn phase(&self) -> Phase {
+        match (self.killed, self.on_slots) {
+            (true, _) => Phase::Dead,
+            (false, true) => Phase::LiveOnSlots,
+            (false, false) => Phase::LiveAtomic,
+        }
+    }
+}
