@@ -89,6 +89,16 @@ static void pieces(void)
     IS(piece[1], 7); /* to the block's end at 12, of 10 sectors */
     IS(freeze_queue_first_piece(&(freeze_queue_limits){64, 0, 0, 1}, 0, 100, &piece[1]), FREEZE_QUEUE_OK);
     IS(piece[1], 64);
+    /* the greatest of all: from 2^33 - 1, which is 1 past a chunk's end (2^16 is 1 more than 65,535), 65,534 sectors are
+     * allowed, and blocks end after 1 and 32,769 of them */
+    freeze_queue_limits most = {65535, 65535, 65535, 32768};
+    IS(freeze_queue_first_piece(&most, ((uint64_t)1 << 33) - 1, UINT32_MAX, &piece[1]), FREEZE_QUEUE_OK);
+    IS(piece[1], 32769);
+    most.physical = 1;
+    IS(freeze_queue_first_piece(&most, ((uint64_t)1 << 33) - 1, UINT32_MAX, &piece[1]), FREEZE_QUEUE_OK);
+    IS(piece[1], 65534);
+    IS(freeze_queue_first_piece(&(freeze_queue_limits){1, 1, 1, 1}, 0, UINT32_MAX, &piece[1]), FREEZE_QUEUE_OK);
+    IS(piece[1], 1);
     IS(piece[0], 7);
     IS(piece[2], 7);
 }
