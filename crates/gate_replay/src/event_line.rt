@@ -13,7 +13,8 @@ use percpu_core::{ControlEvent, Event, HELD_LIMIT, PassEvent};
 /// The greatest number that a line gives for what was seen in a slot, and less 0 the smallest.
 const MOST_SEEN: i128 = 4_294_967_295;
 
-fn is_all_digits(word: &[u8]) -> bool
+/// Whether a word is of digits alone, as one is that names a pass.
+pub fn is_all_digits(word: &[u8]) -> bool
     ensures { result ≡ list_all is_digit word.now }
 {
     word.iter().all(|byte| b'0' <= *byte && *byte <= b'9')

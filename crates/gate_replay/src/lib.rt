@@ -15,7 +15,10 @@ mod schedule;
 mod schedule_parser;
 mod world_line;
 
+pub use event_line::is_all_digits;
 pub use laws::replays_are_runs;
 pub use replay::{Replay, Replayed, replay_text};
+pub use reply_lines::{push_delta, push_end};
 pub use schedule::{Events, GuardedWords, Schedule};
-pub use schedule_parser::parse_schedule;
+pub use schedule_parser::{next_world, parse_schedule};
+pub use world_line::WorldLine;

@@ -38,8 +38,8 @@ fn push_signed(out: &mut Vec<u8>, number: i64) -> Result<(), AllocError>
     push_number(out, number.unsigned_abs())
 }
 
-/// Appends a delta behind this text.
-fn push_delta(out: &mut Vec<u8>, text: &str, delta: i64) -> Result<(), AllocError>
+/// Appends a delta behind this text. Where memory is refused, some of it may be there.
+pub fn push_delta(out: &mut Vec<u8>, text: &str, delta: i64) -> Result<(), AllocError>
     ensures { OnOk result (out.new.items ≡ out.old.items ++ text.now ++ signed_decimal delta) }
 {
     push_text(out, text)?;
@@ -102,8 +102,8 @@ pub(crate) fn push_stuck(out: &mut Vec<u8>, line: u32, why: NotEnabled) -> Resul
     push_text(out, "\n")
 }
 
-/// Appends the line of a world in which all steps were taken.
-pub(crate) fn push_end(out: &mut Vec<u8>, world: &World) -> Result<(), AllocError>
+/// Appends the line of a world in which all steps were taken. Where memory is refused, some of it may be there.
+pub fn push_end(out: &mut Vec<u8>, world: &World) -> Result<(), AllocError>
     ensures { OnOk result (out.new.items ≡ out.old.items ++ end_line world.now) }
 {
     push_text(out, "end ")?;

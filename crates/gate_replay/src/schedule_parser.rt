@@ -21,8 +21,11 @@ fn gate(text: &mut Statements<'_>) -> Result<(), ParseFault>
     at_line(line, world_line::gate(words))
 }
 
-// Takes the line of the world.
-fn world(alloc: Global, text: &mut Statements<'_>) -> Result<WorldLine, ScriptFault>
+/// Takes the next line, which has to be that of a world.
+///
+/// Refused with `Parse` for its first fault, of the line after the last where no line is left; with `Memory` only
+/// where a growth of memory was refused. After a refusal the line is taken as well.
+pub fn next_world(alloc: Global, text: &mut Statements<'_>) -> Result<WorldLine, ScriptFault>
     ensures said { Tells opened result (world_in text.old) }
     ensures rest { text.new ≡ after_first text.old }
     ensures within { IfOk result (λ world. IsWithinLimits (opened world)) }
@@ -62,7 +65,7 @@ pub fn parse_schedule(alloc: Global, bytes: &[u8]) -> Result<Schedule, ScriptFau
 {
     let mut text = Statements::new(bytes)?;
     gate(&mut text)?;
-    let world = world(alloc, &mut text)?;
+    let world = next_world(alloc, &mut text)?;
     let events = events(alloc, text)?;
     Ok(Schedule {
         slots: world.slots,

@@ -12,12 +12,15 @@ use std::alloc::Global;
 
 /// The world that a line tells.
 #[derive(Debug, Drop)]
-pub(crate) struct WorldLine {
-    pub(crate) slots: u32,
-    pub(crate) passes: u32,
-    pub(crate) start: Start,
-    pub(crate) kills: u64,
-    pub(crate) words: GuardedWords,
+pub struct WorldLine {
+    /// The slots of the gate: 1 to 64.
+    pub slots: u32,
+    /// The passes of the gate: 1 to 64.
+    pub passes: u32,
+    pub start: Start,
+    /// The kills that the gate starts with: 0 to 2^40.
+    pub kills: u64,
+    pub words: GuardedWords,
 }
 
 /// Whether the line is that of the version.

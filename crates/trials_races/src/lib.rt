@@ -1,7 +1,9 @@
-//! Races tried out: how many moments some of them have.
+//! Races tried out: how many moments some of them have, and what is read where they are written down.
 //!
 //! There are tests here and nothing else, above the crates that they try.
 #![tactic(auto)]
 
 #[cfg(test)]
 mod tests;
+#[cfg(test)]
+mod texts;

@@ -1,0 +1,2 @@
+-- The calls of a line, one after another (Parts).
+pub mod Parts
