@@ -59,6 +59,7 @@
 #![deny(missing_docs, unsafe_op_in_unsafe_fn)]
 
 mod answer;
+mod direct;
 mod enter_async;
 mod entered;
 mod errors;

@@ -7,6 +7,7 @@
 #![allow(unsafe_code)]
 
 use crate::answer::Answer;
+use crate::direct::called;
 use crate::limits::Limits;
 use std::cell::UnsafeCell;
 use std::ffi::{CStr, c_char, c_void};
@@ -107,7 +108,7 @@ impl TagHandle {
     #[inline]
     pub(crate) fn try_enter(&self, slot: u32) -> Answer {
         // SAFETY: "one call at a time on a handle": the type isn't Sync. "No pointer is null."
-        let answer = unsafe { freeze_queue_try_enter(self.raw.get(), slot) };
+        let answer = unsafe { called!(freeze_queue_try_enter(self.raw.get(), slot)) };
         self.order().acquires_if(answer == Answer::OK || answer == Answer::NOT_ENTERED_LAST);
         answer
     }
@@ -123,7 +124,7 @@ impl TagHandle {
     pub(crate) fn leave(&self, slot: u32) -> Answer {
         self.order().releases();
         // SAFETY: "one call at a time on a handle": the type isn't Sync. "No pointer is null."
-        let answer = unsafe { freeze_queue_leave(self.raw.get(), slot) };
+        let answer = unsafe { called!(freeze_queue_leave(self.raw.get(), slot)) };
         self.order().acquires_if(answer == Answer::LAST);
         answer
     }
@@ -132,7 +133,7 @@ impl TagHandle {
     pub(crate) fn limits(&self) -> Result<Limits, Answer> {
         let mut limits = Limits { hardware: 0, max: 0, chunk: 0, physical: 0 };
         // SAFETY: "one call at a time on a handle": the type isn't Sync; "what a call writes to" is a local.
-        let answer = unsafe { freeze_queue_limits_of(self.raw.get(), &raw mut limits) };
+        let answer = unsafe { called!(freeze_queue_limits_of(self.raw.get(), &raw mut limits)) };
         if answer == Answer::OK { Ok(limits) } else { Err(answer) }
     }
 

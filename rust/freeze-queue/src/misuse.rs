@@ -215,20 +215,18 @@
 //! ```
 //! # use freeze_queue::{Limits, Queue};
 //! # let queue = Queue::new(Limits::of_hardware(64), 2, 2).unwrap();
-//! # use std::mem;
 //! let (mut one, mut other) = (queue.next_tag(0).unwrap(), queue.next_tag(1).unwrap());
 //! let mut request = queue.enter(&mut one).unwrap();
 //! request.use_slot(1).unwrap();
 //! drop(request);
-//! mem::swap(&mut one, &mut other);
+//! std::mem::swap(&mut one, &mut other);
 //! ```
 //! ```compile_fail,E0499
 //! # use freeze_queue::{Limits, Queue};
 //! # let queue = Queue::new(Limits::of_hardware(64), 2, 2).unwrap();
-//! # use std::mem;
 //! let (mut one, mut other) = (queue.next_tag(0).unwrap(), queue.next_tag(1).unwrap());
 //! let request = queue.enter(&mut one).unwrap();
-//! mem::swap(&mut one, &mut other);
+//! std::mem::swap(&mut one, &mut other);
 //! drop(request);
 //! ```
 //! ```compile_fail,E0499
@@ -310,7 +308,7 @@
 //! frozen.set(Limits::of_hardware(64)).unwrap();
 //! ```
 //!
-//! # A freeze that is thawed twice
+//! # A freeze that is thawed twice, or copied
 //!
 //! `NOT_FROZEN`:
 //!
@@ -333,6 +331,12 @@
 //! let frozen = queue.freeze().unwrap();
 //! frozen.mark_dying();
 //! drop(frozen);
+//! ```
+//! ```compile_fail,E0599
+//! # use freeze_queue::{Limits, Queue};
+//! # let queue = Queue::new(Limits::of_hardware(64), 2, 2).unwrap();
+//! let frozen = queue.freeze().unwrap();
+//! let another = frozen.clone();
 //! ```
 //!
 //! # A queue that is removed while it is used, or used after it
@@ -381,19 +385,16 @@
 //! ```compile_fail,E0451
 //! # use freeze_queue::{Limits, Queue};
 //! # let queue = Queue::new(Limits::of_hardware(64), 2, 2).unwrap();
-//! # use freeze_queue::Tag;
-//! let forged = Tag { slot: 64, ..queue.next_tag(0).unwrap() };
+//! let forged = freeze_queue::Tag { slot: 64, ..queue.next_tag(0).unwrap() };
 //! ```
 //! ```compile_fail,E0451
 //! # use freeze_queue::{Limits, Queue};
 //! # let queue = Queue::new(Limits::of_hardware(64), 2, 2).unwrap();
-//! # use freeze_queue::Frozen;
-//! let forged = Frozen { queue: &queue };
+//! let forged = freeze_queue::Frozen { queue: &queue };
 //! ```
 //! ```compile_fail,E0451
 //! # use freeze_queue::{Limits, Queue};
 //! # let queue = Queue::new(Limits::of_hardware(64), 2, 2).unwrap();
-//! # use freeze_queue::Entered;
 //! # let mut tag = queue.next_tag(0).unwrap();
-//! let forged = Entered { queue: &queue, tag: &mut tag, limits: queue.limits() };
+//! let forged = freeze_queue::Entered { queue: &queue, tag: &mut tag, limits: queue.limits() };
 //! ```

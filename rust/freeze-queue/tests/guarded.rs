@@ -85,8 +85,12 @@ fn change(queue: &Queue, device: &Device, requests: &AtomicU64, lives: u64) -> u
             1 => queue.try_freeze().unwrap_or_else(|_| queue.freeze().unwrap()),
             _ => queue.freeze().unwrap(),
         };
-        frozen.set(Limits { max, ..LIMITS }).unwrap();
+        let set = || frozen.set(Limits { max, ..LIMITS }).unwrap();
+        if life.is_multiple_of(2) {
+            set();
+        }
         served += device.renew(max);
+        set(); // here or above, nobody is under way
     }
     served
 }

@@ -2,28 +2,14 @@
 //! is seen since nobody comes within a minute.
 use freeze_queue::{EnterError, EnterTimeoutError, FreezeTimeoutError, Limits, Queue, Tag, TryEnterError};
 use std::sync::atomic::{AtomicBool, AtomicU32, Ordering};
-use std::sync::mpsc::{self, RecvTimeoutError};
 use std::thread;
 use std::time::{Duration, Instant};
 
 mod shared;
-use shared::{LIMITS, block_on, until};
+use shared::{LIMITS, block_on, ends, until};
 
 const SOON: Duration = Duration::from_millis(20);
 const LONG: Duration = Duration::from_secs(60);
-
-/// Runs a test on a thread of its own, and fails where it has no end within a minute: as of a wake that is lost.
-fn ends(test: impl FnOnce() + Send + 'static) {
-    let (done, is_done) = mpsc::channel();
-    let runs = thread::spawn(move || {
-        test();
-        done.send(()).unwrap();
-    });
-    match is_done.recv_timeout(LONG) {
-        Err(RecvTimeoutError::Timeout) => panic!("it has no end: a wake is lost"),
-        _ => runs.join().unwrap(),
-    }
-}
 
 fn queue(tags: u32) -> (Queue, Vec<Tag>) {
     let queue = Queue::new(LIMITS, 2, tags).unwrap();

@@ -73,6 +73,7 @@
 
 mod answer;
 mod control;
+mod direct;
 mod errors;
 mod gate;
 mod handed_back;

@@ -7,6 +7,7 @@
 #![allow(unsafe_code)]
 
 use crate::answer::Answer;
+use crate::direct::called;
 use std::cell::UnsafeCell;
 use std::ffi::{CStr, c_char, c_void};
 use std::ptr;
@@ -103,14 +104,14 @@ unsafe impl Send for PassHandle {}
 impl PassHandle {
     pub(crate) fn try_get(&self, slot: u32) -> Answer {
         // SAFETY: "one call at a time on a handle": the type isn't Sync. "No pointer is null."
-        let answer = unsafe { percpu_gate_try_get(self.0.get(), slot) };
+        let answer = unsafe { called!(percpu_gate_try_get(self.0.get(), slot)) };
         self.order().acquires_if(answer == Answer::OK || answer == Answer::NOT_GIVEN_LAST);
         answer
     }
 
     pub(crate) fn try_get_live(&self, slot: u32) -> Answer {
         // SAFETY: "one call at a time on a handle": the type isn't Sync. "No pointer is null."
-        let answer = unsafe { percpu_gate_try_get_live(self.0.get(), slot) };
+        let answer = unsafe { called!(percpu_gate_try_get_live(self.0.get(), slot)) };
         self.order().acquires_if(answer == Answer::OK || answer == Answer::NOT_GIVEN_LAST);
         answer
     }
@@ -123,7 +124,7 @@ impl PassHandle {
     pub(crate) fn put(&self, slot: u32, n: u32) -> Answer {
         self.order().releases();
         // SAFETY: "one call at a time on a handle": the type isn't Sync. "No pointer is null."
-        let answer = unsafe { percpu_gate_put(self.0.get(), slot, n) };
+        let answer = unsafe { called!(percpu_gate_put(self.0.get(), slot, n)) };
         self.order().acquires_if(answer == Answer::LAST);
         answer
     }
