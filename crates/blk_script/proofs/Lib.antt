@@ -1,4 +1,5 @@
--- Joins: texts that join parts by a byte. Replies: one reply more. OneText: a script has one text.
+-- Joins: texts that join parts by a byte. ClosedRuns: runs whose text is made while more come. Replies: one reply more. OneText: a script has one text.
+pub mod ClosedRuns
 pub mod Joins
 pub mod OneText
 pub mod Replies

@@ -1,6 +1,7 @@
--- Parsing and Grammar: which script a text means. Texts: the line of each reply. Answer: what a run on one thread writes. Machine is of the
+-- Parsing and Grammar: which script a text means. Texts: the line of each reply. Answer: what a run on one thread writes. Closed and Machine are of the
 -- code behind that run.
 pub mod Answer
+pub mod Closed
 pub mod Grammar
 pub mod Machine
 pub mod Parsing

@@ -14,11 +14,12 @@ mod machine;
 mod parser;
 mod rendering;
 mod run;
+mod sector_runs;
 
 pub use laws::one_text;
 pub use line_text::{Overlap, ParseFault, ScriptFault, Why, Words, number, words};
 pub use parser::parse;
-pub use rendering::{render, render_disk};
+pub use rendering::{push_disk, render, render_disk, render_read};
 pub use run::run_alone;
 pub use script_meaning::{
     ByteRuns, Line, Mode, Pattern, PieceLengths, Reply, Script, Stat, Version, What,

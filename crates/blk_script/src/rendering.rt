@@ -1,21 +1,47 @@
 //! The texts of replies and of the disk.
-ghost use Rattle.std.specs.Prelude.{◌≡◌, ◌++◌, ◌∷◌, [], ℕ, List, OnOk, IfOk, IfErr, codes, decimal};
+ghost use Rattle.std.specs.Prelude.{◌≡◌, ◌++◌, ◌∷◌, [], ◌<◌, ℕ, List, OnOk, IfOk, IfErr, codes, decimal};
+ghost use Rattle.hex.specs.Hex.{encode_lower};
 ghost use Rattle.line_text.specs.Named.{named};
 ghost use Rattle.blk_script.specs.Texts.{pieces_text, run_text, runs_text, named_mode, physical_text, counts_text, reply_text, reply_line, disk_line};
 ghost use Rattle.ram_disk.specs.Runs.{IsRuns};
 ghost use Rattle.ram_disk.specs.Sector.{bytes_of};
+ghost use Rattle.script_meaning.specs.declared.reply.Reply.TheVariants.{Data};
 
+use crate::sector_runs::push_sectors;
 use line_text::{ScriptFault, push_hex, push_named, push_number, push_text};
-use ram_disk::Disk;
+use ram_disk::{Disk, Sector};
 use script_meaning::{Mode, Reply, Stat};
 use std::alloc::{AllocError, Global};
 
-fn push_run(out: &mut Vec<u8>, run: (u8, u64)) -> Result<(), AllocError>
+// The two digits of a byte.
+fn hex_digits(byte: u8) -> [u8; 2]
+    ensures { result ≡ encode_lower (byte ∷ []) }
+{
+    let mut digits = [0; 2];
+    let _ = hex::encode_to_slice([byte].as_slice(), &mut digits);
+    digits
+}
+
+// Appends a run that is shorter than ten bytes, as most are where there are many, in one step.
+fn push_short_run(out: &mut Vec<u8>, byte: u8, count: u8) -> Result<(), AllocError>
+    requires { count < 10 }
+    ensures { OnOk result (out.new.items ≡ out.old.items ++ run_text (byte, count)) }
+{
+    let [high, low] = hex_digits(byte);
+    out.extend_from_slice(&[high, low, b'*', b'0' + count])
+}
+
+/// Appends a run.
+pub(crate) fn push_run(out: &mut Vec<u8>, run: (u8, u64)) -> Result<(), AllocError>
     ensures { OnOk result (out.new.items ≡ out.old.items ++ run_text run) }
 {
-    push_hex(out, run.0)?;
+    let (byte, count) = run;
+    if count < 10 {
+        return push_short_run(out, byte, count as u8);
+    }
+    push_hex(out, byte)?;
     push_text(out, "*")?;
-    push_number(out, run.1)
+    push_number(out, count)
 }
 
 fn push_pieces(out: &mut Vec<u8>, pieces: &[u32]) -> Result<(), AllocError>
@@ -30,7 +56,8 @@ fn push_pieces(out: &mut Vec<u8>, pieces: &[u32]) -> Result<(), AllocError>
     Ok(())
 }
 
-fn push_runs(out: &mut Vec<u8>, runs: &[(u8, u64)]) -> Result<(), AllocError>
+/// Appends runs.
+pub(crate) fn push_runs(out: &mut Vec<u8>, runs: &[(u8, u64)]) -> Result<(), AllocError>
     ensures { OnOk result (out.new.items ≡ out.old.items ++ runs_text runs.now) }
 {
     for (index, run) in runs.iter().enumerate() {
@@ -128,14 +155,35 @@ pub fn render(alloc: Global, number: u32, reply: &Reply) -> Result<Vec<u8>, Scri
     Ok(line)
 }
 
-/// Appends the line of a disk.
-pub(crate) fn push_disk(out: &mut Vec<u8>, alloc: Global, disk: &Disk) -> Result<(), ScriptFault>
+/// The line of a read's reply to the script's line of this number, its line feed included: the lengths of its pieces, and the
+/// runs of the sectors that it found. `Memory` is the only refusal.
+pub fn render_read(
+    alloc: Global,
+    number: u32,
+    pieces: &[u32],
+    found: &[Sector],
+) -> Result<Vec<u8>, ScriptFault>
+    ensures line { IfOk result (λ line. (runs : List (ℕ × ℕ)) × IsRuns runs (bytes_of found.now) × (line.items ≡ reply_line (number, Data pieces.now runs))) }
+    ensures fault { IfErr result (λ fault. fault ≡ ScriptFault.Memory) }
+{
+    let mut line = Vec::with_capacity(alloc, USUAL_LINE)?;
+    push_number(&mut line, u64::from(number))?;
+    push_text(&mut line, " ")?;
+    push_text(&mut line, "ok ")?;
+    push_pieces(&mut line, pieces)?;
+    push_text(&mut line, " ")?;
+    push_sectors(&mut line, alloc, found)?;
+    push_text(&mut line, "\n")?;
+    Ok(line)
+}
+
+/// Appends the line of a disk, its line feed included. `Memory` is the only refusal.
+pub fn push_disk(out: &mut Vec<u8>, alloc: Global, disk: &Disk) -> Result<(), ScriptFault>
     ensures line { OnOk result ((runs : List (ℕ × ℕ)) × IsRuns runs (bytes_of disk.now) × (out.new.items ≡ out.old.items ++ disk_line runs)) }
     ensures fault { IfErr result (λ fault. fault ≡ ScriptFault.Memory) }
 {
-    let runs = disk.all_runs(alloc).map_err(|_| ScriptFault::Memory)?;
     push_text(out, "disk ")?;
-    push_runs(out, &runs)?;
+    push_sectors(out, alloc, disk.sectors())?;
     push_text(out, "\n")?;
     Ok(())
 }

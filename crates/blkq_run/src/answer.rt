@@ -7,7 +7,7 @@ ghost use Rattle.blkq_run.specs.Faults.{IsInside, IsRefusal};
 ghost use Rattle.script_meaning.specs.Script.{Meant};
 
 use crate::fault::Fault;
-use blk_script::{check, parse, render_disk};
+use blk_script::{check, parse, push_disk};
 use blk_workers::{Config, Ran, Stall, run};
 use std::alloc::Global;
 use std::sync::Wait;
@@ -24,12 +24,9 @@ fn text_of(alloc: Global, ran: Ran) -> Result<Vec<u8>, Fault>
         drawn: _,
     } = ran;
     let mut text = replies;
-    let Ok(line) = render_disk(alloc, &disk) else {
+    let Ok(()) = push_disk(&mut text, alloc, &disk) else {
         return Err(Fault::Memory);
     };
-    if text.extend_from_slice(&line).is_err() {
-        return Err(Fault::Memory);
-    }
     Ok(text)
 }
 

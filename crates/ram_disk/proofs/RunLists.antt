@@ -1,7 +1,7 @@
 -- Lists of maximal runs: how one grows at its end, and that the same bytes have only one.
 use Rattle.std.proofs.Common.{◌≡◌, ◌≢◌, ℕ, zero, suc, ◌+◌, ◌-◌, ◌<◌, ◌≤◌, List, [], ◌∷◌, ◌++◌, length, get_or, set, take, replicate, Some, All, refl, sym, ap, subst, ◌∙◌, append_assoc, length-append, arith}
 use Rattle.std.proofs.lemmas.List.{append-nil, replicate-append-replicate, length-replicate, take_more, take_all, set_at, length-take-le}
-use Rattle.std.proofs.lemmas.List.Elements.{All-nil, All-push, All-pop, All-head, All-tail}
+use Rattle.std.proofs.lemmas.List.Elements.{All-nil, All-cons, All-append, All-push, All-pop, All-head, All-tail}
 use Rattle.ram_disk.specs.Runs.{bytes_of_runs, NeighboursDiffer, IsRuns}
 
 abbrev IsPositive : ℕ × ℕ → Type 0
@@ -166,3 +166,69 @@ same_runs (run ∷ runs) (other ∷ others) positive some differ apart e =
 pub same_from_IsRuns : (bytes : List ℕ) (runs others : List (ℕ × ℕ)) → IsRuns runs bytes → IsRuns others bytes → runs ≡ others
 same_from_IsRuns bytes runs others first second =
     same_runs runs others first.not_empty second.not_empty first.maximal second.maximal (first.whole ∙ sym second.whole)
+
+-- ---- a list of runs of which all but the last are taken away while it grows
+
+All-front : (runs others : List (ℕ × ℕ)) → All IsPositive (runs ++ others) → All IsPositive runs
+All-front [] others positive = All-nil IsPositive
+All-front (run ∷ runs) others positive =
+    All-cons IsPositive run runs (All-head IsPositive run (runs ++ others) positive) (All-front runs others (All-tail IsPositive run (runs ++ others) positive))
+
+All-rest : (runs others : List (ℕ × ℕ)) → All IsPositive (runs ++ others) → All IsPositive others
+All-rest [] others positive = positive
+All-rest (run ∷ runs) others positive = All-rest runs others (All-tail IsPositive run (runs ++ others) positive)
+
+NeighboursDiffer-rest : (runs others : List (ℕ × ℕ)) → NeighboursDiffer (runs ++ others) → NeighboursDiffer others
+NeighboursDiffer-rest [] others differ = differ
+NeighboursDiffer-rest (run ∷ []) [] differ = tt
+NeighboursDiffer-rest (run ∷ []) (other ∷ others) differ = differ.1
+NeighboursDiffer-rest (run ∷ next ∷ runs) others differ = NeighboursDiffer-rest (next ∷ runs) others differ.1
+
+-- other runs that begin with the same byte may stand in their place
+NeighboursDiffer-others : (taken : List (ℕ × ℕ)) (run other : ℕ × ℕ) (runs others : List (ℕ × ℕ)) → run.0 ≡ other.0 → NeighboursDiffer (taken ++ run ∷ runs) → NeighboursDiffer (other ∷ others) → NeighboursDiffer (taken ++ other ∷ others)
+NeighboursDiffer-others [] run other runs others same differ apart = apart
+NeighboursDiffer-others (first ∷ []) run other runs others same differ apart = (λ e. differ.0 (e ∙ sym same), apart)
+NeighboursDiffer-others (first ∷ next ∷ taken) run other runs others same differ apart = (differ.0, NeighboursDiffer-others (next ∷ taken) run other runs others same differ.1 apart)
+
+-- the runs that are left are maximal
+pub left_runs : (taken left : List (ℕ × ℕ)) (bytes : List ℕ) → IsRuns (taken ++ left) bytes → IsRuns left (bytes_of_runs left)
+left_runs taken left bytes is = record {
+  whole = refl;
+  not_empty = All-rest taken left is.not_empty;
+  maximal = NeighboursDiffer-rest taken left is.maximal;
+}
+
+-- and no longer than the bytes
+pub left_runs-le : (taken left : List (ℕ × ℕ)) (bytes : List ℕ) → IsRuns (taken ++ left) bytes → length (bytes_of_runs left) ≤ length bytes
+left_runs-le taken left bytes is =
+    let e = ap length (sym (bytes_of_runs-append taken left) ∙ is.whole) in
+    omega (arith, e, length-append (bytes_of_runs taken) (bytes_of_runs left))
+
+no_bytes_of : (run : ℕ × ℕ) (bytes : List ℕ) → IsPositive run → [] ≡ replicate run.1 run.0 ++ bytes → ⊥
+no_bytes_of run bytes some e =
+    let none = ap length e in
+    omega (arith, none, some, length-append (replicate run.1 run.0) bytes, length-replicate run.1 run.0)
+
+-- the bytes go on, and what is left becomes the runs of its own bytes and those
+pub more_runs : (taken left grown : List (ℕ × ℕ)) (bytes more : List ℕ) → (length left ≡ 0 → length taken ≡ 0) → IsRuns (taken ++ left) bytes → IsRuns grown (bytes_of_runs left ++ more) → IsRuns (taken ++ grown) (bytes ++ more)
+more_runs [] [] grown bytes more some is next = subst (λ b. IsRuns grown (b ++ more)) is.whole next
+more_runs (run ∷ taken) [] grown bytes more some is next = absurd (let none = some refl in omega (arith, none))
+more_runs taken (run ∷ left) [] bytes more some is next =
+    absurd (no_bytes_of run (bytes_of_runs left ++ more) (All-head IsPositive run left (All-rest taken (run ∷ left) is.not_empty)) (next.whole ∙ append_assoc (replicate run.1 run.0) (bytes_of_runs left) more))
+more_runs taken (run ∷ left) (first ∷ grown) bytes more some is next =
+    let positive = All-head IsPositive run left (All-rest taken (run ∷ left) is.not_empty) in
+    let same = first_byte run.0 run.1 first.0 first.1 (bytes_of_runs left ++ more) (bytes_of_runs grown) positive (All-head IsPositive first grown next.not_empty)
+    (sym (append_assoc (replicate run.1 run.0) (bytes_of_runs left) more) ∙ sym next.whole) in
+    record {
+      whole = bytes_of_runs-append taken (first ∷ grown)
+          ∙ ap (λ b. bytes_of_runs taken ++ b) next.whole
+          ∙ sym (append_assoc (bytes_of_runs taken) (bytes_of_runs (run ∷ left)) more)
+          ∙ ap (λ b. b ++ more) (sym (bytes_of_runs-append taken (run ∷ left)) ∙ is.whole);
+      not_empty = All-append IsPositive taken (first ∷ grown) (All-front taken (run ∷ left) is.not_empty) next.not_empty;
+      maximal = NeighboursDiffer-others taken run first left grown same is.maximal next.maximal;
+    }
+
+-- where bytes came there are runs
+pub some_runs : (runs : List (ℕ × ℕ)) (bytes more : List ℕ) → 0 < length more → IsRuns runs (bytes ++ more) → length runs ≡ 0 → ⊥
+some_runs [] bytes more some is none = let e = ap length is.whole in omega (arith, e, some, length-append bytes more)
+some_runs (run ∷ runs) bytes more some is none = omega (arith, none)

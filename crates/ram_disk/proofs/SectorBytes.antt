@@ -1,6 +1,6 @@
 -- The bytes of sectors laid end to end.
-use Rattle.std.proofs.Common.{◌≡◌, ℕ, zero, suc, ◌+◌, ◌*◌, ◌<◌, ◌≤◌, List, [], ◌∷◌, ◌++◌, length, take, drop, replicate, All, refl, sym, ap, ◌∙◌, append_assoc, length-append, length-drop, arith}
-use Rattle.std.proofs.lemmas.List.{append-nil, length-replicate, replicate-append-replicate, take_at, drop_at, take-append-drop, length-take-le}
+use Rattle.std.proofs.Common.{◌≡◌, ℕ, zero, suc, ◌+◌, ◌*◌, ◌<◌, ◌≤◌, List, [], ◌∷◌, ◌++◌, length, get_or, take, drop, replicate, All, refl, sym, ap, ◌∙◌, append_assoc, length-append, length-drop, arith}
+use Rattle.std.proofs.lemmas.List.{append-nil, length-replicate, replicate-append-replicate, take_at, drop_at, take-append-drop, take_more, length-take-le}
 use Rattle.std.proofs.lemmas.List.Elements.{All-head, All-tail, All-take, All-drop, All-replicate}
 use Rattle.ram_disk.specs.declared.sector.TheConstants.{SECTOR_BYTES}
 use Rattle.ram_disk.specs.Sector.{IsSector, filled_with, bytes_of}
@@ -18,6 +18,11 @@ bytes_of-append (sector ∷ sectors) others =
 
 pub bytes_of-push : (sectors : List (List ℕ)) (sector : List ℕ) → bytes_of (sectors ++ sector ∷ []) ≡ bytes_of sectors ++ sector
 bytes_of-push sectors sector = bytes_of-append sectors (sector ∷ []) ∙ ap (λ bytes. bytes_of sectors ++ bytes) (append-nil sector)
+
+-- the bytes of the sectors so far, and of one sector more
+pub bytes_of-more : (sectors : List (List ℕ)) (index : ℕ) (sector : List ℕ) → index < length sectors → sector ≡ get_or sectors index sector → bytes_of (take (index + 1) sectors) ≡ bytes_of (take index sectors) ++ sector
+bytes_of-more sectors index sector within is =
+    ap bytes_of (take_more sectors index sector within ∙ ap (λ s. take index sectors ++ s ∷ []) (sym is)) ∙ bytes_of-push (take index sectors) sector
 
 pub length-bytes_of : (sectors : List (List ℕ)) → All IsSector sectors → length (bytes_of sectors) ≡ length sectors * SECTOR_BYTES
 length-bytes_of [] whole = refl

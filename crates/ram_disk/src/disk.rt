@@ -86,6 +86,14 @@ impl Disk {
         replace(&mut self.sectors, start as usize, sectors);
     }
 
+    /// The disk's sectors, in the order of their numbers.
+    pub fn sectors(&self) -> &[Sector]
+        ensures value { result.now ≡ self.now }
+        ensures disk { IsDisk self.now }
+    {
+        &self.sectors
+    }
+
     /// The maximal runs of equal bytes of the whole disk, as `runs` gives them. `Memory` is its only refusal.
     pub fn all_runs(&self, alloc: Global) -> Result<Vec<(u8, u64)>, DiskFault>
         ensures runs { IfOk result (λ runs. IsRuns runs.items (bytes_of self.now)) }

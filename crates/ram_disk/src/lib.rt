@@ -8,7 +8,8 @@
 //!   stays as it was read, whatever is written later, so another thread can look at it.
 //! - A write has two halves. [`patterned`] makes the new sectors, which can fail for want of memory, and
 //!   [`Disk::install`] moves them into the disk, which can't. So a write that fails has changed nothing.
-//! - [`runs`] and [`Disk::all_runs`] give the bytes as maximal runs of equal bytes.
+//! - [`runs`] and [`Disk::all_runs`] give the bytes as maximal runs of equal bytes, and [`add_sector`] those of one
+//!   sector more.
 //!
 //! Contracts see a sector as the list of its bytes, and a disk as the list of its sectors.
 //!
@@ -38,5 +39,5 @@ pub use laws::{
     disjoint_writes_commute, reads_beside_writes_stay, sectors_after_a_write, sizes_in_numbers,
 };
 pub use pattern::{MAX_PATTERN, patterned};
-pub use run::{one_list_of_runs, runs};
+pub use run::{add_sector, one_list_of_runs, runs};
 pub use sector::{SECTOR_BYTES, Sector};

@@ -35,8 +35,10 @@ pub fn one_list_of_runs()
         → IsRuns second bytes → first ≡ second }
 {}
 
-// Adds the runs of one more sector.
-fn add_sector(runs: &mut Vec<Run>, sector: &Sector) -> Result<(), DiskFault>
+/// Adds the runs of one more sector to maximal runs: the last of these gets longer where the sector goes on with its
+/// byte. So a caller who has no room for all runs of a long range can take them sector by sector: once a sector is added, no
+/// other makes any but the last longer. `Memory` is the only refusal.
+pub fn add_sector(runs: &mut Vec<(u8, u64)>, sector: &Sector) -> Result<(), DiskFault>
     requires maximal { IsRuns runs.old.items (bytes_of_runs runs.old.items) }
     requires room { length (bytes_of_runs runs.old.items) + SECTOR_BYTES < 2 ^ 64 }
     ensures ok { OnOk result

@@ -1,16 +1,17 @@
 //! What a worker makes of a request: the line of its reply, and the sectors that a write leaves.
-ghost use Rattle.std.specs.Prelude.{◌≡◌, IfSome};
+ghost use Rattle.std.specs.Prelude.{◌≡◌, ℕ, List, IfSome};
 ghost use Rattle.queue_limits.specs.Pieces.{IsSplit};
 ghost use Rattle.ram_disk.specs.Runs.{IsRuns};
 ghost use Rattle.ram_disk.specs.Sector.{bytes_of};
 ghost use Rattle.ram_disk.specs.Pattern.{pattern_sectors};
 ghost use Rattle.blk_script.specs.Texts.{reply_line};
+ghost use Rattle.script_meaning.specs.declared.reply.Reply.TheVariants.{Data};
 ghost use Rattle.run_desk.specs.Requests.{IsDue, IsAnswer, IsReadAnswer, IsWriteAnswer};
 
-use blk_script::render;
+use blk_script::{render, render_read};
 use queue_limits::Limits;
-use ram_disk::{Sector, patterned, runs};
-use script_meaning::{ByteRuns, Pattern, PieceLengths, Reply, Script, What};
+use ram_disk::{Sector, patterned};
+use script_meaning::{Pattern, PieceLengths, Reply, Script, What};
 use std::alloc::Global;
 
 /// The answer to a request: the line of its reply, and the sectors that a write leaves.
@@ -28,19 +29,18 @@ fn pieces(alloc: Global, limits: Limits, start: u32, count: u32) -> Option<Piece
     Some(PieceLengths::new(lengths))
 }
 
-// The runs of these sectors' bytes.
-fn runs_of(alloc: Global, sectors: &[Sector]) -> Option<ByteRuns>
-    ensures { IfSome result (λ found. IsRuns found (bytes_of sectors.now)) }
-{
-    let found = runs(alloc, sectors).ok()?;
-    Some(ByteRuns::new(found))
-}
-
 // The line of a reply.
 fn told(alloc: Global, number: u32, reply: &Reply) -> Option<Vec<u8>>
     ensures { IfSome result (λ text. text.items ≡ reply_line (number, reply.now)) }
 {
     render(alloc, number, reply).ok()
+}
+
+// The line of a read's reply: its pieces, and the runs of the sectors that it found.
+fn told_read(alloc: Global, number: u32, pieces: &PieceLengths, found: &[Sector]) -> Option<Vec<u8>>
+    ensures { IfSome result (λ text. (runs : List (ℕ × ℕ)) × IsRuns runs (bytes_of found.now) × (text.items ≡ reply_line (number, Data pieces.now runs))) }
+{
+    render_read(alloc, number, pieces.as_slice(), found).ok()
 }
 
 // The sectors of a write.
@@ -62,8 +62,7 @@ fn read(
     ensures { IfSome result (λ answer. IsReadAnswer number limits start count found.now answer.text.items answer.sectors.items) }
 {
     let pieces = pieces(alloc, limits, start, count)?;
-    let runs = runs_of(alloc, found)?;
-    let text = told(alloc, number, &Reply::Data { pieces, runs })?;
+    let text = told_read(alloc, number, &pieces, found)?;
     Some(Answer {
         text,
         sectors: Vec::new(alloc),

@@ -6,12 +6,14 @@ use Rattle.script_meaning.specs.declared.reply.Reply.TheVariants.{Data}
 use Rattle.run_desk.proofs.answer.read.Goals as goal
 
 pub returns : goal.returns
-returns c = record {
-  reply = Data c.in_ok-pieces.pieces c.in_ok-runs.runs;
-  told = c.in_ok-text.ensures;
-  right = λ s limits found. (
-    subst (λ l. IsSplit l c.args.start c.args.count c.in_ok-pieces.pieces) limits c.in_ok-pieces.ensures,
-    subst (λ f. IsRuns c.in_ok-runs.runs (bytes_of f)) found c.in_ok-runs.ensures,
-  );
-  leaves = c.new.ensures.items;
-}
+returns c =
+    let told = c.in_ok-text.ensures in
+    record {
+      reply = Data c.in_ok-pieces.pieces told.0;
+      told = told.2;
+      right = λ s limits found. (
+        subst (λ l. IsSplit l c.args.start c.args.count c.in_ok-pieces.pieces) limits c.in_ok-pieces.ensures,
+        subst (λ f. IsRuns told.0 (bytes_of f)) found told.1,
+      );
+      leaves = c.new.ensures.items;
+    }
