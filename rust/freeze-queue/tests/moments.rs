@@ -18,10 +18,13 @@ impl Round {
         self.0.store(round, Ordering::SeqCst);
     }
 
+    /// Looks without a pause, so that both go on at the same moment; where others have the processor it is given up at last.
     fn wait_for(&self, round: u64) {
-        while self.0.load(Ordering::SeqCst) < round {
-            linger(50);
-            thread::yield_now();
+        for looks in 1_u32.. {
+            if self.0.load(Ordering::SeqCst) >= round {
+                return;
+            }
+            if looks.is_multiple_of(10_000) { thread::yield_now() } else { hint::spin_loop() }
         }
     }
 }
@@ -32,7 +35,7 @@ fn linger(times: u32) {
 }
 
 fn rounds() -> u64 {
-    told("FREEZE_QUEUE_ROUNDS", 100_000) / 5
+    told("FREEZE_QUEUE_ROUNDS", 100_000) / 10
 }
 
 /// A thaw at any moment of an entering, after which nobody freezes.
