@@ -4,11 +4,13 @@
 usage: tests/races/search.py [NAME ..]
 
 A line for each world that is named, or for each of WORLDS: its name, the number of its moments, and at how many of them
-nothing may come next. A moment is the gate, and for each actor how far it is in its calls and what they have answered. The
-tests of trials_races have these numbers.
+nothing may come next; then the number of its outcomes, how many ends have them, and how many steps lead to them at least, all
+told. A moment is the gate, and for each actor how far it is in its calls and what they have answered; an outcome is what the
+calls have answered at an end, with the figures that the end of a replay tells. The tests of trials_races have these numbers.
 """
 
 import sys
+from collections import deque
 from typing import NamedTuple
 
 BIAS = 1 << 48
@@ -269,15 +271,16 @@ def kill_step(gate, seat, calls):
     return control_answered(gate, seat, "not last", calls)
 
 
-def moments(slots, start, passes, control):
-    """How many there are, and at how many of them nothing may come next."""
+def search(slots, start, passes, control):
+    """Each moment, with how many steps lead to it at least, and whether nothing may come next."""
     gate = start_of(slots, start)
     seats = tuple(begun(Pass(0, "", (), ()), calls, slots) for calls in passes)
     wants = "atomic" if start == "atomic" else "slots"
     first = (gate, seats, control_begun(Control((), (), wants), control, gate))
-    seen, left, ends = {first}, [first], 0
+    steps, left = {first: 0}, deque([first])
     while left:
-        gate, seats, seat = left.pop()
+        moment = left.popleft()
+        gate, seats, seat = moment
         after = []
         for at, of_pass in enumerate(seats):
             if of_pass.stage:
@@ -286,15 +289,33 @@ def moments(slots, start, passes, control):
         if seat.stage:
             then, moved = control_step(gate, seat, control)
             after.append((then, seats, moved))
-        ends += not after
-        left += [it for it in after if it not in seen]
-        seen.update(after)
-    return len(seen), ends
+        yield moment, steps[moment], not after
+        for it in after:
+            if it not in steps:
+                steps[it] = steps[moment] + 1
+                left.append(it)
+
+
+def moments(*world):
+    """How many there are, and at how many of them nothing may come next."""
+    ends = [is_end for _, _, is_end in search(*world)]
+    return len(ends), sum(ends)
+
+
+def outcomes(*world):
+    """How many there are, how many ends have them, and how many steps lead to them at least, all told."""
+    found, ends = {}, 0
+    for (gate, seats, seat), steps, is_end in search(*world):
+        if is_end:
+            figures = (gate.zero, gate.front, gate.kills, gate.releases, sum(it.held for it in seats))
+            found.setdefault((tuple(it.told for it in seats), seat.told, figures), steps)
+            ends += 1
+    return len(found), ends, sum(found.values())
 
 
 def main():
     for name in sys.argv[1:] or WORLDS:
-        print(name, *moments(*WORLDS[name]))
+        print(name, *moments(*WORLDS[name]), *outcomes(*WORLDS[name]))
 
 
 if __name__ == "__main__":

@@ -1,8 +1,10 @@
-//! Races tried out: how many moments some of them have, and what is read where they are written down.
+//! Races tried out: how many moments and outcomes some of them have, and what is read where they are written down.
 //!
 //! There are tests here and nothing else, above the crates that they try.
 #![tactic(auto)]
 
+#[cfg(test)]
+mod outcomes;
 #[cfg(test)]
 mod tests;
 #[cfg(test)]

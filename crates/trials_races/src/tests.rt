@@ -9,17 +9,17 @@ use race_world::{PassCalls, Race};
 use std::alloc::{AllocError, Global};
 use std::test::Fail;
 
-const TRY: PassCall = PassCall::Counts {
+pub(crate) const TRY: PassCall = PassCall::Counts {
     slot: 0,
     count: Count::Try,
 };
 
-const LIVE: PassCall = PassCall::Counts {
+pub(crate) const LIVE: PassCall = PassCall::Counts {
     slot: 0,
     count: Count::TryLive,
 };
 
-const PUT: PassCall = PassCall::Counts {
+pub(crate) const PUT: PassCall = PassCall::Counts {
     slot: 0,
     count: Count::Put(1),
 };
@@ -33,6 +33,28 @@ fn passes_of(alloc: Global, calls: &[&[PassCall]]) -> Result<Vec<PassCalls>, All
     Ok(passes)
 }
 
+// The race of these calls; none where the gate would be beyond its limits.
+pub(crate) fn race_of(
+    alloc: Global,
+    slots: u32,
+    start: Start,
+    calls: &[&[PassCall]],
+    control: &[ControlCall],
+) -> Result<Option<Race>, Memory> {
+    let passes = passes_of(alloc, calls)?;
+    if slots < 1 || slots > SLOT_LIMIT || passes.is_empty() || passes.len() > 64 {
+        return Ok(None);
+    }
+    Ok(Some(Race::new(
+        slots,
+        start,
+        0,
+        Vec::new(alloc),
+        passes,
+        control.to_vec(alloc)?,
+    )))
+}
+
 // How many moments the race has, and how many ends; none where the gate would be beyond its limits.
 fn count_of(
     alloc: Global,
@@ -41,18 +63,9 @@ fn count_of(
     calls: &[&[PassCall]],
     control: &[ControlCall],
 ) -> Result<(usize, usize), Memory> {
-    let passes = passes_of(alloc, calls)?;
-    if slots < 1 || slots > SLOT_LIMIT || passes.is_empty() || passes.len() > 64 {
+    let Some(race) = race_of(alloc, slots, start, calls, control)? else {
         return Ok((0, 0));
-    }
-    let race = Race::new(
-        slots,
-        start,
-        0,
-        Vec::new(alloc),
-        passes,
-        control.to_vec(alloc)?,
-    );
+    };
     let moments = all_moments(alloc, &race)?;
     let ends = ends(alloc, &race, &moments)?;
     Ok((moments.as_slice().len(), ends.len()))
