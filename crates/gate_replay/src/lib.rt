@@ -18,7 +18,7 @@ mod world_line;
 pub use event_line::is_all_digits;
 pub use laws::replays_are_runs;
 pub use replay::{Replay, Replayed, replay_text};
-pub use reply_lines::{push_delta, push_end};
+pub use reply_lines::{push_delta, push_end, push_reply};
 pub use schedule::{Events, GuardedWords, Schedule};
 pub use schedule_parser::{next_world, parse_schedule};
 pub use world_line::WorldLine;

@@ -66,8 +66,8 @@ fn push_reply_text(out: &mut Vec<u8>, reply: Reply) -> Result<(), AllocError>
     }
 }
 
-/// Appends the line of a step that was taken.
-pub(crate) fn push_reply(out: &mut Vec<u8>, reply: Reply) -> Result<(), AllocError>
+/// Appends the line of a step that was taken. Where memory is refused, some of it may be there.
+pub fn push_reply(out: &mut Vec<u8>, reply: Reply) -> Result<(), AllocError>
     ensures { OnOk result (out.new.items ≡ out.old.items ++ reply_line reply) }
 {
     push_reply_text(out, reply)?;
