@@ -1,8 +1,8 @@
 -- The pieces where a physical block is one sector: each but the last is as long as the limits allow.
-use Rattle.std.specs.Prelude.{◌≡◌, ℕ, ◌+◌, ◌<◌, List, [], ◌∷◌, sum}
+use Rattle.std.specs.Prelude.{◌≡◌, ◌↔◌, ℕ, ◌+◌, ◌<◌, List, [], ◌∷◌, sum}
 use Rattle.std.specs.List.{All}
 use Rattle.queue_limits.specs.Bounds.{Bounds}
-use Rattle.queue_limits.specs.Pieces.{IsWithinReach}
+use Rattle.queue_limits.specs.Pieces.{IsWithinReach, IsSplit}
 
 -- P holds of each piece, by its first sector and its length, where the first piece begins at `start`
 abbrev pub EachLength : (ℕ → ℕ → Type 0) → ℕ → List ℕ → Type 0
@@ -23,3 +23,7 @@ pub record IsLongestSplit (bounds : Bounds) (start count : ℕ) (lengths : List 
   pub allowed : EachLength (IsWithinReach bounds) start lengths
   -- none but the last could be one sector longer
   pub longest : EachButLast (λ at length. ¬ (IsWithinReach bounds at (length + 1))) start lengths
+
+-- the pieces of any range are the longest ones, and no others are
+abbrev pub SplitsAreLongest : Bounds → Type 0
+SplitsAreLongest bounds = (start count : ℕ) (lengths : List ℕ) → IsSplit bounds start count lengths ↔ IsLongestSplit bounds start count lengths

@@ -2,7 +2,7 @@
 ghost use Rattle.std.specs.Prelude.{◌≡◌, ◌↔◌, ℕ, ◌≤◌, ◌^◌, true, List};
 ghost use Rattle.queue_limits.specs.Bounds.{Bounds, AreAllowed, is_physical_size};
 ghost use Rattle.queue_limits.specs.Greedy.{greedy_pieces};
-ghost use Rattle.queue_limits.specs.LongestPieces.{IsLongestSplit};
+ghost use Rattle.queue_limits.specs.LongestPieces.{SplitsAreLongest};
 ghost use Rattle.queue_limits.specs.Pieces.{IsSplit};
 
 use crate::limits::{CHUNK_LIMIT, HARDWARE_LIMIT, PHYSICAL_LIMIT};
@@ -30,5 +30,5 @@ pub fn one_split()
 /// Where a physical block is one sector, the pieces are the longest that the other limits allow: none but the last could be
 /// one sector longer. The function does nothing; its contract is the law.
 pub fn pieces_of_one_sector_blocks()
-    ensures { (bounds : Bounds) (start count : ℕ) (lengths : List ℕ) → bounds.physical ≡ 1 → IsSplit bounds start count lengths ↔ IsLongestSplit bounds start count lengths }
+    ensures { (bounds : Bounds) → bounds.physical ≡ 1 → SplitsAreLongest bounds }
 {}

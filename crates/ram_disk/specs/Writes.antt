@@ -1,7 +1,9 @@
--- What a write does to each sector, to another write, and to a read.
-use Rattle.std.specs.Prelude.{◌≡◌, ℕ, ◌+◌, ◌<◌, ◌≤◌, List, [], length}
+-- What a write does to each sector, to another write, and to a read; and what both are by bytes.
+use Rattle.std.specs.Prelude.{◌≡◌, ℕ, ◌+◌, ◌*◌, ◌<◌, ◌≤◌, List, [], ◌++◌, length, take, drop, All}
 use Rattle.std.specs.List.{slice_index_or}
+use Rattle.ram_disk.specs.declared.sector.TheConstants.{SECTOR_BYTES}
 use Rattle.ram_disk.specs.Disk.{sectors_read, sectors_written}
+use Rattle.ram_disk.specs.Sector.{IsSector, bytes_of}
 
 -- the sector with this number
 abbrev pub sector_at : List (List ℕ) → ℕ → List ℕ
@@ -38,3 +40,14 @@ DisjointWritesCommute = (disk first second : List (List ℕ)) (start other : ℕ
 abbrev pub ReadsBesideWritesStay : Type 0
 ReadsBesideWritesStay = (disk sectors : List (List ℕ)) (start count other : ℕ) → start + count ≤ length disk → Fits other sectors disk → AreDisjoint start count other (length sectors)
     → sectors_read start count (sectors_written other sectors disk) ≡ sectors_read start count disk
+
+-- a read of sectors is a read of their bytes
+abbrev pub ReadsTheirBytes : Type 0
+ReadsTheirBytes = (disk : List (List ℕ)) (start count : ℕ) → All IsSector disk → start + count ≤ length disk
+    → bytes_of (sectors_read start count disk) ≡ take (count * SECTOR_BYTES) (drop (start * SECTOR_BYTES) (bytes_of disk))
+
+-- a write of sectors is a write of their bytes: those before and those behind stay
+abbrev pub WritesTheirBytes : Type 0
+WritesTheirBytes = (disk sectors : List (List ℕ)) (start : ℕ) → All IsSector disk → Fits start sectors disk
+    → bytes_of (sectors_written start sectors disk)
+    ≡ take (start * SECTOR_BYTES) (bytes_of disk) ++ bytes_of sectors ++ drop ((start + length sectors) * SECTOR_BYTES) (bytes_of disk)

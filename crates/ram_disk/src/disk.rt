@@ -1,9 +1,10 @@
 //! The disk: its sectors by number, read by sharing and written by moving new ones in.
-ghost use Rattle.std.specs.Prelude.{◌≡◌, ◌+◌, ◌*◌, ◌<◌, ◌≤◌, ◌↔◌, ◌++◌, ℕ, List, All, IfOk, IsErrOf, IsOkUnless, OnOk, drop, length, replicate, take, vec_len};
+ghost use Rattle.std.specs.Prelude.{◌≡◌, ◌+◌, ◌*◌, ◌<◌, ◌≤◌, ◌↔◌, All, IfOk, IsErrOf, IsOkUnless, OnOk, length, replicate, vec_len};
 ghost use Rattle.ram_disk.specs.declared.sector.TheConstants.{SECTOR_BYTES};
 ghost use Rattle.ram_disk.specs.Sector.{IsSector, bytes_of, filled_with};
 ghost use Rattle.ram_disk.specs.Disk.{IsDisk, sectors_read, sectors_written};
 ghost use Rattle.ram_disk.specs.Runs.{IsRuns};
+ghost use Rattle.ram_disk.specs.Writes.{ReadsTheirBytes, WritesTheirBytes};
 
 use crate::{DiskFault, Sector, runs};
 use std::alloc::Global;
@@ -105,19 +106,12 @@ impl Disk {
 
 /// A read of sectors is a read of their bytes.
 pub fn read_by_bytes()
-    ensures { (disk : List (List ℕ)) (start count : ℕ) → All IsSector disk
-        → start + count ≤ length disk
-        → bytes_of (sectors_read start count disk)
-        ≡ take (count * SECTOR_BYTES) (drop (start * SECTOR_BYTES) (bytes_of disk)) }
+    ensures { ReadsTheirBytes }
 {}
 
 /// A write of sectors is a write of their bytes: those before and those behind stay.
 pub fn write_by_bytes()
-    ensures { (disk sectors : List (List ℕ)) (start : ℕ) → All IsSector disk
-        → start + length sectors ≤ length disk
-        → bytes_of (sectors_written start sectors disk)
-        ≡ take (start * SECTOR_BYTES) (bytes_of disk) ++ bytes_of sectors
-        ++ drop ((start + length sectors) * SECTOR_BYTES) (bytes_of disk) }
+    ensures { WritesTheirBytes }
 {}
 
 fn replace(kept: &mut Vec<Sector>, start: usize, sectors: Vec<Sector>)

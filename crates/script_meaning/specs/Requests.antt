@@ -1,5 +1,5 @@
 -- What stands at each position of a script, where the first line has position 0, and the numbers of its accepted requests.
-use Rattle.std.specs.Prelude.{◌≡◌, ℕ, ◌+◌, Bool, false, true, List, [], ◌∷◌, take, slice_get, Option, is_some, option_map, if◌then◌else◌}
+use Rattle.std.specs.Prelude.{◌≡◌, ℕ, ◌+◌, ◌<◌, Bool, false, true, List, [], ◌∷◌, take, slice_get, Option, is_some, option_map, if◌then◌else◌}
 use Rattle.std.specs.Option.{option_and_then, option_map_or}
 use Rattle.script_meaning.specs.Meaning.{State, start_of, after_lines}
 use Rattle.script_meaning.specs.Queue.{Queue, start_queue}
@@ -43,6 +43,11 @@ accepted_in_all script = accepted_among (start_queue script) script.lines
 
 abbrev pub accepted_before : Meant → ℕ → ℕ
 accepted_before script position = accepted_among (start_queue script) (take position script.lines)
+
+-- of two positions with an accepted request at the earlier one, that one has the smaller number
+abbrev pub AreNumberedInOrder : Meant → Type 0
+AreNumberedInOrder script = (earlier later : ℕ) → earlier < later → is_some (accepted_at script earlier) ≡ true
+    → accepted_before script earlier < accepted_before script later
 
 -- an accepted request has this number
 pub record IsNumbered (script : Meant) (number : ℕ) : Type 0 where

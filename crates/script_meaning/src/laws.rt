@@ -1,7 +1,7 @@
 //! What holds of the meaning of scripts, apart from the code. Each contract is a law; the function does nothing.
-ghost use Rattle.std.specs.Prelude.{◌≡◌, ◌<◌, ℕ, length, is_some, true};
+ghost use Rattle.std.specs.Prelude.{◌≡◌, ◌<◌, ℕ, length, is_some};
 ghost use Rattle.script_meaning.specs.Meaning.{State, IsReply};
-ghost use Rattle.script_meaning.specs.Requests.{queue_at, state_at, IsNumbered, accepted_at, accepted_before, accepted_in_all};
+ghost use Rattle.script_meaning.specs.Requests.{queue_at, state_at, AreNumberedInOrder, IsNumbered, accepted_in_all};
 ghost use Rattle.script_meaning.specs.Replies.{is_ok_of_request};
 ghost use Rattle.script_meaning.specs.Script.{Meant};
 ghost use Rattle.script_meaning.specs.Taken.{accepted};
@@ -23,7 +23,7 @@ pub fn accepted_replies()
 /// The accepted requests of a script are numbered from 0 in the order of its lines: of two the earlier has the
 /// smaller number, and each number below their count is that of one.
 pub fn numbers_of_requests()
-    ensures order { (script : Meant) (earlier later : ℕ) → earlier < later → is_some (accepted_at script earlier) ≡ true → accepted_before script earlier < accepted_before script later }
+    ensures order { (script : Meant) → AreNumberedInOrder script }
     ensures each { (script : Meant) (number : ℕ) → number < accepted_in_all script → IsNumbered script number }
 {}
 

@@ -2,4 +2,4 @@ use Rattle.queue_limits.proofs.LongestPieces.{longest_of_split}
 use Rattle.queue_limits.proofs.laws.pieces_of_one_sector_blocks.Goals as goal
 
 pub returns : goal.returns
-returns c = longest_of_split
+returns c = λ bounds one start count lengths. longest_of_split bounds start count lengths one
