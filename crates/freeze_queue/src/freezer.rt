@@ -1,8 +1,8 @@
 //! The freezer: it freezes a queue, waits until it is drained, sets its limits and thaws it.
-ghost use Rattle.std.specs.Prelude.{◌≡◌, ◌+◌, ◌<◌, Bool, true, IfOk, OnOk, OnErr};
+ghost use Rattle.std.specs.Prelude.{◌≡◌, ◌+◌, ◌<◌, true, IfOk, OnOk, OnErr};
 ghost use Rattle.percpu_gate.specs.declared.tried.Put.{Put};
 ghost use Rattle.percpu_gate.specs.Seats.{FindsZero};
-ghost use Rattle.queue_core.specs.Queue.{IsFreezer, after_freeze, after_look, after_mode, after_thaw, after_set, freeze_refusal, thaw_refusal, fault_of};
+ghost use Rattle.queue_core.specs.Queue.{IsFreezer, after_freeze, after_look, after_mode, after_thaw, after_set, HasThawed, freeze_refusal, thaw_refusal, fault_of};
 ghost use Rattle.queue_core.specs.Sets.{LooksForDrained};
 ghost use Rattle.freeze_queue.specs.Waiting.{wait_refusal};
 
@@ -141,7 +141,7 @@ impl Freezer {
         requires own { self.old.queue ≡ queue.now }
         ensures refused { fault_of result ≡ thaw_refusal self.old }
         ensures unchanged { OnErr result (self.new ≡ self.old) }
-        ensures thawed { IfOk result (λ depth. (depth + 1 ≡ self.old.depth) × (at_zero : Bool) × (self.new ≡ after_thaw at_zero self.old) × (self.old.depth ≡ 1 → FindsZero queue.now.gate self.old.seat at_zero)) }
+        ensures thawed { IfOk result (λ depth. HasThawed queue.now.gate self.old self.new depth) }
         // Where the freezer knew the queue to be drained, the revival found it so: that drain is counted.
         ensures drained { IfOk result (λ depth. self.old.drained ≡ true → self.new ≡ after_thaw true self.old) }
     {

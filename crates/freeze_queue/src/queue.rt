@@ -1,12 +1,12 @@
 //! The queue: what tags enter and leave, and where threads wait for it.
-ghost use Rattle.std.specs.Prelude.{◌≡◌, ◌+◌, ◌<◌, ◌≤◌, true, false, replicate, Some, IfSome, IfOk};
+ghost use Rattle.std.specs.Prelude.{◌≡◌, ◌+◌, ◌<◌, ◌≤◌, true, false, replicate, IfSome, IfOk};
 ghost use Rattle.percpu_core.specs.declared.limits.TheConstants.{SLOT_LIMIT};
 ghost use Rattle.percpu_core.specs.declared.view.PassView.{PassView};
 ghost use Rattle.percpu_core.specs.Views.{count};
 ghost use Rattle.percpu_gate.specs.Calls.{is_refused, taken, has_zero, LiveTryFinds, TryFinds, TryMeets};
 ghost use Rattle.percpu_gate.specs.declared.tried.Tried.TheVariants.{Given};
 ghost use Rattle.queue_core.specs.declared.queue.TheConstants.{MOST_TAGS};
-ghost use Rattle.queue_core.specs.Queue.{IsQueue, first_tag, first_freezer, after_entering, after_refusal, after_leaving};
+ghost use Rattle.queue_core.specs.Queue.{IsQueue, first_tag, first_freezer, after_entering, after_refusal, after_asking, after_leaving};
 ghost use Rattle.queue_core.specs.AtTheGate.{AreInForce, HoldsOff};
 ghost use Rattle.queue_core.specs.Readings.{IsTag};
 ghost use Rattle.freeze_queue.specs.declared.enter.Enter.TheVariants.{Entered, Again};
@@ -182,7 +182,7 @@ impl BlockQueue {
     pub fn limits(&self, tag: &mut Tag) -> Limits
         requires own { tag.old.queue ≡ self.now }
         requires entered { tag.old.entered ≡ true }
-        ensures told { tag.new ≡ record tag.old { limits = Some result; seat = record tag.old.seat { read = tag.new.seat.read } } }
+        ensures told { tag.new ≡ after_asking result tag.new.seat tag.old }
         ensures kept { IsTag tag.new }
         ensures in_force { AreInForce self.now.gate self.now.hardware tag.old.seat result }
         ensures same { IfSome tag.old.limits (λ l. result ≡ l) }

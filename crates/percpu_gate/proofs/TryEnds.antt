@@ -1,5 +1,5 @@
 -- What a pass keeps beside its seat, after a try.
-use Rattle.std.proofs.Common.{◌≡◌, ℕ, ◌+◌, ◌*◌, ◌<◌, ◌≤◌, refl, ap, sym, ◌∙◌, arith}
+use Rattle.std.proofs.Common.{◌≡◌, ℕ, ◌+◌, ◌*◌, ◌<◌, ◌≤◌, ap, ◌∙◌, arith}
 use Rattle.percpu_core.specs.declared.limits.TheConstants.{HELD_LIMIT, KILL_LIMIT}
 use Rattle.percpu_core.specs.declared.pass_standing.PassStanding.{PassStanding}
 use Rattle.percpu_core.specs.declared.view.PassView.{PassView}

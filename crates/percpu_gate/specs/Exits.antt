@@ -8,12 +8,17 @@ use Rattle.percpu_core.specs.Starts.{starts_dead}
 use Rattle.percpu_core.specs.Views.{count}
 use Rattle.percpu_gate.specs.declared.exit.ExitWhy.{ExitWhy}
 use Rattle.percpu_gate.specs.declared.exit.ExitFault.{ExitFault}
+use Rattle.percpu_gate.specs.declared.exit.Final.{Final}
 use Rattle.percpu_gate.specs.Seats.{GateFacts, Moment, zero_at}
 
 -- the refusal of a result, if it is one
 abbrev pub why_of : {A : Type 0} {W : ℕ} → Result A (ExitFault W) → Option ExitWhy
 why_of (Ok x) = None
 why_of (Err f) = Some f.why
+
+-- this is left of a gate whose control knew so much
+abbrev pub IsFinal : {W : ℕ} → ControlView → Final W → Type 0
+IsFinal c left = (left.dead ≡ is_phase Dead c.standing.phase) × (left.kills ≡ c.standing.kills) × (left.releases ≡ c.releases) × (left.words ≡ c.words)
 
 -- what the control knows of a gate that has ended
 pub record Ended (g : GateFacts) (c : ControlView) : Type 0 where

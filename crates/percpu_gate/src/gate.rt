@@ -1,9 +1,7 @@
 //! A gate.
 ghost use Rattle.std.specs.Prelude.{◌≡◌, ◌≤◌, replicate, IfOk, IfErr, OnOk};
-ghost use Rattle.percpu_core.specs.declared.phase.Phase.TheVariants.{Dead};
-ghost use Rattle.percpu_core.specs.Phases.{is_phase};
 ghost use Rattle.percpu_gate.specs.ControlCalls.{exit_refusal};
-ghost use Rattle.percpu_gate.specs.Exits.{why_of, Ended};
+ghost use Rattle.percpu_gate.specs.Exits.{why_of, Ended, IsFinal};
 ghost use Rattle.percpu_gate.specs.Seats.{facts_of, fresh_pass, fresh_control};
 
 use crate::control::Control;
@@ -108,8 +106,7 @@ impl<const W: usize> Gate<W> {
         requires own { control.gate ≡ self }
         ensures refused { exit_refusal control.entry.view.standing.phase control.entry.view.passes ≡ why_of result }
         ensures unchanged { IfErr result (λ f. (f.gate ≡ self.entry) × (f.control ≡ control.entry)) }
-        ensures ended { IfOk result (λ f. (f.dead ≡ is_phase Dead control.entry.view.standing.phase) × (f.kills ≡ control.entry.view.standing.kills)
-            × (f.releases ≡ control.entry.view.releases) × (f.words ≡ control.entry.view.words)) }
+        ensures ended { IfOk result (λ f. IsFinal control.entry.view f) }
         ensures nothing_lost { IfOk result (λ f. Ended self.entry control.entry.view) }
     {
         if let Some(why) = control.refuse_exit() {

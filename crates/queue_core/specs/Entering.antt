@@ -2,7 +2,6 @@
 use Rattle.percpu_core.specs.declared.view.PassView.{PassView}
 use Rattle.percpu_gate.specs.declared.tried.Tried.{Tried}
 use Rattle.percpu_gate.specs.declared.tried.Tried.TheVariants.{Given}
-use Rattle.percpu_gate.specs.declared.tried.Tried.TheVariants as Tried
 use Rattle.queue_core.specs.declared.tag.Entry.{Entry}
 use Rattle.queue_core.specs.declared.tag.Entry.TheVariants.{Entered, Refused}
 use Rattle.queue_core.specs.Queue.{TagFacts, after_entering, after_refusal}

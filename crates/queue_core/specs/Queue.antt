@@ -13,7 +13,7 @@ use Rattle.percpu_core.specs.ControlLearns.{joined}
 use Rattle.percpu_gate.specs.declared.mode.Mode.{Mode}
 use Rattle.percpu_gate.specs.declared.mode.Mode.TheVariants.{Slots}
 use Rattle.percpu_gate.specs.declared.tried.Put.{Put}
-use Rattle.percpu_gate.specs.Seats.{GateFacts, fresh_control}
+use Rattle.percpu_gate.specs.Seats.{GateFacts, FindsZero, fresh_control}
 use Rattle.percpu_gate.specs.Calls.{released, after_put}
 use Rattle.percpu_gate.specs.ControlCalls.{standing, after_kill, after_revival, after_switch}
 use Rattle.percpu_gate.specs.Modes.{live_in}
@@ -100,6 +100,10 @@ after_entering seat t = record t { entered = true; limits = None; seat = seat }
 abbrev pub after_refusal : Put → PassView → TagFacts → TagFacts
 after_refusal r seat t = record t { releases = t.releases + released r; seat = seat }
 
+-- what a tag that is in knows once it has asked for the limits. `seat`: what its seat has read then
+abbrev pub after_asking : Bounds → PassView → TagFacts → TagFacts
+after_asking limits seat t = record t { limits = Some limits; seat = record t.seat { read = seat.read } }
+
 -- Linux: blk_queue_exit
 abbrev pub after_leaving : Put → TagFacts → TagFacts
 after_leaving r t = record t { entered = false; limits = None; releases = t.releases + released r; seat = after_put r 0 t.seat }
@@ -117,6 +121,10 @@ after_thaw at_zero f =
     if f.depth == 1
     then record f { depth = 0; live = true; drained = false; seat = after_revival (live_in f.mode) at_zero f.seat }
     else record f { depth = f.depth - 1 }
+
+-- a thaw leaves so many freezes, of a queue with this gate. `at_zero`: what the last thaw's revival finds there
+abbrev pub HasThawed : GateFacts → FreezerFacts → FreezerFacts → ℕ → Type 0
+HasThawed gate old new left = (left + 1 ≡ old.depth) × (at_zero : Bool) × (new ≡ after_thaw at_zero old) × (old.depth ≡ 1 → FindsZero gate old.seat at_zero)
 
 -- what a switch to this mode leaves: a live queue counts so from then on, a frozen one once it is thawed
 abbrev pub after_mode : Mode → FreezerFacts → FreezerFacts

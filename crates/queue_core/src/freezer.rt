@@ -9,7 +9,7 @@ ghost use Rattle.queue_limits.specs.Words.{to_words};
 ghost use Rattle.percpu_gate.specs.declared.tried.Put.{Put};
 ghost use Rattle.percpu_gate.specs.declared.tried.Put.TheVariants.{NotLast};
 ghost use Rattle.percpu_gate.specs.Seats.{FindsZero};
-ghost use Rattle.queue_core.specs.Queue.{IsFreezer, first_freezer, after_freeze, after_look, after_mode, after_thaw, after_set, after_return, freeze_refusal, thaw_refusal, fault_of};
+ghost use Rattle.queue_core.specs.Queue.{IsFreezer, first_freezer, after_freeze, after_look, after_mode, after_thaw, after_set, after_return, HasThawed, freeze_refusal, thaw_refusal, fault_of};
 ghost use Rattle.queue_core.specs.Sets.{LooksForDrained};
 
 use crate::fault::FreezeFault;
@@ -92,8 +92,9 @@ impl Freezer {
         self.depth
     }
 
-    /// The tags that it hasn't taken back.
-    pub(crate) fn tags(&self) -> u32
+    /// The tags of the queue that it hasn't taken back: all of them, until the queue ends.
+    #[inline]
+    pub fn tags(&self) -> u32
         ensures { result ≡ self.now.tags }
     {
         self.tags
@@ -198,7 +199,7 @@ impl Freezer {
         requires own { self.old.queue ≡ queue.now }
         ensures refused { fault_of result ≡ thaw_refusal self.old }
         ensures unchanged { OnErr result (self.new ≡ self.old) }
-        ensures thawed { IfOk result (λ t. (t.depth + 1 ≡ self.old.depth) × (at_zero : Bool) × (self.new ≡ after_thaw at_zero self.old) × (self.old.depth ≡ 1 → FindsZero queue.now.gate self.old.seat at_zero)) }
+        ensures thawed { IfOk result (λ t. HasThawed queue.now.gate self.old self.new t.depth) }
         ensures live { IfOk result (λ t. (t.depth ≡ self.new.depth) × (t.live ≡ self.new.live)) }
         // Where the freezer knew the queue to be drained, the revival found it so: that drain is counted.
         ensures drained { IfOk result (λ t. self.old.drained ≡ true → self.new ≡ after_thaw true self.old) }

@@ -1,8 +1,8 @@
 //! The queue: what tags enter and leave.
-ghost use Rattle.std.specs.Prelude.{◌≡◌, ◌+◌, ◌<◌, ◌≤◌, true, false, All, vec_len, replicate, Some, IfSome, IfOk};
+ghost use Rattle.std.specs.Prelude.{◌≡◌, ◌+◌, ◌<◌, ◌≤◌, true, false, All, vec_len, replicate, IfSome, IfOk};
 ghost use Rattle.percpu_core.specs.declared.limits.TheConstants.{SLOT_LIMIT};
 ghost use Rattle.percpu_gate.specs.Seats.{fresh_pass};
-ghost use Rattle.queue_core.specs.Queue.{IsQueue, first_tag, first_freezer, after_leaving};
+ghost use Rattle.queue_core.specs.Queue.{IsQueue, first_tag, first_freezer, after_asking, after_leaving};
 ghost use Rattle.percpu_core.specs.Views.{count};
 ghost use Rattle.percpu_gate.specs.Calls.{is_refused, taken, has_zero, LiveTryFinds, TryFinds, TryMeets};
 ghost use Rattle.queue_core.specs.AtTheGate.{AreInForce, HoldsOff};
@@ -146,7 +146,7 @@ impl BlockQueue {
     pub fn limits(&self, tag: &mut Tag) -> Limits
         requires own { tag.old.queue ≡ self.now }
         requires entered { tag.old.entered ≡ true }
-        ensures told { tag.new ≡ record tag.old { limits = Some result; seat = record tag.old.seat { read = tag.new.seat.read } } }
+        ensures told { tag.new ≡ after_asking result tag.new.seat tag.old }
         ensures kept { IsTag tag.new }
         ensures in_force { AreInForce self.now.gate self.now.hardware tag.old.seat result }
         ensures same { IfSome tag.old.limits (λ l. result ≡ l) }

@@ -3,7 +3,7 @@ ghost use Rattle.std.specs.Prelude.{◌≡◌, ◌+◌, ◌<◌, ◌≤◌, true
 ghost use Rattle.percpu_gate.specs.Seats.{fresh_pass};
 ghost use Rattle.queue_limits.specs.Bounds.{Bounds};
 ghost use Rattle.queue_limits.specs.Words.{from_words};
-ghost use Rattle.queue_core.specs.Queue.{first_tag, after_leaving};
+ghost use Rattle.queue_core.specs.Queue.{first_tag, after_asking, after_leaving};
 ghost use Rattle.percpu_core.specs.Views.{count};
 ghost use Rattle.percpu_gate.specs.Calls.{is_refused, taken, has_zero, LiveTryFinds, TryFinds, TryMeets};
 ghost use Rattle.queue_core.specs.AtTheGate.{AreInForce, HoldsOff};
@@ -119,7 +119,7 @@ impl Tag {
     pub(crate) fn words(&mut self, gate: &Gate<LIMIT_WORDS>) -> [u64; LIMIT_WORDS]
         requires own { self.old.queue.gate ≡ gate.now }
         requires entered { self.old.entered ≡ true }
-        ensures told { self.new ≡ record self.old { limits = Some (from_words self.old.queue.hardware result); seat = record self.old.seat { read = self.new.seat.read } } }
+        ensures told { self.new ≡ after_asking (from_words self.old.queue.hardware result) self.new.seat self.old }
         ensures kept { IsTag self.new }
         ensures in_force { AreInForce gate.now self.old.queue.hardware self.old.seat (from_words self.old.queue.hardware result) }
         ensures same { (l : Bounds) → self.old.limits ≡ Some l → from_words self.old.queue.hardware result ≡ l }

@@ -1,5 +1,5 @@
 -- What a queue of requests, and those who push and draw, are to a caller.
-use Rattle.std.specs.Prelude.{◌≡◌, ℕ, ◌++◌, ◌∷◌, [], Bool, true, false, List, Option, Some, None}
+use Rattle.std.specs.Prelude.{◌≡◌, ℕ, ◌+◌, ◌||◌, ◌++◌, ◌∷◌, [], Bool, true, false, List, Option, Some, None}
 use Rattle.atomic_table.specs.Seated.{TableId}
 use Rattle.crossbeam_queue.specs.Passes.{Pass, view}
 use Rattle.run_queues.specs.Numbers.{AllIncrease, times, times_in_all}
@@ -39,6 +39,10 @@ pub record DrawerFacts : Type 0 where
   pub drawn : List ℕ
   -- how many numbers there is memory for
   pub room : ℕ
+
+-- what the one who pushes knows once one who drew is back, with memory for so many lists
+abbrev pub after_gather : DrawerFacts → ℕ → SourceFacts → SourceFacts
+after_gather d room s = record s { parts = s.parts + 1; drained = s.drained || d.drained; lists = s.lists ++ d.drawn ∷ []; room = room }
 
 -- what a drawer knows once it has taken a request, or an end mark
 abbrev pub after_draw : {T : Type 0} → (T → ℕ) → Option T → DrawerFacts → DrawerFacts

@@ -1,7 +1,7 @@
 //! A queue under a rule, at which a thread that finds nothing, or no room, sleeps.
 ghost use Rattle.std.specs.Prelude.{◌≡◌, ◌<◌, [], ◌∷◌, IfOk, IfNone, IfSome};
-ghost use Rattle.crossbeam_queue.specs.Fifo.{Pushes, Pops, Learns};
 ghost use Rattle.crossbeam_queue.specs.Passes.{view, IsSamePass, IsPassOf, ruled_capacity};
+ghost use Rattle.run_queues.specs.Allowed.{MayPush, MayPop};
 
 use crossbeam_queue::protocol::{Free, Lesson, Outcome, Protocol};
 use crossbeam_queue::{Pass, RuledArrayQueue};
@@ -65,7 +65,7 @@ impl<T: Drop, V, P: Protocol<T, V>> Line<T, V, P> {
         item: T,
     )
         requires queue { IsPassOf self.now.ring pass.old }
-        requires rule { Pushes P.holds (ruled_capacity self.now.ring) pass.old.id (view pass.old) item (M.then (view pass.old) item) × Learns P.holds pass.old.id (view pass.old) (M.fact (view pass.old)) }
+        requires rule { MayPush P.holds (ruled_capacity self.now.ring) pass.old item M.then M.fact }
         ensures queue { IsSamePass pass.old pass.new }
         ensures rule { M.then (view pass.old) item (view pass.new) }
     {
@@ -89,7 +89,7 @@ impl<T: Drop, V, P: Protocol<T, V>> Line<T, V, P> {
         pass: &mut Pass<T, V>,
     ) -> T
         requires queue { IsPassOf self.now.ring pass.old }
-        requires rule { Pops P.holds pass.old.id (view pass.old) (M.then (view pass.old)) × Learns P.holds pass.old.id (view pass.old) (M.fact (view pass.old)) }
+        requires rule { MayPop P.holds pass.old M.then M.fact }
         ensures queue { IsSamePass pass.old pass.new }
         ensures rule { M.then (view pass.old) result (view pass.new) }
     {
@@ -109,7 +109,7 @@ impl<T: Drop, V, P: Protocol<T, V>> Line<T, V, P> {
         pass: &mut Pass<T, V>,
     ) -> Option<T>
         requires queue { IsPassOf self.now.ring pass.old }
-        requires rule { Pops P.holds pass.old.id (view pass.old) (M.then (view pass.old)) × Learns P.holds pass.old.id (view pass.old) (M.fact (view pass.old)) }
+        requires rule { MayPop P.holds pass.old M.then M.fact }
         ensures queue { IsSamePass pass.old pass.new }
         ensures none { IfNone result (view pass.new ≡ view pass.old) }
         ensures rule { IfSome result (λ item. M.then (view pass.old) item (view pass.new)) }
@@ -126,7 +126,7 @@ impl<T: Drop, V, P: Protocol<T, V>> Line<T, V, P> {
         pass: &mut Pass<T, V>,
     ) -> Option<T>
         requires queue { IsPassOf self.now.ring pass.old }
-        requires rule { Pops P.holds pass.old.id (view pass.old) (M.then (view pass.old)) × Learns P.holds pass.old.id (view pass.old) (M.fact (view pass.old)) }
+        requires rule { MayPop P.holds pass.old M.then M.fact }
         ensures queue { IsSamePass pass.old pass.new }
         ensures none { IfNone result (view pass.new ≡ view pass.old) }
         ensures rule { IfSome result (λ item. M.then (view pass.old) item (view pass.new)) }
@@ -150,7 +150,7 @@ impl<T: Drop, V, P: Protocol<T, V>> Line<T, V, P> {
         pass: &mut Pass<T, V>,
     ) -> Option<T>
         requires queue { IsPassOf self.now.ring pass.old }
-        requires rule { Pops P.holds pass.old.id (view pass.old) (M.then (view pass.old)) × Learns P.holds pass.old.id (view pass.old) (M.fact (view pass.old)) }
+        requires rule { MayPop P.holds pass.old M.then M.fact }
         ensures queue { IsSamePass pass.old pass.new }
         ensures none { IfNone result (view pass.new ≡ view pass.old) }
         ensures rule { IfSome result (λ item. M.then (view pass.old) item (view pass.new)) }
@@ -169,7 +169,7 @@ impl<T: Drop, V, P: Protocol<T, V>> Line<T, V, P> {
     // Takes the first item, and sleeps while there is none.
     fn sleep_as<M: Outcome<T, V> + Lesson<T, V>, R: Wait>(&self, rt: &R, pass: &mut Pass<T, V>) -> T
         requires queue { IsPassOf self.now.ring pass.old }
-        requires rule { Pops P.holds pass.old.id (view pass.old) (M.then (view pass.old)) × Learns P.holds pass.old.id (view pass.old) (M.fact (view pass.old)) }
+        requires rule { MayPop P.holds pass.old M.then M.fact }
         ensures queue { IsSamePass pass.old pass.new }
         ensures rule { M.then (view pass.old) result (view pass.new) }
     {
@@ -183,7 +183,7 @@ impl<T: Drop, V, P: Protocol<T, V>> Line<T, V, P> {
     // Takes the first item as one of those who wait for it.
     fn wait_as<M: Outcome<T, V> + Lesson<T, V>, R: Wait>(&self, rt: &R, pass: &mut Pass<T, V>) -> T
         requires queue { IsPassOf self.now.ring pass.old }
-        requires rule { Pops P.holds pass.old.id (view pass.old) (M.then (view pass.old)) × Learns P.holds pass.old.id (view pass.old) (M.fact (view pass.old)) }
+        requires rule { MayPop P.holds pass.old M.then M.fact }
         ensures queue { IsSamePass pass.old pass.new }
         ensures rule { M.then (view pass.old) result (view pass.new) }
     {

@@ -1,8 +1,8 @@
 //! The queue of the requests.
-ghost use Rattle.std.specs.Prelude.{◌≡◌, ◌+◌, ◌-◌, ◌<◌, ◌≤◌, true, false, ◌||◌, [], ◌∷◌, ◌++◌, IfOk, OnOk, OnErr, length, map};
+ghost use Rattle.std.specs.Prelude.{◌≡◌, ◌+◌, ◌-◌, ◌<◌, ◌≤◌, true, false, [], IfOk, OnOk, OnErr, length, map};
 ghost use Rattle.run_queues.specs.Numbers.{Draws, IsIncreasing};
 ghost use Rattle.run_queues.specs.Requests.{all_parts};
-ghost use Rattle.run_queues.specs.Parts.{after_draw, new_source};
+ghost use Rattle.run_queues.specs.Parts.{after_draw, after_gather, new_source};
 
 use crate::line::Line;
 use crate::numbered::Numbered;
@@ -248,7 +248,7 @@ impl<T: Numbered + Drop> RequestQueue<T> {
     pub fn gather(&self, source: &mut Source<T>, drawer: Drawer<T>) -> Result<(), AllocError>
         requires own { (source.old.queue ≡ self.now.id) × (drawer.queue ≡ self.now.id) }
         requires parts { 0 < source.old.parts }
-        ensures ok { OnOk result (source.new ≡ record source.old { parts = source.old.parts + 1; drained = source.old.drained || drawer.drained; lists = source.old.lists ++ drawer.drawn ∷ []; room = source.new.room }) }
+        ensures ok { OnOk result (source.new ≡ after_gather drawer source.new.room source.old) }
         ensures room { source.old.room ≤ source.new.room }
         ensures full { OnErr result (source.old.room ≤ length source.old.lists) }
         ensures err { OnErr result (source.new ≡ source.old) }

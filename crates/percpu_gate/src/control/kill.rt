@@ -34,7 +34,8 @@ impl<const W: usize> Control<W> {
         requires own { self.old.gate ≡ gate.now }
         ensures refused { fault_of result ≡ kill_refusal self.old.view.standing.phase self.old.view.standing.kills }
         ensures unchanged { IfErr result (λ why. self.new ≡ self.old) }
-        ensures begun { IfOk result (λ slots. (slots ≡ to_close self.old.view.standing.phase gate.now.slots) × (self.new ≡ record self.old { view = after_mark_dead self.old.view })) }
+        ensures slots { IfOk result (λ slots. slots ≡ to_close self.old.view.standing.phase gate.now.slots) }
+        ensures begun { IfOk result (λ slots. self.new ≡ record self.old { view = after_mark_dead self.old.view }) }
     {
         self.begin(gate)?;
         Ok(if self.phase == Phase::Collected {

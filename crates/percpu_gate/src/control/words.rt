@@ -43,7 +43,8 @@ impl<const W: usize> Control<W> {
         requires own { self.old.gate ≡ gate.now }
         ensures looks { LooksForZero gate.now self.old.view (fault_of result) }
         ensures unchanged { IfErr result (λ why. self.new ≡ self.old) }
-        ensures zero { IfOk result (λ _. (self.old.view.standing.phase ≡ phases.Dead) × (self.new ≡ record self.old { view = record self.old.view { knows_zero = true } })) }
+        ensures dead { IfOk result (λ _. self.old.view.standing.phase ≡ phases.Dead) }
+        ensures zero { IfOk result (λ _. self.new ≡ record self.old { view = record self.old.view { knows_zero = true } }) }
     {
         self.refuse_unless_dead()?;
         if self.is_zero(gate) {
