@@ -7,7 +7,7 @@ use Rattle.freeze_queue_c.specs.declared.misuse.Misuse.TheVariants.{Closed}
 use Rattle.freeze_queue_c.specs.Numbers.{number_of}
 use Rattle.freeze_queue_c.specs.Opened.{TagOpened, FreezerOpened}
 use Rattle.freeze_queue_c.specs.Life.{Given, GivenBack}
-use Rattle.freeze_queue_c.specs.Ran.{RanOn, Answers, Writes}
+use Rattle.freeze_queue_c.specs.Ran.{RanOn, Answers, Tells, Writes}
 use Rattle.freeze_queue_c.specs.FreezerCalls.{Counts}
 
 pub closed_answers : {S A : Type 0} {number : A → ℕ} (misuse : S → Option Misuse) (leaves : S → S → A → Type 0) {old new : Option S} {result : ℕ}
@@ -26,11 +26,11 @@ closed_counts {A = A} number depth leaves {old = old} {new = new} was is kept to
     (Err Closed, told, kept, subst (λ (o : Option FreezerOpened). RanOn {A = Result A FreezeFault} (λ _. None) leaves o new (Err Closed)) (sym was) (refl, is))
 
 pub closed_given : {old new : Option FreezerOpened} {before after : Option TagOpened} {result : ℕ} → old ≡ None → new ≡ None → after ≡ before → result ≡ 32
-    → (answer : Result (Unit {0}) Misuse) × (result ≡ number_of (λ _. 0) answer) × Given old new before after answer
+    → Tells (Given old new before after) result
 closed_given {new = new} {before = before} {after = after} was is kept told =
     (Err Closed, told, subst (λ (o : Option FreezerOpened). Given o new before after (Err Closed)) (sym was) (refl, is, kept))
 
 pub closed_given_back : {old new : Option FreezerOpened} {before after : Option TagOpened} {result : ℕ} → old ≡ None → new ≡ None → after ≡ before → result ≡ 32
-    → (answer : Result (Unit {0}) Misuse) × (result ≡ number_of (λ _. 0) answer) × GivenBack old new before after answer
+    → Tells (GivenBack old new before after) result
 closed_given_back {new = new} {before = before} {after = after} was is kept told =
     (Err Closed, told, subst (λ (o : Option FreezerOpened). GivenBack o new before after (Err Closed)) (sym was) (refl, is, kept))

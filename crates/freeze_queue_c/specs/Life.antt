@@ -57,6 +57,10 @@ Made (Some why) fresh None new answer = (answer ≡ Err why) × (new ≡ None)
 Made None fresh None new (Ok r) = (f : FreezerOpened) × (new ≡ Some f) × fresh f
 Made None fresh None new (Err why) = (why ≡ OfMisuse Memory) × (new ≡ None)
 
+-- what making a queue with these numbers leaves of a handle
+abbrev pub HasMade : QueueNumber → PlainLimits → ℕ → ℕ → Option FreezerOpened → Option FreezerOpened → Result (Unit {0}) Refusal → Type 0
+HasMade number limits slots tags old new answer = Made (new_refusal limits slots tags) (NewFreezer number limits slots tags) old new answer
+
 -- what giving a tag leaves: it is one of the queue, and not in
 pub record IsGiven (old new : FreezerOpened) (t : TagOpened) : Type 0 where
   pub number : t.number ≡ old.number

@@ -12,3 +12,7 @@ pub record FreezerOpened : Type 0 where
   -- the tags that no handle has, of which the last is given next
   pub waiting : List TagFacts
   pub freezer : FreezerFacts
+
+-- a freezer with its queue's number and the tags that wait
+abbrev pub freezer_with : QueueNumber → List TagFacts → FreezerFacts → FreezerOpened
+freezer_with number waiting freezer = record { number = number; waiting = waiting; freezer = freezer }

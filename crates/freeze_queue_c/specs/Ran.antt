@@ -2,7 +2,8 @@
 use Rattle.std.specs.Prelude.{◌≡◌, ℕ, Bool, false, Option, Some, None, Result, Ok, Err}
 use Rattle.freeze_queue_c.specs.declared.misuse.Misuse.{Misuse}
 use Rattle.freeze_queue_c.specs.declared.misuse.Misuse.TheVariants.{Closed}
-use Rattle.freeze_queue_c.specs.Numbers.{number_of}
+use Rattle.freeze_queue_c.specs.declared.refusal.Refusal.{Refusal}
+use Rattle.freeze_queue_c.specs.Numbers.{done_number, number_of}
 
 -- the misuse of a result, if it is one
 abbrev pub misuse_of : {A : Type 0} → Result A Misuse → Option Misuse
@@ -12,6 +13,14 @@ misuse_of (Err why) = Some why
 -- nothing is wrong with an open handle
 abbrev pub no_misuse : {S : Type 0} → S → Option Misuse
 no_misuse s = None
+
+-- the number that C is answered is that of an answer of which this holds
+abbrev pub Tells : (Result (Unit {0}) Misuse → Type 0) → ℕ → Type 0
+Tells holds result = (answer : Result (Unit {0}) Misuse) × (result ≡ number_of (λ _. 0) answer) × holds answer
+
+-- the same of an answer that limits may be refused by
+abbrev pub TellsDone : (Result (Unit {0}) Refusal → Type 0) → ℕ → Type 0
+TellsDone holds result = (answer : Result (Unit {0}) Refusal) × (result ≡ done_number answer) × holds answer
 
 -- what is written: what a call gives, or what was there
 abbrev pub written : {V : Type 0} → Result V Misuse → V → V

@@ -5,7 +5,7 @@ use Rattle.percpu_core.specs.Views.{count}
 use Rattle.percpu_gate.specs.declared.tried.Put.{Put}
 use Rattle.percpu_gate.specs.Calls.{is_refused, taken, has_zero, LiveTryFinds, TryFinds, TryMeets}
 use Rattle.queue_core.specs.declared.tag.Entry.{Entry}
-use Rattle.queue_core.specs.Queue.{after_leaving}
+use Rattle.queue_core.specs.Queue.{after_asking, after_leaving}
 use Rattle.queue_core.specs.Entering.{tried, after_try}
 use Rattle.queue_core.specs.AtTheGate.{AreInForce, HoldsOff}
 use Rattle.queue_core.specs.Readings.{IsTag}
@@ -60,7 +60,7 @@ pub record HasLeft (old new : TagOpened) (put : Put) : Type 0 where
 -- what a tag that is in is told of its limits
 pub record ToldLimits (old new : TagOpened) (told : PlainLimits) : Type 0 where
   pub number : new.number ≡ old.number
-  pub value : new.tag ≡ record old.tag { limits = Some (as_bounds told); seat = record old.tag.seat { read = new.tag.seat.read } }
+  pub value : new.tag ≡ after_asking (as_bounds told) new.tag.seat old.tag
   pub kept : IsTag new.tag
   -- the guarded words of the queue spelled them at a moment of this call
   pub in_force : AreInForce old.tag.queue.gate old.tag.queue.hardware old.tag.seat (as_bounds told)

@@ -1,9 +1,7 @@
 //! How queues and their handles come and go.
-ghost use Rattle.std.specs.Prelude.{◌≡◌, None, Some, Result};
-ghost use Rattle.freeze_queue_c.specs.declared.misuse.Misuse.{Misuse};
-ghost use Rattle.freeze_queue_c.specs.declared.refusal.Refusal.{Refusal};
-ghost use Rattle.freeze_queue_c.specs.Numbers.{done_number, number_of};
-ghost use Rattle.freeze_queue_c.specs.Life.{Made, NewFreezer, new_refusal, Gives, Given, NumbersTell, NumbersTellOn, GivesBack, GivenBack, freezer_number, tag_number};
+ghost use Rattle.std.specs.Prelude.{◌≡◌, None};
+ghost use Rattle.freeze_queue_c.specs.Life.{HasMade, Gives, Given, NumbersTell, NumbersTellOn, GivesBack, GivenBack, freezer_number, tag_number};
+ghost use Rattle.freeze_queue_c.specs.Ran.{Tells, TellsDone};
 ghost use Rattle.freeze_queue_c.specs.Ends.{Removes, Restores};
 
 use crate::freezer_handle::FreezerHandle;
@@ -33,7 +31,7 @@ fn make(
     slots: u32,
     tags: u32,
 ) -> Result<(), Refusal>
-    ensures { Made (new_refusal limits.now slots tags) (NewFreezer number.now limits.now slots tags) freezer.old.held.freezer freezer.new.held.freezer result }
+    ensures { HasMade number.now limits.now slots tags freezer.old.held.freezer freezer.new.held.freezer result }
 {
     let alloc = match freezer.closed() {
         Ok(alloc) => alloc,
@@ -56,8 +54,7 @@ pub extern "C" fn freeze_queue_new_numbered(
     slots: u32,
     tags: u32,
 ) -> u32
-    ensures { (answer : Result (Unit {0}) Refusal) × (result ≡ done_number answer)
-        × Made (new_refusal limits.now slots tags) (NewFreezer number.now limits.now slots tags) freezer.old.held.freezer freezer.new.held.freezer answer }
+    ensures { TellsDone (HasMade number.now limits.now slots tags freezer.old.held.freezer freezer.new.held.freezer) result }
 {
     of_done(make(freezer, number, limits, slots, tags))
 }
@@ -77,8 +74,7 @@ fn give(chosen: &mut OpenFreezer, tag: &mut TagHandle) -> Result<(), Misuse>
 #[tactic(auto, using(crate::proofs::Closed::closed_given))]
 #[unsafe(no_mangle)]
 pub extern "C" fn freeze_queue_next_tag(freezer: &mut FreezerHandle, tag: &mut TagHandle) -> u32
-    ensures { (answer : Result (Unit {0}) Misuse) × (result ≡ number_of (λ _. 0) answer)
-        × Given freezer.old.held.freezer freezer.new.held.freezer tag.old.held.tag tag.new.held.tag answer }
+    ensures { Tells (Given freezer.old.held.freezer freezer.new.held.freezer tag.old.held.tag tag.new.held.tag) result }
 {
     let Some(mut open) = freezer.take() else {
         return of_unit(Err(Misuse::Closed));
@@ -112,8 +108,7 @@ pub extern "C" fn freeze_queue_give_tag_back(
     tag: &mut TagHandle,
 ) -> u32
     requires numbers { NumbersTellOn freezer.old.held.freezer tag.old.held.tag }
-    ensures { (answer : Result (Unit {0}) Misuse) × (result ≡ number_of (λ _. 0) answer)
-        × GivenBack freezer.old.held.freezer freezer.new.held.freezer tag.old.held.tag tag.new.held.tag answer }
+    ensures { Tells (GivenBack freezer.old.held.freezer freezer.new.held.freezer tag.old.held.tag tag.new.held.tag) result }
 {
     let Some(mut open) = freezer.take() else {
         return of_unit(Err(Misuse::Closed));

@@ -18,7 +18,7 @@ use queue_core::{BlockQueue, FreezeFault, Freezer, Limits, Mode, Tag, Thawed};
 use std::marker::Model;
 use std::sync::Arc;
 
-/// The freezer with its queue, the queue's number, the tags that no handle has, and how many tags the queue has in all.
+/// The freezer with its queue, the queue's number, and the tags that no handle has.
 #[derive(Drop)]
 #[repr(C)]
 pub struct OpenFreezer {
@@ -26,7 +26,6 @@ pub struct OpenFreezer {
     queue: Arc<BlockQueue>,
     number: QueueNumber,
     waiting: Vec<Tag>,
-    tags: u32,
     freezer: Freezer,
     after: [u64; 16],
 }
@@ -41,7 +40,7 @@ impl Model for OpenFreezer {
 
     ghost view = { λ f. record { number = f.number; waiting = f.waiting.items; freezer = f.freezer } };
 
-    ghost invariant = { λ f. (f.freezer.queue ≡ arc_value f.queue) × (f.freezer.tags ≡ f.tags) × (f.tags ≤ vec_capacity f.waiting)
+    ghost invariant = { λ f. (f.freezer.queue ≡ arc_value f.queue) × (f.freezer.tags ≤ vec_capacity f.waiting)
         × All (λ t. t.queue ≡ arc_value f.queue) f.waiting.items
         × All (λ t. t.entered ≡ false) f.waiting.items };
 }

@@ -2,6 +2,7 @@
 ghost use Rattle.std.specs.Prelude.{◌≡◌, ◌≤◌, false, All, MatchResult};
 ghost use Rattle.std.specs.Vec.{vec_capacity};
 ghost use Rattle.freeze_queue_c.specs.Ends.{IsEnd, IsKeptAs, IsPutBack, missing_tags};
+ghost use Rattle.freeze_queue_c.specs.Opened.{freezer_with};
 
 use super::OpenFreezer;
 use crate::life::Final;
@@ -21,12 +22,12 @@ pub struct KeptFreezer {
 }
 
 /// The freezer of a queue that comes back. Lost without memory.
-fn put_back(alloc: Global, number: QueueNumber, tags: u32, fault: RemoveFault) -> KeptFreezer
-    requires own { (fault.freezer.queue ≡ fault.queue) × (fault.freezer.tags ≡ tags) }
-    requires places { tags ≤ vec_capacity fault.tags }
+fn put_back(alloc: Global, number: QueueNumber, fault: RemoveFault) -> KeptFreezer
+    requires own { fault.freezer.queue ≡ fault.queue }
+    requires places { fault.freezer.tags ≤ vec_capacity fault.tags }
     requires tags { All (λ t. t.queue ≡ fault.queue) fault.tags.items }
     requires out { All (λ t. t.entered ≡ false) fault.tags.items }
-    ensures { IsPutBack (record { number = number; waiting = fault.tags.items; freezer = fault.freezer }) fault.why result.freezer result.why }
+    ensures { IsPutBack (freezer_with number fault.tags.items fault.freezer) fault.why result.freezer result.why }
 {
     let RemoveFault {
         why,
@@ -37,7 +38,7 @@ fn put_back(alloc: Global, number: QueueNumber, tags: u32, fault: RemoveFault) -
     match Arc::new(alloc, queue) {
         Ok(queue) => KeptFreezer {
             why: Refusal::OfQueue(why),
-            freezer: Some(OpenFreezer::of(queue, number, waiting, tags, freezer)),
+            freezer: Some(OpenFreezer::of(queue, number, waiting, freezer)),
         },
         Err(_) => KeptFreezer {
             why: Refusal::OfMisuse(Misuse::Memory),
@@ -52,15 +53,13 @@ fn remove(
     queue: BlockQueue,
     number: QueueNumber,
     waiting: Vec<Tag>,
-    tags: u32,
     freezer: Freezer,
 ) -> Result<Final, KeptFreezer>
-    requires own { (freezer.queue ≡ queue) × (freezer.tags ≡ tags) }
-    requires places { tags ≤ vec_capacity waiting }
+    requires own { freezer.queue ≡ queue }
+    requires places { freezer.tags ≤ vec_capacity waiting }
     requires tags { All (λ t. t.queue ≡ queue) waiting.items }
     requires out { All (λ t. t.entered ≡ false) waiting.items }
-    ensures { MatchResult result (IsEnd (record { number = number; waiting = waiting.items; freezer = freezer }))
-        (λ kept. IsKeptAs (record { number = number; waiting = waiting.items; freezer = freezer }) kept.freezer kept.why) }
+    ensures { MatchResult result (IsEnd (freezer_with number waiting.items freezer)) (λ kept. IsKeptAs (freezer_with number waiting.items freezer) kept.freezer kept.why) }
 {
     let limits = PlainLimits::of(freezer.limits());
     match freezer.remove(queue, waiting) {
@@ -70,7 +69,7 @@ fn remove(
             releases: left.releases,
             limits,
         }),
-        Err(fault) => Err(put_back(alloc, number, tags, fault)),
+        Err(fault) => Err(put_back(alloc, number, fault)),
     }
 }
 
@@ -79,12 +78,7 @@ impl OpenFreezer {
     pub fn tags_out(&self) -> u32
         ensures { result ≡ missing_tags self.now }
     {
-        let waiting = self.waiting.len();
-        if waiting < self.tags as usize {
-            self.tags - waiting as u32
-        } else {
-            0
-        }
+        (self.freezer.tags() as usize).saturating_sub(self.waiting.len()) as u32
     }
 
     /// Ends the queue. Refuses TagsOut, WornOut; InUse where somebody has a share of the queue. Memory where there is none
@@ -97,15 +91,14 @@ impl OpenFreezer {
             queue,
             number,
             waiting,
-            tags,
             freezer,
             after: _,
         } = self;
         match Arc::try_unwrap(queue) {
-            Ok(queue) => remove(alloc, queue, number, waiting, tags, freezer),
+            Ok(queue) => remove(alloc, queue, number, waiting, freezer),
             Err(queue) => Err(KeptFreezer {
                 why: Refusal::OfMisuse(Misuse::InUse),
-                freezer: Some(OpenFreezer::of(queue, number, waiting, tags, freezer)),
+                freezer: Some(OpenFreezer::of(queue, number, waiting, freezer)),
             }),
         }
     }

@@ -5,6 +5,7 @@ ghost use Rattle.std.specs.Vec.{vec_capacity};
 ghost use Rattle.freeze_queue_c.specs.Ran.{misuse_of};
 ghost use Rattle.freeze_queue_c.specs.FreezerCalls.{Sought};
 ghost use Rattle.freeze_queue_c.specs.Life.{Makes, NewFreezer, new_refusal, size_misuse};
+ghost use Rattle.freeze_queue_c.specs.Opened.{freezer_with};
 ghost use Rattle.freeze_queue_c.specs.PlainLimits.{bounds_of};
 
 use super::OpenFreezer;
@@ -47,21 +48,19 @@ impl OpenFreezer {
         queue: Arc<BlockQueue>,
         number: QueueNumber,
         waiting: Vec<Tag>,
-        tags: u32,
         freezer: Freezer,
     ) -> OpenFreezer
-        requires own { (freezer.queue ≡ arc_value queue) × (freezer.tags ≡ tags) }
-        requires places { tags ≤ vec_capacity waiting }
+        requires own { freezer.queue ≡ arc_value queue }
+        requires places { freezer.tags ≤ vec_capacity waiting }
         requires tags { All (λ t. t.queue ≡ arc_value queue) waiting.items }
         requires out { All (λ t. t.entered ≡ false) waiting.items }
-        ensures { result ≡ record { number = number; waiting = waiting.items; freezer = freezer } }
+        ensures { result ≡ freezer_with number waiting.items freezer }
     {
         OpenFreezer {
             before: [0; 16],
             queue,
             number,
             waiting,
-            tags,
             freezer,
             after: [0; 16],
         }
@@ -84,6 +83,6 @@ impl OpenFreezer {
         let Ok(queue) = Arc::new(alloc, queue) else {
             return Err(Refusal::OfMisuse(Misuse::Memory));
         };
-        Ok(OpenFreezer::of(queue, number, waiting, tags, freezer))
+        Ok(OpenFreezer::of(queue, number, waiting, freezer))
     }
 }

@@ -36,7 +36,7 @@ impl OpenFreezer {
     {
         let own = self.number;
         let number = tag.number();
-        if self.waiting.len() >= self.tags as usize
+        if self.waiting.len() >= self.freezer.tags() as usize
             || own.counter != number.counter
             || own.drawn != number.drawn
         {
