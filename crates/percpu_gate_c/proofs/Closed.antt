@@ -7,7 +7,7 @@ use Rattle.percpu_gate_c.specs.declared.misuse.Misuse.TheVariants.{Closed}
 use Rattle.percpu_gate_c.specs.Numbers.{number_of}
 use Rattle.percpu_gate_c.specs.Opened.{PassOpened, ControlOpened}
 use Rattle.percpu_gate_c.specs.Life.{Given, Retired}
-use Rattle.percpu_gate_c.specs.Ran.{RanOn, Answers, Writes}
+use Rattle.percpu_gate_c.specs.Ran.{RanOn, Answers, Tells, Writes}
 use Rattle.percpu_gate_c.specs.KillSteps.{Begins, BegunKill}
 
 pub closed_answers : {S A : Type 0} {number : A → ℕ} (misuse : S → Option Misuse) (leaves : S → S → A → Type 0) {old new : Option S} {result : ℕ}
@@ -21,12 +21,12 @@ closed_writes {S = S} {V = V} misuse leaves {old = old} {new = new} was is kept 
     (Err Closed, told, kept, subst (λ (o : Option S). RanOn {A = V} misuse leaves o new (Err Closed)) (sym was) (refl, is))
 
 pub closed_given : {old new : Option ControlOpened} {before after : Option PassOpened} {result : ℕ} → old ≡ None → new ≡ None → after ≡ before → result ≡ 32
-    → (answer : Result (Unit {0}) Misuse) × (result ≡ number_of (λ _. 0) answer) × Given old new before after answer
+    → Tells (Given old new before after) result
 closed_given {new = new} {before = before} {after = after} was is kept told =
     (Err Closed, told, subst (λ (o : Option ControlOpened). Given o new before after (Err Closed)) (sym was) (refl, is, kept))
 
 pub closed_retired : {old new : Option ControlOpened} {before after : Option PassOpened} {result : ℕ} → old ≡ None → new ≡ None → after ≡ before → result ≡ 32
-    → (answer : Result (Unit {0}) Misuse) × (result ≡ number_of (λ _. 0) answer) × Retired old new before after answer
+    → Tells (Retired old new before after) result
 closed_retired {new = new} {before = before} {after = after} was is kept told =
     (Err Closed, told, subst (λ (o : Option ControlOpened). Retired o new before after (Err Closed)) (sym was) (refl, is, kept))
 

@@ -1,5 +1,5 @@
 -- How gates and their handles come and go.
-use Rattle.std.specs.Prelude.{◌≡◌, ℕ, ◌+◌, ◌-◌, ◌⊎◌, nat_eq, nat_lt, if◌then◌else◌, Option, Some, None, Result, Ok, Err}
+use Rattle.std.specs.Prelude.{◌≡◌, ℕ, ◌+◌, ◌-◌, ◌⊎◌, nat_eq, nat_lt, if◌then◌else◌, Option, Some, None, Result, Ok, Err, List}
 use Rattle.percpu_core.specs.Phases.{is_phase}
 use Rattle.percpu_core.specs.declared.phase.Phase.TheVariants.{Dead}
 use Rattle.percpu_core.specs.declared.start.Start.{Start}
@@ -7,11 +7,12 @@ use Rattle.percpu_core.specs.declared.start.Start.TheVariants as starts
 use Rattle.percpu_gate.specs.declared.exit.ExitWhy.{ExitWhy}
 use Rattle.percpu_gate.specs.ControlCalls.{exit_refusal, exit_number}
 use Rattle.percpu_gate.specs.Exits.{Ended}
+use Rattle.percpu_gate_c.specs.declared.gate_number.GateNumber.{GateNumber}
 use Rattle.percpu_gate_c.specs.declared.misuse.Misuse.{Misuse}
 use Rattle.percpu_gate_c.specs.declared.misuse.Misuse.TheVariants.{Closed, Open, Size}
 use Rattle.percpu_gate_c.specs.declared.life.Final.{Final}
 use Rattle.percpu_gate_c.specs.Opened.{PassOpened, ControlOpened}
-use Rattle.percpu_gate_c.specs.ControlCalls.{Next, Retires, size_misuse}
+use Rattle.percpu_gate_c.specs.ControlCalls.{Made, NewControl, Next, Retires, size_misuse}
 
 -- the number of a handle's gate, that whoever made it drew; 0 where the handle is closed
 abbrev pub pass_number : Option PassOpened → ℕ
@@ -29,6 +30,10 @@ start_named n = if nat_eq n 0 then starts.Slots else (if nat_eq n 1 then starts.
 -- there are three of these
 abbrev pub new_misuse : ℕ → ℕ → ℕ → Option Misuse
 new_misuse start slots passes = if nat_lt 2 start then Some Size else size_misuse slots passes
+
+-- what making a gate with these numbers leaves of a handle
+abbrev pub HasMade : GateNumber → ℕ → ℕ → ℕ → List ℕ → Option ControlOpened → Option ControlOpened → Result (Unit {0}) Misuse → Type 0
+HasMade number slots passes start words old new answer = Made (new_misuse start slots passes) (NewControl number slots passes (start_named start) words) old new answer
 
 -- what giving the next pass to a handle leaves: it is to be closed
 abbrev pub Gives : ControlOpened → ControlOpened → Option PassOpened → Option PassOpened → Result (Unit {0}) Misuse → Type 0

@@ -9,6 +9,10 @@ abbrev pub misuse_of : {A : Type 0} → Result A Misuse → Option Misuse
 misuse_of (Ok a) = None
 misuse_of (Err why) = Some why
 
+-- the number that C is answered is that of an answer of which this holds
+abbrev pub Tells : (Result (Unit {0}) Misuse → Type 0) → ℕ → Type 0
+Tells holds result = (answer : Result (Unit {0}) Misuse) × (result ≡ number_of (λ _. 0) answer) × holds answer
+
 -- what is written: what a call gives, or what was there
 abbrev pub written : {V : Type 0} → Result V Misuse → V → V
 written (Ok given) there = given

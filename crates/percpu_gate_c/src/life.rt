@@ -1,9 +1,8 @@
 //! How gates and their handles come and go.
-ghost use Rattle.std.specs.Prelude.{◌≡◌, None, Result};
-ghost use Rattle.percpu_gate_c.specs.declared.misuse.Misuse.{Misuse};
-ghost use Rattle.percpu_gate_c.specs.Numbers.{number_of};
-ghost use Rattle.percpu_gate_c.specs.ControlCalls.{Made, NewControl, Retires};
-ghost use Rattle.percpu_gate_c.specs.Life.{Exits, Given, Gives, NumbersTell, NumbersTellOn, Retired, control_number, new_misuse, pass_number, start_named};
+ghost use Rattle.std.specs.Prelude.{◌≡◌, None};
+ghost use Rattle.percpu_gate_c.specs.ControlCalls.{Retires};
+ghost use Rattle.percpu_gate_c.specs.Life.{Exits, Given, Gives, HasMade, NumbersTell, NumbersTellOn, Retired, control_number, pass_number, start_named};
+ghost use Rattle.percpu_gate_c.specs.Ran.{Tells};
 
 use crate::control_handle::ControlHandle;
 use crate::gate_number::GateNumber;
@@ -44,7 +43,7 @@ fn make(
     start: u32,
     words: &[u64; WORDS],
 ) -> Result<(), Misuse>
-    ensures { Made (new_misuse start slots passes) (NewControl number.now slots passes (start_named start) words.now) control.old.held.control control.new.held.control result }
+    ensures { HasMade number.now slots passes start words.now control.old.held.control control.new.held.control result }
 {
     let alloc = control.closed()?;
     if start > 2 {
@@ -66,8 +65,7 @@ pub extern "C" fn percpu_gate_new_numbered(
     start: u32,
     words: &[u64; WORDS],
 ) -> u32
-    ensures { (answer : Result (Unit {0}) Misuse) × (result ≡ number_of (λ _. 0) answer)
-        × Made (new_misuse start slots passes) (NewControl number.now slots passes (start_named start) words.now) control.old.held.control control.new.held.control answer }
+    ensures { Tells (HasMade number.now slots passes start words.now control.old.held.control control.new.held.control) result }
 {
     of_unit(make(control, number, slots, passes, start, words))
 }
@@ -86,7 +84,7 @@ fn give(chosen: &mut OpenControl, pass: &mut PassHandle) -> Result<(), Misuse>
 #[tactic(auto, using(crate::proofs::Closed::closed_given))]
 #[unsafe(no_mangle)]
 pub extern "C" fn percpu_gate_next_pass(control: &mut ControlHandle, pass: &mut PassHandle) -> u32
-    ensures { (answer : Result (Unit {0}) Misuse) × (result ≡ number_of (λ _. 0) answer) × Given control.old.held.control control.new.held.control pass.old.held.pass pass.new.held.pass answer }
+    ensures { Tells (Given control.old.held.control control.new.held.control pass.old.held.pass pass.new.held.pass) result }
 {
     let Some(mut open) = control.take() else {
         return of_unit(Err(Misuse::Closed));
@@ -161,7 +159,7 @@ fn retire(chosen: &mut OpenControl, pass: &mut PassHandle) -> Result<(), Misuse>
 #[unsafe(no_mangle)]
 pub extern "C" fn percpu_gate_retire(control: &mut ControlHandle, pass: &mut PassHandle) -> u32
     requires numbers { NumbersTellOn control.old.held.control pass.old.held.pass }
-    ensures { (answer : Result (Unit {0}) Misuse) × (result ≡ number_of (λ _. 0) answer) × Retired control.old.held.control control.new.held.control pass.old.held.pass pass.new.held.pass answer }
+    ensures { Tells (Retired control.old.held.control control.new.held.control pass.old.held.pass pass.new.held.pass) result }
 {
     let Some(mut open) = control.take() else {
         return of_unit(Err(Misuse::Closed));
