@@ -3,15 +3,14 @@ use Rattle.std.proofs.Common.{◌≡◌, ◌∙◌, sym, ap, subst, ℕ, List, l
 use Rattle.std.proofs.Math.Seq.{take-length}
 use Rattle.script_meaning.specs.Meaning.{after_lines, start_of}
 use Rattle.script_meaning.specs.Script.{Meant}
-use Rattle.script_overlap.specs.SpanOfRequests.{Marks}
 use Rattle.run_desk.specs.Desk.{AreJoined, IsUpTo, Stands, joined, owed_count}
 use Rattle.blk_workers.specs.Progress.{IsRun}
 use Rattle.run_desk.proofs.Desks.{all_there}
 use Rattle.run_desk.proofs.Ends.{are_joined}
 
-pub run_ended : (script : Meant) (replies : List (Option (List ℕ))) (disk : List (List ℕ)) (span : Marks) (text : List ℕ) → Stands script replies disk span → length replies ≡ length script.lines → owed_count replies ≡ 0
+pub run_ended : (script : Meant) (replies : List (Option (List ℕ))) (disk : List (List ℕ)) (text : List ℕ) → Stands script replies disk → length replies ≡ length script.lines → owed_count replies ≡ 0
     → text ≡ joined replies → IsRun script text disk
-run_ended script replies disk span text stands lines none is =
+run_ended script replies disk text stands lines none is =
     let up : IsUpTo script (length script.lines) replies disk = subst (λ n. IsUpTo script n replies disk) lines stands.up in
     record {
       told = subst (AreJoined script) (sym is) (are_joined script replies disk up none);

@@ -13,8 +13,7 @@ use Rattle.script_meaning.specs.declared.reply.Reply.{Reply}
 use Rattle.script_meaning.specs.declared.request.Request.{Request}
 use Rattle.blk_script.specs.Texts.{reply_line}
 use Rattle.run_desk.specs.Requests.{IsAcceptedAt, IsQueueAt, IsReplyLine}
-use Rattle.run_desk.specs.Desk.{is_owed, AreJoined, Stands, owed_count}
-use Rattle.run_desk.specs.Span.{ClashesWithNone}
+use Rattle.run_desk.specs.Desk.{is_owed, AreJoined, MayJoin, Stands, owed_count}
 use Rattle.run_desk.specs.declared.desk.Desk.{Desk}
 use Rattle.blk_workers.specs.Following.{mode_of}
 use Rattle.blk_workers.specs.Sizes.{Sizes}
@@ -58,7 +57,7 @@ pub record AreHandedOver (script : Meant) (requests completions : TableId) (posi
 
 -- the lines before a position are taken
 pub record IsAt (script : Meant) (queue : QueueFacts) (position : ℕ) (s : Submitter) : Type 0 where
-  pub stands : Stands script s.desk.replies s.desk.disk s.desk.span
+  pub stands : Stands script s.desk.replies s.desk.disk
   pub lines : length s.desk.replies ≡ position
   pub state : IsQueueAt script position s.state
   pub freezer : IsFollowing queue position s.freezer
@@ -77,7 +76,7 @@ pub record StayOwn (queue : QueueFacts) (before after : SourceFacts) (f : Freeze
 
 -- the desk is right, and the replies are owed to the requests whose completions this right to collect may still bring
 pub record IsCollecting (script : Meant) (completions : TableId) (desk : Desk) (collector : CollectorFacts) : Type 0 where
-  pub stands : Stands script desk.replies desk.disk desk.span
+  pub stands : Stands script desk.replies desk.disk
   pub own : collector.queue ≡ completions
   pub awaited : AreAwaited script desk.replies collector.given collector.collected
 
@@ -91,16 +90,16 @@ pub record HasCollected (script : Meant) (queue : QueueFacts) (completions : Tab
   pub follows : IsFollowing queue (length old.desk.replies + 1) new.freezer
   pub mode : new.freezer.mode ≡ mode_of new.state.mode
 
--- the next line is this accepted request, it has this number and these limits, and it overlaps none that is owed
+-- the next line is this accepted request, it has this number and these limits, and it may join those that are owed
 pub record IsReady (script : Meant) (replies : List (Option (List ℕ))) (next : Accepted) : Type 0 where
   pub accepted : accepted_at script (length replies) ≡ Some next.request
   pub number : next.number ≡ accepted_before script (length replies)
   pub limits : next.limits ≡ (queue_at script (length replies)).limits
-  pub apart : ClashesWithNone script (is_owed replies) next.request
+  pub may_join : MayJoin script replies
 
 -- one line more is taken, whose request is handed over, and the desk is right
 pub record HasHandedOver (script : Meant) (requests completions : TableId) (old new : Desk) (source : SourceFacts) (collector : CollectorFacts) : Type 0 where
-  pub stands : Stands script new.replies new.disk new.span
+  pub stands : Stands script new.replies new.disk
   pub lines : length new.replies ≡ length old.replies + 1
   pub all : AreHandedOver script requests completions (length old.replies + 1) new.replies source collector
 
@@ -119,7 +118,7 @@ pub record IsReplyNext (script : Meant) (replies : List (Option (List ℕ))) (nu
 
 -- the lines before the next are taken, but the freezer may have killed its gate once more
 pub record MayTake (script : Meant) (queue : QueueFacts) (s : Submitter) : Type 0 where
-  pub stands : Stands script s.desk.replies s.desk.disk s.desk.span
+  pub stands : Stands script s.desk.replies s.desk.disk
   pub follows : IsFollowing queue (length s.desk.replies + 1) s.freezer
   pub counted : IsCounted script (length s.desk.replies) s.accepted
 
@@ -134,7 +133,7 @@ IsAtStartWith script freezer s = (queue : QueueFacts) → IsFollowing queue 0 fr
 
 -- every line is taken, and nothing is owed
 pub record IsEnd (script : Meant) (s : Submitter) : Type 0 where
-  pub stands : Stands script s.desk.replies s.desk.disk s.desk.span
+  pub stands : Stands script s.desk.replies s.desk.disk
   pub lines : length s.desk.replies ≡ length script.lines
   pub none_owed : owed_count s.desk.replies ≡ 0
 

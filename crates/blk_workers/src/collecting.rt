@@ -22,9 +22,9 @@ fn take<J: Run, C: Line, L: Line, R, S>(
     desk: &mut Desk,
     done: Completion<J>,
 ) -> Result<(), RunFault>
-    requires stands { Stands J.script desk.old.replies desk.old.disk desk.old.span }
+    requires stands { Stands J.script desk.old.replies desk.old.disk }
     requires owed { is_owed desk.old.replies done.position ≡ true }
-    ensures stands { Stands J.script desk.new.replies desk.new.disk desk.new.span }
+    ensures stands { Stands J.script desk.new.replies desk.new.disk }
     ensures lines { length desk.new.replies ≡ length desk.old.replies }
     ensures awaited { StaysAwaitedBut J.script desk.old.replies desk.new.replies done.number }
     ensures filled { OnOk result (owed_count desk.new.replies + 1 ≡ owed_count desk.old.replies) }
@@ -33,7 +33,7 @@ fn take<J: Run, C: Line, L: Line, R, S>(
     let Some(answer) = answer else {
         return Err(RunFault::Memory);
     };
-    desk.take(hall.script, position, answer);
+    desk.take(hall.checked.script(), position, answer);
     Ok(())
 }
 

@@ -9,7 +9,7 @@ use crate::job::{Completion, FreeTag, Job};
 use crate::naming::{Line, Run};
 use freeze_queue::{BlockQueue, Tag};
 use run_queues::{CompletionQueue, RequestQueue, Source, SpareQueue};
-use script_meaning::Script;
+use script_overlap::Checked;
 use std::alloc::{AllocError, Global};
 use std::marker::{Model, PhantomData};
 use std::sync::Wait;
@@ -69,7 +69,7 @@ impl<J: Run, C: Line> Queues<J, C> {
     }
 }
 
-/// What a run's threads stand on: the runtime, the allocator, the script, what holds the run at its points, and the run's
+/// What a run's threads stand on: the runtime, the allocator, the checked script, what holds the run at its points, and the run's
 /// queues.
 ///
 /// The type keeps that the script and the queues are those which its parameters name, that the script's hardware is the
@@ -78,7 +78,7 @@ impl<J: Run, C: Line> Queues<J, C> {
 pub(crate) struct Hall<'a, J: Run, C: Line, L: Line, R, S> {
     pub(crate) rt: &'a R,
     pub(crate) alloc: Global,
-    pub(crate) script: &'a Script,
+    pub(crate) checked: &'a Checked,
     pub(crate) stall: &'a S,
     pub(crate) queue: &'a BlockQueue,
     pub(crate) requests: &'a RequestQueue<Job<J, C>>,
@@ -95,7 +95,7 @@ impl<'a, J: Run, C: Line, L: Line, R, S> Model for Hall<'a, J, C, L, R, S> {
 
     ghost view = { λ h. h.tags.now };
 
-    ghost invariant = { λ h. IsHall J.script J.queue L.id C.id h.script.now h.queue.now h.requests.now.id h.completions.now.id };
+    ghost invariant = { λ h. IsHall J.script J.queue L.id C.id h.checked.now h.queue.now h.requests.now.id h.completions.now.id };
 }
 
 impl<'a, J: Run, C: Line, L: Line, R, S> Hall<'a, J, C, L, R, S> {
@@ -103,16 +103,16 @@ impl<'a, J: Run, C: Line, L: Line, R, S> Hall<'a, J, C, L, R, S> {
     pub(crate) fn new(
         rt: &'a R,
         alloc: Global,
-        script: &'a Script,
+        checked: &'a Checked,
         stall: &'a S,
         queues: &'a Queues<J, C>,
     ) -> Hall<'a, J, C, L, R, S>
-        requires { IsHall J.script J.queue L.id C.id script.now queues.now.queue queues.now.requests.id queues.now.completions.id }
+        requires { IsHall J.script J.queue L.id C.id checked.now queues.now.queue queues.now.requests.id queues.now.completions.id }
     {
         Hall {
             rt,
             alloc,
-            script,
+            checked,
             stall,
             queue: &queues.queue,
             requests: &queues.requests,

@@ -5,7 +5,8 @@
 //! and with the sectors that a read finds. A worker reads the limits under the tag, cuts the pieces, makes the
 //! line of the reply and the sectors that a write leaves, queues both as the request's completion, leaves, and
 //! gives the tag back. Where a line drains, the queue is frozen until every tag has left, and all completions are
-//! collected; so it is at the end, and before a request that overlaps one since the last drain (`script_overlap::Span`).
+//! collected; so it is at the end, and before an ordered request: one that overlaps a request since the last drain, as the
+//! script's check found (`script_overlap::Checked`).
 //!
 //! Answers come back in any order. The one thread that submits and collects owns the disk and the replies (`run_desk::Desk`):
 //! for each answer that is owed it installs the sectors and keeps the line. Why that gives one thread's disk and replies is
@@ -18,7 +19,7 @@
 //! the first thread starts, and so is that for the lists of what each worker draws.
 //!
 //! Words of this crate:
-//! - *hall*: what the threads stand on, which is the runtime, the allocator, the script, the stall, the queue that requests
+//! - *hall*: what the threads stand on, which is the runtime, the allocator, the checked script, the stall, the queue that requests
 //!   enter, and three queues by which they hand on requests, completions and free tags.
 //! - *desk*: the disk and the replies so far, which the submitter alone has (`run_desk`). A reply is *owed* while its request is
 //!   under way.

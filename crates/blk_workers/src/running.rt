@@ -1,5 +1,5 @@
 //! A script's run on several threads.
-ghost use Rattle.std.specs.Prelude.{◌≡◌, ◌<◌, ◌≤◌, ◌==◌, ◌^◌, if◌then◌else◌, IfOk, length, map};
+ghost use Rattle.std.specs.Prelude.{◌≡◌, ◌<◌, ◌≤◌, ◌==◌, ◌^◌, if◌then◌else◌, IfOk, map};
 ghost use Rattle.script_meaning.specs.Requests.{accepted_in_all};
 ghost use Rattle.blk_workers.specs.Halls.{IsHall};
 ghost use Rattle.blk_workers.specs.Progress.{AreDrawn, AreFreeTags, AreNewEnds, IsAt, IsNewQueue, IsRun, Suits};
@@ -16,9 +16,8 @@ use crate::submitter::Submitter;
 use crate::team::{drawers, with_workers};
 use freeze_queue::{BlockQueue, NewQueue, Tag};
 use queue_limits::Limits;
-use run_desk::accepted_requests;
 use run_queues::{Collector, CompletionQueue};
-use script_meaning::Script;
+use script_overlap::Checked;
 use std::alloc::Global;
 use std::marker::Brand;
 use std::sync::Wait;
@@ -34,7 +33,7 @@ fn run_in<
 >(
     rt: &R,
     alloc: Global,
-    script: &Script,
+    checked: &Checked,
     config: Config,
     stall: &S,
     queues: &Queues<J, C>,
@@ -42,7 +41,7 @@ fn run_in<
     mut ends: Ends<J, C>,
     accepted: usize,
 ) -> Result<Ran, RunFault>
-    requires hall { IsHall J.script J.queue L.id C.id script.now queues.now.queue queues.now.requests.id queues.now.completions.id }
+    requires hall { IsHall J.script J.queue L.id C.id checked.now queues.now.queue queues.now.requests.id queues.now.completions.id }
     requires start { IsAt J.script J.queue 0 submitter }
     requires ends { AreNewEnds L.id C.id 0 ends.source ends.collector }
     requires room { config.workers ≤ ends.source.room }
@@ -51,7 +50,7 @@ fn run_in<
     ensures drawn { IfOk result (λ ran. AreDrawn J.script config.workers (map (λ list. list.items) ran.drawn.items)) }
 {
     let workers = config.workers();
-    let hall = Hall::<J, C, L, R, S>::new(rt, alloc, script, stall, queues);
+    let hall = Hall::<J, C, L, R, S>::new(rt, alloc, checked, stall, queues);
     let drawers = drawers(&hall, &mut ends.source, workers, accepted + 1)?;
     let (done, source) = with_workers(&hall, submitter, ends, drawers)?;
     done.answer(hall.requests.finish(source))
@@ -61,7 +60,7 @@ fn run_in<
 fn run_on<J: Run + Send + Sync, C: Line + Send + Sync, R: Threads + Wait + Sync, S: Stall>(
     rt: &R,
     alloc: Global,
-    script: &Script,
+    checked: &Checked,
     config: Config,
     stall: &S,
     queue: BlockQueue,
@@ -71,7 +70,7 @@ fn run_on<J: Run + Send + Sync, C: Line + Send + Sync, R: Threads + Wait + Sync,
     submitter: Submitter,
     accepted: usize,
 ) -> Result<Ran, RunFault>
-    requires script { script.now ≡ J.script }
+    requires script { checked.now ≡ J.script }
     requires queue { queue ≡ J.queue }
     requires suits { Suits J.script config.slots J.queue }
     requires room { completions.room ≡ (if accepted == 0 then 1 else accepted) }
@@ -86,7 +85,7 @@ fn run_on<J: Run + Send + Sync, C: Line + Send + Sync, R: Threads + Wait + Sync,
     let (queues, source) = Queues::<J, C>::new(rt, alloc, queue, tags, completions, workers)?;
     let ends = Ends { source, collector };
     run_in::<J, C, Brand, R, S>(
-        rt, alloc, script, config, stall, &queues, submitter, ends, accepted,
+        rt, alloc, checked, config, stall, &queues, submitter, ends, accepted,
     )
 }
 
@@ -94,25 +93,25 @@ fn run_on<J: Run + Send + Sync, C: Line + Send + Sync, R: Threads + Wait + Sync,
 fn run_as<J: Run + Send + Sync, R: Threads + Wait + Sync, S: Stall>(
     rt: &R,
     alloc: Global,
-    script: &Script,
+    checked: &Checked,
     config: Config,
     stall: &S,
     parts: NewQueue,
 ) -> Result<Ran, RunFault>
-    requires script { script.now ≡ J.script }
+    requires script { checked.now ≡ J.script }
     requires queue { parts.0 ≡ J.queue }
     requires new { IsNewQueue J.script config J.queue parts.1 parts.2.items }
     ensures run { IfOk result (λ ran. IsRun J.script ran.replies.items ran.disk) }
     ensures drawn { IfOk result (λ ran. AreDrawn J.script config.workers (map (λ list. list.items) ran.drawn.items)) }
 {
     let (queue, freezer, tags) = parts;
-    let accepted = accepted_requests(script);
+    let accepted = checked.accepted();
     let (completions, collector) = CompletionQueue::new(alloc, accepted.max(1))?;
-    let submitter = Submitter::new(alloc, script, freezer)?;
+    let submitter = Submitter::new(alloc, checked.script(), freezer)?;
     run_on::<J, Brand, R, S>(
         rt,
         alloc,
-        script,
+        checked,
         config,
         stall,
         queue,
@@ -124,7 +123,7 @@ fn run_as<J: Run + Send + Sync, R: Threads + Wait + Sync, S: Stall>(
     )
 }
 
-/// Runs a script on as many workers as the config says, whose replies and disk are those of a single thread.
+/// Runs a checked script on as many workers as the config says, whose replies and disk are those of a single thread.
 ///
 /// The calling thread submits the requests and collects their answers, the workers do them. `Memory` where memory
 /// was refused, and `Thread` where the start of a thread was; then nothing more is submitted, and the workers that
@@ -133,13 +132,14 @@ fn run_as<J: Run + Send + Sync, R: Threads + Wait + Sync, S: Stall>(
 pub fn run<R: Threads + Wait + Sync, S: Stall>(
     rt: &R,
     alloc: Global,
-    script: &Script,
+    checked: &Checked,
     config: Config,
     stall: &S,
 ) -> Result<Ran, RunFault>
-    ensures run { IfOk result (λ ran. IsRun script.now ran.replies.items ran.disk) }
-    ensures drawn { IfOk result (λ ran. AreDrawn script.now config.workers (map (λ list. list.items) ran.drawn.items)) }
+    ensures run { IfOk result (λ ran. IsRun checked.now ran.replies.items ran.disk) }
+    ensures drawn { IfOk result (λ ran. AreDrawn checked.now config.workers (map (λ list. list.items) ran.drawn.items)) }
 {
+    let script = checked.script();
     if script.lines().len() >= 1 << 32 {
         return Err(RunFault::Memory);
     }
@@ -150,5 +150,5 @@ pub fn run<R: Threads + Wait + Sync, S: Stall>(
     let Ok(parts) = parts else {
         return Err(RunFault::Memory);
     };
-    run_as::<Brand, R, S>(rt, alloc, script, config, stall, parts)
+    run_as::<Brand, R, S>(rt, alloc, checked, config, stall, parts)
 }

@@ -1,18 +1,17 @@
 //! The thread that submits and collects.
-ghost use Rattle.std.specs.Prelude.{◌≡◌, ◌+◌, ◌<◌, IfOk, OnOk, Some, None, length};
+ghost use Rattle.std.specs.Prelude.{◌≡◌, ◌+◌, ◌<◌, IfOk, OnOk, None, length};
 ghost use Rattle.blk_script.specs.Texts.{reply_line};
 ghost use Rattle.script_meaning.specs.Script.{Meant};
 ghost use Rattle.script_meaning.specs.Requests.{accepted_at, accepted_in_all};
 ghost use Rattle.blk_workers.specs.Progress.{HasCollected, HasPassed, HasTaken, IsAt, IsAtStartWith, IsCollecting, IsEnd, IsReplyNext, IsRequestNext, IsRun, MayTake, StayOwn, StaysAwaited};
-ghost use Rattle.run_desk.specs.Desk.{MayPass, Stands, is_owed, owed_count};
+ghost use Rattle.run_desk.specs.Desk.{MayJoin, MayPass, Stands, owed_count};
 ghost use Rattle.run_desk.specs.Requests.{IsReplyLine};
-ghost use Rattle.run_desk.specs.Span.{ClashesWithNone};
 
 use crate::collecting::{collect_all, collect_some};
 use crate::fault::RunFault;
 use crate::following::{follow, freeze};
 use crate::hall::Hall;
-use crate::handing::{Accepted, Ends, hand_over, must_wait};
+use crate::handing::{Accepted, Ends, hand_over};
 use crate::job::Completion;
 use crate::naming::{Line, Run};
 use crate::ran::Ran;
@@ -23,7 +22,6 @@ use ram_disk::Disk;
 use run_desk::{Desk, Replies};
 use run_queues::Collector;
 use script_meaning::{Outcome, QueueState, Reply, Request, Script};
-use script_overlap::Span;
 use std::alloc::Global;
 use std::sync::Wait;
 
@@ -46,11 +44,11 @@ fn settle(
     number: u32,
     reply: &Reply,
 ) -> Result<(), RunFault>
-    requires stands { Stands script.now desk.old.replies desk.old.disk desk.old.span }
+    requires stands { Stands script.now desk.old.replies desk.old.disk }
     requires refused { accepted_at script.now (length desk.old.replies) ≡ None }
     requires passes { MayPass script.now desk.old.replies }
     requires reply { IsReplyLine script.now (length desk.old.replies) (reply_line (number, reply.now)) }
-    ensures stands { OnOk result (Stands script.now desk.new.replies desk.new.disk desk.new.span) }
+    ensures stands { OnOk result (Stands script.now desk.new.replies desk.new.disk) }
     ensures lines { OnOk result (length desk.new.replies ≡ length desk.old.replies + 1) }
     ensures awaited { OnOk result (StaysAwaited script.now desk.old.replies desk.new.replies) }
 {
@@ -74,13 +72,8 @@ impl Submitter {
             return Err(RunFault::Memory);
         };
         let replies = Replies::new(alloc, script.lines().len())?;
-        let span = Span::new(alloc, script.disk())?;
         Ok(Submitter {
-            desk: Desk {
-                disk,
-                replies,
-                span,
-            },
+            desk: Desk { disk, replies },
             state: QueueState::new(script),
             freezer,
             accepted: 0,
@@ -98,11 +91,7 @@ impl Submitter {
             freezer: _,
             accepted: _,
         } = self;
-        let Desk {
-            disk,
-            replies,
-            span: _,
-        } = desk;
+        let Desk { disk, replies } = desk;
         let replies = replies.into_text()?;
         Ok(Ran {
             replies,
@@ -111,21 +100,19 @@ impl Submitter {
         })
     }
 
-    // Drains the queue, and opens it again, before an accepted request that has to wait.
+    // Drains the queue, and opens it again, before an ordered request.
     fn make_way<J: Run, C: Line, L: Line, R: Wait, S: Stall>(
         &mut self,
         hall: &Hall<'_, J, C, L, R, S>,
         collector: &mut Collector<Completion<J>>,
-        request: &Request,
     ) -> Result<(), RunFault>
         requires at { IsAt J.script J.queue (length self.old.desk.replies) self.old }
         requires collecting { IsCollecting J.script C.id self.old.desk collector.old }
-        requires accepted { accepted_at J.script (length self.old.desk.replies) ≡ Some request.now }
         ensures collected { HasCollected J.script J.queue C.id self.old self.new collector.old collector.new }
-        ensures apart { OnOk result (ClashesWithNone J.script (is_owed self.new.desk.replies) request.now) }
+        ensures joins { OnOk result (MayJoin J.script self.new.desk.replies) }
     {
         collect_some(hall, collector, &mut self.desk)?;
-        if !must_wait(hall, &self.desk, request) {
+        if !hall.checked.is_ordered(self.desk.replies.len()) {
             return Ok(());
         }
         self.drain(hall, collector)?;
@@ -153,7 +140,7 @@ impl Submitter {
             number: self.accepted,
             limits: self.state.limits(),
         };
-        self.make_way(hall, &mut ends.collector, &request)?;
+        self.make_way(hall, &mut ends.collector)?;
         let desk = &mut self.desk;
         hand_over(hall, desk, ends, accepted)?;
         self.accepted += 1;
@@ -161,7 +148,7 @@ impl Submitter {
         Ok(())
     }
 
-    // Drains the queue, which it freezes where it isn't frozen, and collects all completions. A new span begins.
+    // Drains the queue, which it freezes where it isn't frozen, and collects all completions.
     fn drain<J: Run, C: Line, L: Line, R: Wait, S: Stall>(
         &mut self,
         hall: &Hall<'_, J, C, L, R, S>,
@@ -176,9 +163,7 @@ impl Submitter {
         if freeze(hall.rt, &mut self.freezer, hall.queue, lines) {
             hall.stall.at(self.accepted, Point::Drained);
         }
-        collect_all(hall, collector, &mut self.desk)?;
-        self.desk.begin_span(hall.script);
-        Ok(())
+        collect_all(hall, collector, &mut self.desk)
     }
 
     // Takes the next line, whose reply is there and after which the script's queue is `next`.
@@ -195,7 +180,13 @@ impl Submitter {
         ensures passed { OnOk result (HasPassed J.script J.queue self.old self.new) }
         ensures own { self.new.freezer.queue ≡ J.queue }
     {
-        settle(hall.alloc, hall.script, &mut self.desk, number, reply)?;
+        settle(
+            hall.alloc,
+            hall.checked.script(),
+            &mut self.desk,
+            number,
+            reply,
+        )?;
         let lines = self.desk.replies.len();
         follow(&mut self.freezer, hall.queue, &next, lines);
         self.state = next;
@@ -213,7 +204,7 @@ impl Submitter {
         ensures taken { OnOk result (HasTaken J.script J.queue L.id C.id (length self.old.desk.replies + 1) self.new ends.new.source ends.new.collector) }
         ensures kept { StayOwn J.queue ends.old.source ends.new.source self.new.freezer }
     {
-        let line = &hall.script.lines()[self.desk.replies.len()];
+        let line = &hall.checked.script().lines()[self.desk.replies.len()];
         let mut next = self.state;
         match next.take(&line.what) {
             Outcome::Accepted(request) => { self.submit(hall, ends, next, request) }
@@ -236,7 +227,7 @@ impl Submitter {
         ensures pushed { OnOk result (ends.new.source ≡ record ends.old.source { pushed = accepted_in_all J.script }) }
         ensures kept { StayOwn J.queue ends.old.source ends.new.source self.new.freezer }
     {
-        for position in 0..hall.script.lines().len() {
+        for position in 0..hall.checked.script().lines().len() {
             let _ = position;
             self.take_next(hall, ends)?;
         }

@@ -73,7 +73,7 @@ fn serve<J: Run, C: Line, L: Line, R: Wait, S: Stall>(
 {
     let number = job.number();
     hall.stall.at(number, Point::Drawn);
-    let done = job.done(hall.alloc, hall.queue, hall.script);
+    let done = job.done(hall.alloc, hall.queue, hall.checked.script());
     let answered = done.tell(hall.rt, hall.completions);
     hall.stall.at(number, Point::Answered);
     let (tag, told) = answered.leave(hall.queue, slot);

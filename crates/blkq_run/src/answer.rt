@@ -48,7 +48,7 @@ pub(crate) fn answer<R: Threads + Wait + Sync, S: Stall>(
     ensures inside { IfErr result IsInside }
 {
     let script = parse(alloc, input)?;
-    check(alloc, &script)?;
-    let ran = run(rt, alloc, &script, config, stall)?;
+    let checked = check(alloc, script)?;
+    let ran = run(rt, alloc, &checked, config, stall)?;
     text_of(alloc, ran)
 }

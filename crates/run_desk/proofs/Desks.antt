@@ -1,5 +1,5 @@
 -- One step further of the thread that submits and collects.
-use Rattle.std.proofs.Common.{◌≡◌, ◌∙◌, refl, sym, ap, subst, ℕ, ◌+◌, ◌<◌, ◌≤◌, ◌⊎◌, inl, inr, arith, true, false, List, [], ◌∷◌, ◌++◌, length, get_or, set, Option, Some, None, is_none, length-append}
+use Rattle.std.proofs.Common.{◌≡◌, ◌∙◌, refl, sym, ap, subst, ℕ, ◌+◌, ◌<◌, ◌≤◌, ◌⊎◌, inl, inr, arith, true, false, List, [], ◌∷◌, ◌++◌, length, get_or, set, cond, Contains, Option, Some, None, is_none, length-append}
 use Rattle.std.specs.Prelude.{Result, Ok, Err, OnOk}
 use Rattle.std.specs.List.{slice_get}
 use Rattle.std.specs.Option.{option_and_then}
@@ -16,11 +16,11 @@ use Rattle.script_meaning.specs.declared.line.What.TheVariants.{Write}
 use Rattle.script_meaning.specs.declared.request.Request.{Request}
 use Rattle.script_meaning.proofs.Disks.{state_disk, length-pattern_sectors}
 use Rattle.script_overlap.specs.Overlap.{Clash}
-use Rattle.script_overlap.specs.SpanOfRequests.{Marks, OfSectors, Takes}
-use Rattle.run_desk.specs.Desk.{is_owed, owed_count, installed, IsUpTo, FitsAt, MayPass, Stands}
-use Rattle.run_desk.specs.Requests.{IsRequestAt, IsReplyLine, IsAnswer, left_by}
+use Rattle.script_overlap.specs.Ordered.{AreOrdered}
+use Rattle.script_overlap.proofs.OrderedLemmas.{one_order, parts_all_clashes}
+use Rattle.run_desk.specs.Desk.{is_owed, owed_count, installed, IsUpTo, FitsAt, MayJoin, MayPass, NoneOrderedSince, Stands}
+use Rattle.run_desk.specs.Requests.{IsRequestAt, IsReplyLine, IsAnswer, found_at, left_by}
 use Rattle.run_desk.specs.Span.{AreInSpan, ClashesWithNone, IsDiskBut}
-use Rattle.run_desk.proofs.Covering.{covers_fewer, covers_more}
 use Rattle.run_desk.proofs.LineSteps.{IsWriteAt, accepted_drains, sector_stays, request_within, request_writes, write_fits, writes_of}
 use Rattle.run_desk.proofs.Places.{none_counted, get_push_below, get_push_at, get_set_same, get_set_other, owed_below, owed_push, owed_at, owed_set_other, owed_set_same}
 use Rattle.run_desk.proofs.Spans.{fewer, none_owed, reads_stand, installed as installs}
@@ -258,23 +258,40 @@ fits_answer script replies disk p text sectors line up answer is =
     let there = answer_line script p text sectors answer line is in
     fits_there script disk p answer.line line.what sectors up.disk_is.whole answer.request there.1 (answer.leaves ∙ ap left_by there.1)
 
-pub stands_collected : (script : Meant) (replies : List (Option (List ℕ))) (disk : List (List ℕ)) (span : Marks) (p : ℕ) (text : List ℕ) (sectors : List (List ℕ)) (line : Line)
-    → Stands script replies disk span → is_owed replies p ≡ true → IsAnswer script p text sectors → line ≡ get_or script.lines p line
-    → Stands script (set replies p (Some text)) (installed line.what sectors disk) span
-stands_collected script replies disk span p text sectors line stands owed answer is =
+-- what stands behind a request that is owed, where no more are owed and where the next line isn't ordered
+since_fewer : (script : Meant) (old new : List (Option (List ℕ))) → length new ≡ length old → ((p : ℕ) → is_owed new p ≡ true → is_owed old p ≡ true) → NoneOrderedSince script old
+    → NoneOrderedSince script new
+since_fewer script old new same fewer since = λ p later ordered is low high are there. since p later ordered (fewer p is) low (omega (arith, high, same)) are there
+
+since_more : (script : Meant) (replies : List (Option (List ℕ))) (r : Option (List ℕ)) → ((p : ℕ) (ordered : List ℕ) → is_owed replies p ≡ true → AreOrdered script ordered → Contains ordered (length replies) → ⊥)
+    → NoneOrderedSince script replies → NoneOrderedSince script (replies ++ r ∷ [])
+since_more script replies r here since = λ p later ordered is low high are there.
+    let len = length-append replies (r ∷ []) in
+    elim (owed_before replies r p is) [
+      | inr new ↦ absurd (omega (arith, new.0, low, high, len))
+      | inl old ↦ elim (cases_lt later (length replies)) [
+        | inl less ↦ since p later ordered old low less are there
+        | inr more ↦ let last : later ≡ length replies = omega (arith, more, high, len) in here p ordered old are (subst (Contains ordered) last there)
+      ]
+    ]
+
+pub stands_collected : (script : Meant) (replies : List (Option (List ℕ))) (disk : List (List ℕ)) (p : ℕ) (text : List ℕ) (sectors : List (List ℕ)) (line : Line)
+    → Stands script replies disk → is_owed replies p ≡ true → IsAnswer script p text sectors → line ≡ get_or script.lines p line
+    → Stands script (set replies p (Some text)) (installed line.what sectors disk)
+stands_collected script replies disk p text sectors line stands owed answer is =
     let there = answer_line script p text sectors answer line is in
     let len = length-set replies p (Some text) in
     let next = collected script (length replies) replies disk p text sectors line stands.within stands.up owed answer there.0 in
     record {
       within = omega (arith, len, stands.within);
       up = subst (λ n. IsUpTo script n (set replies p (Some text)) (installed line.what sectors disk)) (sym len) next;
-      covers = covers_fewer script (is_owed replies) (is_owed (set replies p (Some text))) span (left_owed replies p text) stands.covers;
+      in_order = since_fewer script replies (set replies p (Some text)) len (left_owed replies p text) stands.in_order;
     }
 
 -- the next line is taken, with its reply
-pub stands_settled : (script : Meant) (replies : List (Option (List ℕ))) (disk : List (List ℕ)) (span : Marks) (text : List ℕ) → Stands script replies disk span → accepted_at script (length replies) ≡ None
-    → MayPass script replies → IsReplyLine script (length replies) text → Stands script (replies ++ Some text ∷ []) disk span
-stands_settled script replies disk span text stands refused pass replied =
+pub stands_settled : (script : Meant) (replies : List (Option (List ℕ))) (disk : List (List ℕ)) (text : List ℕ) → Stands script replies disk → accepted_at script (length replies) ≡ None
+    → MayPass script replies → IsReplyLine script (length replies) text → Stands script (replies ++ Some text ∷ []) disk
+stands_settled script replies disk text stands refused pass replied =
     let len = length-append replies (Some text ∷ []) in
     let less = slice_get_within script.lines (length replies) replied.line replied.at in
     let passes : Passes script (length replies) replies = elim pass [ inl stays ↦ inl stays | inr none ↦ inr (λ p. none_counted replies p none) ] in
@@ -282,8 +299,7 @@ stands_settled script replies disk span text stands refused pass replied =
     record {
       within = omega (arith, len, less);
       up = subst (λ n. IsUpTo script n (replies ++ Some text ∷ []) disk) (sym len) next;
-      covers = covers_fewer script (is_owed replies) (is_owed (replies ++ Some text ∷ [])) span
-          (λ p is. elim (owed_before replies (Some text) p is) [ inl old ↦ old | inr new ↦ absurd (false≢true new.1) ]) stands.covers;
+      in_order = since_more script replies (Some text) (λ p ordered is are there. no_request (accepted_at script (length replies)) ((are.wait (length replies) there).second) refused ((are.wait (length replies) there).second_accepted)) stands.in_order;
     }
 
 -- or it is a request, and owed
@@ -297,36 +313,45 @@ request_line script p request accepted = at_place (λ (l : Line). accepted_in (o
     at_place f None {request} is = absurd (none_some request is)
     at_place f (Some line) is = (line, refl)
 
-pub stands_submitted : (script : Meant) (replies : List (Option (List ℕ))) (disk : List (List ℕ)) (old new : Marks) (request : Request) → Stands script replies disk old
-    → accepted_at script (length replies) ≡ Some request → ClashesWithNone script (is_owed replies) request → Takes old new request → OfSectors new script.sectors
-    → Stands script (replies ++ None ∷ []) disk new
-stands_submitted script replies disk old new request stands accepted none takes sectors =
+none_is_owed : (replies : List (Option (List ℕ))) (p : ℕ) → owed_count replies ≡ 0 → is_owed replies p ≡ true → ⊥
+none_is_owed replies p none is = false≢true (sym (none_counted replies p none) ∙ is)
+
+-- a request that may join those that are owed isn't ordered where one is, and clashes with none
+joins_none : (script : Meant) (replies : List (Option (List ℕ))) → MayJoin script replies → (p : ℕ) (ordered : List ℕ) → is_owed replies p ≡ true → AreOrdered script ordered
+    → Contains ordered (length replies) → ⊥
+joins_none script replies (inl joins) p ordered is are there =
+    joins.is_none (subst (λ ps. Contains ps (length replies)) (one_order script ordered joins.positions are joins.are_ordered) there)
+joins_none script replies (inr none) p ordered is are there = none_is_owed replies p none is
+
+pub clashes_with_none : (script : Meant) (replies : List (Option (List ℕ))) (disk : List (List ℕ)) (request : Request) → Stands script replies disk → accepted_at script (length replies) ≡ Some request
+    → MayJoin script replies → ClashesWithNone script (is_owed replies) request
+clashes_with_none script replies disk request stands accepted (inl joins) = λ p first is there clash.
+    parts_all_clashes script joins.positions joins.are_ordered p (length replies) first request there accepted (owed_below replies p is)
+    (λ between low high. (stands.up.span.one_span p is between low high, stands.in_order p between joins.positions is low high joins.are_ordered)) joins.is_none clash
+clashes_with_none script replies disk request stands accepted (inr none) = λ p first is there clash. none_is_owed replies p none is
+
+pub stands_submitted : (script : Meant) (replies : List (Option (List ℕ))) (disk : List (List ℕ)) (request : Request) → Stands script replies disk
+    → accepted_at script (length replies) ≡ Some request → MayJoin script replies → Stands script (replies ++ None ∷ []) disk
+stands_submitted script replies disk request stands accepted joins =
     let len = length-append replies (None ∷ []) in
     let there = request_line script (length replies) request accepted in
     let less = slice_get_within script.lines (length replies) there.0 there.1 in
-    let next = submitted script (length replies) there.0 replies disk request stands.up there.1 accepted none in
+    let apart = clashes_with_none script replies disk request stands accepted joins in
+    let next = submitted script (length replies) there.0 replies disk request stands.up there.1 accepted apart in
     record {
       within = omega (arith, len, less);
       up = subst (λ n. IsUpTo script n (replies ++ None ∷ []) disk) (sym len) next;
-      covers = covers_more script (is_owed replies) (is_owed (replies ++ None ∷ [])) (length replies) old new request accepted takes sectors
-          (λ p is. elim (owed_before replies None p is) [ inl before ↦ inl before | inr now ↦ inr now.0 ]) stands.covers;
+      in_order = since_more script replies None (joins_none script replies joins) stands.in_order;
     }
 
--- where nothing is owed a new span may begin
-pub stands_anew : (script : Meant) (replies : List (Option (List ℕ))) (disk : List (List ℕ)) (old new : Marks) → Stands script replies disk old → owed_count replies ≡ 0 → OfSectors new script.sectors
-    → Stands script replies disk new
-stands_anew script replies disk old new stands none sectors = record {
-  within = stands.within;
-  up = stands.up;
-  covers = record { sectors = sectors; touched = λ p request sector is accepted inside. absurd (false≢true (sym (none_counted replies p none) ∙ is)) };
-}
-
 -- what an accepted request finds on the disk of the run
-pub finds_there : (script : Meant) (replies : List (Option (List ℕ))) (disk : List (List ℕ)) (span : Marks) (request : Request) → Stands script replies disk span
-    → accepted_at script (length replies) ≡ Some request → ClashesWithNone script (is_owed replies) request
-    → sectors_read request.start request.count disk ≡ sectors_read request.start request.count (state_at script (length replies)).disk
-finds_there script replies disk span request stands accepted none =
-    reads_stand script (is_owed replies) (length replies) disk request none stands.up.disk_is (request_within script (length replies) request accepted)
+pub finds_there : (script : Meant) (replies : List (Option (List ℕ))) (disk : List (List ℕ)) (request : Request) → Stands script replies disk
+    → accepted_at script (length replies) ≡ Some request → MayJoin script replies
+    → cond request.writes [] (sectors_read request.start request.count disk) ≡ found_at script (length replies) request
+finds_there script replies disk request stands accepted joins =
+    ap (cond request.writes [])
+    (reads_stand script (is_owed replies) (length replies) disk request (clashes_with_none script replies disk request stands accepted joins) stands.up.disk_is
+    (request_within script (length replies) request accepted))
 
 pub on_ok : {A E : Type 0} (r : Result A E) (P Q : Type 0) → (P → Q) → OnOk r P → OnOk r Q
 on_ok (Ok x) P Q f h = f h

@@ -1,15 +1,13 @@
 -- LineSteps: what a line does to a sector of the disk. Spans: the disk of a run while requests are under way. Places: lists of replies
--- one step further. RequestLines: what a request is answered, at its line. Desks: the disk and the replies, one step further. Covering: the span that is
--- kept with them. Numbering: the numbers of accepted requests. Counting: how many there are. TextLines: lines that stand in one text, and behind them those
+-- one step further. RequestLines: what a request is answered, at its line. Desks: the disk and the replies, one step further. Numbering: the
+-- numbers of accepted requests. TextLines: lines that stand in one text, and behind them those
 -- that are owed. Ends: the replies, once none is owed. NextLines: the script's queue one line further, and what a request is due to.
 pub mod LineSteps
 pub mod Spans
 pub mod Places
 pub mod RequestLines
-pub mod Covering
 pub mod Desks
 pub mod Ends
 pub mod NextLines
-pub mod Counting
 pub mod Numbering
 pub mod TextLines

@@ -1,5 +1,5 @@
 -- How far a run has come in a script: the lines of the replies, and the disk.
-use Rattle.std.specs.Prelude.{◌≡◌, ℕ, ◌+◌, ◌≤◌, ◌⊎◌, ◌++◌, Bool, true, false, List, [], ◌∷◌, length, Option, Some, None, is_none, set, slice_get, flat_map}
+use Rattle.std.specs.Prelude.{◌≡◌, ℕ, ◌+◌, ◌<◌, ◌≤◌, ◌⊎◌, ◌++◌, Bool, true, false, List, [], ◌∷◌, length, Contains, Option, Some, None, is_none, set, slice_get, flat_map}
 use Rattle.std.specs.Option.{option_map_or}
 use Rattle.ram_disk.specs.Disk.{sectors_written}
 use Rattle.blk_script.specs.Texts.{reply_line}
@@ -11,9 +11,9 @@ use Rattle.script_meaning.specs.declared.line.What.{What}
 use Rattle.script_meaning.specs.declared.line.What.TheVariants.{Write}
 use Rattle.script_meaning.specs.declared.reply.Reply.{Reply}
 use Rattle.script_meaning.specs.declared.request.Request.{Request}
-use Rattle.script_overlap.specs.SpanOfRequests.{Marks}
+use Rattle.script_overlap.specs.Ordered.{AreOrdered, JoinsItsSpan}
 use Rattle.run_desk.specs.Requests.{IsReplyLine, IsAnswer}
-use Rattle.run_desk.specs.Span.{AreInSpan, ClashesWithNone, Covers, IsDiskBut}
+use Rattle.run_desk.specs.Span.{AreInSpan, ClashesWithNone, IsDiskBut}
 
 -- the reply to the line at a position isn't there yet
 abbrev pub is_owed : List (Option (List ℕ)) → ℕ → Bool
@@ -48,11 +48,16 @@ abbrev pub FitsAt : What → List (List ℕ) → List (List ℕ) → Type 0
 FitsAt (Write start count pattern) sectors disk = start + length sectors ≤ length disk
 FitsAt what sectors disk = Unit {0}
 
--- as many lines of the script are taken as there are replies, and the span has the sectors of the requests that are owed
-pub record Stands (script : Meant) (replies : List (Option (List ℕ))) (disk : List (List ℕ)) (span : Marks) : Type 0 where
+-- no request behind one that is owed is ordered: a drain would have come between
+abbrev pub NoneOrderedSince : Meant → List (Option (List ℕ)) → Type 0
+NoneOrderedSince script replies = (position later : ℕ) (ordered : List ℕ) → is_owed replies position ≡ true → position < later → later < length replies
+    → AreOrdered script ordered → Contains ordered later → ⊥
+
+-- as many lines of the script are taken as there are replies
+pub record Stands (script : Meant) (replies : List (Option (List ℕ))) (disk : List (List ℕ)) : Type 0 where
   pub within : length replies ≤ length script.lines
   pub up : IsUpTo script (length replies) replies disk
-  pub covers : Covers script (is_owed replies) span
+  pub in_order : NoneOrderedSince script replies
 
 -- ---- the laws of submitting and collecting
 
@@ -97,3 +102,7 @@ EndsWithTheReplies = (script : Meant) (replies : List (Option (List ℕ))) (disk
 -- the next line may be taken: it doesn't drain, or nothing is owed
 abbrev pub MayPass : Meant → List (Option (List ℕ)) → Type 0
 MayPass script replies = (drains_at script (length replies) ≡ false) ⊎ (owed_count replies ≡ 0)
+
+-- the next line's request may join those that are owed: it isn't ordered, or nothing is owed
+abbrev pub MayJoin : Meant → List (Option (List ℕ)) → Type 0
+MayJoin script replies = JoinsItsSpan script (length replies) ⊎ (owed_count replies ≡ 0)

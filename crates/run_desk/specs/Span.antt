@@ -6,8 +6,6 @@ use Rattle.script_meaning.specs.Requests.{accepted_at, drains_at, state_at}
 use Rattle.script_meaning.specs.Script.{Meant}
 use Rattle.script_meaning.specs.declared.request.Request.{Request}
 use Rattle.script_overlap.specs.Overlap.{HasSector, Clash}
-use Rattle.script_overlap.specs.Span.{is_touched}
-use Rattle.script_overlap.specs.SpanOfRequests.{Marks, marks_of, OfSectors}
 
 -- the positions of the requests that are under way stand before this one, no line between drains, and no later request clashes with one of them
 pub record AreInSpan (script : Meant) (owed : ℕ → Bool) (here : ℕ) : Type 0 where
@@ -19,12 +17,6 @@ pub record AreInSpan (script : Meant) (owed : ℕ → Bool) (here : ℕ) : Type 
 -- a request clashes with none that is under way
 abbrev pub ClashesWithNone : Meant → (ℕ → Bool) → Request → Type 0
 ClashesWithNone script owed request = (position : ℕ) (first : Request) → owed position ≡ true → accepted_at script position ≡ Some first → Clash first request → ⊥
-
--- the sectors of the requests that are under way are marked
-pub record Covers (script : Meant) (owed : ℕ → Bool) (span : Marks) : Type 0 where
-  pub sectors : OfSectors span script.sectors
-  pub touched : (position : ℕ) (request : Request) (sector : ℕ) → owed position ≡ true → accepted_at script position ≡ Some request → HasSector request sector
-      → is_touched (marks_of span request.writes) sector ≡ true
 
 -- a write that is under way touches the sector
 pub record IsAwaited (script : Meant) (owed : ℕ → Bool) (sector : ℕ) : Type 0 where

@@ -11,14 +11,12 @@
 //! requests are under way, and `specs/Desk.antt` how far the disk and the replies have come. `blk_workers` has the threads.
 #![tactic(auto)]
 
-mod accepted;
 mod answer;
 mod desk;
 mod laws;
 mod lines;
 mod replies;
 
-pub use accepted::accepted_requests;
 pub use answer::{Answer, answered};
 pub use desk::Desk;
 pub use laws::{answers_come_in_any_order, reads_stand_in_a_span};

@@ -1,6 +1,7 @@
--- Bitmaps: touched sectors as bits. PartnerLemmas, SpanLemmas: clashing requests and touched sectors, one line further. Overlaps: the
+-- Bitmaps: touched sectors as bits. Counting: how many requests are accepted. PartnerLemmas, SpanLemmas: clashing requests and touched sectors, one line further. Overlaps: the
 -- first overlap of a script. OrderedLemmas, OrderedLines: its ordered requests.
 pub mod Bitmaps
+pub mod Counting
 pub mod OrderedLemmas
 pub mod OrderedLines
 pub mod Overlaps

@@ -1,17 +1,17 @@
 -- The ordered requests of a script, one line further, and that there is one list of them.
-use Rattle.std.proofs.Common.{◌≡◌, ◌∙◌, refl, sym, ap, subst, ℕ, zero, suc, ◌+◌, ◌<◌, ◌≤◌, ◌⊎◌, inl, inr, arith, List, [], ◌∷◌, ◌++◌, length, map, true, false, Some, None, Contains, AllPairs, get_or}
+use Rattle.std.proofs.Common.{◌≡◌, ◌∙◌, refl, sym, ap, subst, ℕ, zero, suc, ◌+◌, ◌<◌, ◌≤◌, ◌⊎◌, inl, inr, arith, List, [], ◌∷◌, ◌++◌, length, map, Some, None, Contains, AllPairs, get_or}
 use Rattle.std.proofs.lemmas.Bool.{cases_lt}
 use Rattle.std.proofs.lemmas.List.Elements.{Contains-append_left, Contains-push, Contains-push_cases}
 use Rattle.std.proofs.lemmas.List.Quantifiers.{all_pairs_push}
 use Rattle.std.proofs.lemmas.Option.{slice_get_past}
 use Rattle.std.specs.Option.{option_and_then}
 use Rattle.script_meaning.specs.Requests.{accepted_at, number_at, queue_at}
-use Rattle.script_meaning.specs.Script.{Meant, orders}
+use Rattle.script_meaning.specs.Script.{Meant}
 use Rattle.script_meaning.specs.Taken.{accepted}
 use Rattle.script_meaning.specs.declared.line.Line.{Line}
 use Rattle.script_meaning.specs.declared.version.Version.{Version}
 use Rattle.script_meaning.specs.declared.version.Version.TheVariants.{One, Two}
-use Rattle.script_overlap.specs.Ordered.{MustWait, AreOrdered, AreOrderedLines, AreDrainsOf, AreDrains, IsOneOrder, IsOneListOfDrains, PartsAllClashes}
+use Rattle.script_overlap.specs.Ordered.{MustWait, AreOrdered, AreOrderedLines, AreDrainsOf, IsOneOrder, IsOneListOfDrains, PartsAllClashes}
 use Rattle.script_overlap.proofs.PartnerLemmas.{before_or_here}
 
 -- whether a request waits rests on the ordered ones before it alone
@@ -188,20 +188,6 @@ one_list Two script a b x y = one_list_of_lines script a b x y
 
 pub one_list_of_drains : IsOneListOfDrains
 one_list_of_drains script = one_list script.version script
-
-pub drains_of_one : (script : Meant) → orders script.version ≡ false → AreDrains script []
-drains_of_one script none = none_of script.version none
-  where
-    none_of : (version : Version) → orders version ≡ false → AreDrainsOf version script []
-    none_of One e = refl
-    none_of Two e = cc
-
-pub drains_of_two : (script : Meant) (lines : List ℕ) → orders script.version ≡ true → AreOrderedLines script lines → AreDrains script lines
-drains_of_two script lines all ordered = all_of script.version all
-  where
-    all_of : (version : Version) → orders version ≡ true → AreDrainsOf version script lines
-    all_of One e = cc
-    all_of Two e = ordered
 
 pub parts_all_clashes : PartsAllClashes
 parts_all_clashes script ordered are earlier later first second first_accepted second_accepted in_order joins not_ordered clash =

@@ -1,18 +1,14 @@
 -- The first overlap of a script, and scripts without one.
-use Rattle.std.proofs.Common.{◌≡◌, ◌∙◌, refl, sym, ap, subst, ℕ, ◌+◌, ◌<◌, ◌≤◌, inl, inr, arith, [], length, Option, Some, None, IsSome, Contains, Bool, true, false}
+use Rattle.std.proofs.Common.{◌≡◌, ◌∙◌, refl, sym, ap, subst, ℕ, ◌<◌, inl, inr, arith, [], Option, Some, None, IsSome, Contains, false}
 use Rattle.std.proofs.lemmas.Bool.{cases_lt}
-use Rattle.std.proofs.lemmas.Option.{slice_get_past}
-use Rattle.std.specs.Option.{option_and_then}
-use Rattle.script_meaning.specs.Requests.{queue_at, accepted_at, number_at}
-use Rattle.script_meaning.specs.Taken.{accepted}
-use Rattle.script_overlap.specs.Overlap.{Clash, IsOverlap, HasNoOverlap, IsReported, IsFirstOverlap}
+use Rattle.script_meaning.specs.Requests.{accepted_at, number_at}
+use Rattle.script_overlap.specs.Overlap.{Clash, IsOverlap, IsReported, IsFirstOverlap}
 use Rattle.script_meaning.specs.Script.{Meant, orders}
 use Rattle.script_overlap.specs.Ordered.{MustWait}
 use Rattle.script_overlap.specs.Partners.{Finds, IsPartner, IsEarliest}
 use Rattle.line_text.specs.declared.fault.Overlap.{Overlap}
-use Rattle.script_meaning.specs.declared.line.Line.{Line}
 use Rattle.script_meaning.specs.declared.request.Request.{Request}
-use Rattle.script_overlap.proofs.PartnerLemmas.{before_or_here, same_accepted, span_with, span_before}
+use Rattle.script_overlap.proofs.PartnerLemmas.{same_accepted, span_with, span_before}
 
 -- where a request has to wait, an earlier line is found
 pub wait_is_found : (script : Meant) (i : ℕ) (request : Request) (found : Option ℕ) → accepted_at script i ≡ Some request → MustWait script [] i → Finds script i request found → IsSome found
@@ -65,14 +61,7 @@ reported script i request pair one accepted line apart first = record {
   later_line = line;
 }
 
--- no overlap up to a line, and none with it
-pub apart_further : (script : Meant) (i : ℕ) → ((e l : ℕ) → l < i → IsOverlap script e l → ⊥) → ((e : ℕ) → IsOverlap script e i → ⊥) → (e l : ℕ) → l < i + 1 → IsOverlap script e l → ⊥
-apart_further script i before here e l lt o =
-    elim (before_or_here l i lt) [
-      | inl less ↦ before e l less o
-      | inr is ↦ let P : ℕ → Type 0 = λ n. IsOverlap script e n in here e (subst P is o)
-    ]
-
+-- an empty list has no position
 pub none_ordered : (p : ℕ) → Contains [] p → ⊥
 none_ordered p there = omega (arith, there.1)
 
@@ -88,23 +77,6 @@ apart_here script i joins e o = joins (record {
   joins = λ between low high. (o.one_span between low (omega arith), none_ordered between);
   clash = o.clash;
 })
-
--- in version 2 none overlap
-pub none_of_two : (script : Meant) → orders script.version ≡ true → HasNoOverlap script
-none_of_two script two e l o = both (orders script.version) two o.refuses
-  where
-    both : (b : Bool) → b ≡ true → b ≡ false → ⊥
-    both b x y = cc
-
--- past the last line there is nothing
-pub apart_at_end : (script : Meant) (i : ℕ) → length script.lines ≤ i → ((e l : ℕ) → l < i → IsOverlap script e l → ⊥) → HasNoOverlap script
-apart_at_end script i last before e l o =
-    elim (cases_lt l i) [
-      | inl less ↦ before e l less o
-      | inr more ↦
-          let past : accepted_at script l ≡ None = ap (option_and_then (λ (line : Line). accepted (queue_at script l) line.what)) (slice_get_past script.lines l (omega arith)) in
-          (let there : accepted_at script l ≡ Some o.second = o.second_accepted in cc)
-    ]
 
 -- ---- one first overlap
 

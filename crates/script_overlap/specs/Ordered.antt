@@ -2,7 +2,7 @@
 -- stands before it.
 use Rattle.std.specs.Prelude.{◌≡◌, ℕ, ◌<◌, false, List, [], Some, Contains, AllPairs, map}
 use Rattle.script_meaning.specs.Requests.{accepted_at, drains_at, number_at}
-use Rattle.script_meaning.specs.Script.{Meant}
+use Rattle.script_meaning.specs.Script.{Meant, orders}
 use Rattle.script_meaning.specs.declared.request.Request.{Request}
 use Rattle.script_meaning.specs.declared.version.Version.{Version}
 use Rattle.script_meaning.specs.declared.version.Version.TheVariants.{One, Two}
@@ -33,6 +33,17 @@ pub record AreOrdered (script : Meant) (ordered : List ℕ) : Type 0 where
   pub wait : (position : ℕ) → Contains ordered position → MustWait script ordered position
   pub all : (position : ℕ) → MustWait script ordered position → Contains ordered position
 
+-- the request at a position is ordered, or it isn't: then it joins the span that reaches to it
+pub record IsOrdered (script : Meant) (position : ℕ) : Type 0 where
+  pub positions : List ℕ
+  pub are_ordered : AreOrdered script positions
+  pub is_one : Contains positions position
+
+pub record JoinsItsSpan (script : Meant) (position : ℕ) : Type 0 where
+  pub positions : List ℕ
+  pub are_ordered : AreOrdered script positions
+  pub is_none : Contains positions position → ⊥
+
 -- these are the numbers of their lines
 pub record AreOrderedLines (script : Meant) (lines : List ℕ) : Type 0 where
   pub positions : List ℕ
@@ -43,6 +54,10 @@ pub record AreOrderedLines (script : Meant) (lines : List ℕ) : Type 0 where
 abbrev pub AreDrainsOf : Version → Meant → List ℕ → Type 0
 AreDrainsOf One script lines = lines ≡ []
 AreDrainsOf Two script lines = AreOrderedLines script lines
+
+-- version 1 orders nothing
+abbrev pub NoneInVersionOne : Meant → List ℕ → Type 0
+NoneInVersionOne script ordered = orders script.version ≡ false → ordered ≡ []
 
 abbrev pub AreDrains : Meant → List ℕ → Type 0
 AreDrains script lines = AreDrainsOf script.version script lines

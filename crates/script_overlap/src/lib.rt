@@ -2,18 +2,22 @@
 //!
 //! A queue may have several accepted requests under way at the same time, until a line drains it. Two of them
 //! overlap where they share a sector and one of the two writes: then what they do would depend on which is
-//! done first. [`check`] finds the first such pair of a script, or tells that there is none. [`drains`] tells
-//! before which requests of version 2 a drain has to stand, so that none overlap. Both ask a [`Span`], which keeps
-//! the sectors that the requests since the last drain touch.
+//! done first. [`check`] finds the first such pair of a script of version 1. A script that has none is [`Checked`]; so is any
+//! of version 2, in which a drain has to stand before some requests, so that none overlap: these are ordered. To find
+//! both, a [`Span`] keeps the sectors that the requests since the last drain touch.
+//!
+//! What the check decides of a request is decided once: whoever runs a [`Checked`] script asks it how many requests are
+//! accepted, and whether one is ordered.
 #![tactic(auto)]
 
 mod bits;
+mod checked;
 mod checking;
 mod clash;
 mod overlap_laws;
 mod span;
 mod touched;
 
-pub use checking::{check, drains};
+pub use checked::Checked;
+pub use checking::check;
 pub use overlap_laws::{one_first_overlap, one_list_of_ordered_requests};
-pub use span::Span;

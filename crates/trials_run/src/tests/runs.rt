@@ -34,16 +34,16 @@ fn agrees<R: Threads + Wait + AllocGlobal + Sync, S: Stall>(
 ) -> Result<bool, Fail> {
     let alloc = rt.alloc();
     let script = parse(alloc, text)?;
-    check(alloc, &script)?;
+    let checked = check(alloc, script)?;
     let config = Config::new(workers, 3, tags).ok_or("within the limits")?;
     let Ran {
         mut replies,
         disk,
         drawn: _,
-    } = run(rt, alloc, &script, config, stall)?;
+    } = run(rt, alloc, &checked, config, stall)?;
     let line = render_disk(alloc, &disk)?;
     replies.extend_from_slice(&line)?;
-    Ok(replies == run_alone(alloc, &script)?)
+    Ok(replies == run_alone(alloc, checked.script())?)
 }
 
 #[test]

@@ -3,20 +3,16 @@ use Rattle.std.proofs.lemmas.List.{length-append}
 use Rattle.script_meaning.specs.Script.{Meant}
 use Rattle.script_meaning.specs.Requests.{accepted_at, accepted_before}
 use Rattle.run_queues.specs.Parts.{CollectorFacts, DutyFacts, SourceFacts}
-use Rattle.run_desk.specs.Desk.{Stands, is_owed}
+use Rattle.run_desk.specs.Desk.{MayJoin, Stands}
 use Rattle.run_desk.specs.Requests.{IsDue, found_at}
-use Rattle.run_desk.specs.Span.{ClashesWithNone}
 use Rattle.run_desk.proofs.NextLines.{due_at}
 use Rattle.run_desk.proofs.Numbering.{counts_request}
 use Rattle.blk_workers.specs.Progress.{AreAwaited}
 use Rattle.blk_workers.proofs.Awaited.{awaited_submitted}
 use Rattle.blk_workers.proofs.handing.hand_over.Goals as goal
 
-pub found-requires-clause-apart : goal.found-requires-clause-apart
-found-requires-clause-apart g c = subst (λ (s : Meant). ClashesWithNone s (is_owed c.args.desk.now.replies) c.args.accepted.request) (sym c.hall.invariant.its_script) c.requires.ready.apart
-
-pub submit-requires-clause-apart : goal.submit-requires-clause-apart
-submit-requires-clause-apart g c = subst (λ (s : Meant). ClashesWithNone s (is_owed c.args.desk.now.replies) c.args.accepted.request) (sym c.hall.invariant.its_script) c.requires.ready.apart
+pub submit-requires-clause-may_join : goal.submit-requires-clause-may_join
+submit-requires-clause-may_join g c = subst (λ (s : Meant). MayJoin s c.args.desk.now.replies) (sym (c.script.ensures ∙ c.hall.invariant.its_script)) c.requires.ready.may_join
 
 pub new-job-requires : goal.new-job-requires
 new-job-requires g c =
@@ -36,7 +32,7 @@ new-job-requires g c =
       };
       due = subst (λ p. IsDue script p c.args.accepted.limits found) (sym c.len-position.ensures)
           (due_at script here c.args.accepted.request c.args.accepted.limits found ready.accepted ready.limits
-          (subst (λ (s : Meant). found ≡ found_at s here c.args.accepted.request) c.hall.invariant.its_script c.in_ok-found.ensures));
+          (subst (λ (s : Meant). found ≡ found_at s here c.args.accepted.request) (c.script.ensures ∙ c.hall.invariant.its_script) c.in_ok-found.ensures.found));
     }
 
 pub returns-clause-handed_over : goal.returns-clause-handed_over
@@ -49,9 +45,9 @@ returns-clause-handed_over g c =
     let handed = c.requires.handed_over in
     let mine : CollectorFacts = c.args.ends.now.collector in
     let given = c.duty-duty.ensures.collector in
-    let replies : length c.submit.new.self.replies ≡ length old + 1 = ap length c.in_ok-submit.ensures.owed ∙ length-append old (None ∷ []) in
+    let replies : length c.submit.new.self.replies ≡ length old + 1 = ap length c.in_ok-found.ensures.owed ∙ length-append old (None ∷ []) in
     record {
-      stands = subst (λ (s : Meant). Stands s c.submit.new.self.replies c.submit.new.self.disk c.submit.new.self.span) c.hall.invariant.its_script c.in_ok-submit.ensures.stands;
+      stands = subst (λ (s : Meant). Stands s c.submit.new.self.replies c.submit.new.self.disk) (c.script.ensures ∙ c.hall.invariant.its_script) c.in_ok-found.ensures.stands;
       lines = replies;
       all = record {
         pushes = ap (λ (s : SourceFacts). s.queue) c.push.ensures ∙ handed.pushes;
@@ -60,7 +56,7 @@ returns-clause-handed_over g c =
         not_ended = ap (λ (s : SourceFacts). s.marks) c.push.ensures ∙ handed.not_ended;
         duties = ap (λ (k : CollectorFacts). k.given) given ∙ ap (λ n. n + 1) handed.duties ∙ sym more;
         awaited =
-            subst (λ replies. AreAwaited script replies c.duty-duty.new.collector.given c.duty-duty.new.collector.collected) (sym c.in_ok-submit.ensures.owed)
+            subst (λ replies. AreAwaited script replies c.duty-duty.new.collector.given c.duty-duty.new.collector.collected) (sym c.in_ok-found.ensures.owed)
             (subst (λ (k : CollectorFacts). AreAwaited script (old ++ None ∷ []) k.given k.collected) (sym given)
             (awaited_submitted script old mine.given mine.collected request handed.duties there handed.awaited));
       };

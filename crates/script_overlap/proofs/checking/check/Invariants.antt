@@ -1,16 +1,18 @@
-use Rattle.std.proofs.Common.{◌≡◌, ◌<◌, ◌≤◌, ℕ, []}
+use Rattle.std.proofs.Common.{◌≡◌, ◌≤◌}
 use Rattle.script_meaning.specs.Queue.{counted}
-use Rattle.script_meaning.specs.Requests.{queue_at}
-use Rattle.script_overlap.specs.Overlap.{IsOverlap}
+use Rattle.script_meaning.specs.Requests.{accepted_before, queue_at}
+use Rattle.script_overlap.specs.Ordered.{NoneInVersionOne}
 use Rattle.script_overlap.specs.SpanOfRequests.{OfSectors}
-use Rattle.script_overlap.proofs.SpanLemmas.{IsSpanAt}
+use Rattle.script_overlap.proofs.OrderedLines.{IsOrderedUpTo}
 use Rattle.script_overlap.proofs.checking.check.Given as goal
 
 abbrev pub invariant-loop-position : goal.invariant-loop-position
 invariant-loop-position l = record {
-  stands : l.queue ≡ queue_at l.script l.position;
+  stands : l.queue ≡ queue_at l.fn.script l.position;
   counts : counted l.queue ≤ l.position;
   sectors : OfSectors l.span l.queue.sectors;
-  at : IsSpanAt l.script [] l.position l.span;
-  apart : (earlier later : ℕ) → later < l.position → IsOverlap l.script earlier later → ⊥;
+  so_far : IsOrderedUpTo l.fn.script l.position l.span l.ordered.items;
+  of_version : NoneInVersionOne l.fn.script l.ordered.items;
+  so_many : l.accepted ≡ accepted_before l.fn.script l.position;
+  few : l.accepted ≤ l.position;
 }

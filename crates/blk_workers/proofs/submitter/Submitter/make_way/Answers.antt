@@ -1,16 +1,10 @@
 use Rattle.std.proofs.Common.{◌∙◌, sym, ap, length}
-use Rattle.std.proofs.lemmas.Bool.{false≢true}
 use Rattle.freeze_queue.specs.Queue.{QueueFacts}
 use Rattle.script_meaning.specs.Queue.{Queue}
 use Rattle.run_desk.proofs.NextLines.{hardware_at}
-use Rattle.run_desk.proofs.Places.{none_counted}
 use Rattle.blk_workers.proofs.submitter.Submitter.make_way.Goals as goal
 
 pub follow-requires-clause-hardware : goal.follow-requires-clause-hardware
 follow-requires-clause-hardware g c =
     ap (λ (q : Queue). q.limits.hardware) (c.in_ok-drain.ensures.collected.state ∙ c.requires.at.state.is) ∙ hardware_at g.J.Run.script (length c.args.self.now.desk.replies) ∙ sym c.hall.invariant.hardware
     ∙ sym (ap (λ (q : QueueFacts). q.hardware) c.hall.invariant.its_queue)
-
-pub returns-clause-apart : goal.returns-clause-apart
-returns-clause-apart g c = λ position first is accepted clash.
-    false≢true (sym (none_counted c.drain.new.self.desk.replies position c.in_ok-drain.ensures.none_owed) ∙ is)

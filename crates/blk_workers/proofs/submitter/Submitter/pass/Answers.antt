@@ -22,7 +22,7 @@ returns-clause-passed g c =
     let desk = c.settle.new.desk in
     record {
       at = record {
-        stands = subst (λ (s : Meant). Stands s desk.replies desk.disk desk.span) c.hall.invariant.its_script settled.stands;
+        stands = subst (λ (s : Meant). Stands s desk.replies desk.disk) (c.script.ensures ∙ c.hall.invariant.its_script) settled.stands;
         lines = settled.lines;
         state = c.requires.next.queue;
         freezer =
@@ -32,5 +32,5 @@ returns-clause-passed g c =
         counted = record { is = c.requires.may_take.counted.is ∙ sym (counts_line g.J.Run.script here refused); few = omega (arith, c.requires.may_take.counted.few) };
       };
       awaited =
-          subst (λ (s : Meant). StaysAwaited s c.args.self.now.desk.replies desk.replies) c.hall.invariant.its_script settled.awaited;
+          subst (λ (s : Meant). StaysAwaited s c.args.self.now.desk.replies desk.replies) (c.script.ensures ∙ c.hall.invariant.its_script) settled.awaited;
     }

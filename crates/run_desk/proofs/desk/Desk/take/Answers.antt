@@ -10,6 +10,6 @@ install-requires c =
 pub returns-clause-stands : goal.returns-clause-stands
 returns-clause-stands c =
     rw (c.fill.ensures, c.install.ensures)
-    (stands_collected c.args.script.now c.args.self.now.replies c.args.self.now.disk c.args.self.now.span c.args.position c.args.answer.text.items c.args.answer.sectors.items c.index-lines-position.result
+    (stands_collected c.args.script.now c.args.self.now.replies c.args.self.now.disk c.args.position c.args.answer.text.items c.args.answer.sectors.items c.index-lines-position.result
     c.requires.stands c.requires.owed c.requires.answer
     (c.index-lines-position.is ∙ ap (λ ls. get_or ls c.args.position c.index-lines-position.result) c.lines.ensures))

@@ -1,0 +1,80 @@
+//! A script that is checked, with what the check decided.
+ghost use Rattle.std.specs.Prelude.{◌≡◌, ◌≤◌, MatchBool, IfOk, length};
+ghost use Rattle.script_meaning.specs.Requests.{accepted_in_all};
+ghost use Rattle.script_overlap.specs.Decided.{IsDecided};
+ghost use Rattle.script_overlap.specs.Ordered.{AreDrains, IsOrdered, JoinsItsSpan};
+
+use script_meaning::Script;
+use std::alloc::{AllocError, Global};
+use std::marker::Model;
+
+/// A script of which no two requests overlap, as [`check`](crate::check) found. Contracts see the script.
+///
+/// It keeps what the check decided of the requests, so that whoever runs the script decides none of it again: how many
+/// the queue accepts, and which are ordered.
+#[derive(Drop)]
+pub struct Checked {
+    script: Script,
+    // the positions of the ordered requests, ascending
+    ordered: Vec<usize>,
+    accepted: usize,
+}
+
+impl Model for Checked {
+    ghost use Rattle.script_meaning.specs.Script.{Meant};
+    ghost use Rattle.script_overlap.specs.Decided.{IsDecided};
+
+    ghost Value = { Meant };
+
+    ghost view = { λ c. c.script };
+
+    ghost invariant = { λ c. IsDecided c.script c.ordered.items c.accepted };
+}
+
+impl Checked {
+    pub(crate) fn new(script: Script, ordered: Vec<usize>, accepted: usize) -> Checked
+        requires { IsDecided script ordered.items accepted }
+        ensures { result ≡ script }
+    {
+        Checked {
+            script,
+            ordered,
+            accepted,
+        }
+    }
+
+    /// The script.
+    pub fn script(&self) -> &Script
+        ensures { result.now ≡ self.now }
+    {
+        &self.script
+    }
+
+    /// How many of its requests the queue accepts.
+    pub fn accepted(&self) -> usize
+        ensures count { result ≡ accepted_in_all self.now }
+        ensures few { result ≤ length self.now.lines }
+    {
+        self.accepted
+    }
+
+    /// Whether the request at a position, counted from 0, is ordered: a drain has to stand before it. Any other joins the
+    /// span that reaches to it. In version 1 none is ordered.
+    pub fn is_ordered(&self, position: usize) -> bool
+        ensures { MatchBool result (IsOrdered self.now position) (JoinsItsSpan self.now position) }
+    {
+        self.ordered.binary_search(&position).is_ok()
+    }
+
+    /// The numbers of the lines before which a drain has to stand, in the script's order: in version 2 those of the
+    /// ordered requests, in version 1 none. Refused only where a growth of memory was refused.
+    pub fn drains(&self, alloc: Global) -> Result<Vec<u32>, AllocError>
+        ensures { IfOk result (λ lines. AreDrains self.now lines.items) }
+    {
+        let mut lines = Vec::with_capacity(alloc, self.ordered.len())?;
+        for position in &self.ordered {
+            lines.push(self.script.lines()[*position].number)?;
+        }
+        Ok(lines)
+    }
+}
