@@ -8,8 +8,8 @@ from sources.rattle import Crate, files_in
 WORD = re.compile(r"[\w-]+")
 
 # Where names that no proof knows may come from: tests, tools, scripts, the library for C.
-ELSEWHERE = ("tools", "tests", "examples", "rust", "library", "include", "docs/FORMATS.md", "Makefile", "blkq", "crates.txt")
-FINISHED = (".rt", ".antt", ".c", ".h", ".py", ".rs", ".toml", ".edit", ".txt", ".md", ".gate", ".blkq", "")
+ELSEWHERE = ("tools", "tests", "examples", "rust", "library", "include", "docs/FORMATS.md", "Makefile", "blkq", "gate_races", "crates.txt")
+FINISHED = (".rt", ".antt", ".c", ".h", ".py", ".rs", ".toml", ".edit", ".txt", ".md", ".gate", ".blkq", ".races", "")
 
 # How the names of a crate's exports begin, which its page leaves out.
 PREFIXES = {"percpu_gate_c": "percpu_gate_", "freeze_queue_c": "freeze_queue_"}

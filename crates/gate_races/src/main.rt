@@ -1,0 +1,26 @@
+//! All that may happen in a race of a gate.
+//!
+//! The program reads a race from standard input: a gate, and the calls of each of its actors. It writes what these
+//! calls may be answered, in all orders of their atomic steps, and a shortest schedule for each outcome. `races_run` is all of it
+//! over any reader and writers; here it gets the words after the program's name and the standard streams.
+#![tactic(auto)]
+
+use counted_io::Counted;
+use races_run::{command, refuse_words};
+use std::process::ExitCode;
+use std::rt::Env;
+use std::{env, io};
+
+/// The words after the program's name.
+fn words(rt: &(impl Env + AllocGlobal)) -> io::Result<Vec<String>> {
+    Ok(env::args(rt)?.skip(1).collect(rt.alloc())?)
+}
+
+fn main(rt: HostRuntime) -> ExitCode {
+    let (mut reader, mut writer) = (Counted::new(rt.stdin()), Counted::new(rt.stdout()));
+    let mut errors = rt.stderr();
+    ExitCode::from(match words(&rt) {
+        Ok(args) => command(rt.alloc(), &args, &mut reader, &mut writer, &mut errors),
+        Err(why) => refuse_words(&mut errors, &why),
+    })
+}

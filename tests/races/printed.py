@@ -1,0 +1,49 @@
+"""The outcomes of a race, as gate_races prints them: docs/FORMATS.md has the form."""
+
+from typing import NamedTuple
+
+
+class Outcome(NamedTuple):
+    told: tuple  # a line for each actor, and the figures of the end
+    states: int
+    schedule: list  # its lines, each step with its reply behind it
+
+
+def figures_of(line):
+    """Those of the line '# end SHARED V front F kills K releases R held H'."""
+    words = line.split()
+    return (words[2] == "zero", *(int(words[at]) for at in (5, 7, 9, 11)))
+
+
+def steps_of(schedule):
+    """How many steps it has, behind the lines of the version and of the world."""
+    return sum(not line.startswith("#") for line in schedule[2:])
+
+
+def outcome_of(lines, number):
+    """An outcome; its first line says its number, and how many steps its schedule has."""
+    head, begin = lines[0].split(), lines.index("gate 1")
+    schedule = lines[begin:]
+    if head != ["outcome", str(number), "states", head[3], "steps", str(steps_of(schedule))]:
+        raise ValueError(lines[0])
+    return Outcome((*lines[1:begin], figures_of(lines[-1])), int(head[3]), schedule)
+
+
+def outcomes_of(text):
+    """The outcomes of an answer, each of which is there once, the shorter schedules first; and the number of states."""
+    first, *lines = text.splitlines()
+    heads = [at for at, line in enumerate(lines) if line.startswith("outcome")]
+    found = [outcome_of(lines[at:end], number) for number, (at, end) in enumerate(zip(heads, heads[1:]), 1)]
+    lengths, different = [steps_of(it.schedule) for it in found], {it.told for it in found}
+    outcomes, count, states, seen = lines[-1].split()
+    if (first, outcomes, states, int(count), len(found)) != ("races 1", "outcomes", "states", len(different), len(different)):
+        raise ValueError(lines[-1])
+    if lengths != sorted(lengths):
+        raise ValueError(f"the steps of schedules: {lengths}")
+    return found, int(seen)
+
+
+def counted(text):
+    """How many end states each outcome has, by what it tells, and how many steps lead to it; and the number of states."""
+    found, seen = outcomes_of(text)
+    return {it.told: (it.states, steps_of(it.schedule)) for it in found}, seen
