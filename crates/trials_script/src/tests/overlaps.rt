@@ -172,7 +172,10 @@ fn requests_that_are_ordered(rt: HostRuntime) -> Result<(), Fail> {
 #[test]
 fn version_one_has_no_drains(rt: HostRuntime) -> Result<(), Fail> {
     let alloc = rt.alloc();
-    let script = parse(alloc, b"blkq 1\ndisk 8 hw 8\nwrite 0 1 01\nstat\nread 0 1\n")?;
+    let script = parse(
+        alloc,
+        b"blkq 1\ndisk 8 hw 8\nwrite 0 1 01\nstat\nread 0 1\n",
+    )?;
     assert_eq!(rt; script.version(), 1);
     assert_eq!(rt; check(alloc, script)?.drains(alloc)?.len(), 0);
     Ok(())
