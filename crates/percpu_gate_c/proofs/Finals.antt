@@ -4,7 +4,6 @@ use Rattle.std.proofs.lemmas.Bool.{leb-false}
 use Rattle.std.proofs.lemmas.Option.{none-some}
 use Rattle.percpu_core.specs.Phases.{is_phase, is_mid_switch}
 use Rattle.percpu_core.specs.declared.phase.Phase.TheVariants.{Dead}
-use Rattle.percpu_gate.specs.declared.exit.ExitWhy.{ExitWhy}
 use Rattle.percpu_gate.specs.declared.exit.ExitWhy.TheVariants as whys
 use Rattle.percpu_gate.specs.ControlCalls.{exit_refusal}
 use Rattle.percpu_gate.specs.Seats.{GateFacts, ControlFacts}
