@@ -1,5 +1,5 @@
 -- How far the thread that submits and collects has come.
-use Rattle.std.specs.Prelude.{◌≡◌, ℕ, ◌+◌, ◌<◌, ◌≤◌, ◌^◌, true, false, All, List, [], ◌∷◌, ◌++◌, length, Option, Some, None}
+use Rattle.std.specs.Prelude.{◌≡◌, ℕ, ◌+◌, ◌<◌, ◌≤◌, ◌^◌, ◌==◌, if◌then◌else◌, true, false, All, List, [], ◌∷◌, ◌++◌, length, map, Option, Some, None}
 use Rattle.atomic_table.specs.Seated.{TableId}
 use Rattle.run_queues.specs.Numbers.{Draws, times}
 use Rattle.run_queues.specs.Parts.{CollectorFacts, DrawerFacts, SourceFacts}
@@ -13,11 +13,12 @@ use Rattle.script_meaning.specs.declared.reply.Reply.{Reply}
 use Rattle.script_meaning.specs.declared.request.Request.{Request}
 use Rattle.blk_script.specs.Texts.{reply_line}
 use Rattle.run_desk.specs.Requests.{IsAcceptedAt, IsQueueAt, IsReplyLine}
-use Rattle.run_desk.specs.Desk.{is_owed, AreJoined, MayJoin, Stands, owed_count}
+use Rattle.run_desk.specs.Desk.{is_owed, AreJoined, MayJoin, MayPass, Stands, owed_count}
 use Rattle.run_desk.specs.declared.desk.Desk.{Desk}
 use Rattle.blk_workers.specs.Following.{mode_of}
 use Rattle.blk_workers.specs.Sizes.{Sizes}
 use Rattle.blk_workers.specs.declared.handing.Accepted.{Accepted}
+use Rattle.blk_workers.specs.declared.ran.Ran.{Ran}
 use Rattle.blk_workers.specs.declared.submitter.Submitter.{Submitter}
 
 -- the freezer is the queue's, knows a frozen queue to be drained, and killed its gate at most so often
@@ -80,6 +81,12 @@ pub record IsCollecting (script : Meant) (completions : TableId) (desk : Desk) (
   pub own : collector.queue ≡ completions
   pub awaited : AreAwaited script desk.replies collector.given collector.collected
 
+-- the completion of this number is taken, whether or not it brought an answer: the desk is right, and what else was awaited still is
+pub record HasCompleted (script : Meant) (number : ℕ) (old new : Desk) : Type 0 where
+  pub stands : Stands script new.replies new.disk
+  pub lines : length new.replies ≡ length old.replies
+  pub awaited : StaysAwaitedBut script old.replies new.replies number
+
 -- completions were collected and no line was taken; the freezer may have killed its gate once more, and has the script's mode
 pub record HasCollected (script : Meant) (queue : QueueFacts) (completions : TableId) (old new : Submitter) (before after : CollectorFacts) : Type 0 where
   pub collecting : IsCollecting script completions new.desk after
@@ -115,6 +122,18 @@ pub record IsReplyNext (script : Meant) (replies : List (Option (List ℕ))) (nu
   pub refused : accepted_at script (length replies) ≡ None
   pub reply : IsReplyLine script (length replies) (reply_line (number, answered))
   pub queue : IsQueueAt script (length replies + 1) next
+
+-- the next line is no accepted request, may be taken, and has this reply
+pub record MayReply (script : Meant) (replies : List (Option (List ℕ))) (number : ℕ) (told : Reply) : Type 0 where
+  pub refused : accepted_at script (length replies) ≡ None
+  pub passes : MayPass script replies
+  pub reply : IsReplyLine script (length replies) (reply_line (number, told))
+
+-- the next line is taken with its reply, and what was awaited still is
+pub record HasReplied (script : Meant) (old new : Desk) : Type 0 where
+  pub stands : Stands script new.replies new.disk
+  pub lines : length new.replies ≡ length old.replies + 1
+  pub awaited : StaysAwaited script old.replies new.replies
 
 -- the lines before the next are taken, but the freezer may have killed its gate once more
 pub record MayTake (script : Meant) (queue : QueueFacts) (s : Submitter) : Type 0 where
@@ -158,6 +177,20 @@ pub record IsNewDrawer (line : TableId) (room : ℕ) (drawer : DrawerFacts) : Ty
   pub none_drawn : drawer.drawn ≡ []
   pub has_room : room ≤ drawer.room
 
+-- the queue of completions, with room for each of the script's, and the right to collect them, before the first one
+pub record AreNewCompletions (script : Meant) (completions : TableId) (room : ℕ) (this_queue : TableId) (collector : CollectorFacts) : Type 0 where
+  pub room_for_each : room ≡ (if accepted_in_all script == 0 then 1 else accepted_in_all script)
+  pub its_queue : this_queue ≡ completions
+  pub collects : collector.queue ≡ completions
+  pub none_given : collector.given ≡ 0
+
+-- a right to draw for each of 1 to 32 workers, with room for all requests
+pub record AreDrawers (script : Meant) (requests : TableId) (workers : ℕ) (drawers : List DrawerFacts) : Type 0 where
+  pub new : All (IsNewDrawer requests (accepted_in_all script + 1)) drawers
+  pub one_each : length drawers ≡ workers
+  pub some : 0 < workers
+  pub few : workers ≤ 32
+
 -- all workers are back, each with the list of what it drew
 pub record AreBack (line : TableId) (workers : ℕ) (source : SourceFacts) : Type 0 where
   pub own : source.queue ≡ line
@@ -175,11 +208,20 @@ pub record IsRun (script : Meant) (replies : List ℕ) (disk : List (List ℕ)) 
   pub told : AreJoined script replies
   pub left : disk ≡ (after_lines (start_of script) script.lines).disk
 
+-- what a run answers, with the lists of what its workers drew
+abbrev pub IsRanBy : Meant → ℕ → Ran → Type 0
+IsRanBy script workers ran = IsRun script ran.replies.items ran.disk × AreDrawn script workers (map (λ list. list.items) ran.drawn.items)
+
 -- as a run's threads are led to the end: every line is taken, and all workers are back with what they drew of all requests
 pub record IsLed (script : Meant) (line : TableId) (workers : ℕ) (s : Submitter) (source : SourceFacts) : Type 0 where
   pub end : IsEnd script s
   pub back : AreBack line workers source
   pub pushed : source.pushed ≡ accepted_in_all script
+
+-- before the first line: this submitter with its ends, and a right to draw for each of some workers
+abbrev pub AreReady : Meant → QueueFacts → TableId → TableId → ℕ → Submitter → SourceFacts → CollectorFacts → List DrawerFacts → Type 0
+AreReady script queue requests completions workers s source collector drawers =
+    IsAt script queue 0 s × AreNewEnds requests completions workers source collector × AreDrawers script requests workers drawers
 
 -- so many workers are to come back, each of which has a part of the right to push, and there is room for their lists
 pub record AreOut (line : TableId) (workers : ℕ) (source : SourceFacts) : Type 0 where

@@ -1,6 +1,6 @@
 //! How completions are collected, and free tags taken.
 ghost use Rattle.std.specs.Prelude.{◌≡◌, ◌+◌, true, Some, OnOk, length};
-ghost use Rattle.blk_workers.specs.Progress.{IsCollecting, StaysAwaitedBut};
+ghost use Rattle.blk_workers.specs.Progress.{HasCompleted, IsCollecting};
 ghost use Rattle.run_desk.specs.Desk.{Stands, is_owed, owed_count};
 
 use crate::fault::RunFault;
@@ -16,24 +16,20 @@ use std::sync::Wait;
 /// The slot on which the thread that submits enters.
 const OWN_SLOT: u32 = 0;
 
-// Takes the answer to a request, which is owed until then. `Memory` where the worker was refused it.
+// Takes the completion of a request, which is owed until then. `Memory` where the worker was refused it.
 fn take<J: Run, C: Line, L: Line, R, S>(
     hall: &Hall<'_, J, C, L, R, S>,
     desk: &mut Desk,
-    done: Completion<J>,
+    completion: Completion<J>,
 ) -> Result<(), RunFault>
     requires stands { Stands J.script desk.old.replies desk.old.disk }
-    requires owed { is_owed desk.old.replies done.position ≡ true }
-    ensures stands { Stands J.script desk.new.replies desk.new.disk }
-    ensures lines { length desk.new.replies ≡ length desk.old.replies }
-    ensures awaited { StaysAwaitedBut J.script desk.old.replies desk.new.replies done.number }
+    requires owed { is_owed desk.old.replies completion.position ≡ true }
+    ensures taken { HasCompleted J.script completion.number desk.old desk.new }
     ensures filled { OnOk result (owed_count desk.new.replies + 1 ≡ owed_count desk.old.replies) }
 {
-    let (position, answer) = done.into_parts();
-    let Some(answer) = answer else {
-        return Err(RunFault::Memory);
-    };
-    desk.take(hall.checked.script(), position, answer);
+    let (position, answer) = completion.into_parts();
+    let answer = answer?;
+    desk.complete(hall.checked.script(), position, answer);
     Ok(())
 }
 
@@ -53,10 +49,10 @@ pub(crate) fn collect_some<J: Run, C: Line, L: Line, R: Wait, S>(
         return Ok(());
     }
     for _ in 0..desk.replies.owed() {
-        let Some(done) = hall.completions.try_collect(hall.rt, collector) else {
+        let Some(completion) = hall.completions.try_collect(hall.rt, collector) else {
             break;
         };
-        take(hall, desk, done)?;
+        take(hall, desk, completion)?;
     }
     Ok(())
 }
@@ -77,8 +73,8 @@ pub(crate) fn collect_all<J: Run, C: Line, L: Line, R: Wait, S>(
         if desk.replies.owed() == 0 {
             return Ok(());
         }
-        let done = hall.completions.collect(hall.rt, collector);
-        take(hall, desk, done)?;
+        let completion = hall.completions.collect(hall.rt, collector);
+        take(hall, desk, completion)?;
     }
     unreachable!()
 }

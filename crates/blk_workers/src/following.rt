@@ -30,14 +30,11 @@ pub(crate) fn freeze<R: Wait>(
 
 // Sets the limits of a frozen queue.
 fn set_limits(freezer: &mut Freezer, queue: &BlockQueue, limits: Limits)
-    requires own { freezer.old.queue ≡ queue.now }
-    requires drained { freezer.old.drained ≡ true }
-    requires frozen { 0 < freezer.old.depth }
-    requires hardware { limits.hardware ≡ queue.now.hardware }
+    requires own { (freezer.old.queue ≡ queue.now) × (limits.hardware ≡ queue.now.hardware) }
+    requires drained { (0 < freezer.old.depth) × (freezer.old.drained ≡ true) }
     ensures follows { (kills : ℕ) → IsFollowing queue.now kills freezer.old → IsFollowing queue.now kills freezer.new }
-    ensures depth { freezer.new.depth ≡ freezer.old.depth }
     ensures limits { freezer.new.limits ≡ limits }
-    ensures mode { freezer.new.mode ≡ freezer.old.mode }
+    ensures others { (freezer.new.depth ≡ freezer.old.depth) × (freezer.new.mode ≡ freezer.old.mode) }
 {
     if freezer.limits() != limits {
         let set = freezer.set(queue, limits);
@@ -47,13 +44,11 @@ fn set_limits(freezer: &mut Freezer, queue: &BlockQueue, limits: Limits)
 
 // Brings the depth of a frozen queue one step nearer to this one.
 fn step_to(freezer: &mut Freezer, queue: &BlockQueue, depth: u32)
-    requires own { freezer.old.queue ≡ queue.now }
-    requires frozen { 0 < freezer.old.depth }
+    requires own { (freezer.old.queue ≡ queue.now) × (0 < freezer.old.depth) }
     requires shallow { depth ≤ 1000 }
     ensures follows { (kills : ℕ) → IsFollowing queue.now kills freezer.old → IsFollowing queue.now kills freezer.new }
     ensures depth { freezer.new.depth ≡ one_nearer freezer.old.depth depth }
-    ensures limits { freezer.new.limits ≡ freezer.old.limits }
-    ensures mode { freezer.new.mode ≡ freezer.old.mode }
+    ensures others { (freezer.new.limits ≡ freezer.old.limits) × (freezer.new.mode ≡ freezer.old.mode) }
 {
     let now = freezer.depth();
     if now < depth {
@@ -82,8 +77,7 @@ pub(crate) fn follow(freezer: &mut Freezer, queue: &BlockQueue, state: &QueueSta
     requires hardware { state.now.limits.hardware ≡ queue.now.hardware }
     ensures follows { IsFollowing queue.now _kills freezer.new }
     ensures mode { freezer.new.mode ≡ mode_of state.now.mode }
-    ensures limits { 0 < freezer.old.depth → freezer.new.limits ≡ state.now.limits }
-    ensures depth { freezer.new.depth ≡ depth_after freezer.old.depth state.now }
+    ensures frozen { (0 < freezer.old.depth → freezer.new.limits ≡ state.now.limits) × (freezer.new.depth ≡ depth_after freezer.old.depth state.now) }
 {
     freezer.mode(queue, mode_of(state.mode()));
     if freezer.depth() == 0 {

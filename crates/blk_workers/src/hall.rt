@@ -51,8 +51,7 @@ impl<J: Run, C: Line> Queues<J, C> {
         completions: CompletionQueue<Completion<J>>,
         workers: u32,
     ) -> Result<(Queues<J, C>, Source<Job<J, C>>), RunFault>
-        requires queue { queue ≡ J.queue }
-        requires tags { AreFreeTags J.queue tags.items }
+        requires own { (queue ≡ J.queue) × AreFreeTags J.queue tags.items }
         ensures queue { IfOk result (λ made. made.0.queue ≡ queue) }
         ensures rooms { IfOk result (λ made. (made.0.requests.room ≡ length tags.items) × (made.0.tags ≡ length tags.items)) }
         ensures completions { IfOk result (λ made. made.0.completions ≡ completions) }

@@ -1,15 +1,15 @@
 //! What a worker is handed for a request, and what it hands back.
-ghost use Rattle.std.specs.Prelude.{◌≡◌, ◌<◌, true, false, IfSome};
-ghost use Rattle.run_desk.specs.Requests.{IsAcceptedAt, IsAnswer};
+ghost use Rattle.std.specs.Prelude.{◌≡◌, ◌<◌, true, false, IfOk};
+ghost use Rattle.run_desk.specs.Requests.{IsAcceptedAt, IsAnswerTo};
 ghost use Rattle.blk_workers.specs.Jobs.{IsJob, IsReadUnderItsTag};
 
 use crate::naming::{Line, Run};
 use freeze_queue::{BlockQueue, Tag};
 use ram_disk::Sector;
-use run_desk::{Answer, answered};
+use run_desk::{Answer, answer_to};
 use run_queues::{CompletionQueue, Duty, Numbered, Told};
 use script_meaning::Script;
-use std::alloc::Global;
+use std::alloc::{AllocError, Global};
 use std::marker::{Model, PhantomData};
 use std::sync::Wait;
 
@@ -50,25 +50,25 @@ impl<J: Run, C: Line> Numbered for Job<J, C> {
 /// A request that a worker is done with.
 ///
 /// The type keeps that the line at the position is the accepted request of this number, and that the answer is that
-/// of a single thread to it. There is none where the worker was refused memory.
+/// of a single thread to it, unless the worker was refused memory.
 #[derive(Drop)]
 pub(crate) struct Completion<J: Run> {
     number: u32,
     position: usize,
-    answer: Option<Answer>,
+    answer: Result<Answer, AllocError>,
     of: PhantomData<J>,
 }
 
 impl<J: Run> Model for Completion<J> {
-    ghost use Rattle.std.specs.Prelude.{IfSome};
+    ghost use Rattle.std.specs.Prelude.{IfOk};
     ghost use Rattle.blk_workers.specs.Jobs.{CompletionFacts};
-    ghost use Rattle.run_desk.specs.Requests.{IsAcceptedAt, IsAnswer};
+    ghost use Rattle.run_desk.specs.Requests.{IsAcceptedAt, IsAnswerTo};
 
     ghost Value = { CompletionFacts };
 
     ghost view = { λ c. record { number = c.number; position = c.position } };
 
-    ghost invariant = { λ c. IsAcceptedAt J.script c.number c.position × IfSome c.answer (λ answer. IsAnswer J.script c.position answer.text.items answer.sectors.items) };
+    ghost invariant = { λ c. IsAcceptedAt J.script c.number c.position × IfOk c.answer (IsAnswerTo J.script c.position) };
 }
 
 impl<J: Run> Numbered for Completion<J> {
@@ -120,9 +120,9 @@ impl<J: Run> FreeTag<J> {
 }
 
 impl<J: Run> Completion<J> {
-    fn new(number: u32, position: usize, answer: Option<Answer>) -> Completion<J>
+    fn new(number: u32, position: usize, answer: Result<Answer, AllocError>) -> Completion<J>
         requires request { IsAcceptedAt J.script number position }
-        requires answer { IfSome answer (λ a. IsAnswer J.script position a.text.items a.sectors.items) }
+        requires answer { IfOk answer (IsAnswerTo J.script position) }
         ensures { result ≡ record { number = number; position = position } }
     {
         Completion {
@@ -133,11 +133,11 @@ impl<J: Run> Completion<J> {
         }
     }
 
-    /// The position of the request's line, and the answer. `None` where the worker was refused memory.
-    pub(crate) fn into_parts(self) -> (usize, Option<Answer>)
+    /// The position of the request's line, and its answer, unless the worker was refused memory.
+    pub(crate) fn into_parts(self) -> (usize, Result<Answer, AllocError>)
         ensures position { result.0 ≡ self.position }
         ensures request { IsAcceptedAt J.script self.number self.position }
-        ensures answer { IfSome result.1 (λ a. IsAnswer J.script result.0 a.text.items a.sectors.items) }
+        ensures answer { IfOk result.1 (IsAnswerTo J.script result.0) }
     {
         let Completion {
             number: _,
@@ -185,7 +185,7 @@ impl<J: Run, C: Line> Job<J, C> {
             of: _,
         } = self;
         let limits = queue.limits(&mut tag);
-        let answer = answered(alloc, script, position, limits, &found);
+        let answer = answer_to(alloc, script, position, limits, &found);
         let completion = Completion::new(duty.number(), position, answer);
         Done {
             tag,

@@ -26,6 +26,8 @@
 //! - *stall*: what a test holds a run by at its points; it changes no answer.
 //! - *ends*: the submitter's right to push requests and to collect completions. A *drawer* is a worker's right to draw requests,
 //!   a *duty* the right to tell one completion, which goes with its request.
+//! - *job*: an accepted request on its way to a worker, with its tag. Its *answer* is the line of its reply and the sectors that a
+//!   write leaves; its *completion* brings the answer back.
 //! - `J` is the run: `J.script` its script, `J.queue` the queue that requests enter. `C` is its queue of completions, and `L` its
 //!   queue of requests: `C.id` and `L.id` say which. Each is a name that a run takes once it has the thing (src/naming.rt).
 #![tactic(auto)]

@@ -1,8 +1,7 @@
 //! A script's run on several threads.
-ghost use Rattle.std.specs.Prelude.{◌≡◌, ◌<◌, ◌≤◌, ◌==◌, ◌^◌, if◌then◌else◌, IfOk, map};
-ghost use Rattle.script_meaning.specs.Requests.{accepted_in_all};
+ghost use Rattle.std.specs.Prelude.{◌≡◌, ◌≤◌, IfOk, map};
 ghost use Rattle.blk_workers.specs.Halls.{IsHall};
-ghost use Rattle.blk_workers.specs.Progress.{AreDrawn, AreFreeTags, AreNewEnds, IsAt, IsNewQueue, IsRun, Suits};
+ghost use Rattle.blk_workers.specs.Progress.{AreDrawn, AreFreeTags, AreNewCompletions, AreNewEnds, IsAt, IsNewQueue, IsRanBy, IsRun, Suits};
 
 use crate::config::Config;
 use crate::fault::RunFault;
@@ -39,21 +38,19 @@ fn run_in<
     queues: &Queues<J, C>,
     submitter: Submitter,
     mut ends: Ends<J, C>,
-    accepted: usize,
 ) -> Result<Ran, RunFault>
     requires hall { IsHall J.script J.queue L.id C.id checked.now queues.now.queue queues.now.requests.id queues.now.completions.id }
     requires start { IsAt J.script J.queue 0 submitter }
     requires ends { AreNewEnds L.id C.id 0 ends.source ends.collector }
     requires room { config.workers ≤ ends.source.room }
-    requires accepted { (accepted ≡ accepted_in_all J.script) × (accepted < 2 ^ 32) }
-    ensures run { IfOk result (λ ran. IsRun J.script ran.replies.items ran.disk) }
-    ensures drawn { IfOk result (λ ran. AreDrawn J.script config.workers (map (λ list. list.items) ran.drawn.items)) }
+    ensures ran { IfOk result (IsRanBy J.script config.workers) }
 {
     let workers = config.workers();
     let hall = Hall::<J, C, L, R, S>::new(rt, alloc, checked, stall, queues);
-    let drawers = drawers(&hall, &mut ends.source, workers, accepted + 1)?;
-    let (done, source) = with_workers(&hall, submitter, ends, drawers)?;
-    done.answer(hall.requests.finish(source))
+    let room = checked.accepted() + 1;
+    let drawers = drawers(&hall, &mut ends.source, workers, room)?;
+    let (submitter, source) = with_workers(&hall, submitter, ends, drawers)?;
+    submitter.into_ran(hall.requests.finish(source))
 }
 
 // A run whose types name its queue of completions.
@@ -68,25 +65,17 @@ fn run_on<J: Run + Send + Sync, C: Line + Send + Sync, R: Threads + Wait + Sync,
     completions: CompletionQueue<Completion<J>>,
     collector: Collector<Completion<J>>,
     submitter: Submitter,
-    accepted: usize,
 ) -> Result<Ran, RunFault>
-    requires script { checked.now ≡ J.script }
-    requires queue { queue ≡ J.queue }
-    requires suits { Suits J.script config.slots J.queue }
-    requires room { completions.room ≡ (if accepted == 0 then 1 else accepted) }
-    requires collector { (completions.id ≡ C.id) × (collector.queue ≡ C.id) × (collector.given ≡ 0) }
+    requires own { (checked.now ≡ J.script) × (queue ≡ J.queue) × Suits J.script config.slots J.queue }
+    requires completions { AreNewCompletions J.script C.id completions.room completions.id collector }
     requires start { IsAt J.script J.queue 0 submitter }
-    requires accepted { (accepted ≡ accepted_in_all J.script) × (accepted < 2 ^ 32) }
     requires tags { AreFreeTags J.queue tags.items }
-    ensures run { IfOk result (λ ran. IsRun J.script ran.replies.items ran.disk) }
-    ensures drawn { IfOk result (λ ran. AreDrawn J.script config.workers (map (λ list. list.items) ran.drawn.items)) }
+    ensures ran { IfOk result (IsRanBy J.script config.workers) }
 {
     let workers = config.workers();
     let (queues, source) = Queues::<J, C>::new(rt, alloc, queue, tags, completions, workers)?;
     let ends = Ends { source, collector };
-    run_in::<J, C, Brand, R, S>(
-        rt, alloc, checked, config, stall, &queues, submitter, ends, accepted,
-    )
+    run_in::<J, C, Brand, R, S>(rt, alloc, checked, config, stall, &queues, submitter, ends)
 }
 
 // A run whose types name its script and its queue.
@@ -101,12 +90,10 @@ fn run_as<J: Run + Send + Sync, R: Threads + Wait + Sync, S: Stall>(
     requires script { checked.now ≡ J.script }
     requires queue { parts.0 ≡ J.queue }
     requires new { IsNewQueue J.script config J.queue parts.1 parts.2.items }
-    ensures run { IfOk result (λ ran. IsRun J.script ran.replies.items ran.disk) }
-    ensures drawn { IfOk result (λ ran. AreDrawn J.script config.workers (map (λ list. list.items) ran.drawn.items)) }
+    ensures ran { IfOk result (IsRanBy J.script config.workers) }
 {
     let (queue, freezer, tags) = parts;
-    let accepted = checked.accepted();
-    let (completions, collector) = CompletionQueue::new(alloc, accepted.max(1))?;
+    let (completions, collector) = CompletionQueue::new(alloc, checked.accepted().max(1))?;
     let submitter = Submitter::new(alloc, checked.script(), freezer)?;
     run_on::<J, Brand, R, S>(
         rt,
@@ -119,7 +106,6 @@ fn run_as<J: Run + Send + Sync, R: Threads + Wait + Sync, S: Stall>(
         completions,
         collector,
         submitter,
-        accepted,
     )
 }
 

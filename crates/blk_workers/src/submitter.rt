@@ -1,11 +1,9 @@
 //! The thread that submits and collects.
-ghost use Rattle.std.specs.Prelude.{◌≡◌, ◌+◌, ◌<◌, IfOk, OnOk, None, length};
-ghost use Rattle.blk_script.specs.Texts.{reply_line};
+ghost use Rattle.std.specs.Prelude.{◌≡◌, ◌+◌, ◌<◌, IfOk, OnOk, length};
 ghost use Rattle.script_meaning.specs.Script.{Meant};
-ghost use Rattle.script_meaning.specs.Requests.{accepted_at, accepted_in_all};
-ghost use Rattle.blk_workers.specs.Progress.{HasCollected, HasPassed, HasTaken, IsAt, IsAtStartWith, IsCollecting, IsEnd, IsReplyNext, IsRequestNext, IsRun, MayTake, StayOwn, StaysAwaited};
+ghost use Rattle.script_meaning.specs.Requests.{accepted_in_all};
+ghost use Rattle.blk_workers.specs.Progress.{HasCollected, HasPassed, HasReplied, HasTaken, IsAt, IsAtStartWith, IsCollecting, IsEnd, IsReplyNext, IsRequestNext, IsRun, MayReply, MayTake, StayOwn};
 ghost use Rattle.run_desk.specs.Desk.{MayJoin, MayPass, Stands, owed_count};
-ghost use Rattle.run_desk.specs.Requests.{IsReplyLine};
 
 use crate::collecting::{collect_all, collect_some};
 use crate::fault::RunFault;
@@ -36,8 +34,8 @@ pub(crate) struct Submitter {
     pub(crate) accepted: u32,
 }
 
-// Takes a line whose reply is there.
-fn settle(
+// Takes the next line, whose reply is there.
+fn reply_now(
     alloc: Global,
     script: &Script,
     desk: &mut Desk,
@@ -45,17 +43,13 @@ fn settle(
     reply: &Reply,
 ) -> Result<(), RunFault>
     requires stands { Stands script.now desk.old.replies desk.old.disk }
-    requires refused { accepted_at script.now (length desk.old.replies) ≡ None }
-    requires passes { MayPass script.now desk.old.replies }
-    requires reply { IsReplyLine script.now (length desk.old.replies) (reply_line (number, reply.now)) }
-    ensures stands { OnOk result (Stands script.now desk.new.replies desk.new.disk) }
-    ensures lines { OnOk result (length desk.new.replies ≡ length desk.old.replies + 1) }
-    ensures awaited { OnOk result (StaysAwaited script.now desk.old.replies desk.new.replies) }
+    requires may_reply { MayReply script.now desk.old.replies number reply.now }
+    ensures replied { OnOk result (HasReplied script.now desk.old desk.new) }
 {
     let Ok(text) = render(alloc, number, reply) else {
         return Err(RunFault::Memory);
     };
-    desk.settle(script, text)?;
+    desk.reply(script, text)?;
     Ok(())
 }
 
@@ -81,7 +75,7 @@ impl Submitter {
     }
 
     /// What the run answers, once every line is taken and nothing is owed, where the workers drew these.
-    pub(crate) fn answer(self, drawn: Vec<Vec<u32>>) -> Result<Ran, RunFault>
+    pub(crate) fn into_ran(self, drawn: Vec<Vec<u32>>) -> Result<Ran, RunFault>
         ensures run { (script : Meant) → IsEnd script self → IfOk result (λ ran. IsRun script ran.replies.items ran.disk) }
         ensures drawn { IfOk result (λ ran. ran.drawn ≡ drawn) }
     {
@@ -180,7 +174,7 @@ impl Submitter {
         ensures passed { OnOk result (HasPassed J.script J.queue self.old self.new) }
         ensures own { self.new.freezer.queue ≡ J.queue }
     {
-        settle(
+        reply_now(
             hall.alloc,
             hall.checked.script(),
             &mut self.desk,

@@ -2,7 +2,7 @@
 ghost use Rattle.std.specs.Prelude.{◌≡◌, ◌+◌, ◌-◌, ◌<◌, ◌≤◌, All, IfOk, IfSome, OnOk, length, vec_capacity};
 ghost use Rattle.run_queues.specs.Requests.{all_parts};
 ghost use Rattle.script_meaning.specs.Requests.{accepted_in_all};
-ghost use Rattle.blk_workers.specs.Progress.{AreBack, AreNewEnds, AreOut, IsAt, IsEnd, IsLed, IsNewDrawer};
+ghost use Rattle.blk_workers.specs.Progress.{AreBack, AreNewEnds, AreOut, AreReady, IsAt, IsEnd, IsLed, IsNewDrawer};
 
 use crate::fault::RunFault;
 use crate::hall::Hall;
@@ -212,10 +212,7 @@ pub(crate) fn with_workers<
     ends: Ends<J, C>,
     drawers: Vec<Drawer<Job<J, C>>>,
 ) -> Result<(Submitter, Source<Job<J, C>>), RunFault>
-    requires start { IsAt J.script J.queue 0 submitter }
-    requires ends { AreNewEnds L.id C.id (length drawers.items) ends.source ends.collector }
-    requires drawers { All (IsNewDrawer L.id (accepted_in_all J.script + 1)) drawers.items }
-    requires some { (0 < length drawers.items) × (length drawers.items ≤ 32) }
+    requires ready { AreReady J.script J.queue L.id C.id (length drawers.items) submitter ends.source ends.collector drawers.items }
     ensures led { IfOk result (λ led. IsLed J.script L.id (length drawers.items) led.0 led.1) }
 {
     let workers = drawers.len();
@@ -224,10 +221,7 @@ pub(crate) fn with_workers<
         thread::scope_env(),
         hall.rt,
         move |scope| -> Result<(Submitter, Source<Job<J, C>>), RunFault>
-            requires start { IsAt J.script J.queue 0 submitter }
-            requires ends { AreNewEnds L.id C.id workers ends.source ends.collector }
-            requires drawers { All (IsNewDrawer L.id (accepted_in_all J.script + 1)) drawers.items }
-            requires some { (length drawers.items ≡ workers) × (0 < workers) × (workers ≤ 32) }
+            requires ready { AreReady J.script J.queue L.id C.id workers submitter ends.source ends.collector drawers.items }
             requires room { (length room.items ≡ 0) × (workers ≤ vec_capacity room) }
             ensures led { IfOk result (λ led. IsLed J.script L.id workers led.0 led.1) }
         {

@@ -1,27 +1,31 @@
 -- One step further of the thread that submits and collects.
-use Rattle.std.proofs.Common.{◌≡◌, ◌∙◌, refl, sym, ap, subst, ℕ, ◌+◌, ◌<◌, ◌≤◌, ◌⊎◌, inl, inr, arith, true, false, List, [], ◌∷◌, ◌++◌, length, get_or, set, cond, Contains, Option, Some, None, is_none, length-append}
+use Rattle.std.proofs.Common.{◌≡◌, ◌∙◌, refl, sym, ap, subst, ℕ, ◌+◌, ◌<◌, ◌≤◌, ◌⊎◌, inl, inr, arith, true, false, List, [], ◌∷◌, ◌++◌, length, take, drop, set, cond, is_some, Contains, Option, Some, None, is_none, length-append}
 use Rattle.std.specs.Prelude.{Result, Ok, Err, OnOk}
 use Rattle.std.specs.List.{slice_get}
 use Rattle.std.specs.Option.{option_and_then}
-use Rattle.ram_disk.specs.Disk.{sectors_read}
+use Rattle.ram_disk.specs.Disk.{sectors_read, sectors_written}
 use Rattle.std.proofs.lemmas.Bool.{cases_eq, cases_lt, false≢true}
-use Rattle.std.proofs.lemmas.List.{length-set}
-use Rattle.std.proofs.lemmas.Option.{slice_get_within, get_or_from_slice_get}
+use Rattle.std.proofs.lemmas.List.{append-nil, length-set, take-append-drop}
+use Rattle.std.proofs.lemmas.Option.{slice_get_within}
 use Rattle.script_meaning.specs.Requests.{queue_at, state_at, accepted_at, drains_at}
 use Rattle.script_meaning.specs.Script.{Meant}
-use Rattle.script_meaning.specs.Taken.{outcome, accepted_in}
+use Rattle.script_meaning.specs.Taken.{outcome, accepted, accepted_in}
 use Rattle.script_meaning.specs.declared.line.Line.{Line}
 use Rattle.script_meaning.specs.declared.line.What.{What}
-use Rattle.script_meaning.specs.declared.line.What.TheVariants.{Write}
+use Rattle.script_meaning.specs.Queue.{Queue}
+use Rattle.script_meaning.specs.declared.line.What.TheVariants.{Read, Write}
+use Rattle.script_meaning.specs.declared.outcome.Outcome.{Outcome}
+use Rattle.script_meaning.specs.declared.outcome.Outcome.TheVariants.{Accepted, Drained, Replied}
+use Rattle.script_meaning.proofs.Queues.{IsGood, good}
 use Rattle.script_meaning.specs.declared.request.Request.{Request}
-use Rattle.script_meaning.proofs.Disks.{state_disk, length-pattern_sectors}
+use Rattle.script_meaning.proofs.Disks.{state_disk, state_queue, length-pattern_sectors}
 use Rattle.script_overlap.specs.Overlap.{Clash}
 use Rattle.script_overlap.specs.Ordered.{AreOrdered}
 use Rattle.script_overlap.proofs.OrderedLemmas.{one_order, parts_all_clashes}
-use Rattle.run_desk.specs.Desk.{is_owed, owed_count, installed, IsUpTo, FitsAt, MayJoin, MayPass, NoneOrderedSince, Stands}
-use Rattle.run_desk.specs.Requests.{IsRequestAt, IsReplyLine, IsAnswer, found_at, left_by}
+use Rattle.run_desk.specs.Desk.{is_owed, owed_count, IsUpTo, MayJoin, MayPass, NoneOrderedSince, Stands}
+use Rattle.run_desk.specs.Requests.{IsRequestAt, IsReplyLine, IsAnswer, first_of, found_at, left_by}
 use Rattle.run_desk.specs.Span.{AreInSpan, ClashesWithNone, IsDiskBut}
-use Rattle.run_desk.proofs.LineSteps.{IsWriteAt, accepted_drains, sector_stays, request_within, request_writes, write_fits, writes_of}
+use Rattle.run_desk.proofs.LineSteps.{IsWriteAt, accepted_drains, sector_stays, sectors_there, request_within, request_writes, writes_of}
 use Rattle.run_desk.proofs.Places.{none_counted, get_push_below, get_push_at, get_set_same, get_set_other, owed_below, owed_push, owed_at, owed_set_other, owed_set_same}
 use Rattle.run_desk.proofs.Spans.{fewer, none_owed, reads_stand, installed as installs}
 
@@ -182,6 +186,20 @@ told_set script here replies disk p text up owed replied q t at =
       | inr other ↦ up.told q t (sym (get_set_other replies p q (Some text) other) ∙ at)
     ]
 
+-- an answer installs what its line leaves
+abbrev installed : What → List (List ℕ) → List (List ℕ) → List (List ℕ)
+installed (Write start count pattern) sectors disk = sectors_written start sectors disk
+installed what sectors disk = disk
+
+written_none : (start : ℕ) (disk : List (List ℕ)) → sectors_written start [] disk ≡ disk
+written_none start disk =
+    let same : start + 0 ≡ start = omega arith in
+    ap (λ n. take start disk ++ [] ++ drop n disk) same ∙ ap (λ front. front ++ drop start disk) (append-nil (take start disk)) ∙ take-append-drop start disk
+
+writes_as : (what : What) (start : ℕ) (sectors disk : List (List ℕ)) → start ≡ first_of what → sectors ≡ left_by what → sectors_written start sectors disk ≡ installed what sectors disk
+writes_as (Write first count pattern) start sectors disk begins leaves = ap (λ n. sectors_written n sectors disk) begins
+writes_as what start sectors disk begins leaves = ap (λ ss. sectors_written start ss disk) leaves ∙ written_none start disk
+
 -- the disk once what the line leaves is installed
 disk_collected : (script : Meant) (here : ℕ) (replies : List (Option (List ℕ))) (disk : List (List ℕ)) (p : ℕ) (text : List ℕ) (line : Line) (what : What) (sectors : List (List ℕ))
     → here ≤ length script.lines → IsUpTo script here replies disk → is_owed replies p ≡ true → IsRequestAt script p line → line.what ≡ what → sectors ≡ left_by what
@@ -201,24 +219,21 @@ disk_collected script here replies disk p text line what sectors end up owed req
       inside = awaited.inside;
     })
 
--- an answer to a request that is owed
-pub collected : (script : Meant) (here : ℕ) (replies : List (Option (List ℕ))) (disk : List (List ℕ)) (p : ℕ) (text : List ℕ) (sectors : List (List ℕ)) (line : Line)
-    → here ≤ length script.lines → IsUpTo script here replies disk → is_owed replies p ≡ true → IsAnswer script p text sectors → slice_get script.lines p ≡ Some line
-    → IsUpTo script here (set replies p (Some text)) (installed line.what sectors disk)
-collected script here replies disk p text sectors line end up owed answer at =
-    let both : Some answer.line ≡ Some line = sym answer.request.at ∙ at in
-    let same : answer.line ≡ line = cc in
-    let asks : answer.line.what ≡ line.what = ap (λ (l : Line). l.what) same in
-    record {
-      lines = length-set replies p (Some text) ∙ up.lines;
-      told = told_set script here replies disk p text up owed answer.text_is;
-      span = record {
-        before = λ q is. up.span.before q (left_owed replies p text q is);
-        one_span = λ q is. up.span.one_span q (left_owed replies p text q is);
-        apart = λ q later one other is. up.span.apart q later one other (left_owed replies p text q is);
-      };
-      disk_is = disk_collected script here replies disk p text answer.line line.what sectors end up owed answer.request asks (answer.leaves ∙ ap left_by asks);
-    }
+pub collected : (script : Meant) (here : ℕ) (replies : List (Option (List ℕ))) (disk : List (List ℕ)) (p : ℕ) (text : List ℕ) (start : ℕ) (sectors : List (List ℕ))
+    → here ≤ length script.lines → IsUpTo script here replies disk → is_owed replies p ≡ true → IsAnswer script p text start sectors
+    → IsUpTo script here (set replies p (Some text)) (sectors_written start sectors disk)
+collected script here replies disk p text start sectors end up owed answer = record {
+  lines = length-set replies p (Some text) ∙ up.lines;
+  told = told_set script here replies disk p text up owed answer.text_is;
+  span = record {
+    before = λ q is. up.span.before q (left_owed replies p text q is);
+    one_span = λ q is. up.span.one_span q (left_owed replies p text q is);
+    apart = λ q later one other is. up.span.apart q later one other (left_owed replies p text q is);
+  };
+  disk_is =
+      subst (IsDiskBut script (is_owed (set replies p (Some text))) here) (sym (writes_as answer.line.what start sectors disk answer.begins answer.leaves))
+      (disk_collected script here replies disk p text answer.line answer.line.what sectors end up owed answer.request refl answer.leaves);
+}
 
 -- where nothing is owed the disk is that of a single thread
 pub all_there : (script : Meant) (here : ℕ) (replies : List (Option (List ℕ))) (disk : List (List ℕ)) → IsUpTo script here replies disk → owed_count replies ≡ 0 → disk ≡ (state_at script here).disk
@@ -238,25 +253,24 @@ first script = record {
 
 -- ---- as many lines are taken as there are replies
 
-fits_there : (script : Meant) (disk : List (List ℕ)) (p : ℕ) (line : Line) (what : What) (sectors : List (List ℕ)) → length disk ≡ script.sectors → IsRequestAt script p line → line.what ≡ what
-    → sectors ≡ left_by what → FitsAt what sectors disk
-fits_there script disk p line (Write start count pattern) sectors whole request asks leaves =
-    let fits = write_fits script p start count pattern (record { line = line; at = request.at; what = asks; accepted = request.accepted }) in
-    omega (arith, whole, fits, ap length leaves, length-pattern_sectors pattern count)
-fits_there script disk p line what sectors whole request asks leaves = tt
+end_within : (q : Queue) (what : What) (came : Outcome) → IsGood q what came → is_some (accepted_in came) ≡ true → first_of what + length (left_by what) ≤ q.sectors
+end_within q (Read start count) (Accepted r) fits said = let at : r.start ≡ start = ap (λ (x : Request). x.start) fits.0 in omega (arith, fits.1, at)
+end_within q (Write start count pattern) (Accepted r) fits said =
+    let at : r.start ≡ start = ap (λ (x : Request). x.start) fits.0 in
+    let size : r.count ≡ count = ap (λ (x : Request). x.count) fits.0 in
+    omega (arith, fits.1, at, size, length-pattern_sectors pattern count)
+end_within q what (Accepted r) fits said = absurd fits.0
+end_within q what (Drained reply) fits said = absurd (false≢true said)
+end_within q what (Replied reply) fits said = absurd (false≢true said)
 
--- an answer's line is the one at its position
-answer_line : (script : Meant) (p : ℕ) (text : List ℕ) (sectors : List (List ℕ)) (answer : IsAnswer script p text sectors) (line : Line) → line ≡ get_or script.lines p line
-    → (slice_get script.lines p ≡ Some line) × (answer.line.what ≡ line.what)
-answer_line script p text sectors answer line is =
-    let same : line ≡ answer.line = is ∙ get_or_from_slice_get script.lines p answer.line line answer.request.at in
-    (answer.request.at ∙ ap (λ (l : Line). Some l) (sym same), sym (ap (λ (l : Line). l.what) same))
-
-pub fits_answer : (script : Meant) (replies : List (Option (List ℕ))) (disk : List (List ℕ)) (p : ℕ) (text : List ℕ) (sectors : List (List ℕ)) (line : Line) → IsUpTo script (length replies) replies disk
-    → IsAnswer script p text sectors → line ≡ get_or script.lines p line → FitsAt line.what sectors disk
-fits_answer script replies disk p text sectors line up answer is =
-    let there = answer_line script p text sectors answer line is in
-    fits_there script disk p answer.line line.what sectors up.disk_is.whole answer.request there.1 (answer.leaves ∙ ap left_by there.1)
+-- what an answer leaves fits the disk
+pub answer_fits : (script : Meant) (replies : List (Option (List ℕ))) (disk : List (List ℕ)) (p : ℕ) (text : List ℕ) (start : ℕ) (sectors : List (List ℕ)) → Stands script replies disk
+    → IsAnswer script p text start sectors → start + length sectors ≤ length disk
+answer_fits script replies disk p text start sectors stands answer =
+    let what = answer.line.what in
+    let q = (state_at script p).queue in
+    let said : is_some (accepted q what) ≡ true = ap (λ x. is_some (accepted x what)) (state_queue script p) ∙ answer.request.accepted in
+    omega (arith, stands.up.disk_is.whole, end_within q what (outcome q what) (good q what) said, answer.begins, ap length answer.leaves, sectors_there script p)
 
 -- what stands behind a request that is owed, where no more are owed and where the next line isn't ordered
 since_fewer : (script : Meant) (old new : List (Option (List ℕ))) → length new ≡ length old → ((p : ℕ) → is_owed new p ≡ true → is_owed old p ≡ true) → NoneOrderedSince script old
@@ -275,16 +289,14 @@ since_more script replies r here since = λ p later ordered is low high are ther
       ]
     ]
 
-pub stands_collected : (script : Meant) (replies : List (Option (List ℕ))) (disk : List (List ℕ)) (p : ℕ) (text : List ℕ) (sectors : List (List ℕ)) (line : Line)
-    → Stands script replies disk → is_owed replies p ≡ true → IsAnswer script p text sectors → line ≡ get_or script.lines p line
-    → Stands script (set replies p (Some text)) (installed line.what sectors disk)
-stands_collected script replies disk p text sectors line stands owed answer is =
-    let there = answer_line script p text sectors answer line is in
+pub stands_collected : (script : Meant) (replies : List (Option (List ℕ))) (disk : List (List ℕ)) (p : ℕ) (text : List ℕ) (start : ℕ) (sectors : List (List ℕ))
+    → Stands script replies disk → is_owed replies p ≡ true → IsAnswer script p text start sectors → Stands script (set replies p (Some text)) (sectors_written start sectors disk)
+stands_collected script replies disk p text start sectors stands owed answer =
     let len = length-set replies p (Some text) in
-    let next = collected script (length replies) replies disk p text sectors line stands.within stands.up owed answer there.0 in
+    let next = collected script (length replies) replies disk p text start sectors stands.within stands.up owed answer in
     record {
       within = omega (arith, len, stands.within);
-      up = subst (λ n. IsUpTo script n (set replies p (Some text)) (installed line.what sectors disk)) (sym len) next;
+      up = subst (λ n. IsUpTo script n (set replies p (Some text)) (sectors_written start sectors disk)) (sym len) next;
       in_order = since_fewer script replies (set replies p (Some text)) len (left_owed replies p text) stands.in_order;
     }
 

@@ -1,5 +1,5 @@
 -- What a request is answered, at its line.
-use Rattle.std.proofs.Common.{◌≡◌, ◌∙◌, sym, ap, subst, ℕ, true, List, get_or, Option, Some, None, IfSome, is_some}
+use Rattle.std.proofs.Common.{◌≡◌, ◌∙◌, sym, ap, subst, ℕ, true, List, get_or, Some, Result, Ok, Err, IfOk, is_some}
 use Rattle.std.specs.List.{slice_get}
 use Rattle.std.proofs.lemmas.Bool.{false≢true}
 use Rattle.std.proofs.lemmas.Option.{get_or_from_slice_get}
@@ -16,11 +16,12 @@ use Rattle.script_meaning.specs.declared.outcome.Outcome.TheVariants.{Accepted, 
 use Rattle.script_meaning.specs.declared.reply.Reply.{Reply}
 use Rattle.script_meaning.proofs.Disks.{state_queue}
 use Rattle.blk_script.specs.Texts.{reply_line}
-use Rattle.run_desk.specs.Requests.{IsRequestAt, IsDue, IsAnswer, IsReadAnswer, IsWriteAnswer, found_by, left_by}
+use Rattle.run_desk.specs.Requests.{IsRequestAt, IsDue, IsAnswerTo, IsReadAnswer, IsWriteAnswer, first_of, found_by, left_by}
+use Rattle.run_desk.specs.declared.answer.Answer.{Answer}
 
-pub if_some : {A : Type 0} (o : Option A) (P Q : A → Type 0) → ((x : A) → P x → Q x) → IfSome o P → IfSome o Q
-if_some None P Q f h = tt
-if_some (Some x) P Q f h = f x h
+pub if_ok : {A E : Type 0} (r : Result A E) (P Q : A → Type 0) → ((x : A) → P x → Q x) → IfOk r P → IfOk r Q
+if_ok (Ok x) P Q f h = f x h
+if_ok (Err e) P Q f h = tt
 
 answered_there : (came : Outcome) (s : State) (what : What) (reply : Reply) → is_some (accepted_in came) ≡ true → IsAnswered s what reply → IsReplyTo came s what reply
 answered_there (Accepted request) s what reply taken answered = answered
@@ -39,9 +40,9 @@ same_line : (script : Meant) (position : ℕ) (line due : Line) → line ≡ get
 same_line script position line due is at = is ∙ get_or_from_slice_get script.lines position due line at
 
 pub from_read : (script : Meant) (position : ℕ) (limits : Bounds) (found : List (List ℕ)) (due : IsDue script position limits found) (line : Line) (start count : ℕ)
-    → line ≡ get_or script.lines position line → line.what ≡ Read start count → (text : List ℕ) (sectors : List (List ℕ))
-    → IsReadAnswer line.number limits start count found text sectors → IsAnswer script position text sectors
-from_read script position limits found due line start count is what text sectors answer =
+    → line ≡ get_or script.lines position line → line.what ≡ Read start count → (made : Answer)
+    → IsReadAnswer line.number limits start count found made → IsAnswerTo script position made
+from_read script position limits found due line start count is what made answer =
     let same = same_line script position line due.line is due.request.at in
     let asks : due.line.what ≡ Read start count = sym (ap (λ (l : Line). l.what) same) ∙ what in
     let finds = due.finds ∙ ap (found_by (state_at script position).disk) asks in
@@ -57,13 +58,14 @@ from_read script position limits found due line start count is what text sectors
         replied = replied script position due.line answer.reply due.request right;
         told = answer.told ∙ ap (λ (l : Line). reply_line (l.number, answer.reply)) same;
       };
+      begins = answer.begins ∙ sym (ap first_of asks);
       leaves = answer.leaves ∙ sym (ap left_by asks);
     }
 
 pub from_write : (script : Meant) (position : ℕ) (limits : Bounds) (found : List (List ℕ)) (due : IsDue script position limits found) (line : Line) (start count : ℕ) (pattern : List ℕ)
-    → line ≡ get_or script.lines position line → line.what ≡ Write start count pattern → (text : List ℕ) (sectors : List (List ℕ))
-    → IsWriteAnswer line.number limits start count pattern text sectors → IsAnswer script position text sectors
-from_write script position limits found due line start count pattern is what text sectors answer =
+    → line ≡ get_or script.lines position line → line.what ≡ Write start count pattern → (made : Answer)
+    → IsWriteAnswer line.number limits start count pattern made → IsAnswerTo script position made
+from_write script position limits found due line start count pattern is what made answer =
     let same = same_line script position line due.line is due.request.at in
     let asks : due.line.what ≡ Write start count pattern = sym (ap (λ (l : Line). l.what) same) ∙ what in
     let right : IsAnswered (state_at script position) due.line.what answer.reply =
@@ -78,5 +80,6 @@ from_write script position limits found due line start count pattern is what tex
         replied = replied script position due.line answer.reply due.request right;
         told = answer.told ∙ ap (λ (l : Line). reply_line (l.number, answer.reply)) same;
       };
+      begins = answer.begins ∙ sym (ap first_of asks);
       leaves = answer.leaves ∙ sym (ap left_by asks);
     }

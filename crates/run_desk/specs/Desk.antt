@@ -7,8 +7,6 @@ use Rattle.script_meaning.specs.Meaning.{AreReplies, start_of}
 use Rattle.script_meaning.specs.Requests.{accepted_at, drains_at, state_at}
 use Rattle.script_meaning.specs.Script.{Meant}
 use Rattle.script_meaning.specs.declared.line.Line.{Line}
-use Rattle.script_meaning.specs.declared.line.What.{What}
-use Rattle.script_meaning.specs.declared.line.What.TheVariants.{Write}
 use Rattle.script_meaning.specs.declared.reply.Reply.{Reply}
 use Rattle.script_meaning.specs.declared.request.Request.{Request}
 use Rattle.script_overlap.specs.Ordered.{AreOrdered, JoinsItsSpan}
@@ -31,22 +29,12 @@ joined [] = []
 joined (Some line ∷ replies) = line ++ joined replies
 joined (None ∷ replies) = joined replies
 
--- the disk where what a line leaves is installed
-abbrev pub installed : What → List (List ℕ) → List (List ℕ) → List (List ℕ)
-installed (Write start count pattern) sectors disk = sectors_written start sectors disk
-installed what sectors disk = disk
-
 -- the lines before a position are taken: each reply is there or owed, and the disk is behind by the writes that are owed
 pub record IsUpTo (script : Meant) (here : ℕ) (replies : List (Option (List ℕ))) (disk : List (List ℕ)) : Type 0 where
   pub lines : length replies ≡ here
   pub told : (position : ℕ) (text : List ℕ) → slice_get replies position ≡ Some (Some text) → IsReplyLine script position text
   pub span : AreInSpan script (is_owed replies) here
   pub disk_is : IsDiskBut script (is_owed replies) here disk
-
--- the sectors that a write leaves fit the disk
-abbrev pub FitsAt : What → List (List ℕ) → List (List ℕ) → Type 0
-FitsAt (Write start count pattern) sectors disk = start + length sectors ≤ length disk
-FitsAt what sectors disk = Unit {0}
 
 -- no request behind one that is owed is ordered: a drain would have come between
 abbrev pub NoneOrderedSince : Meant → List (Option (List ℕ)) → Type 0
@@ -77,11 +65,11 @@ TakesARequest = (script : Meant) (here : ℕ) (line : Line) (replies : List (Opt
     → slice_get script.lines here ≡ Some line → accepted_at script here ≡ Some request → ClashesWithNone script (is_owed replies) request
     → IsUpTo script (here + 1) (replies ++ None ∷ []) disk
 
--- any answer that is owed may be collected: its reply is there then, and what its line leaves is installed
+-- any answer that is owed may be collected: its reply is there then, and what it leaves is installed
 abbrev pub CollectsAnAnswer : Type 0
-CollectsAnAnswer = (script : Meant) (here : ℕ) (replies : List (Option (List ℕ))) (disk : List (List ℕ)) (p : ℕ) (text : List ℕ) (sectors : List (List ℕ)) (line : Line)
-    → here ≤ length script.lines → IsUpTo script here replies disk → is_owed replies p ≡ true → IsAnswer script p text sectors → slice_get script.lines p ≡ Some line
-    → IsUpTo script here (set replies p (Some text)) (installed line.what sectors disk)
+CollectsAnAnswer = (script : Meant) (here : ℕ) (replies : List (Option (List ℕ))) (disk : List (List ℕ)) (p : ℕ) (text : List ℕ) (start : ℕ) (sectors : List (List ℕ))
+    → here ≤ length script.lines → IsUpTo script here replies disk → is_owed replies p ≡ true → IsAnswer script p text start sectors
+    → IsUpTo script here (set replies p (Some text)) (sectors_written start sectors disk)
 
 -- where nothing is owed the disk is the one that a single thread has
 abbrev pub EndsWithTheDisk : Type 0

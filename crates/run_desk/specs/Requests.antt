@@ -14,6 +14,7 @@ use Rattle.script_meaning.specs.declared.line.What.TheVariants.{Read, Write}
 use Rattle.script_meaning.specs.declared.reply.Reply.{Reply}
 use Rattle.script_meaning.specs.declared.request.Request.{Request}
 use Rattle.blk_script.specs.Texts.{reply_line}
+use Rattle.run_desk.specs.declared.answer.Answer.{Answer}
 
 -- the line at a position is a request that the queue accepts
 pub record IsRequestAt (script : Meant) (position : ℕ) (line : Line) : Type 0 where
@@ -44,6 +45,12 @@ abbrev pub left_by : What → List (List ℕ)
 left_by (Write start count pattern) = pattern_sectors pattern count
 left_by what = []
 
+-- the first sector of a request
+abbrev pub first_of : What → ℕ
+first_of (Read start count) = start
+first_of (Write start count pattern) = start
+first_of what = 0
+
 -- the limits in force at a request, and the sectors that it finds
 pub record IsDue (script : Meant) (position : ℕ) (limits : Bounds) (found : List (List ℕ)) : Type 0 where
   pub line : Line
@@ -59,23 +66,30 @@ pub record IsReplyLine (script : Meant) (position : ℕ) (text : List ℕ) : Typ
   pub replied : IsReply (state_at script position) line.what reply
   pub told : text ≡ reply_line (line.number, reply)
 
--- what a worker answers to a request: the line of its reply, and the sectors that a write leaves
-pub record IsAnswer (script : Meant) (position : ℕ) (text : List ℕ) (sectors : List (List ℕ)) : Type 0 where
+-- what a worker answers to a request: the line of its reply, and the sectors that a write leaves, from the request's first on
+pub record IsAnswer (script : Meant) (position : ℕ) (text : List ℕ) (start : ℕ) (sectors : List (List ℕ)) : Type 0 where
   pub line : Line
   pub request : IsRequestAt script position line
   pub text_is : IsReplyLine script position text
+  pub begins : start ≡ first_of line.what
   pub leaves : sectors ≡ left_by line.what
 
+-- this is the answer to the request at a position
+abbrev pub IsAnswerTo : Meant → ℕ → Answer → Type 0
+IsAnswerTo script position answer = IsAnswer script position answer.text.items answer.start answer.sectors.items
+
 -- what a read is answered that finds these sectors under these limits: the reply is right at every state that has both
-pub record IsReadAnswer (number : ℕ) (limits : Bounds) (start count : ℕ) (found : List (List ℕ)) (text : List ℕ) (sectors : List (List ℕ)) : Type 0 where
+pub record IsReadAnswer (number : ℕ) (limits : Bounds) (start count : ℕ) (found : List (List ℕ)) (answer : Answer) : Type 0 where
   pub reply : Reply
-  pub told : text ≡ reply_line (number, reply)
+  pub told : answer.text.items ≡ reply_line (number, reply)
   pub right : (s : State) → limits ≡ s.queue.limits → found ≡ sectors_read start count s.disk → IsAnswered s (Read start count) reply
-  pub leaves : sectors ≡ []
+  pub begins : answer.start ≡ start
+  pub leaves : answer.sectors.items ≡ []
 
 -- what a write is answered under these limits
-pub record IsWriteAnswer (number : ℕ) (limits : Bounds) (start count : ℕ) (pattern : List ℕ) (text : List ℕ) (sectors : List (List ℕ)) : Type 0 where
+pub record IsWriteAnswer (number : ℕ) (limits : Bounds) (start count : ℕ) (pattern : List ℕ) (answer : Answer) : Type 0 where
   pub reply : Reply
-  pub told : text ≡ reply_line (number, reply)
+  pub told : answer.text.items ≡ reply_line (number, reply)
   pub right : (s : State) → limits ≡ s.queue.limits → IsAnswered s (Write start count pattern) reply
-  pub leaves : sectors ≡ pattern_sectors pattern count
+  pub begins : answer.start ≡ start
+  pub leaves : answer.sectors.items ≡ pattern_sectors pattern count

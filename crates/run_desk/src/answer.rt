@@ -1,53 +1,60 @@
-//! What a worker makes of a request: the line of its reply, and the sectors that a write leaves.
-ghost use Rattle.std.specs.Prelude.{◌≡◌, ℕ, List, IfSome};
+//! The answer to a request: the line of its reply, and the sectors that a write leaves.
+ghost use Rattle.std.specs.Prelude.{◌≡◌, ℕ, List, IfOk};
 ghost use Rattle.queue_limits.specs.Pieces.{IsSplit};
 ghost use Rattle.ram_disk.specs.Runs.{IsRuns};
 ghost use Rattle.ram_disk.specs.Sector.{bytes_of};
 ghost use Rattle.ram_disk.specs.Pattern.{pattern_sectors};
 ghost use Rattle.blk_script.specs.Texts.{reply_line};
 ghost use Rattle.script_meaning.specs.declared.reply.Reply.TheVariants.{Data};
-ghost use Rattle.run_desk.specs.Requests.{IsDue, IsAnswer, IsReadAnswer, IsWriteAnswer};
+ghost use Rattle.run_desk.specs.Requests.{IsDue, IsAnswerTo, IsReadAnswer, IsWriteAnswer};
 
 use blk_script::{render, render_read};
 use queue_limits::Limits;
 use ram_disk::{Sector, patterned};
 use script_meaning::{Pattern, PieceLengths, Reply, Script, What};
-use std::alloc::Global;
+use std::alloc::{AllocError, Global};
 
-/// The answer to a request: the line of its reply, and the sectors that a write leaves.
+/// The answer to a request: the line of its reply, and the sectors that it leaves on the disk from its first on, which
+/// are none where it reads.
 #[derive(Drop)]
 pub struct Answer {
     pub text: Vec<u8>,
+    pub start: u32,
     pub sectors: Vec<Sector>,
 }
 
 // The lengths of a range's pieces under these limits.
-fn pieces(alloc: Global, limits: Limits, start: u32, count: u32) -> Option<PieceLengths>
-    ensures { IfSome result (λ pieces. IsSplit limits start count pieces) }
+fn pieces(alloc: Global, limits: Limits, start: u32, count: u32) -> Result<PieceLengths, AllocError>
+    ensures { IfOk result (λ pieces. IsSplit limits start count pieces) }
 {
-    let lengths = limits.pieces(u64::from(start), count).collect(alloc).ok()?;
-    Some(PieceLengths::new(lengths))
+    let lengths = limits.pieces(u64::from(start), count).collect(alloc)?;
+    Ok(PieceLengths::new(lengths))
 }
 
 // The line of a reply.
-fn told(alloc: Global, number: u32, reply: &Reply) -> Option<Vec<u8>>
-    ensures { IfSome result (λ text. text.items ≡ reply_line (number, reply.now)) }
+fn told(alloc: Global, number: u32, reply: &Reply) -> Result<Vec<u8>, AllocError>
+    ensures { IfOk result (λ text. text.items ≡ reply_line (number, reply.now)) }
 {
-    render(alloc, number, reply).ok()
+    render(alloc, number, reply).map_err(|_| AllocError)
 }
 
 // The line of a read's reply: its pieces, and the runs of the sectors that it found.
-fn told_read(alloc: Global, number: u32, pieces: &PieceLengths, found: &[Sector]) -> Option<Vec<u8>>
-    ensures { IfSome result (λ text. (runs : List (ℕ × ℕ)) × IsRuns runs (bytes_of found.now) × (text.items ≡ reply_line (number, Data pieces.now runs))) }
+fn told_read(
+    alloc: Global,
+    number: u32,
+    pieces: &PieceLengths,
+    found: &[Sector],
+) -> Result<Vec<u8>, AllocError>
+    ensures { IfOk result (λ text. (runs : List (ℕ × ℕ)) × IsRuns runs (bytes_of found.now) × (text.items ≡ reply_line (number, Data pieces.now runs))) }
 {
-    render_read(alloc, number, pieces.as_slice(), found).ok()
+    render_read(alloc, number, pieces.as_slice(), found).map_err(|_| AllocError)
 }
 
 // The sectors of a write.
-fn made(alloc: Global, pattern: &Pattern, count: u32) -> Option<Vec<Sector>>
-    ensures { IfSome result (λ sectors. sectors.items ≡ pattern_sectors pattern.now count) }
+fn made(alloc: Global, pattern: &Pattern, count: u32) -> Result<Vec<Sector>, AllocError>
+    ensures { IfOk result (λ sectors. sectors.items ≡ pattern_sectors pattern.now count) }
 {
-    patterned(alloc, pattern.bytes(), count).ok()
+    patterned(alloc, pattern.bytes(), count).map_err(|_| AllocError)
 }
 
 // The answer to a read, which found these sectors.
@@ -58,13 +65,14 @@ fn read(
     start: u32,
     count: u32,
     found: &[Sector],
-) -> Option<Answer>
-    ensures { IfSome result (λ answer. IsReadAnswer number limits start count found.now answer.text.items answer.sectors.items) }
+) -> Result<Answer, AllocError>
+    ensures { IfOk result (IsReadAnswer number limits start count found.now) }
 {
     let pieces = pieces(alloc, limits, start, count)?;
     let text = told_read(alloc, number, &pieces, found)?;
-    Some(Answer {
+    Ok(Answer {
         text,
+        start,
         sectors: Vec::new(alloc),
     })
 }
@@ -77,26 +85,30 @@ fn write(
     start: u32,
     count: u32,
     pattern: &Pattern,
-) -> Option<Answer>
-    ensures { IfSome result (λ answer. IsWriteAnswer number limits start count pattern.now answer.text.items answer.sectors.items) }
+) -> Result<Answer, AllocError>
+    ensures { IfOk result (IsWriteAnswer number limits start count pattern.now) }
 {
     let pieces = pieces(alloc, limits, start, count)?;
     let text = told(alloc, number, &Reply::Written { pieces })?;
     let sectors = made(alloc, pattern, count)?;
-    Some(Answer { text, sectors })
+    Ok(Answer {
+        text,
+        start,
+        sectors,
+    })
 }
 
 /// The answer to the request at a position of the script, by the limits in force there and the sectors that a
-/// read finds. `None` where memory was refused.
-pub fn answered(
+/// read finds. Refused only where memory was.
+pub fn answer_to(
     alloc: Global,
     script: &Script,
     position: usize,
     limits: Limits,
     found: &[Sector],
-) -> Option<Answer>
+) -> Result<Answer, AllocError>
     requires { IsDue script.now position limits found.now }
-    ensures { IfSome result (λ answer. IsAnswer script.now position answer.text.items answer.sectors.items) }
+    ensures { IfOk result (IsAnswerTo script.now position) }
 {
     let line = &script.lines()[position];
     match &line.what {
@@ -106,7 +118,7 @@ pub fn answered(
             count,
             pattern,
         } => write(alloc, line.number, limits, *start, *count, pattern),
-        // No other line makes a request.
-        _ => None,
+        // No other line makes a request that is accepted.
+        _ => unreachable!(),
     }
 }

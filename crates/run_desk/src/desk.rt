@@ -2,13 +2,13 @@
 ghost use Rattle.std.specs.Prelude.{◌≡◌, ◌++◌, ◌∷◌, [], true, if◌then◌else◌, length, set, IfOk, OnOk, OnErr, Some, None};
 ghost use Rattle.ram_disk.specs.Disk.{sectors_read};
 ghost use Rattle.script_meaning.specs.Requests.{accepted_at};
-ghost use Rattle.run_desk.specs.Desk.{FitsAt, installed, is_owed, MayJoin, MayPass, Stands};
-ghost use Rattle.run_desk.specs.Requests.{found_at, IsAnswer, IsReplyLine};
+ghost use Rattle.run_desk.specs.Desk.{is_owed, MayJoin, MayPass, Stands};
+ghost use Rattle.run_desk.specs.Requests.{found_at, IsAnswerTo, IsReplyLine};
 
 use crate::answer::Answer;
 use crate::replies::Replies;
 use ram_disk::{Disk, Sector};
-use script_meaning::{Request, Script, What};
+use script_meaning::{Request, Script};
 use std::alloc::{AllocError, Global};
 
 /// The disk and the replies of a run. The thread that submits is the one owner.
@@ -16,16 +16,6 @@ use std::alloc::{AllocError, Global};
 pub struct Desk {
     pub disk: Disk,
     pub replies: Replies,
-}
-
-// Installs the sectors that a line leaves, where it writes.
-fn install(disk: &mut Disk, what: &What, sectors: Vec<Sector>)
-    requires { FitsAt what.now sectors.items disk.old }
-    ensures { disk.new ≡ installed what.now sectors.items disk.old }
-{
-    if let What::Write { start, .. } = what {
-        disk.install(u64::from(*start), sectors);
-    }
 }
 
 // The sectors of a disk that a request finds: none where it writes.
@@ -40,22 +30,25 @@ fn found(alloc: Global, disk: &Disk, request: Request) -> Result<Vec<Sector>, Al
 }
 
 impl Desk {
-    /// Takes the answer to a request, which is owed: installs what a write leaves, and keeps the reply.
-    pub fn take(&mut self, script: &Script, position: usize, answer: Answer)
-        requires stands { Stands script.now self.old.replies self.old.disk }
+    /// Takes the answer to a request, which is owed: installs what it leaves, and keeps the reply.
+    pub fn complete(&mut self, _script: &Script, position: usize, answer: Answer)
+        requires stands { Stands _script.now self.old.replies self.old.disk }
         requires owed { is_owed self.old.replies position ≡ true }
-        requires answer { IsAnswer script.now position answer.text.items answer.sectors.items }
-        ensures stands { Stands script.now self.new.replies self.new.disk }
+        requires answer { IsAnswerTo _script.now position answer }
+        ensures stands { Stands _script.now self.new.replies self.new.disk }
         ensures taken { self.new.replies ≡ set self.old.replies position (Some answer.text.items) }
     {
-        let Answer { text, sectors } = answer;
-        let line = &script.lines()[position];
-        install(&mut self.disk, &line.what, sectors);
+        let Answer {
+            text,
+            start,
+            sectors,
+        } = answer;
+        self.disk.install(u64::from(start), sectors);
         self.replies.fill(position, text);
     }
 
     /// Takes the next line, whose reply is there. Where the line drains, nothing may be owed.
-    pub fn settle(&mut self, _script: &Script, text: Vec<u8>) -> Result<(), AllocError>
+    pub fn reply(&mut self, _script: &Script, text: Vec<u8>) -> Result<(), AllocError>
         requires stands { Stands _script.now self.old.replies self.old.disk }
         requires refused { accepted_at _script.now (length self.old.replies) ≡ None }
         requires passes { MayPass _script.now self.old.replies }

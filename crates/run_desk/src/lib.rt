@@ -1,6 +1,6 @@
 //! What a run on several threads makes of a script's requests, apart from its threads and from the queue that they enter.
 //!
-//! [`answered`] makes the answer to a request: the line of its reply, and the sectors that a write leaves. The [`Desk`] has
+//! [`answer_to`] makes the answer to a request: the line of its reply, and the sectors that a write leaves. The [`Desk`] has
 //! the disk and the replies of a run: requests are submitted in the script's order, and their answers are taken in any
 //! order. So while requests are under way the disk is behind the one that a single thread would have; but no two that are
 //! under way overlap, so each reads what a single thread reads, whichever writes of its span were installed before
@@ -17,7 +17,7 @@ mod laws;
 mod lines;
 mod replies;
 
-pub use answer::{Answer, answered};
+pub use answer::{Answer, answer_to};
 pub use desk::Desk;
 pub use laws::{answers_come_in_any_order, reads_stand_in_a_span};
 pub use replies::Replies;

@@ -14,7 +14,7 @@ use std::marker::Model;
 /// It takes what the lines of a script come to, one after another, and tells which request clashes with one of
 /// the span: that request has to wait for a drain, and begins a new span.
 #[derive(Drop)]
-pub struct Span {
+pub(crate) struct Span {
     reads: Touched,
     writes: Touched,
 }
@@ -29,7 +29,7 @@ impl Model for Span {
 
 impl Span {
     /// A span without requests, on a disk of so many sectors. Refused only where a growth of memory was refused.
-    pub fn new(alloc: Global, sectors: u32) -> Result<Self, AllocError>
+    pub(crate) fn new(alloc: Global, sectors: u32) -> Result<Self, AllocError>
         ensures sectors { IfOk result (λ span. OfSectors span sectors) }
         ensures none { IfOk result (λ span. IsEmpty span) }
     {
@@ -40,7 +40,7 @@ impl Span {
     }
 
     /// Whether a request within the disk shares a sector with one of the span, and one of the two writes.
-    pub fn meets(&self, request: &Request) -> bool
+    pub(crate) fn meets(&self, request: &Request) -> bool
         requires reads { request.now.start + request.now.count ≤ length self.now.reads }
         requires writes { request.now.start + request.now.count ≤ length self.now.writes }
         ensures { MatchBool result (Conflicts self.now request.now) (ConflictsNot self.now request.now) }
@@ -50,7 +50,7 @@ impl Span {
     }
 
     /// Takes a request within the disk into the span.
-    pub fn add(&mut self, request: &Request)
+    pub(crate) fn add(&mut self, request: &Request)
         requires reads { request.now.start + request.now.count ≤ length self.old.reads }
         requires writes { request.now.start + request.now.count ≤ length self.old.writes }
         ensures takes { Takes self.old self.new request.now }
@@ -64,7 +64,7 @@ impl Span {
     }
 
     /// A drain ends the span: the next one has no requests yet.
-    pub fn clear(&mut self)
+    pub(crate) fn clear(&mut self)
         ensures reads { length self.new.reads ≡ length self.old.reads }
         ensures writes { length self.new.writes ≡ length self.old.writes }
         ensures none { IsEmpty self.new }
@@ -77,7 +77,7 @@ impl Span {
     ///
     /// Answers the request where it shares a sector with one of the span and one of the two writes. Then it has
     /// to wait for a drain, and begins a new span. No memory is taken.
-    pub fn take(&mut self, came: &Outcome) -> Option<Request>
+    pub(crate) fn take(&mut self, came: &Outcome) -> Option<Request>
         requires reads { IsWithin (length self.old.reads) came.now }
         requires writes { IsWithin (length self.old.writes) came.now }
         ensures next { IsNext self.old came.now result self.new }

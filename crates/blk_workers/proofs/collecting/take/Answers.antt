@@ -1,23 +1,34 @@
-use Rattle.std.proofs.Common.{◌∙◌, sym, ap, subst, ◌+◌, ◌++◌, ◌∷◌, [], Some}
+use Rattle.std.proofs.Common.{◌∙◌, refl, sym, ap, subst, ◌+◌, ◌++◌, ◌∷◌, [], length, Some}
+use Rattle.std.proofs.lemmas.List.{length-set}
+use Rattle.script_meaning.specs.Script.{Meant}
 use Rattle.blk_workers.specs.Progress.{AreAwaited}
-use Rattle.run_desk.specs.Desk.{is_owed, owed_count}
+use Rattle.run_desk.specs.Desk.{Stands, is_owed, owed_count}
 use Rattle.run_desk.specs.Requests.{IsAcceptedAt}
 use Rattle.blk_workers.proofs.Awaited.{awaited_fewer, awaited_taken}
 use Rattle.run_desk.proofs.Places.{count_set}
 use Rattle.blk_workers.proofs.collecting.take.Goals as goal
 
-pub returns-in_default-clause-awaited : goal.returns-in_default-clause-awaited
-returns-in_default-clause-awaited g c = λ given collected awaited. awaited_fewer g.J.Run.script c.args.desk.now.replies given c.args.done.number collected awaited
+pub returns-in_err-answer-clause-taken : goal.returns-in_err-answer-clause-taken
+returns-in_err-answer-clause-taken g c = record {
+  stands = c.requires.stands;
+  lines = refl;
+  awaited = λ given collected awaited. awaited_fewer g.J.Run.script c.args.desk.now.replies given c.args.completion.number collected awaited;
+}
 
-pub returns-clause-awaited : goal.returns-clause-awaited
-returns-clause-awaited g c = λ given collected awaited.
+pub returns-clause-taken : goal.returns-clause-taken
+returns-clause-taken g c =
     let here = c.into_parts-position.result.0 in
-    let at : IsAcceptedAt g.J.Run.script c.args.done.number here = subst (IsAcceptedAt g.J.Run.script c.args.done.number) (sym c.into_parts-position.ensures.position) c.into_parts-position.ensures.request in
-    subst (λ replies. AreAwaited g.J.Run.script replies given (collected ++ c.args.done.number ∷ [])) (sym c.take.ensures.taken)
-    (awaited_taken g.J.Run.script c.args.desk.now.replies given c.args.done.number here (Some c.in-Some.answer.text.items) collected at awaited)
+    let at : IsAcceptedAt g.J.Run.script c.args.completion.number here = subst (IsAcceptedAt g.J.Run.script c.args.completion.number) (sym c.into_parts-position.ensures.position) c.into_parts-position.ensures.request in
+    record {
+      stands = subst (λ (s : Meant). Stands s c.complete.new.self.replies c.complete.new.self.disk) (c.script.ensures ∙ c.hall.invariant.its_script) c.complete.ensures.stands;
+      lines = ap length c.complete.ensures.taken ∙ length-set c.args.desk.now.replies here (Some c.in_ok-answer.answer.text.items);
+      awaited = λ given collected awaited.
+          subst (λ replies. AreAwaited g.J.Run.script replies given (collected ++ c.args.completion.number ∷ [])) (sym c.complete.ensures.taken)
+          (awaited_taken g.J.Run.script c.args.desk.now.replies given c.args.completion.number here (Some c.in_ok-answer.answer.text.items) collected at awaited);
+    }
 
 pub returns-clause-filled : goal.returns-clause-filled
 returns-clause-filled g c =
     let replies = c.args.desk.now.replies in
     let here = c.into_parts-position.result.0 in
-    ap (λ rs. owed_count rs + 1) c.take.ensures.taken ∙ count_set replies here c.in-Some.answer.text.items (ap (is_owed replies) c.into_parts-position.ensures.position ∙ c.requires.owed)
+    ap (λ rs. owed_count rs + 1) c.complete.ensures.taken ∙ count_set replies here c.in_ok-answer.answer.text.items (ap (is_owed replies) c.into_parts-position.ensures.position ∙ c.requires.owed)

@@ -1,4 +1,4 @@
-use Rattle.std.proofs.Common.{subst}
+use Rattle.std.proofs.Common.{refl, subst}
 use Rattle.queue_limits.specs.Pieces.{IsSplit}
 use Rattle.ram_disk.specs.Runs.{IsRuns}
 use Rattle.ram_disk.specs.Sector.{bytes_of}
@@ -15,5 +15,6 @@ returns c =
         subst (λ l. IsSplit l c.args.start c.args.count c.in_ok-pieces.pieces) limits c.in_ok-pieces.ensures,
         subst (λ f. IsRuns told.0 (bytes_of f)) found told.1,
       );
+      begins = refl;
       leaves = c.new.ensures.items;
     }

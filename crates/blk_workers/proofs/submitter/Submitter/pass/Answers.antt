@@ -18,8 +18,8 @@ pub returns-clause-passed : goal.returns-clause-passed
 returns-clause-passed g c =
     let here = length c.args.self.now.desk.replies in
     let refused : accepted_at g.J.Run.script here ≡ None = c.requires.next.refused in
-    let settled = c.in_ok-settle.ensures in
-    let desk = c.settle.new.desk in
+    let settled = c.in_ok-reply_now.ensures.replied in
+    let desk = c.reply_now.new.desk in
     record {
       at = record {
         stands = subst (λ (s : Meant). Stands s desk.replies desk.disk) (c.script.ensures ∙ c.hall.invariant.its_script) settled.stands;

@@ -1,7 +1,7 @@
 use Rattle.std.proofs.Common.{sym, subst}
 use Rattle.run_desk.specs.Desk.{Stands}
 use Rattle.run_desk.proofs.Desks.{on_ok, stands_settled}
-use Rattle.run_desk.proofs.desk.Desk.settle.Goals as goal
+use Rattle.run_desk.proofs.desk.Desk.reply.Goals as goal
 
 pub returns-clause-stands : goal.returns-clause-stands
 returns-clause-stands c =
