@@ -12,7 +12,7 @@ class Outcome(NamedTuple):
 def figures_of(line):
     """Those of the line '# end SHARED V front F kills K releases R held H'."""
     words = line.split()
-    return (words[2] == "zero", *(int(words[at]) for at in (5, 7, 9, 11)))
+    return (words[2], *(int(words[at]) for at in (3, 5, 7, 9, 11)))
 
 
 def steps_of(schedule):

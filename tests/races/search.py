@@ -86,7 +86,8 @@ def told(moment):
     """What the end tells: a line for each actor, and the figures of its gate."""
     gate, seats, seat = moment
     lines = [f"{actor} {' / '.join(it.told)}".rstrip() for actor, it in (*enumerate(seats), ("c", seat))]
-    return (*lines, (gate.zero, gate.front, gate.kills, gate.releases, sum(it.held for it in seats)))
+    marks = "zero" if gate.zero else "dead" if gate.dead else "live"
+    return (*lines, (marks, gate.value, gate.front, gate.kills, gate.releases, sum(it.held for it in seats)))
 
 
 def all_outcomes(race):

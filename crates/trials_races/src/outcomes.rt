@@ -136,7 +136,7 @@ fn switch(rt: HostRuntime) -> Result<(), Fail> {
     ];
     assert_eq!(rt;
         outcomes_of(rt.alloc(), 1, Start::Slots, &[&[LIVE, get, put]], &control)?,
-        (6, 8, 113)
+        (8, 8, 157)
     );
     Ok(())
 }
