@@ -86,6 +86,7 @@ pub(crate) struct Hall<'a, J: Run, C: Line, L: Line, R, S> {
     of: PhantomData<L>,
 }
 
+// Contracts see for how many free tags there is room. What else a hall is, its invariant says by the run's names.
 impl<'a, J: Run, C: Line, L: Line, R, S> Model for Hall<'a, J, C, L, R, S> {
     ghost use Rattle.std.specs.Prelude.{ℕ};
     ghost use Rattle.blk_workers.specs.Halls.{IsHall};

@@ -99,6 +99,7 @@ impl<J: Run> Model for FreeTag<J> {
 }
 
 impl<J: Run> FreeTag<J> {
+    // A tag of the run's queue that no request has, as one that stands among the free ones.
     pub(crate) fn new(tag: Box<Tag>) -> FreeTag<J>
         requires own { tag.value.queue ≡ J.queue }
         requires out { tag.value.entered ≡ false }
