@@ -5,7 +5,7 @@ use Rattle.line_text.specs.Hex.{hex_bytes}
 use Rattle.line_text.specs.Numbers.{◌>>=◌, number_in}
 use Rattle.line_text.specs.Words.{no_words, one_word, two_words, three_words}
 use Rattle.blk_script.specs.declared.grammar.DiskLine.{DiskLine}
-use Rattle.script_meaning.specs.declared.mode.Mode.TheVariants.{Atomic, Slots}
+use Rattle.percpu_words.specs.declared.mode.Mode.TheVariants.{Atomic, Slots}
 use Rattle.line_text.specs.declared.fault.Why.{Why}
 use Rattle.line_text.specs.declared.fault.Why.TheVariants.{NoVersion, NoDisk, UnknownWord}
 use Rattle.script_meaning.specs.declared.line.What.{What}

@@ -3,8 +3,8 @@ use Rattle.std.specs.Prelude.{ℕ, ◌++◌, List, [], ◌∷◌, map, codes, de
 use Rattle.std.specs.List.{join_with_byte}
 use Rattle.hex.specs.Hex.{encode_lower}
 use Rattle.line_text.specs.Named.{named}
-use Rattle.script_meaning.specs.declared.mode.Mode.{Mode}
-use Rattle.script_meaning.specs.declared.mode.Mode.TheVariants.{Atomic, Slots}
+use Rattle.percpu_words.specs.declared.mode.Mode.{Mode}
+use Rattle.percpu_words.specs.declared.mode.Mode.TheVariants.{Atomic, Slots}
 use Rattle.script_meaning.specs.declared.reply.Stat.{Stat as Counts}
 use Rattle.script_meaning.specs.declared.reply.Reply.{Reply}
 use Rattle.script_meaning.specs.declared.reply.Reply.TheVariants.{Data, Written, Done, Depth, NotFrozen, DepthFull, Again, PastEnd, Invalid, Stat as Told, Removed, Gone}

@@ -1,15 +1,6 @@
 -- How a queue's freezer follows a script's queue.
 use Rattle.std.specs.Prelude.{ℕ, ◌+◌, ◌-◌, ◌==◌, ◌&&◌, nat_lt, if◌then◌else◌}
-use Rattle.percpu_gate.specs.declared.mode.Mode.{Mode}
-use Rattle.percpu_gate.specs.declared.mode.Mode.TheVariants as gate_modes
 use Rattle.script_meaning.specs.Queue.{Queue}
-use Rattle.script_meaning.specs.declared.mode.Mode as script_mode
-use Rattle.script_meaning.specs.declared.mode.Mode.TheVariants as script_modes
-
--- how the queue counts where the script's queue counts so
-abbrev pub mode_of : script_mode.Mode → Mode
-mode_of script_modes.Atomic = gate_modes.Atomic
-mode_of script_modes.Slots = gate_modes.Slots
 
 -- a depth one step nearer to another
 abbrev pub one_nearer : ℕ → ℕ → ℕ

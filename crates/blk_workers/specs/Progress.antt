@@ -13,9 +13,8 @@ use Rattle.script_meaning.specs.declared.reply.Reply.{Reply}
 use Rattle.script_meaning.specs.declared.request.Request.{Request}
 use Rattle.blk_script.specs.Texts.{reply_line}
 use Rattle.run_desk.specs.Requests.{IsAcceptedAt, IsQueueAt, IsReplyLine}
-use Rattle.run_desk.specs.Desk.{is_owed, AreJoined, MayJoin, MayPass, Stands, owed_count}
+use Rattle.run_desk.specs.Desk.{AreJoined, is_owed, MayTakeRequest, owed_count, Stands}
 use Rattle.run_desk.specs.declared.desk.Desk.{Desk}
-use Rattle.blk_workers.specs.Following.{mode_of}
 use Rattle.blk_workers.specs.Sizes.{Sizes}
 use Rattle.blk_workers.specs.declared.handing.Accepted.{Accepted}
 use Rattle.blk_workers.specs.declared.ran.Ran.{Ran}
@@ -62,7 +61,7 @@ pub record IsAt (script : Meant) (queue : QueueFacts) (position : ℕ) (s : Subm
   pub lines : length s.desk.replies ≡ position
   pub state : IsQueueAt script position s.state
   pub freezer : IsFollowing queue position s.freezer
-  pub mode : s.freezer.mode ≡ mode_of s.state.mode
+  pub mode : s.freezer.mode ≡ s.state.mode
   pub counted : IsCounted script position s.accepted
 
 -- the lines before a position are taken, and what was accepted of them is handed over
@@ -95,14 +94,13 @@ pub record HasCollected (script : Meant) (queue : QueueFacts) (completions : Tab
   pub state : new.state ≡ old.state
   pub accepted : new.accepted ≡ old.accepted
   pub follows : IsFollowing queue (length old.desk.replies + 1) new.freezer
-  pub mode : new.freezer.mode ≡ mode_of new.state.mode
+  pub mode : new.freezer.mode ≡ new.state.mode
 
--- the next line is this accepted request, it has this number and these limits, and it may join those that are owed
+-- the next line is this accepted request, which may join those that are owed, and has this number and these limits
 pub record IsReady (script : Meant) (replies : List (Option (List ℕ))) (next : Accepted) : Type 0 where
-  pub accepted : accepted_at script (length replies) ≡ Some next.request
+  pub may_take : MayTakeRequest script replies next.request
   pub number : next.number ≡ accepted_before script (length replies)
   pub limits : next.limits ≡ (queue_at script (length replies)).limits
-  pub may_join : MayJoin script replies
 
 -- one line more is taken, whose request is handed over, and the desk is right
 pub record HasHandedOver (script : Meant) (requests completions : TableId) (old new : Desk) (source : SourceFacts) (collector : CollectorFacts) : Type 0 where
@@ -110,24 +108,16 @@ pub record HasHandedOver (script : Meant) (requests completions : TableId) (old 
   pub lines : length new.replies ≡ length old.replies + 1
   pub all : AreHandedOver script requests completions (length old.replies + 1) new.replies source collector
 
--- the next line is this accepted request, which a number has room for, and leaves the script's queue as it says, in the mode that it had
-pub record IsRequestNext (script : Meant) (position : ℕ) (request : Request) (now next : Queue) : Type 0 where
+-- the next line is this accepted request, which a number has room for
+pub record IsRequestNext (script : Meant) (position : ℕ) (request : Request) : Type 0 where
   pub few : position + 1 < 2 ^ 32
   pub accepted : accepted_at script position ≡ Some request
-  pub queue : IsQueueAt script (position + 1) next
-  pub mode : next.mode ≡ now.mode
 
 -- the next line is no accepted request; it has this reply, and leaves the script's queue as it says
-pub record IsReplyNext (script : Meant) (replies : List (Option (List ℕ))) (number : ℕ) (answered : Reply) (next : Queue) : Type 0 where
+pub record IsReplyNext (script : Meant) (replies : List (Option (List ℕ))) (number : ℕ) (told : Reply) (next : Queue) : Type 0 where
   pub refused : accepted_at script (length replies) ≡ None
-  pub reply : IsReplyLine script (length replies) (reply_line (number, answered))
-  pub queue : IsQueueAt script (length replies + 1) next
-
--- the next line is no accepted request, may be taken, and has this reply
-pub record MayReply (script : Meant) (replies : List (Option (List ℕ))) (number : ℕ) (told : Reply) : Type 0 where
-  pub refused : accepted_at script (length replies) ≡ None
-  pub passes : MayPass script replies
   pub reply : IsReplyLine script (length replies) (reply_line (number, told))
+  pub queue : IsQueueAt script (length replies + 1) next
 
 -- the next line is taken with its reply, and what was awaited still is
 pub record HasReplied (script : Meant) (old new : Desk) : Type 0 where
@@ -148,7 +138,7 @@ pub record HasPassed (script : Meant) (queue : QueueFacts) (old new : Submitter)
 
 -- with a freezer that follows the script's queue from its start, no line is taken
 abbrev pub IsAtStartWith : Meant → FreezerFacts → Submitter → Type 0
-IsAtStartWith script freezer s = (queue : QueueFacts) → IsFollowing queue 0 freezer → freezer.mode ≡ mode_of (start_queue script).mode → IsAt script queue 0 s
+IsAtStartWith script freezer s = (queue : QueueFacts) → IsFollowing queue 0 freezer → freezer.mode ≡ (start_queue script).mode → IsAt script queue 0 s
 
 -- every line is taken, and nothing is owed
 pub record IsEnd (script : Meant) (s : Submitter) : Type 0 where
@@ -247,6 +237,6 @@ pub record Suits (script : Meant) (number : ℕ) (queue : QueueFacts) : Type 0 w
 pub record IsNewQueue (script : Meant) (sizes : Sizes) (queue : QueueFacts) (f : FreezerFacts) (tags : List TagFacts) : Type 0 where
   pub suits : Suits script sizes.slots queue
   pub follows : IsFollowing queue 0 f
-  pub mode : f.mode ≡ mode_of (start_queue script).mode
+  pub mode : f.mode ≡ (start_queue script).mode
   pub count : length tags ≡ sizes.tags
   pub free : AreFreeTags queue tags

@@ -6,7 +6,7 @@ ghost use Rattle.run_desk.specs.Desk.{Stands, is_owed, owed_count};
 use crate::fault::RunFault;
 use crate::hall::Hall;
 use crate::job::Completion;
-use crate::naming::{Line, Run};
+use crate::naming::{QueueName, Run};
 use freeze_queue::Tag;
 use queue_limits::Limits;
 use run_desk::Desk;
@@ -17,7 +17,7 @@ use std::sync::Wait;
 const OWN_SLOT: u32 = 0;
 
 // Takes the completion of a request, which is owed until then. `Memory` where the worker was refused it.
-fn take<J: Run, C: Line, L: Line, R, S>(
+fn take<J: Run, C: QueueName, L: QueueName, R, S>(
     hall: &Hall<'_, J, C, L, R, S>,
     desk: &mut Desk,
     completion: Completion<J>,
@@ -35,7 +35,7 @@ fn take<J: Run, C: Line, L: Line, R, S>(
 
 /// Collects the completions that are there now, as many as are owed at most, once so many are owed as there are tags. A
 /// look for each request would take the queue's lines from the workers each time.
-pub(crate) fn collect_some<J: Run, C: Line, L: Line, R: Wait, S>(
+pub(crate) fn collect_some<J: Run, C: QueueName, L: QueueName, R: Wait, S>(
     hall: &Hall<'_, J, C, L, R, S>,
     collector: &mut Collector<Completion<J>>,
     desk: &mut Desk,
@@ -58,7 +58,7 @@ pub(crate) fn collect_some<J: Run, C: Line, L: Line, R: Wait, S>(
 }
 
 /// Collects completions until none is owed, and waits for them.
-pub(crate) fn collect_all<J: Run, C: Line, L: Line, R: Wait, S>(
+pub(crate) fn collect_all<J: Run, C: QueueName, L: QueueName, R: Wait, S>(
     hall: &Hall<'_, J, C, L, R, S>,
     collector: &mut Collector<Completion<J>>,
     desk: &mut Desk,
@@ -80,7 +80,7 @@ pub(crate) fn collect_all<J: Run, C: Line, L: Line, R: Wait, S>(
 }
 
 /// A tag that has entered the queue and was told these limits. One that is told others leaves, and enters again.
-pub(crate) fn entered<J: Run, C: Line, L: Line, R: Wait, S>(
+pub(crate) fn entered<J: Run, C: QueueName, L: QueueName, R: Wait, S>(
     hall: &Hall<'_, J, C, L, R, S>,
     limits: Limits,
 ) -> Box<Tag>

@@ -1,9 +1,9 @@
 //! How the queue's freezer follows a script.
 ghost use Rattle.std.specs.Prelude.{◌≡◌, ℕ, ◌+◌, ◌<◌, ◌≤◌, ◌^◌, true};
-ghost use Rattle.blk_workers.specs.Following.{depth_after, mode_of, one_nearer};
+ghost use Rattle.blk_workers.specs.Following.{depth_after, one_nearer};
 ghost use Rattle.blk_workers.specs.Progress.{IsFollowing};
 
-use freeze_queue::{BlockQueue, Freezer, Mode};
+use freeze_queue::{BlockQueue, Freezer};
 use queue_limits::Limits;
 use script_meaning::QueueState;
 use std::sync::Wait;
@@ -60,26 +60,16 @@ fn step_to(freezer: &mut Freezer, queue: &BlockQueue, depth: u32)
     }
 }
 
-// How a queue counts where the script's queue counts so.
-fn mode_of(mode: script_meaning::Mode) -> Mode
-    ensures { result ≡ mode_of mode }
-{
-    match mode {
-        script_meaning::Mode::Atomic => Mode::Atomic,
-        script_meaning::Mode::Slots => Mode::Slots,
-    }
-}
-
 /// Brings the queue to the mode that the script's queue has, and a frozen one to its limits and nearer to its
 /// depth. A queue that the script removed stays frozen.
 pub(crate) fn follow(freezer: &mut Freezer, queue: &BlockQueue, state: &QueueState, _kills: usize)
     requires follows { IsFollowing queue.now _kills freezer.old }
     requires hardware { state.now.limits.hardware ≡ queue.now.hardware }
     ensures follows { IsFollowing queue.now _kills freezer.new }
-    ensures mode { freezer.new.mode ≡ mode_of state.now.mode }
+    ensures mode { freezer.new.mode ≡ state.now.mode }
     ensures frozen { (0 < freezer.old.depth → freezer.new.limits ≡ state.now.limits) × (freezer.new.depth ≡ depth_after freezer.old.depth state.now) }
 {
-    freezer.mode(queue, mode_of(state.mode()));
+    freezer.mode(queue, state.mode());
     if freezer.depth() == 0 {
         return;
     }

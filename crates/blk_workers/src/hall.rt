@@ -6,7 +6,7 @@ ghost use Rattle.blk_workers.specs.Progress.{AreFreeTags};
 
 use crate::fault::RunFault;
 use crate::job::{Completion, FreeTag, Job};
-use crate::naming::{Line, Run};
+use crate::naming::{QueueName, Run};
 use freeze_queue::{BlockQueue, Tag};
 use run_queues::{CompletionQueue, RequestQueue, Source, SpareQueue};
 use script_overlap::Checked;
@@ -17,7 +17,7 @@ use std::sync::Wait;
 /// The queues of a run: the one that requests enter, and those by which its threads hand requests, completions and free
 /// tags to one another.
 #[derive(Drop)]
-pub(crate) struct Queues<J: Run, C: Line> {
+pub(crate) struct Queues<J: Run, C: QueueName> {
     queue: BlockQueue,
     requests: RequestQueue<Job<J, C>>,
     completions: CompletionQueue<Completion<J>>,
@@ -40,7 +40,7 @@ fn free_tags<J: Run, R: Wait>(
     Ok(free)
 }
 
-impl<J: Run, C: Line> Queues<J, C> {
+impl<J: Run, C: QueueName> Queues<J, C> {
     /// A run's queues, in which all tags are free, and the right to push requests. The room of both queues is taken here,
     /// and that for the workers' lists.
     pub(crate) fn new<R: Wait>(
@@ -74,7 +74,7 @@ impl<J: Run, C: Line> Queues<J, C> {
 /// The type keeps that the script and the queues are those which its parameters name, that the script's hardware is the
 /// queue's, and that the script's lines are few enough to be numbered.
 #[derive(Drop)]
-pub(crate) struct Hall<'a, J: Run, C: Line, L: Line, R, S> {
+pub(crate) struct Hall<'a, J: Run, C: QueueName, L: QueueName, R, S> {
     pub(crate) rt: &'a R,
     pub(crate) alloc: Global,
     pub(crate) checked: &'a Checked,
@@ -87,7 +87,7 @@ pub(crate) struct Hall<'a, J: Run, C: Line, L: Line, R, S> {
 }
 
 // Contracts see for how many free tags there is room. What else a hall is, its invariant says by the run's names.
-impl<'a, J: Run, C: Line, L: Line, R, S> Model for Hall<'a, J, C, L, R, S> {
+impl<'a, J: Run, C: QueueName, L: QueueName, R, S> Model for Hall<'a, J, C, L, R, S> {
     ghost use Rattle.std.specs.Prelude.{ℕ};
     ghost use Rattle.blk_workers.specs.Halls.{IsHall};
 
@@ -98,7 +98,7 @@ impl<'a, J: Run, C: Line, L: Line, R, S> Model for Hall<'a, J, C, L, R, S> {
     ghost invariant = { λ h. IsHall J.script J.queue L.id C.id h.checked.now h.queue.now h.requests.now.id h.completions.now.id };
 }
 
-impl<'a, J: Run, C: Line, L: Line, R, S> Hall<'a, J, C, L, R, S> {
+impl<'a, J: Run, C: QueueName, L: QueueName, R, S> Hall<'a, J, C, L, R, S> {
     /// The hall of a run with these queues.
     pub(crate) fn new(
         rt: &'a R,

@@ -7,7 +7,7 @@ use crate::collecting::entered;
 use crate::fault::RunFault;
 use crate::hall::Hall;
 use crate::job::{Completion, Job};
-use crate::naming::{Line, Run};
+use crate::naming::{QueueName, Run};
 use crate::stall::{Point, Stall};
 use queue_limits::Limits;
 use run_desk::Desk;
@@ -18,7 +18,7 @@ use std::sync::Wait;
 /// The ends of the run's queues that the thread that submits and collects has: the right to push requests, and the
 /// right to collect completions.
 #[derive(Drop)]
-pub(crate) struct Ends<J: Run, C: Line> {
+pub(crate) struct Ends<J: Run, C: QueueName> {
     pub(crate) source: Source<Job<J, C>>,
     pub(crate) collector: Collector<Completion<J>>,
 }
@@ -32,7 +32,7 @@ pub(crate) struct Accepted {
 }
 
 /// Hands an accepted request to the workers: it enters the queue under the limits in force, and is owed.
-pub(crate) fn hand_over<J: Run, C: Line, L: Line, R: Wait, S: Stall>(
+pub(crate) fn hand_over<J: Run, C: QueueName, L: QueueName, R: Wait, S: Stall>(
     hall: &Hall<'_, J, C, L, R, S>,
     desk: &mut Desk,
     ends: &mut Ends<J, C>,

@@ -3,11 +3,11 @@ ghost use Rattle.std.specs.Prelude.{◌≡◌, ◌<◌, true, false, IfOk};
 ghost use Rattle.run_desk.specs.Requests.{IsAcceptedAt, IsAnswerTo};
 ghost use Rattle.blk_workers.specs.Jobs.{IsJob, IsReadUnderItsTag};
 
-use crate::naming::{Line, Run};
+use crate::naming::{QueueName, Run};
 use freeze_queue::{BlockQueue, Tag};
 use ram_disk::Sector;
 use run_desk::{Answer, answer_to};
-use run_queues::{CompletionQueue, Duty, Numbered, Told};
+use run_queues::{CompletionQueue, Duty, Numbered, Receipt};
 use script_meaning::Script;
 use std::alloc::{AllocError, Global};
 use std::marker::{Model, PhantomData};
@@ -20,7 +20,7 @@ use std::sync::Wait;
 /// number, that the tag is entered in the run's queue and was told the limits in force at the line, and that the
 /// sectors are those that a single thread finds there. It carries no limits: the worker reads them under the tag.
 #[derive(Drop)]
-pub(crate) struct Job<J: Run, C: Line> {
+pub(crate) struct Job<J: Run, C: QueueName> {
     duty: Duty<Completion<J>>,
     position: usize,
     tag: Box<Tag>,
@@ -28,7 +28,7 @@ pub(crate) struct Job<J: Run, C: Line> {
     of: PhantomData<C>,
 }
 
-impl<J: Run, C: Line> Model for Job<J, C> {
+impl<J: Run, C: QueueName> Model for Job<J, C> {
     ghost use Rattle.blk_workers.specs.Jobs.{JobFacts, IsJob};
 
     ghost Value = { JobFacts };
@@ -38,7 +38,7 @@ impl<J: Run, C: Line> Model for Job<J, C> {
     ghost invariant = { λ j. IsJob J.script J.queue C.id (record { duty = j.duty; position = j.position; tag = j.tag.value; found = j.found.items }) };
 }
 
-impl<J: Run, C: Line> Numbered for Job<J, C> {
+impl<J: Run, C: QueueName> Numbered for Job<J, C> {
     ghost number = { λ j. j.duty.number };
 
     /// The request's number among the accepted ones.
@@ -150,7 +150,7 @@ impl<J: Run> Completion<J> {
     }
 }
 
-impl<J: Run, C: Line> Job<J, C> {
+impl<J: Run, C: QueueName> Job<J, C> {
     pub(crate) fn new(
         duty: Duty<Completion<J>>,
         position: usize,
@@ -171,7 +171,7 @@ impl<J: Run, C: Line> Job<J, C> {
 
     /// Does the request: reads the limits under its tag, cuts the pieces, and makes the line of its reply and the
     /// sectors that a write leaves.
-    pub(crate) fn done(self, alloc: Global, queue: &BlockQueue, script: &Script) -> Done<J, C>
+    pub(crate) fn done(self, alloc: Global, queue: &BlockQueue, script: &Script) -> DoneJob<J, C>
         requires queue { queue.now ≡ J.queue }
         requires script { script.now ≡ J.script }
         ensures request { IsAcceptedAt J.script self.duty.number self.position }
@@ -188,7 +188,7 @@ impl<J: Run, C: Line> Job<J, C> {
         let limits = queue.limits(&mut tag);
         let answer = answer_to(alloc, script, position, limits, &found);
         let completion = Completion::new(duty.number(), position, answer);
-        Done {
+        DoneJob {
             tag,
             duty,
             completion,
@@ -200,43 +200,43 @@ impl<J: Run, C: Line> Job<J, C> {
 /// A request that is done: its tag is still entered, and its completion still to be told. It is told first, since what
 /// it becomes by that is the one way to its tag.
 #[derive(Drop)]
-pub(crate) struct Done<J: Run, C: Line> {
+pub(crate) struct DoneJob<J: Run, C: QueueName> {
     tag: Box<Tag>,
     duty: Duty<Completion<J>>,
     completion: Completion<J>,
     of: PhantomData<C>,
 }
 
-impl<J: Run, C: Line> Model for Done<J, C> {
+impl<J: Run, C: QueueName> Model for DoneJob<J, C> {
     ghost use Rattle.std.specs.Prelude.{◌≡◌, ℕ, true};
 
     ghost Value = { ℕ };
 
-    ghost view = { λ d. d.duty.number };
+    ghost view = { λ j. j.duty.number };
 
-    ghost invariant = { λ d. (d.tag.value.queue ≡ J.queue) × (d.tag.value.entered ≡ true) × (d.duty.queue ≡ C.id) × (d.completion.number ≡ d.duty.number) };
+    ghost invariant = { λ j. (j.tag.value.queue ≡ J.queue) × (j.tag.value.entered ≡ true) × (j.duty.queue ≡ C.id) × (j.completion.number ≡ j.duty.number) };
 }
 
-impl<J: Run, C: Line> Done<J, C> {
+impl<J: Run, C: QueueName> DoneJob<J, C> {
     /// Tells the completion.
     pub(crate) fn tell<R: Wait>(
         self,
         rt: &R,
         completions: &CompletionQueue<Completion<J>>,
-    ) -> Answered<J, C>
+    ) -> CompletedJob<J, C>
         requires own { completions.now.id ≡ C.id }
         ensures { result.number ≡ self }
     {
-        let Done {
+        let DoneJob {
             tag,
             duty,
             completion,
             of: _,
         } = self;
-        let told = completions.tell(rt, duty, completion);
-        Answered {
+        let receipt = completions.tell(rt, duty, completion);
+        CompletedJob {
             tag,
-            told,
+            receipt,
             of: PhantomData,
         }
     }
@@ -244,37 +244,37 @@ impl<J: Run, C: Line> Done<J, C> {
 
 /// A request whose completion is told, and whose tag is still entered.
 #[derive(Drop)]
-pub(crate) struct Answered<J: Run, C: Line> {
+pub(crate) struct CompletedJob<J: Run, C: QueueName> {
     tag: Box<Tag>,
-    told: Told<Completion<J>>,
+    receipt: Receipt<Completion<J>>,
     of: PhantomData<C>,
 }
 
-impl<J: Run, C: Line> Model for Answered<J, C> {
+impl<J: Run, C: QueueName> Model for CompletedJob<J, C> {
     ghost use Rattle.std.specs.Prelude.{◌≡◌, true};
     ghost use Rattle.run_queues.specs.Parts.{DutyFacts};
 
     ghost Value = { DutyFacts };
 
-    ghost view = { λ a. a.told };
+    ghost view = { λ j. j.receipt };
 
-    ghost invariant = { λ a. (a.tag.value.queue ≡ J.queue) × (a.tag.value.entered ≡ true) × (a.told.queue ≡ C.id) };
+    ghost invariant = { λ j. (j.tag.value.queue ≡ J.queue) × (j.tag.value.entered ≡ true) × (j.receipt.queue ≡ C.id) };
 }
 
-impl<J: Run, C: Line> Answered<J, C> {
+impl<J: Run, C: QueueName> CompletedJob<J, C> {
     /// Leaves the queue on a slot, and shows that the completion was told.
-    pub(crate) fn leave(self, queue: &BlockQueue, slot: u32) -> (FreeTag<J>, Told<Completion<J>>)
+    pub(crate) fn leave(self, queue: &BlockQueue, slot: u32) -> (FreeTag<J>, Receipt<Completion<J>>)
         requires queue { queue.now ≡ J.queue }
         requires slot { slot < J.queue.gate.slots }
         ensures own { result.1.queue ≡ C.id }
         ensures number { result.1.number ≡ self.number }
     {
-        let Answered {
+        let CompletedJob {
             mut tag,
-            told,
+            receipt,
             of: _,
         } = self;
         let _last = queue.leave(&mut tag, slot);
-        (FreeTag::new(tag), told)
+        (FreeTag::new(tag), receipt)
     }
 }

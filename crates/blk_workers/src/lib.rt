@@ -27,7 +27,8 @@
 //! - *ends*: the submitter's right to push requests and to collect completions. A *drawer* is a worker's right to draw requests,
 //!   a *duty* the right to tell one completion, which goes with its request.
 //! - *job*: an accepted request on its way to a worker, with its tag. Its *answer* is the line of its reply and the sectors that a
-//!   write leaves; its *completion* brings the answer back.
+//!   write leaves; its *completion* brings the answer back. Once it is told, a *receipt* is left of the duty: a worker comes back
+//!   with as many as it drew requests.
 //! - `J` is the run: `J.script` its script, `J.queue` the queue that requests enter. `C` is its queue of completions, and `L` its
 //!   queue of requests: `C.id` and `L.id` say which. Each is a name that a run takes once it has the thing (src/naming.rt).
 #![tactic(auto)]
@@ -41,10 +42,10 @@ mod handing;
 mod job;
 mod naming;
 mod ran;
+mod receipts;
 mod running;
 mod stall;
 mod submitter;
-mod tally;
 mod team;
 mod worker;
 

@@ -22,13 +22,13 @@ impl Run for Brand {
 
 /// A queue by which the threads of a run hand something on. It is made once the run has its name, so it has a name
 /// of its own.
-pub(crate) trait Line {
+pub(crate) trait QueueName {
     ghost use Rattle.atomic_table.specs.Seated.{TableId};
 
     ghost id: { TableId };
 }
 
-impl Line for Brand {
+impl QueueName for Brand {
     ghost use Rattle.run_queues.specs.Nobody.{no_table};
 
     ghost id = { no_table };

@@ -8,7 +8,7 @@ use crate::fault::RunFault;
 use crate::hall::{Hall, Queues};
 use crate::handing::Ends;
 use crate::job::Completion;
-use crate::naming::{Line, Run};
+use crate::naming::{QueueName, Run};
 use crate::ran::Ran;
 use crate::stall::Stall;
 use crate::submitter::Submitter;
@@ -25,8 +25,8 @@ use std::thread::Threads;
 // A run whose types name its queue of requests.
 fn run_in<
     J: Run + Send + Sync,
-    C: Line + Send + Sync,
-    L: Line + Send + Sync,
+    C: QueueName + Send + Sync,
+    L: QueueName + Send + Sync,
     R: Threads + Wait + Sync,
     S: Stall,
 >(
@@ -54,7 +54,7 @@ fn run_in<
 }
 
 // A run whose types name its queue of completions.
-fn run_on<J: Run + Send + Sync, C: Line + Send + Sync, R: Threads + Wait + Sync, S: Stall>(
+fn run_on<J: Run + Send + Sync, C: QueueName + Send + Sync, R: Threads + Wait + Sync, S: Stall>(
     rt: &R,
     alloc: Global,
     checked: &Checked,

@@ -8,7 +8,7 @@ pub enum Point {
     /// A worker has taken the request.
     Drawn,
     /// A worker has queued the request's completion, and not left the queue yet.
-    Answered,
+    Completed,
     /// The submitter has drained the queue. A line that finds it frozen, and so drained, tells nothing, and nor does
     /// the end.
     Drained,

@@ -1,9 +1,10 @@
 //! The thread that submits and collects.
-ghost use Rattle.std.specs.Prelude.{◌≡◌, ◌+◌, ◌<◌, IfOk, OnOk, length};
+ghost use Rattle.std.specs.Prelude.{◌≡◌, ◌+◌, ◌<◌, IfOk, None, OnOk, length};
 ghost use Rattle.script_meaning.specs.Script.{Meant};
-ghost use Rattle.script_meaning.specs.Requests.{accepted_in_all};
-ghost use Rattle.blk_workers.specs.Progress.{HasCollected, HasPassed, HasReplied, HasTaken, IsAt, IsAtStartWith, IsCollecting, IsEnd, IsReplyNext, IsRequestNext, IsRun, MayReply, MayTake, StayOwn};
-ghost use Rattle.run_desk.specs.Desk.{MayJoin, MayPass, Stands, owed_count};
+ghost use Rattle.script_meaning.specs.Requests.{accepted_at, accepted_in_all};
+ghost use Rattle.blk_script.specs.Texts.{reply_line};
+ghost use Rattle.blk_workers.specs.Progress.{HasCollected, HasPassed, HasReplied, HasTaken, IsAt, IsAtStartWith, IsCollecting, IsEnd, IsReplyNext, IsRequestNext, IsRun, MayTake, StayOwn};
+ghost use Rattle.run_desk.specs.Desk.{MayJoin, MayPass, MayTakeReply, Stands, owed_count};
 
 use crate::collecting::{collect_all, collect_some};
 use crate::fault::RunFault;
@@ -11,7 +12,7 @@ use crate::following::{follow, freeze};
 use crate::hall::Hall;
 use crate::handing::{Accepted, Ends, hand_over};
 use crate::job::Completion;
-use crate::naming::{Line, Run};
+use crate::naming::{QueueName, Run};
 use crate::ran::Ran;
 use crate::stall::{Point, Stall};
 use blk_script::render;
@@ -43,7 +44,7 @@ fn reply_now(
     reply: &Reply,
 ) -> Result<(), RunFault>
     requires stands { Stands script.now desk.old.replies desk.old.disk }
-    requires may_reply { MayReply script.now desk.old.replies number reply.now }
+    requires may_take { MayTakeReply script.now desk.old.replies (reply_line (number, reply.now)) }
     ensures replied { OnOk result (HasReplied script.now desk.old desk.new) }
 {
     let Ok(text) = render(alloc, number, reply) else {
@@ -95,7 +96,7 @@ impl Submitter {
     }
 
     // Drains the queue, and opens it again, before an ordered request.
-    fn make_way<J: Run, C: Line, L: Line, R: Wait, S: Stall>(
+    fn make_way<J: Run, C: QueueName, L: QueueName, R: Wait, S: Stall>(
         &mut self,
         hall: &Hall<'_, J, C, L, R, S>,
         collector: &mut Collector<Completion<J>>,
@@ -116,16 +117,15 @@ impl Submitter {
         Ok(())
     }
 
-    // Hands over the accepted request of the next line, after which the script's queue is `next`.
-    fn submit<J: Run, C: Line, L: Line, R: Wait, S: Stall>(
+    // Hands over the accepted request of the next line.
+    fn submit<J: Run, C: QueueName, L: QueueName, R: Wait, S: Stall>(
         &mut self,
         hall: &Hall<'_, J, C, L, R, S>,
         ends: &mut Ends<J, C>,
-        next: QueueState,
         request: Request,
     ) -> Result<(), RunFault>
         requires taken { HasTaken J.script J.queue L.id C.id (length self.old.desk.replies) self.old ends.old.source ends.old.collector }
-        requires next { IsRequestNext J.script (length self.old.desk.replies) request self.old.state next }
+        requires next { IsRequestNext J.script (length self.old.desk.replies) request }
         ensures taken { OnOk result (HasTaken J.script J.queue L.id C.id (length self.old.desk.replies + 1) self.new ends.new.source ends.new.collector) }
         ensures kept { StayOwn J.queue ends.old.source ends.new.source self.new.freezer }
     {
@@ -138,12 +138,12 @@ impl Submitter {
         let desk = &mut self.desk;
         hand_over(hall, desk, ends, accepted)?;
         self.accepted += 1;
-        self.state = next;
+        self.state.count(&request);
         Ok(())
     }
 
     // Drains the queue, which it freezes where it isn't frozen, and collects all completions.
-    fn drain<J: Run, C: Line, L: Line, R: Wait, S: Stall>(
+    fn drain<J: Run, C: QueueName, L: QueueName, R: Wait, S: Stall>(
         &mut self,
         hall: &Hall<'_, J, C, L, R, S>,
         collector: &mut Collector<Completion<J>>,
@@ -161,7 +161,7 @@ impl Submitter {
     }
 
     // Takes the next line, whose reply is there and after which the script's queue is `next`.
-    fn pass<J: Run, C: Line, L: Line, R, S>(
+    fn pass<J: Run, C: QueueName, L: QueueName, R, S>(
         &mut self,
         hall: &Hall<'_, J, C, L, R, S>,
         next: QueueState,
@@ -187,8 +187,33 @@ impl Submitter {
         Ok(())
     }
 
+    // Takes the next line, which is no request that the queue accepts.
+    fn reply_to<J: Run, C: QueueName, L: QueueName, R: Wait, S: Stall>(
+        &mut self,
+        hall: &Hall<'_, J, C, L, R, S>,
+        ends: &mut Ends<J, C>,
+    ) -> Result<(), RunFault>
+        requires taken { HasTaken J.script J.queue L.id C.id (length self.old.desk.replies) self.old ends.old.source ends.old.collector }
+        requires more { length self.old.desk.replies < length J.script.lines }
+        requires next { accepted_at J.script (length self.old.desk.replies) ≡ None }
+        ensures taken { OnOk result (HasTaken J.script J.queue L.id C.id (length self.old.desk.replies + 1) self.new ends.new.source ends.new.collector) }
+        ensures kept { StayOwn J.queue ends.old.source ends.new.source self.new.freezer }
+    {
+        let line = &hall.checked.script().lines()[self.desk.replies.len()];
+        let mut next = self.state;
+        match next.take(&line.what) {
+            Outcome::Drained(reply) => {
+                self.drain(hall, &mut ends.collector)?;
+                self.pass(hall, next, line.number, &reply)
+            }
+            Outcome::Replied(reply) => { self.pass(hall, next, line.number, &reply) }
+            // The check found that the queue accepts no request here.
+            Outcome::Accepted(_) => unreachable!(),
+        }
+    }
+
     // Takes the next line.
-    fn take_next<J: Run, C: Line, L: Line, R: Wait, S: Stall>(
+    fn take_next<J: Run, C: QueueName, L: QueueName, R: Wait, S: Stall>(
         &mut self,
         hall: &Hall<'_, J, C, L, R, S>,
         ends: &mut Ends<J, C>,
@@ -198,20 +223,14 @@ impl Submitter {
         ensures taken { OnOk result (HasTaken J.script J.queue L.id C.id (length self.old.desk.replies + 1) self.new ends.new.source ends.new.collector) }
         ensures kept { StayOwn J.queue ends.old.source ends.new.source self.new.freezer }
     {
-        let line = &hall.checked.script().lines()[self.desk.replies.len()];
-        let mut next = self.state;
-        match next.take(&line.what) {
-            Outcome::Accepted(request) => { self.submit(hall, ends, next, request) }
-            Outcome::Drained(reply) => {
-                self.drain(hall, &mut ends.collector)?;
-                self.pass(hall, next, line.number, &reply)
-            }
-            Outcome::Replied(reply) => { self.pass(hall, next, line.number, &reply) }
+        match hall.checked.request(self.desk.replies.len()) {
+            Some(request) => self.submit(hall, ends, request),
+            None => self.reply_to(hall, ends),
         }
     }
 
     /// Takes all lines, and drains the queue at the end.
-    pub(crate) fn submit_all<J: Run, C: Line, L: Line, R: Wait, S: Stall>(
+    pub(crate) fn submit_all<J: Run, C: QueueName, L: QueueName, R: Wait, S: Stall>(
         &mut self,
         hall: &Hall<'_, J, C, L, R, S>,
         ends: &mut Ends<J, C>,

@@ -8,10 +8,10 @@ use crate::fault::RunFault;
 use crate::hall::Hall;
 use crate::handing::Ends;
 use crate::job::Job;
-use crate::naming::{Line, Run};
+use crate::naming::{QueueName, Run};
 use crate::stall::Stall;
 use crate::submitter::Submitter;
-use crate::worker::{Back, work};
+use crate::worker::{FinishedWorker, work};
 use run_queues::{Drawer, Source};
 use std::alloc::AllocError;
 use std::sync::Wait;
@@ -19,7 +19,7 @@ use std::thread;
 use std::thread::{JoinHandle, Scope, Threads};
 
 /// The right to draw for each worker, with room for all that it may draw.
-pub(crate) fn drawers<J: Run, C: Line, L: Line, R, S>(
+pub(crate) fn drawers<J: Run, C: QueueName, L: QueueName, R, S>(
     hall: &Hall<'_, J, C, L, R, S>,
     source: &mut Source<Job<J, C>>,
     workers: u32,
@@ -40,7 +40,7 @@ pub(crate) fn drawers<J: Run, C: Line, L: Line, R, S>(
 }
 
 // Takes one of these rights to draw.
-fn take_drawer<J: Run, C: Line, L: Line>(
+fn take_drawer<J: Run, C: QueueName, L: QueueName>(
     drawers: &mut Vec<Drawer<Job<J, C>>>,
 ) -> Option<Drawer<Job<J, C>>>
     requires { All (IsNewDrawer L.id (accepted_in_all J.script + 1)) drawers.old.items }
@@ -52,7 +52,7 @@ fn take_drawer<J: Run, C: Line, L: Line>(
 }
 
 // Puts an end mark for each worker that was started.
-fn end<J: Run, C: Line, L: Line, R: Wait, S>(
+fn end<J: Run, C: QueueName, L: QueueName, R: Wait, S>(
     hall: &Hall<'_, J, C, L, R, S>,
     source: &mut Source<Job<J, C>>,
     started: usize,
@@ -66,9 +66,9 @@ fn end<J: Run, C: Line, L: Line, R: Wait, S>(
 }
 
 // Waits for workers that were ended. What a thread hands back is let go only where it is joined.
-fn dismiss<J: Run, C: Line, L: Line, R: Threads>(
+fn dismiss<J: Run, C: QueueName, L: QueueName, R: Threads>(
     rt: &R,
-    workers: &mut Vec<JoinHandle<Back<J, C, L>>>,
+    workers: &mut Vec<JoinHandle<FinishedWorker<J, C, L>>>,
 ) {
     for _ in 0..workers.len() {
         let Some(worker) = workers.pop() else {
@@ -79,11 +79,11 @@ fn dismiss<J: Run, C: Line, L: Line, R: Threads>(
 }
 
 // Submits and collects while so many workers work, and ends them. Where that fails, they are waited for too.
-fn lead<J: Run, C: Line, L: Line, R: Threads + Wait, S: Stall>(
+fn lead<J: Run, C: QueueName, L: QueueName, R: Threads + Wait, S: Stall>(
     hall: &Hall<'_, J, C, L, R, S>,
     mut submitter: Submitter,
     ends: &mut Ends<J, C>,
-    started: &mut Vec<JoinHandle<Back<J, C, L>>>,
+    started: &mut Vec<JoinHandle<FinishedWorker<J, C, L>>>,
     workers: usize,
 ) -> Result<Submitter, RunFault>
     requires ends { AreNewEnds L.id C.id workers ends.old.source ends.old.collector }
@@ -108,10 +108,10 @@ fn lead<J: Run, C: Line, L: Line, R: Threads + Wait, S: Stall>(
 
 // Waits for the workers, which were ended, and takes back their right to draw with what they drew. There is room for
 // their lists, so each of them is waited for.
-fn gather<J: Run, C: Line, L: Line, R: Threads, S>(
+fn gather<J: Run, C: QueueName, L: QueueName, R: Threads, S>(
     hall: &Hall<'_, J, C, L, R, S>,
     source: &mut Source<Job<J, C>>,
-    mut workers: Vec<JoinHandle<Back<J, C, L>>>,
+    mut workers: Vec<JoinHandle<FinishedWorker<J, C, L>>>,
 )
     requires out { AreOut L.id (length workers.items) source.old }
     ensures back { AreBack L.id (length workers.items) source.new }
@@ -134,16 +134,16 @@ fn start<
     's,
     'e,
     J: Run + Send + Sync + 'e,
-    C: Line + Send + Sync + 'e,
-    L: Line + Send + Sync + 'e,
+    C: QueueName + Send + Sync + 'e,
+    L: QueueName + Send + Sync + 'e,
     R: Threads + Wait + Sync,
     S: Stall,
 >(
     scope: &'s Scope<'s, &'e ()>,
     hall: &'e Hall<'e, J, C, L, R, S>,
     mut drawers: Vec<Drawer<Job<J, C>>>,
-    mut started: Vec<JoinHandle<Back<J, C, L>>>,
-) -> Vec<JoinHandle<Back<J, C, L>>>
+    mut started: Vec<JoinHandle<FinishedWorker<J, C, L>>>,
+) -> Vec<JoinHandle<FinishedWorker<J, C, L>>>
     requires drawers { All (IsNewDrawer L.id (accepted_in_all J.script + 1)) drawers.items }
     requires room { (length started.items ≡ 0) × (length drawers.items ≤ vec_capacity started) }
     ensures few { length result.items ≤ length drawers.items }
@@ -156,7 +156,7 @@ fn start<
             break;
         };
         let worker = scope.spawn(
-            move || -> Back<J, C, L>
+            move || -> FinishedWorker<J, C, L>
                 requires slot { slot < J.queue.gate.slots }
                 requires drawer { IsNewDrawer L.id (accepted_in_all J.script + 1) drawer }
             { work(hall, slot, drawer) },
@@ -172,11 +172,11 @@ fn start<
 
 // Submits and collects while the workers work that were started, ends them, and takes back what they drew. `Thread`
 // where fewer were started than there are to be: then they are ended at once.
-fn lead_all<J: Run, C: Line, L: Line, R: Threads + Wait, S: Stall>(
+fn lead_all<J: Run, C: QueueName, L: QueueName, R: Threads + Wait, S: Stall>(
     hall: &Hall<'_, J, C, L, R, S>,
     submitter: Submitter,
     mut ends: Ends<J, C>,
-    mut started: Vec<JoinHandle<Back<J, C, L>>>,
+    mut started: Vec<JoinHandle<FinishedWorker<J, C, L>>>,
     workers: usize,
 ) -> Result<(Submitter, Source<Job<J, C>>), RunFault>
     requires start { IsAt J.script J.queue 0 submitter }
@@ -202,8 +202,8 @@ fn lead_all<J: Run, C: Line, L: Line, R: Threads + Wait, S: Stall>(
 /// Starts the workers, submits and collects, ends them, and takes back what they drew.
 pub(crate) fn with_workers<
     J: Run + Send + Sync,
-    C: Line + Send + Sync,
-    L: Line + Send + Sync,
+    C: QueueName + Send + Sync,
+    L: QueueName + Send + Sync,
     R: Threads + Wait + Sync,
     S: Stall,
 >(
@@ -216,7 +216,7 @@ pub(crate) fn with_workers<
     ensures led { IfOk result (λ led. IsLed J.script L.id (length drawers.items) led.0 led.1) }
 {
     let workers = drawers.len();
-    let room: Vec<JoinHandle<Back<J, C, L>>> = Vec::with_capacity(hall.alloc, workers)?;
+    let room: Vec<JoinHandle<FinishedWorker<J, C, L>>> = Vec::with_capacity(hall.alloc, workers)?;
     thread::scope(
         thread::scope_env(),
         hall.rt,

@@ -6,42 +6,42 @@ ghost use Rattle.blk_workers.specs.Progress.{IsNewDrawer};
 
 use crate::hall::Hall;
 use crate::job::{Completion, Job};
-use crate::naming::{Line, Run};
+use crate::naming::{QueueName, Run};
+use crate::receipts::Receipts;
 use crate::stall::{Point, Stall};
-use crate::tally::Tally;
-use run_queues::{Drawer, Numbered, Told};
+use run_queues::{Drawer, Numbered, Receipt};
 use std::marker::{Model, PhantomData};
 use std::sync::Wait;
 
 /// What a worker hands back: the right to draw, once it has taken an end mark and told as many completions as it drew
 /// requests.
 #[derive(Drop)]
-pub(crate) struct Back<J: Run, C: Line, L: Line> {
+pub(crate) struct FinishedWorker<J: Run, C: QueueName, L: QueueName> {
     drawer: Drawer<Job<J, C>>,
-    tally: Tally<J, C>,
+    receipts: Receipts<J, C>,
     of: PhantomData<L>,
 }
 
-impl<J: Run, C: Line, L: Line> Model for Back<J, C, L> {
+impl<J: Run, C: QueueName, L: QueueName> Model for FinishedWorker<J, C, L> {
     ghost use Rattle.std.specs.Prelude.{◌≡◌, true, length};
     ghost use Rattle.run_queues.specs.Parts.{DrawerFacts};
 
     ghost Value = { DrawerFacts };
 
-    ghost view = { λ b. b.drawer };
+    ghost view = { λ w. w.drawer };
 
-    ghost invariant = { λ b. (b.drawer.queue ≡ L.id) × (b.drawer.drained ≡ true) × (b.tally ≡ length b.drawer.drawn) };
+    ghost invariant = { λ w. (w.drawer.queue ≡ L.id) × (w.drawer.drained ≡ true) × (w.receipts ≡ length w.drawer.drawn) };
 }
 
-impl<J: Run, C: Line, L: Line> Back<J, C, L> {
-    fn new(drawer: Drawer<Job<J, C>>, tally: Tally<J, C>) -> Back<J, C, L>
+impl<J: Run, C: QueueName, L: QueueName> FinishedWorker<J, C, L> {
+    fn new(drawer: Drawer<Job<J, C>>, receipts: Receipts<J, C>) -> FinishedWorker<J, C, L>
         requires own { drawer.queue ≡ L.id }
         requires drained { drawer.drained ≡ true }
-        requires told { tally ≡ length drawer.drawn }
+        requires told { receipts ≡ length drawer.drawn }
     {
-        Back {
+        FinishedWorker {
             drawer,
-            tally,
+            receipts,
             of: PhantomData,
         }
     }
@@ -51,9 +51,9 @@ impl<J: Run, C: Line, L: Line> Back<J, C, L> {
         ensures own { result.queue ≡ L.id }
         ensures drained { result.drained ≡ true }
     {
-        let Back {
+        let FinishedWorker {
             drawer,
-            tally: _,
+            receipts: _,
             of: _,
         } = self;
         drawer
@@ -62,11 +62,11 @@ impl<J: Run, C: Line, L: Line> Back<J, C, L> {
 
 // Does a request: the tag leaves on this worker's own slot once the completion is queued, and goes back to whoever
 // submits.
-fn serve<J: Run, C: Line, L: Line, R: Wait, S: Stall>(
+fn serve<J: Run, C: QueueName, L: QueueName, R: Wait, S: Stall>(
     hall: &Hall<'_, J, C, L, R, S>,
     slot: u32,
     job: Job<J, C>,
-) -> Told<Completion<J>>
+) -> Receipt<Completion<J>>
     requires slot { slot < J.queue.gate.slots }
     ensures request { IsAcceptedAt J.script job.duty.number job.position }
     ensures told { (result.queue ≡ C.id) × (result.number ≡ job.duty.number) }
@@ -74,32 +74,32 @@ fn serve<J: Run, C: Line, L: Line, R: Wait, S: Stall>(
     let number = job.number();
     hall.stall.at(number, Point::Drawn);
     let done = job.done(hall.alloc, hall.queue, hall.checked.script());
-    let answered = done.tell(hall.rt, hall.completions);
-    hall.stall.at(number, Point::Answered);
-    let (tag, told) = answered.leave(hall.queue, slot);
+    let completed = done.tell(hall.rt, hall.completions);
+    hall.stall.at(number, Point::Completed);
+    let (tag, receipt) = completed.leave(hall.queue, slot);
     hall.tags.put(hall.rt, tag);
-    told
+    receipt
 }
 
 /// Does requests until it takes an end mark. There is room for the number of each request of the script, so no
 /// memory is asked for.
-pub(crate) fn work<J: Run, C: Line, L: Line, R: Wait, S: Stall>(
+pub(crate) fn work<J: Run, C: QueueName, L: QueueName, R: Wait, S: Stall>(
     hall: &Hall<'_, J, C, L, R, S>,
     slot: u32,
     mut drawer: Drawer<Job<J, C>>,
-) -> Back<J, C, L>
+) -> FinishedWorker<J, C, L>
     requires slot { slot < J.queue.gate.slots }
     requires drawer { IsNewDrawer L.id (accepted_in_all J.script + 1) drawer }
 {
-    let mut tally = Tally::new();
+    let mut receipts = Receipts::new();
     for _ in hall.rt.forever() {
         let Ok(drawn) = hall.requests.draw(hall.rt, &mut drawer) else {
             unreachable!()
         };
         let Some(job) = drawn else {
-            return Back::new(drawer, tally);
+            return FinishedWorker::new(drawer, receipts);
         };
-        tally.add(serve(hall, slot, job));
+        receipts.add(serve(hall, slot, job));
     }
     unreachable!()
 }

@@ -1,7 +1,7 @@
 -- What C may do wrong with the freezer, and what each of its calls leaves.
 use Rattle.std.specs.Prelude.{◌≡◌, ℕ, ◌+◌, ◌<◌, ◌==◌, Bool, true, nat_lt, nat_eq, if◌then◌else◌, Option, Some, None, Result, Ok, Err}
-use Rattle.percpu_gate.specs.declared.mode.Mode.{Mode}
-use Rattle.percpu_gate.specs.declared.mode.Mode.TheVariants as modes
+use Rattle.percpu_words.specs.declared.mode.Mode.{Mode}
+use Rattle.percpu_words.specs.declared.mode.Mode.TheVariants as modes
 use Rattle.percpu_gate.specs.declared.tried.Put.{Put}
 use Rattle.percpu_gate.specs.Seats.{FindsZero}
 use Rattle.queue_limits.specs.Bounds.{Bounds}

@@ -2,6 +2,8 @@
 use Rattle.std.specs.Prelude.{ℕ, Bool, true, false, nat_lt, nat_le}
 use Rattle.percpu_core.specs.declared.phase.Phase.{Phase}
 use Rattle.percpu_core.specs.declared.phase.Phase.TheVariants.{LiveSlots, LiveAtomic, Closing, Collected, Confirmed, Dead, Reviving, Fronted, Opening}
+use Rattle.percpu_words.specs.declared.mode.Mode.{Mode}
+use Rattle.percpu_words.specs.declared.mode.Mode.TheVariants.{Atomic, Slots}
 
 -- the two phases are one, of those that count no slots
 abbrev pub is_phase : Phase → Phase → Bool
@@ -19,6 +21,11 @@ abbrev pub is_live : Phase → Bool
 is_live LiveSlots = true
 is_live LiveAtomic = true
 is_live _ = false
+
+-- the phase of a live gate in this mode
+abbrev pub live_in : Mode → Phase
+live_in Atomic = LiveAtomic
+live_in Slots = LiveSlots
 
 -- from DEAD to the drop of the initial reference, and while a switch to the shared word closes slots
 abbrev pub is_mid_switch : Phase → Bool

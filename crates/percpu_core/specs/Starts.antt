@@ -11,6 +11,8 @@ use Rattle.percpu_core.specs.declared.start.Start.TheVariants.{Slots, Atomic, De
 use Rattle.percpu_core.specs.declared.control_standing.ControlStanding.{ControlStanding}
 use Rattle.percpu_core.specs.declared.pass_standing.Pending.TheVariants.{Nothing}
 use Rattle.percpu_core.specs.declared.pass_standing.PassStanding.{PassStanding}
+use Rattle.percpu_words.specs.declared.mode.Mode.{Mode}
+use Rattle.percpu_words.specs.declared.mode.Mode.TheVariants as modes
 use Rattle.percpu_words.specs.SharedWord.{SharedWord, bias}
 use Rattle.percpu_core.specs.Cells.{Cells}
 use Rattle.percpu_core.specs.Machine.{State}
@@ -50,6 +52,11 @@ abbrev pub first_phase : Start → Phase
 first_phase Slots = LiveSlots
 first_phase Atomic = LiveAtomic
 first_phase Dead = DeadPhase
+
+-- the mode that a gate starts in, or that a dead one is to come back in
+abbrev pub first_mode : Start → Mode
+first_mode Atomic = modes.Atomic
+first_mode _ = modes.Slots
 
 -- two fronts for each kill, and one more for a dead start
 abbrev pub first_front : Start → ℕ → ℕ

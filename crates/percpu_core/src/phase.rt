@@ -3,6 +3,8 @@ ghost use Rattle.std.specs.Prelude.{◌≡◌};
 ghost use Rattle.percpu_core.specs.Phases as phases;
 ghost use Rattle.percpu_core.specs.ControlSteps as steps;
 
+use percpu_words::Mode;
+
 /// Where the control of a gate stands.
 ///
 /// Counts are kept per slot in `LiveSlots` and on the shared word alone in every phase but that,
@@ -31,6 +33,16 @@ pub enum Phase {
 }
 
 impl Phase {
+    /// The phase of a live gate in this mode.
+    pub fn live(mode: Mode) -> Phase
+        ensures { result ≡ phases.live_in mode }
+    {
+        match mode {
+            Mode::Atomic => Phase::LiveAtomic,
+            Mode::Slots => Phase::LiveSlots,
+        }
+    }
+
     /// Whether the gate is live.
     pub(crate) fn is_live(self) -> bool
         ensures { result ≡ phases.is_live self }

@@ -1,12 +1,12 @@
 //! How a gate can start.
 ghost use Rattle.std.specs.Prelude.{◌≡◌, ◌≤◌};
 ghost use Rattle.percpu_words.specs.SharedWord.{parts};
-ghost use Rattle.percpu_core.specs.Starts.{first_shared, first_phase, first_front, first_slot};
+ghost use Rattle.percpu_core.specs.Starts.{first_shared, first_phase, first_front, first_mode, first_slot};
 
 use crate::limits::KILL_LIMIT;
 use crate::phase::Phase;
 use crate::slot::Slot;
-use percpu_words::{BIAS, DEAD, ZERO};
+use percpu_words::{BIAS, DEAD, Mode, ZERO};
 
 /// How a gate starts. Linux: `PERCPU_REF_INIT_ATOMIC` and `PERCPU_REF_INIT_DEAD`
 /// (include/linux/percpu-refcount.h).
@@ -40,6 +40,16 @@ impl Start {
             Start::Slots => Phase::LiveSlots,
             Start::Atomic => Phase::LiveAtomic,
             Start::Dead => Phase::Dead,
+        }
+    }
+
+    /// The mode that a gate with this start has, or comes back in.
+    pub fn mode(self) -> Mode
+        ensures { result ≡ first_mode self }
+    {
+        match self {
+            Start::Atomic => Mode::Atomic,
+            Start::Slots | Start::Dead => Mode::Slots,
         }
     }
 

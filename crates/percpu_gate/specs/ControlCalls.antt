@@ -18,8 +18,9 @@ use Rattle.percpu_gate.specs.declared.revived.Revived.{Revived}
 use Rattle.percpu_gate.specs.declared.revived.Revived.TheVariants.{AtZero, Held}
 use Rattle.percpu_gate.specs.declared.tried.Put.{Put}
 use Rattle.percpu_gate.specs.declared.tried.Put.TheVariants.{Last, NotLast}
-use Rattle.percpu_gate.specs.declared.mode.Mode.{Mode}
-use Rattle.percpu_gate.specs.Modes.{live_in, switched_to}
+use Rattle.percpu_words.specs.declared.mode.Mode.{Mode}
+use Rattle.percpu_core.specs.Phases.{live_in}
+use Rattle.percpu_gate.specs.Modes.{switched_to}
 use Rattle.percpu_gate.specs.Calls.{released}
 use Rattle.percpu_gate.specs.Seats.{GateFacts, ControlFacts, FindsZero}
 

@@ -25,9 +25,9 @@ use Rattle.percpu_core.specs.Cells.{slot_at, is_open}
 use Rattle.percpu_words.specs.SharedWord.{spelling}
 use Rattle.percpu_gate.specs.declared.rule.GateKey.{GateKey}
 use Rattle.percpu_gate.specs.declared.rule.SeatView.{SeatView}
-use Rattle.percpu_gate.specs.declared.mode.Mode.{Mode}
+use Rattle.percpu_words.specs.declared.mode.Mode.{Mode}
 use Rattle.percpu_gate.specs.Rule.{MomentOf}
-use Rattle.percpu_gate.specs.Modes.{first_mode}
+use Rattle.percpu_core.specs.Starts.{first_mode}
 
 -- which table a gate has, and what it was told
 pub record TableFacts : Type 0 where

@@ -2,11 +2,10 @@
 //! once nothing is held (`words`), and brings it back (`revival`).
 ghost use Rattle.std.specs.Prelude.{◌≡◌, ℕ, ◌≤◌, true, false};
 ghost use Rattle.percpu_core.specs.declared.limits.TheConstants.{PASS_LIMIT};
-ghost use Rattle.percpu_core.specs.Phases.{is_live};
-ghost use Rattle.percpu_core.specs.Starts.{opening};
+ghost use Rattle.percpu_core.specs.Phases.{is_live, live_in};
+ghost use Rattle.percpu_core.specs.Starts.{first_mode, opening};
 ghost use Rattle.percpu_core.specs.Snapshots.{first_control};
 ghost use Rattle.percpu_gate.specs.Rule.{after_retire};
-ghost use Rattle.percpu_gate.specs.Modes.{first_mode, live_in};
 ghost use Rattle.percpu_gate.specs.ControlCalls.{IsBetweenCalls, exit_refusal};
 
 mod kill;
@@ -17,9 +16,9 @@ mod words;
 use crate::control_seat::ControlSeat;
 use crate::exit::ExitWhy;
 use crate::gate::Gate;
-use crate::mode::Mode;
 use crate::pass::Pass;
 use percpu_core::{Phase, Start};
+use percpu_words::Mode;
 use std::marker::Model;
 
 /// The one control of a gate: it kills the gate, and knows the phase, the kills and the releases.
@@ -74,7 +73,7 @@ impl<const W: usize> Control<W> {
             words,
             passes,
             uncollected: 0,
-            wants: Mode::first(start),
+            wants: start.mode(),
         }
     }
 

@@ -32,7 +32,6 @@ mod control_plays;
 mod control_seat;
 mod exit;
 mod gate;
-mod mode;
 mod pass;
 mod pass_seat;
 mod plays;
@@ -45,10 +44,10 @@ pub use control::Control;
 pub use control_fault::ControlFault;
 pub use exit::{ExitFault, ExitWhy, Final};
 pub use gate::{Gate, NewGate};
-pub use mode::Mode;
 pub use pass::Pass;
 pub use percpu_core::{
     HELD_LIMIT, KILL_LIMIT, Memory, PASS_LIMIT, Phase, SLOT_LIMIT, Start, WORD_LIMIT,
 };
+pub use percpu_words::Mode;
 pub use revived::Revived;
 pub use tried::{Put, Tried};

@@ -170,9 +170,9 @@ impl PassSeat {
         gate.table.shared.load::<LoadsWord>(&mut self.seat, place)
     }
 
-    /// Marks the zero that a subtraction left, if it left one.
+    /// What a subtraction came to: it marks the zero that it left, if it left one.
     #[inline]
-    fn settle(&mut self, gate: &GateTable, to_mark: bool) -> Put
+    fn end_put(&mut self, gate: &GateTable, to_mark: bool) -> Put
         requires own { self.old.gate ≡ facts_of gate.now }
         requires owed { self.old.view.standing.pending ≡ owed to_mark }
         ensures { self.new ≡ record self.old { view = after_put result self.old.view.standing.held self.old.view } }
@@ -193,7 +193,7 @@ impl PassSeat {
         ensures few { self.new.view.releases ≤ 2 * KILL_LIMIT }
     {
         let to_mark = self.undo(gate);
-        self.settle(gate, to_mark)
+        self.end_put(gate, to_mark)
     }
 
     /// Ends a try that was given, or refused.
@@ -223,6 +223,6 @@ impl PassSeat {
         ensures few { self.new.view.releases ≤ 2 * KILL_LIMIT }
     {
         let to_mark = self.subtract(gate, n);
-        self.settle(gate, to_mark)
+        self.end_put(gate, to_mark)
     }
 }

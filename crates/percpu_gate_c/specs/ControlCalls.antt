@@ -6,7 +6,7 @@ use Rattle.percpu_core.specs.declared.view.ControlView.{ControlView}
 use Rattle.percpu_core.specs.declared.start.Start.{Start}
 use Rattle.percpu_core.specs.declared.limits.TheConstants.{SLOT_LIMIT, PASS_LIMIT}
 use Rattle.percpu_gate.specs.declared.revived.Revived.{Revived}
-use Rattle.percpu_gate.specs.declared.mode.Mode.{Mode}
+use Rattle.percpu_words.specs.declared.mode.Mode.{Mode}
 use Rattle.percpu_gate.specs.Seats.{ControlFacts, FindsZero, fresh_pass, fresh_control}
 use Rattle.percpu_gate.specs.Rule.{after_retire}
 use Rattle.percpu_gate.specs.ControlCalls.{fault_of, kill_refusal, dead_refusal, switch_refusal, after_kill, after_revival, after_switch, after_store, live_phase, is_at_zero, LooksForZero}

@@ -1,5 +1,5 @@
 //! The calls of the control. A closed handle answers Closed, and a question of it false.
-ghost use Rattle.percpu_gate.specs.declared.mode.Mode.TheVariants as modes;
+ghost use Rattle.percpu_words.specs.declared.mode.Mode.TheVariants as modes;
 ghost use Rattle.percpu_gate_c.specs.Numbers.{gate_number, put_number, revived_number};
 ghost use Rattle.percpu_gate_c.specs.Ran.{Answers, Asks, Writes};
 ghost use Rattle.percpu_gate_c.specs.PassCalls.{no_misuse};

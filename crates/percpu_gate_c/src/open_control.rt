@@ -3,7 +3,7 @@ ghost use Rattle.std.specs.Prelude.{◌≡◌, ◌+◌, ◌-◌, None, All, IfSo
 ghost use Rattle.percpu_gate_c.specs.Life.{IsFinal, end_refusal};
 ghost use Rattle.percpu_gate.specs.Rule.{after_retire};
 ghost use Rattle.percpu_gate.specs.Seats.{fresh_pass};
-ghost use Rattle.percpu_gate.specs.declared.mode.Mode.TheVariants as modes;
+ghost use Rattle.percpu_words.specs.declared.mode.Mode.TheVariants as modes;
 ghost use Rattle.percpu_gate_c.specs.Ran.{Ran, misuse_of};
 ghost use Rattle.percpu_gate_c.specs.ControlCalls.{Makes, NewControl, size_misuse, Next, value_of, Killed, SawZero, Reinited, Resurrected, Switched, StoredWord, store_misuse, Told, ToldWords, retire_misuse, knowing, with_passes};
 ghost use Rattle.percpu_gate_c.specs.KillSteps.{BegunKill, ClosedSlot, close_misuse, CollectedSlots, collect_misuse, ConfirmedKill, confirm_misuse, DroppedBase, drop_misuse, TellsPhase};

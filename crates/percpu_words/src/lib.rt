@@ -1,4 +1,4 @@
-//! The words of a gate: how a count of references and its two marks share one `u64`.
+//! The words of a gate, how a count of references and its two marks share one `u64`; and the mode in which it counts.
 //!
 //! A gate counts references in a *shared word*. Bits 0 to 61 are the count. Bit 62, `DEAD`, says that
 //! the gate was killed, and bit 63, `ZERO`, that the count has reached zero since. All three change
@@ -9,9 +9,11 @@
 //! by what the slots hold.
 #![tactic(auto)]
 
+mod mode;
 mod shared_word;
 mod slot;
 
+pub use mode::Mode;
 pub use shared_word::{
     BIAS, DEAD, ZERO, counting_keeps_the_marks, is_dead, is_zero, marking_keeps_the_value,
     shared_word_is_its_parts, value,

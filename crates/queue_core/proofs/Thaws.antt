@@ -2,7 +2,7 @@
 use Rattle.std.proofs.Common.{◌≡◌, ◌∙◌, ap, sym, refl, ◌+◌, ◌-◌, ◌<◌, arith, Bool, true, false, cond, eqb, eqb-true}
 use Rattle.std.proofs.lemmas.Bool.{ne_eqb}
 use Rattle.percpu_gate.specs.ControlCalls.{after_revival}
-use Rattle.percpu_gate.specs.Modes.{live_in}
+use Rattle.percpu_core.specs.Phases.{live_in}
 use Rattle.percpu_gate.specs.Seats.{GateFacts, FindsZero}
 use Rattle.percpu_gate.proofs.Known.{moment_known}
 use Rattle.queue_core.specs.Queue.{FreezerFacts, after_thaw}

@@ -10,13 +10,13 @@ use Rattle.percpu_core.specs.declared.view.PassView.{PassView}
 use Rattle.percpu_core.specs.declared.view.ControlView.{ControlView}
 use Rattle.percpu_core.specs.Snapshots.{first_pass}
 use Rattle.percpu_core.specs.ControlLearns.{joined}
-use Rattle.percpu_gate.specs.declared.mode.Mode.{Mode}
-use Rattle.percpu_gate.specs.declared.mode.Mode.TheVariants.{Slots}
+use Rattle.percpu_words.specs.declared.mode.Mode.{Mode}
+use Rattle.percpu_words.specs.declared.mode.Mode.TheVariants.{Slots}
 use Rattle.percpu_gate.specs.declared.tried.Put.{Put}
 use Rattle.percpu_gate.specs.Seats.{GateFacts, FindsZero, fresh_control}
 use Rattle.percpu_gate.specs.Calls.{released, after_put}
 use Rattle.percpu_gate.specs.ControlCalls.{standing, after_kill, after_revival, after_switch}
-use Rattle.percpu_gate.specs.Modes.{live_in}
+use Rattle.percpu_core.specs.Phases.{live_in}
 use Rattle.queue_core.specs.declared.freezer.TheConstants.{MOST_DEPTH}
 use Rattle.queue_core.specs.declared.limit_words.TheConstants.{LIMIT_WORDS}
 use Rattle.queue_core.specs.declared.fault.FreezeFault.{FreezeFault}

@@ -6,8 +6,8 @@ use Rattle.percpu_core.specs.Phases.{is_live}
 use Rattle.percpu_core.specs.declared.view.WordRead.{WordRead}
 use Rattle.percpu_core.specs.declared.view.PassView.{PassView}
 use Rattle.percpu_core.specs.declared.view.ControlView.{ControlView}
-use Rattle.percpu_gate.specs.declared.mode.Mode.{Mode}
-use Rattle.percpu_gate.specs.Modes.{live_in}
+use Rattle.percpu_words.specs.declared.mode.Mode.{Mode}
+use Rattle.percpu_core.specs.Phases.{live_in}
 use Rattle.percpu_gate.specs.Seats.{PassFacts, ControlFacts}
 use Rattle.queue_limits.specs.Bounds.{Bounds, AreAllowed}
 use Rattle.queue_limits.specs.Words.{from_words, to_words}

@@ -2,7 +2,7 @@
 ghost use Rattle.std.specs.Prelude.{◌≡◌, ◌+◌, ◌<◌, ◌≤◌, Bool, true, false, IfOk, OnOk, OnErr};
 ghost use Rattle.percpu_gate.specs.Seats.{fresh_control};
 ghost use Rattle.percpu_gate.specs.ControlCalls.{after_switch};
-ghost use Rattle.percpu_gate.specs.declared.mode.Mode.TheVariants.{Slots};
+ghost use Rattle.percpu_words.specs.declared.mode.Mode.TheVariants.{Slots};
 ghost use Rattle.percpu_core.specs.declared.phase.Phase.TheVariants as phases;
 ghost use Rattle.percpu_core.specs.declared.start.Start.TheVariants.{Atomic};
 ghost use Rattle.queue_limits.specs.Words.{to_words};

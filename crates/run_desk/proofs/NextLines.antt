@@ -9,17 +9,17 @@ use Rattle.script_meaning.specs.Meaning.{IsReplyTo}
 use Rattle.script_meaning.specs.Queue.{Queue, counted, start_queue}
 use Rattle.script_meaning.specs.Requests.{queue_after_lines, queue_at, state_at, accepted_at, drains_at}
 use Rattle.script_meaning.specs.Script.{Meant}
-use Rattle.script_meaning.specs.Taken.{request_taken, limits_taken, taken_there, queue_after, outcome, accepted, accepted_in, drains_in}
+use Rattle.script_meaning.specs.Taken.{request_counted, request_taken, limits_taken, taken_there, queue_after, outcome, accepted, accepted_in, drains_in}
 use Rattle.script_meaning.specs.declared.line.Line.{Line}
 use Rattle.script_meaning.specs.declared.line.What.{What}
 use Rattle.script_meaning.specs.declared.line.What.TheVariants.{Read, Write, Freeze, Thaw, SetMax, SetChunk, SetPhysical, SetMode, Stat, Remove}
-use Rattle.script_meaning.specs.declared.mode.Mode.{Mode}
 use Rattle.script_meaning.specs.declared.outcome.Outcome.{Outcome}
 use Rattle.script_meaning.specs.declared.outcome.Outcome.TheVariants.{Accepted, Drained, Replied}
 use Rattle.script_meaning.specs.declared.reply.Reply.{Reply}
 use Rattle.script_meaning.specs.declared.reply.Reply.TheVariants.{Depth, NotFrozen, DepthFull, Again, PastEnd, Invalid, Gone}
 use Rattle.script_meaning.specs.declared.request.Request.{Request}
 use Rattle.script_meaning.proofs.Cases.{IsOf}
+use Rattle.script_meaning.proofs.Counted.{accepted_is_counted, counted_one}
 use Rattle.script_meaning.proofs.Disks.{state_queue}
 use Rattle.script_meaning.proofs.Positions.{came_at, queue_took}
 use Rattle.script_meaning.proofs.Queues.{IsGood, good}
@@ -71,47 +71,6 @@ lines_stay q (line ∷ lines) = lines_stay (queue_after q line.what) lines ∙ l
 
 pub hardware_at : (script : Meant) (position : ℕ) → (queue_at script position).limits.hardware ≡ script.hardware
 hardware_at script position = lines_stay (start_queue script) (take position script.lines)
-
--- ---- an accepted request leaves the mode
-
-abbrev KeepsMode : Mode → Outcome × Queue → Type 0
-KeepsMode mode t = (request : Request) → accepted_in t.0 ≡ Some request → t.1.mode ≡ mode
-
-either_keeps : (test : Bool) (x y : Outcome × Queue) (mode : Mode) → KeepsMode mode x → KeepsMode mode y → KeepsMode mode (cond test x y)
-either_keeps true x y mode a b = a
-either_keeps false x y mode a b = b
-
-request_keeps : (q : Queue) (r : Request) → KeepsMode q.mode (request_taken q r)
-request_keeps q r =
-    let more : Queue = cond r.writes (record q { writes = q.writes + 1 }) (record q { reads = q.reads + 1 }) in
-    let kept : more.mode ≡ q.mode = elim r.writes as (λ b. (cond b (record q { writes = q.writes + 1 }) (record q { reads = q.reads + 1 })).mode ≡ q.mode) [ true ↦ refl | false ↦ refl ] in
-    either_keeps (nat_lt 0 q.depth) (Replied Again, record q { again = q.again + 1 })
-    (cond (nat_lt q.sectors (r.start + r.count)) (Replied PastEnd, record q { eio = q.eio + 1 }) (Accepted r, more)) q.mode (λ request is. refl)
-    (either_keeps (nat_lt q.sectors (r.start + r.count)) (Replied PastEnd, record q { eio = q.eio + 1 }) (Accepted r, more) q.mode (λ request is. refl) (λ request is. kept))
-
-there_keeps : (q : Queue) (what : What) → KeepsMode q.mode (taken_there q what)
-there_keeps q (Read start count) = request_keeps q (record { start = start; count = count; writes = false })
-there_keeps q (Write start count pattern) = request_keeps q (record { start = start; count = count; writes = true })
-there_keeps q Freeze = either_keeps (eqb q.depth 1000) (Replied DepthFull, q) (Drained (Depth (q.depth + 1)), record q { depth = q.depth + 1 }) q.mode (λ request is. refl) (λ request is. refl)
-there_keeps q Thaw = either_keeps (eqb q.depth 0) (Replied NotFrozen, q) (Replied (Depth (q.depth - 1)), record q { depth = q.depth - 1 }) q.mode (λ request is. refl) (λ request is. refl)
-there_keeps q (SetMax value) =
-    let limits : Bounds = let old : Bounds = q.limits in record old { max = cond (eqb value 0) q.limits.hardware value } in
-    either_keeps (nat_lt q.limits.hardware value) (Replied Invalid, q) (limits_taken q limits) q.mode (λ request is. refl) (λ request is. refl)
-there_keeps q (SetChunk value) =
-    let limits : Bounds = let old : Bounds = q.limits in record old { chunk = value } in
-    either_keeps (nat_lt 65535 value) (Replied Invalid, q) (limits_taken q limits) q.mode (λ request is. refl) (λ request is. refl)
-there_keeps q (SetPhysical value) =
-    let limits : Bounds = let old : Bounds = q.limits in record old { physical = value } in
-    either_keeps (is_physical_size value) (limits_taken q limits) (Replied Invalid, q) q.mode (λ request is. refl) (λ request is. refl)
-there_keeps q (SetMode mode) = λ request is. absurd (none_accepted request is)
-  where
-    none_accepted : (request : Request) → None ≡ Some request → ⊥
-    none_accepted request e = cc
-there_keeps q Stat = λ request is. refl
-there_keeps q Remove = λ request is. refl
-
-pub mode_kept : (q : Queue) (what : What) (request : Request) → accepted q what ≡ Some request → (queue_after q what).mode ≡ q.mode
-mode_kept q what = either_keeps q.removed (Replied Gone, q) (taken_there q what) q.mode (λ request is. refl) (there_keeps q what)
 
 -- ---- what a request is due to
 
@@ -208,6 +167,19 @@ next_queue script position line q next came c = record {
   is = queue_took script position line q next (slice_get_within script.lines position line c.at) (sym (get_or_from_slice_get script.lines position line line c.at)) c.queue.is c.after;
   counts = omega (arith, c.counts, c.queue.counts);
 }
+
+-- a queue that counted the accepted request at a position took the line there
+pub counted_there : (script : Meant) (position : ℕ) (request : Request) (q next : Queue) → accepted_at script position ≡ Some request → IsQueueAt script position q
+    → next ≡ request_counted q request → IsQueueAt script (position + 1) next
+counted_there script position request q next accepts queue counts =
+    let there = request_line script position request accepts in
+    let line : Line = there.0 in
+    let is : accepted (queue_at script position) line.what ≡ Some request = sym (ap (option_and_then (λ (l : Line). accepted (queue_at script position) l.what)) there.1) ∙ accepts in
+    let took : next ≡ queue_after q line.what = counts ∙ sym (accepted_is_counted q line.what request (ap (λ x. accepted x line.what) queue.is ∙ is)) in
+    record {
+      is = queue_took script position line q next (slice_get_within script.lines position line there.1) (sym (get_or_from_slice_get script.lines position line line there.1)) queue.is took;
+      counts = omega (arith, ap counted counts, counted_one q request, queue.counts);
+    }
 
 pub accepted_there : (script : Meant) (position : ℕ) (line : Line) (q next : Queue) (came : Outcome) → Came script position line q next came → accepted_at script position ≡ accepted_in came
 accepted_there script position line q next came c = (came_at script position line q came c.at c.queue.is c.outcome_is).0

@@ -94,3 +94,14 @@ MayPass script replies = (drains_at script (length replies) ≡ false) ⊎ (owed
 -- the next line's request may join those that are owed: it isn't ordered, or nothing is owed
 abbrev pub MayJoin : Meant → List (Option (List ℕ)) → Type 0
 MayJoin script replies = JoinsItsSpan script (length replies) ⊎ (owed_count replies ≡ 0)
+
+-- the next line is no accepted request and may be taken, and this is the line of its reply
+pub record MayTakeReply (script : Meant) (replies : List (Option (List ℕ))) (text : List ℕ) : Type 0 where
+  pub refused : accepted_at script (length replies) ≡ None
+  pub passes : MayPass script replies
+  pub reply : IsReplyLine script (length replies) text
+
+-- the next line is this accepted request, and may join those that are owed
+pub record MayTakeRequest (script : Meant) (replies : List (Option (List ℕ))) (request : Request) : Type 0 where
+  pub accepted : accepted_at script (length replies) ≡ Some request
+  pub may_join : MayJoin script replies

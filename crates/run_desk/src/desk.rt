@@ -1,9 +1,8 @@
 //! The disk and the replies of the thread that submits and collects.
 ghost use Rattle.std.specs.Prelude.{◌≡◌, ◌++◌, ◌∷◌, [], true, if◌then◌else◌, length, set, IfOk, OnOk, OnErr, Some, None};
 ghost use Rattle.ram_disk.specs.Disk.{sectors_read};
-ghost use Rattle.script_meaning.specs.Requests.{accepted_at};
-ghost use Rattle.run_desk.specs.Desk.{is_owed, MayJoin, MayPass, Stands};
-ghost use Rattle.run_desk.specs.Requests.{found_at, IsAnswerTo, IsReplyLine};
+ghost use Rattle.run_desk.specs.Desk.{is_owed, MayTakeReply, MayTakeRequest, Stands};
+ghost use Rattle.run_desk.specs.Requests.{found_at, IsAnswerTo};
 
 use crate::answer::Answer;
 use crate::replies::Replies;
@@ -50,9 +49,7 @@ impl Desk {
     /// Takes the next line, whose reply is there. Where the line drains, nothing may be owed.
     pub fn reply(&mut self, _script: &Script, text: Vec<u8>) -> Result<(), AllocError>
         requires stands { Stands _script.now self.old.replies self.old.disk }
-        requires refused { accepted_at _script.now (length self.old.replies) ≡ None }
-        requires passes { MayPass _script.now self.old.replies }
-        requires reply { IsReplyLine _script.now (length self.old.replies) text.items }
+        requires may_take { MayTakeReply _script.now self.old.replies text.items }
         ensures stands { OnOk result (Stands _script.now self.new.replies self.new.disk) }
         ensures told { OnOk result (self.new.replies ≡ self.old.replies ++ Some text.items ∷ []) }
         ensures err { OnErr result ((self.new.replies ≡ self.old.replies) × (self.new.disk ≡ self.old.disk)) }
@@ -69,8 +66,7 @@ impl Desk {
         request: Request,
     ) -> Result<Vec<Sector>, AllocError>
         requires stands { Stands _script.now self.old.replies self.old.disk }
-        requires accepted { accepted_at _script.now (length self.old.replies) ≡ Some request }
-        requires may_join { MayJoin _script.now self.old.replies }
+        requires may_take { MayTakeRequest _script.now self.old.replies request }
         ensures stands { OnOk result (Stands _script.now self.new.replies self.new.disk) }
         ensures owed { OnOk result (self.new.replies ≡ self.old.replies ++ None ∷ []) }
         ensures found { IfOk result (λ found. found.items ≡ found_at _script.now (length self.old.replies) request) }

@@ -2,8 +2,8 @@
 ghost use Rattle.std.specs.Prelude.{◌≡◌, ◌+◌, ◌<◌, [], ◌∷◌, ◌++◌, IfOk, IfSome, IfNone, OnSome};
 ghost use Rattle.run_queues.specs.Numbers.{times};
 
-use crate::line::Line;
 use crate::numbered::Numbered;
+use crate::ruled_queue::RuledQueue;
 use crossbeam_queue::Pass;
 use crossbeam_queue::protocol::{Lesson, Outcome, Protocol, Split};
 use std::alloc::{AllocError, Global};
@@ -75,7 +75,7 @@ impl Split<Turn> for Giving {
     ghost right = { λ v. turn_of v.given };
 }
 
-type Completions<T> = Line<T, Turn, ToldOnce>;
+type Completions<T> = RuledQueue<T, Turn, ToldOnce>;
 
 type Seat<T> = Pass<T, Turn>;
 
@@ -142,12 +142,12 @@ impl<T: Numbered + Drop> Duty<T> {
 /// What is left of a duty once its completion is told. Only [`CompletionQueue::tell`] gives it, so whoever has it
 /// shows that the completion of its number was told.
 #[derive(Drop)]
-pub struct Told<T: Numbered + Drop> {
+pub struct Receipt<T: Numbered + Drop> {
     seat: Seat<T>,
     number: u32,
 }
 
-impl<T: Numbered + Drop> Model for Told<T> {
+impl<T: Numbered + Drop> Model for Receipt<T> {
     ghost use Rattle.std.specs.Prelude.{◌≡◌};
     ghost use Rattle.run_queues.specs.Completions.{no_turn};
     ghost use Rattle.run_queues.specs.Parts.{DutyFacts, known};
@@ -166,7 +166,7 @@ impl<T: Numbered + Drop> CompletionQueue<T> {
         ensures queue { IfOk result (λ q. q.0.room ≡ room) }
         ensures collector { IfOk result (λ q. q.1 ≡ record { queue = q.0.id; given = 0; collected = [] }) }
     {
-        let (line, seat) = Line::new(alloc, room)?;
+        let (line, seat) = RuledQueue::new(alloc, room)?;
         Ok((CompletionQueue { line }, Collector { seat }))
     }
 
@@ -182,14 +182,14 @@ impl<T: Numbered + Drop> CompletionQueue<T> {
     }
 
     /// Tells a completion, which has the number of the duty, and waits while there is no room. The duty is used up.
-    pub fn tell<R: Wait>(&self, rt: &R, duty: Duty<T>, completion: T) -> Told<T>
+    pub fn tell<R: Wait>(&self, rt: &R, duty: Duty<T>, completion: T) -> Receipt<T>
         requires own { duty.queue ≡ self.now.id }
         requires number { T.number completion ≡ duty.number }
         ensures { result ≡ duty }
     {
         let Duty { mut seat, number } = duty;
         self.line.push_as::<Pushed, R>(rt, &mut seat, completion);
-        Told { seat, number }
+        Receipt { seat, number }
     }
 
     /// Takes the first completion, and waits while there is none. It is of a number for which the right to tell was

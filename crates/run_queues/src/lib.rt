@@ -6,7 +6,7 @@
 //! back, `finish` gives the lists of what they drew: each increases, and together they have each request once.
 //!
 //! A [`CompletionQueue`] goes the other way: its [`Collector`] gives a [`Duty`] for each request, which goes with the
-//! request and is used up when its completion is told: what is left of it is [`Told`], by which a thread shows that it
+//! request and is used up when its completion is told: what is left of it is [`Receipt`], by which a thread shows that it
 //! told. So each is collected once at most. A [`SpareQueue`] holds what isn't in use; what is known of it is what its type
 //! keeps.
 //!
@@ -16,12 +16,12 @@
 #![tactic(auto)]
 
 mod completions;
-mod line;
 mod numbered;
 mod requests;
+mod ruled_queue;
 mod spares;
 
-pub use completions::{Collector, CompletionQueue, Duty, Told};
+pub use completions::{Collector, CompletionQueue, Duty, Receipt};
 pub use numbered::Numbered;
 pub use requests::{Drawer, RequestQueue, Source};
 pub use spares::SpareQueue;

@@ -4,8 +4,8 @@ ghost use Rattle.run_queues.specs.Numbers.{Draws, IsIncreasing};
 ghost use Rattle.run_queues.specs.Requests.{all_parts};
 ghost use Rattle.run_queues.specs.Parts.{after_draw, after_gather, new_source};
 
-use crate::line::Line;
 use crate::numbered::Numbered;
+use crate::ruled_queue::RuledQueue;
 use crossbeam_queue::Pass;
 use crossbeam_queue::protocol::{Join, Lesson, Outcome, Protocol, Split};
 use std::alloc::{AllocError, Global};
@@ -112,7 +112,7 @@ impl<T: Numbered> Lesson<Option<T>, Part> for Total {
     ghost fact = { λ v items. HasDrawnAll v };
 }
 
-type Requests<T> = Line<Option<T>, Part, InOrder>;
+type Requests<T> = RuledQueue<Option<T>, Part, InOrder>;
 
 type Seat<T> = Pass<Option<T>, Part>;
 
@@ -182,7 +182,7 @@ impl<T: Numbered + Drop> RequestQueue<T> {
         ensures source { IfOk result (λ q. q.1 ≡ new_source q.0.id drawers) }
     {
         let lists = Vec::with_capacity(alloc, drawers)?;
-        let (line, seat) = Line::new(alloc, room)?;
+        let (line, seat) = RuledQueue::new(alloc, room)?;
         Ok((RequestQueue { line }, Source { seat, lists }))
     }
 

@@ -1,7 +1,7 @@
 //! The queue of what isn't in use.
 ghost use Rattle.std.specs.Prelude.{◌≡◌, ◌<◌, IfOk};
 
-use crate::line::Line;
+use crate::ruled_queue::RuledQueue;
 use crossbeam_queue::protocol::Free;
 use std::alloc::{AllocError, Global};
 use std::marker::Model;
@@ -11,7 +11,7 @@ use std::sync::Wait;
 /// every value is free and belongs to one owner is the rule of a queue of free things of that owner.
 #[derive(Drop)]
 pub struct SpareQueue<T: Drop> {
-    line: Line<T, (), Free>,
+    line: RuledQueue<T, (), Free>,
 }
 
 impl<T: Drop> Model for SpareQueue<T> {
@@ -29,7 +29,7 @@ impl<T: Drop> SpareQueue<T> {
         requires { 0 < room }
         ensures { IfOk result (λ q. q ≡ room) }
     {
-        let (line, _seat) = Line::new(alloc, room)?;
+        let (line, _seat) = RuledQueue::new(alloc, room)?;
         Ok(SpareQueue { line })
     }
 

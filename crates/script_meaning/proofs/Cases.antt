@@ -34,7 +34,7 @@ IsOf (Read start count) request = request ≡ record { start = start; count = co
 IsOf (Write start count pattern) request = request ≡ record { start = start; count = count; writes = true }
 IsOf what request = ⊥
 
-either : (P : Outcome × Queue → Type 0) (test : Bool) (x y : Outcome × Queue) → P x → (test ≡ false → P y) → P (cond test x y)
+pub either : (P : Outcome × Queue → Type 0) (test : Bool) (x y : Outcome × Queue) → P x → (test ≡ false → P y) → P (cond test x y)
 either P true x y f g = f
 either P false x y f g = g refl
 

@@ -2,8 +2,8 @@
 use Rattle.std.specs.Prelude.{ℕ, ◌+◌, Bool, false}
 use Rattle.queue_limits.specs.Bounds.{Bounds}
 use Rattle.script_meaning.specs.Script.{Meant}
-use Rattle.script_meaning.specs.declared.mode.Mode.{Mode}
-use Rattle.script_meaning.specs.declared.mode.Mode.TheVariants.{Slots}
+use Rattle.percpu_words.specs.declared.mode.Mode.{Mode}
+use Rattle.percpu_words.specs.declared.mode.Mode.TheVariants.{Slots}
 use Rattle.script_meaning.specs.declared.version.Version.{Version}
 
 pub record Queue : Type 0 where

@@ -14,12 +14,16 @@ use Rattle.script_meaning.specs.declared.request.Request.{Request}
 use Rattle.script_meaning.specs.declared.version.Version.{Version}
 use Rattle.script_meaning.specs.declared.version.Version.TheVariants.{One, Two}
 
+-- the queue once it has accepted a request
+abbrev pub request_counted : Queue → Request → Queue
+request_counted q request = if request.writes then record q { writes = q.writes + 1 } else record q { reads = q.reads + 1 }
+
 -- a request: a freeze refuses it, and so does the disk's end; else it is accepted
 abbrev pub request_taken : Queue → Request → Outcome × Queue
 request_taken q request =
     if nat_lt 0 q.depth then (Replied Again, record q { again = q.again + 1 })
     else if nat_lt q.sectors (request.start + request.count) then (Replied PastEnd, record q { eio = q.eio + 1 })
-    else (Accepted request, if request.writes then record q { writes = q.writes + 1 } else record q { reads = q.reads + 1 })
+    else (Accepted request, request_counted q request)
 
 -- limits that are taken: the queue drains where it isn't frozen, since else nothing is under way
 abbrev pub limits_taken : Queue → Bounds → Outcome × Queue

@@ -9,7 +9,6 @@
 
 mod laws;
 mod line;
-mod mode;
 mod outcome;
 mod pattern;
 mod queue_state;
@@ -20,9 +19,9 @@ mod version;
 
 pub use laws::{accepted_replies, depth_in_numbers, numbers_of_requests, states_of_queues};
 pub use line::{Line, What};
-pub use mode::Mode;
 pub use outcome::Outcome;
 pub use pattern::Pattern;
+pub use percpu_words::Mode;
 pub use queue_state::{DEPTH_LIMIT, QueueState};
 pub use reply::{ByteRuns, PieceLengths, Reply, Stat};
 pub use request::Request;

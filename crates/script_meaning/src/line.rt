@@ -1,7 +1,7 @@
 //! What one line of a script asks.
 
-use crate::mode::Mode;
 use crate::pattern::Pattern;
+use percpu_words::Mode;
 
 /// What a line of a script asks of the queue. Places and lengths are in sectors of 512 bytes.
 #[derive(Debug, Drop)]

@@ -1,4 +1,6 @@
 //! What a line comes to.
+ghost use Rattle.std.specs.Prelude.{◌≡◌};
+ghost use Rattle.script_meaning.specs.Taken.{accepted_in};
 
 use crate::reply::Reply;
 use crate::request::Request;
@@ -13,4 +15,16 @@ pub enum Outcome {
     Drained(Reply),
     /// This is the queue's reply, and nothing drains.
     Replied(Reply),
+}
+
+impl Outcome {
+    /// The request that the queue accepts, if it does.
+    pub fn accepted(&self) -> Option<Request>
+        ensures { result ≡ accepted_in self.now }
+    {
+        match self {
+            Outcome::Accepted(request) => Some(*request),
+            Outcome::Drained(_) | Outcome::Replied(_) => None,
+        }
+    }
 }

@@ -1,15 +1,15 @@
 //! The queue without its disk.
 ghost use Rattle.std.specs.Prelude.{◌≡◌, ◌+◌, ◌<◌, ◌≤◌, ◌^◌, false};
 ghost use Rattle.script_meaning.specs.Queue.{counted, start_queue};
-ghost use Rattle.script_meaning.specs.Taken.{IsWithin, counts_of, limits_taken, outcome, queue_after, request_taken, told_physical};
+ghost use Rattle.script_meaning.specs.Taken.{IsWithin, counts_of, limits_taken, outcome, queue_after, request_counted, request_taken, told_physical};
 
 use crate::line::What;
-use crate::mode::Mode;
 use crate::outcome::Outcome;
 use crate::reply::{Reply, Stat};
 use crate::request::Request;
 use crate::script::Script;
 use crate::version::Version;
+use percpu_words::Mode;
 use queue_limits::Limits;
 use std::marker::Model;
 
@@ -129,6 +129,19 @@ impl QueueState {
         }
     }
 
+    /// Counts a request that the queue accepts. Whoever knows that it does, and which one, takes the line by this: it is
+    /// what [`take`](QueueState::take) does of such a line.
+    pub fn count(&mut self, request: &Request)
+        requires { counted self.old + 1 < 2 ^ 64 }
+        ensures { self.new ≡ request_counted self.old request.now }
+    {
+        if request.writes {
+            self.writes += 1;
+        } else {
+            self.reads += 1;
+        }
+    }
+
     fn request(&mut self, request: Request) -> Outcome
         requires { counted self.old + 1 < 2 ^ 64 }
         ensures outcome { result ≡ (request_taken self.old request).0 }
@@ -143,11 +156,7 @@ impl QueueState {
             self.eio += 1;
             return Outcome::Replied(Reply::PastEnd);
         }
-        if request.writes {
-            self.writes += 1;
-        } else {
-            self.reads += 1;
-        }
+        self.count(&request);
         Outcome::Accepted(request)
     }
 

@@ -1,7 +1,7 @@
 //! What the queue replies to a line.
 ghost use Rattle.std.specs.Prelude.{◌≡◌};
 
-use crate::mode::Mode;
+use percpu_words::Mode;
 use std::marker::Model;
 
 /// The lengths of a request's pieces, in sectors, in order. Contracts see the list of them.

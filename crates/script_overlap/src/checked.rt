@@ -1,20 +1,22 @@
 //! A script that is checked, with what the check decided.
 ghost use Rattle.std.specs.Prelude.{◌≡◌, ◌≤◌, MatchBool, IfOk, length};
-ghost use Rattle.script_meaning.specs.Requests.{accepted_in_all};
+ghost use Rattle.script_meaning.specs.Requests.{accepted_at, accepted_in_all};
 ghost use Rattle.script_overlap.specs.Decided.{IsDecided};
 ghost use Rattle.script_overlap.specs.Ordered.{AreDrains, IsOrdered, JoinsItsSpan};
 
-use script_meaning::Script;
+use script_meaning::{Request, Script};
 use std::alloc::{AllocError, Global};
 use std::marker::Model;
 
 /// A script of which no two requests overlap, as [`check`](crate::check) found. Contracts see the script.
 ///
-/// It keeps what the check decided of the requests, so that whoever runs the script decides none of it again: how many
-/// the queue accepts, and which are ordered.
+/// It keeps what the check decided of the requests, so that whoever runs the script decides none of it again: which the
+/// queue accepts, how many they are, and which are ordered.
 #[derive(Drop)]
 pub struct Checked {
     script: Script,
+    // of each line the request that the queue accepts, if there is one
+    requests: Vec<Option<Request>>,
     // the positions of the ordered requests, ascending
     ordered: Vec<usize>,
     accepted: usize,
@@ -28,16 +30,22 @@ impl Model for Checked {
 
     ghost view = { λ c. c.script };
 
-    ghost invariant = { λ c. IsDecided c.script c.ordered.items c.accepted };
+    ghost invariant = { λ c. IsDecided c.script c.requests.items c.ordered.items c.accepted };
 }
 
 impl Checked {
-    pub(crate) fn new(script: Script, ordered: Vec<usize>, accepted: usize) -> Checked
-        requires { IsDecided script ordered.items accepted }
+    pub(crate) fn new(
+        script: Script,
+        requests: Vec<Option<Request>>,
+        ordered: Vec<usize>,
+        accepted: usize,
+    ) -> Checked
+        requires { IsDecided script requests.items ordered.items accepted }
         ensures { result ≡ script }
     {
         Checked {
             script,
+            requests,
             ordered,
             accepted,
         }
@@ -48,6 +56,16 @@ impl Checked {
         ensures { result.now ≡ self.now }
     {
         &self.script
+    }
+
+    /// The request at a position, counted from 0, that the queue accepts, if there is one.
+    pub fn request(&self, position: usize) -> Option<Request>
+        ensures { result ≡ accepted_at self.now position }
+    {
+        match self.requests.get(position) {
+            Some(request) => *request,
+            None => None,
+        }
     }
 
     /// How many of its requests the queue accepts.

@@ -1,6 +1,5 @@
 //! Which requests of a script overlap, and which are ordered.
 ghost use Rattle.std.specs.Prelude.{◌≡◌, ◌+◌, ◌<◌, ◌≤◌, ◌^◌, if◌then◌else◌, is_some, IfOk, length};
-ghost use Rattle.script_meaning.specs.Taken.{accepted_in};
 ghost use Rattle.script_overlap.specs.Overlap.{IsChecked};
 ghost use Rattle.script_overlap.specs.Partners.{Finds};
 
@@ -33,14 +32,14 @@ fn earliest(script: &Script, position: usize, request: &Request) -> Option<u32>
     found
 }
 
-// How many requests were accepted, with what one more line came to.
-fn counted(accepted: usize, came: &Outcome) -> usize
+// How many requests were accepted, with that of one more line, if it is.
+fn counted(accepted: usize, request: Option<Request>) -> usize
     requires { accepted + 1 < 2 ^ 64 }
-    ensures { result ≡ accepted + (if is_some (accepted_in came.now) then 1 else 0) }
+    ensures { result ≡ accepted + (if is_some request then 1 else 0) }
 {
-    match came {
-        Outcome::Accepted(_) => accepted + 1,
-        Outcome::Drained(_) | Outcome::Replied(_) => accepted,
+    match request {
+        Some(_) => accepted + 1,
+        None => accepted,
     }
 }
 
@@ -56,11 +55,14 @@ pub fn check(alloc: Global, script: Script) -> Result<Checked, ScriptFault>
 {
     let mut queue = QueueState::new(&script);
     let mut span = Span::new(alloc, script.disk())?;
+    let mut requests = Vec::with_capacity(alloc, script.lines().len())?;
     let mut ordered = Vec::new(alloc);
     let mut accepted = 0;
     for (position, line) in script.lines().iter().enumerate() {
         let came = queue.take(&line.what);
-        accepted = counted(accepted, &came);
+        let request = came.accepted();
+        accepted = counted(accepted, request);
+        requests.push(request)?;
         if let Some(request) = span.take(&came) {
             if !script.orders_overlaps() {
                 let earlier = earliest(&script, position, &request).unwrap();
@@ -72,5 +74,5 @@ pub fn check(alloc: Global, script: Script) -> Result<Checked, ScriptFault>
             ordered.push(position)?;
         }
     }
-    Ok(Checked::new(script, ordered, accepted))
+    Ok(Checked::new(script, requests, ordered, accepted))
 }

@@ -2,8 +2,8 @@
 ghost use Rattle.std.specs.Prelude.{◌≡◌, ◌≤◌};
 ghost use Rattle.settings_bench.specs.declared.settings.TheConstants.{HARDWARE};
 
+use crate::progress::{Mark, ReaderProgress, Stretch};
 use crate::settings::{HARDWARE, limits_of};
-use crate::told::{Mark, Stretch, Told};
 use bench_parts::{Fault, nanoseconds};
 use crossbeam_utils::sync::ShardedLock;
 use freeze_queue::{BlockQueue, Freezer, Limits};
@@ -89,19 +89,19 @@ fn change_all<R: Wait + Clock>(
     rt: &R,
     alloc: Global,
     changer: &mut Changer<'_>,
-    told: &Told,
+    progress: &ReaderProgress,
     changes: u64,
 ) -> Result<Changed, Fault>
     requires { changes ≤ 1000000 }
 {
     let mut taken = Vec::with_capacity(alloc, changes as usize)?;
     thread::sleep(rt, Duration::from_micros(START));
-    let mark = Mark::new(rt, told)?;
+    let mark = Mark::new(rt, progress)?;
     thread::sleep(rt, Duration::from_micros(PAUSE * changes));
-    let alone = mark.stretch(rt, told)?;
-    let mark = Mark::new(rt, told)?;
+    let alone = mark.stretch(rt, progress)?;
+    let mark = Mark::new(rt, progress)?;
     time_changes(rt, changer, changes, &mut taken)?;
-    let meanwhile = mark.stretch(rt, told)?;
+    let meanwhile = mark.stretch(rt, progress)?;
     taken.sort_unstable();
     Ok(Changed {
         taken,
@@ -115,12 +115,12 @@ pub fn change_and_end<R: Wait + Clock>(
     rt: &R,
     alloc: Global,
     mut changer: Changer<'_>,
-    told: &Told,
+    progress: &ReaderProgress,
     changes: u64,
 ) -> Result<Changed, Fault>
     requires { changes ≤ 1000000 }
 {
-    let changed = change_all(rt, alloc, &mut changer, told, changes);
-    told.end();
+    let changed = change_all(rt, alloc, &mut changer, progress, changes);
+    progress.end();
     changed
 }

@@ -13,12 +13,12 @@ ghost use Rattle.std.specs.Prelude.{◌≤◌};
 
 mod changer;
 mod form;
+mod progress;
 mod race;
 mod reader;
 mod rounds;
 mod settings;
 mod table;
-mod told;
 
 use bench_parts::{Fault, Most, Task, processors, requested};
 use form::FORMS;

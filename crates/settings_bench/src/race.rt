@@ -3,9 +3,9 @@ ghost use Rattle.std.specs.Prelude.{◌≤◌};
 
 use crate::changer::{Changed, Changer, Freezing, change_and_end};
 use crate::form::Form;
+use crate::progress::{ReaderProgress, Stretch};
 use crate::reader::{Readers, Tags, read_all};
 use crate::settings::limits_of;
-use crate::told::{Stretch, Told};
 use bench_parts::{Fault, median, ninety_ninth};
 use crossbeam_utils::CachePadded;
 use crossbeam_utils::sync::ShardedLock;
@@ -57,8 +57,8 @@ fn read_and_change<R: Threads + Wait + Sync + Clock>(
 ) -> Result<Race, Fault>
     requires { changes ≤ 1000000 }
 {
-    let told = Told::new();
-    let shared = &told;
+    let progress = ReaderProgress::new();
+    let shared = &progress;
     let (changed, torn) = thread::join(
         rt,
         move || change_and_end(rt, alloc, changer, shared, changes),

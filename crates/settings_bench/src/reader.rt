@@ -1,8 +1,8 @@
 //! Those who read the limits.
 ghost use Rattle.std.specs.Prelude.{◌≡◌, ◌<◌, ◌≤◌, All, false};
 
+use crate::progress::ReaderProgress;
 use crate::rounds::{ROUNDS, through_queue, through_rwlock, through_shard};
-use crate::told::Told;
 use crossbeam_utils::sync::ShardedLock;
 use freeze_queue::{BlockQueue, Limits, Tag};
 use std::alloc::{AllocError, Global};
@@ -53,14 +53,14 @@ fn read_some<R: Wait>(rt: &R, reader: &mut Reader<'_>) -> u64
 }
 
 /// Reads until it is told to end: in how many rounds the limits were torn.
-fn read_on<R: Wait>(rt: &R, mut reader: Reader<'_>, told: &Told) -> u64 {
+fn read_on<R: Wait>(rt: &R, mut reader: Reader<'_>, progress: &ReaderProgress) -> u64 {
     let mut torn = 0u64;
     for _ in 0..u64::MAX {
-        if told.is_over() {
+        if progress.is_over() {
             break;
         }
         torn = torn.saturating_add(read_some(rt, &mut reader));
-        told.add(ROUNDS);
+        progress.add(ROUNDS);
     }
     torn
 }
@@ -96,7 +96,7 @@ fn reader_with(queue: &BlockQueue, tag: Tag, number: u32) -> Reader<'_>
 fn read_queue<R: Threads + Wait + Sync>(
     rt: &R,
     tags: Tags<'_>,
-    told: &Told,
+    progress: &ReaderProgress,
 ) -> Result<Vec<u64>, AllocError> {
     let Tags { queue, tags } = tags;
     let next = AtomicU32::new(0);
@@ -105,7 +105,7 @@ fn read_queue<R: Threads + Wait + Sync>(
         requires { (tag.queue ≡ queue.now) × (tag.entered ≡ false) }
     {
         let number = next.fetch_add(1, Ordering::SeqCst);
-        read_on(rt, reader_with(queue, tag, number), told)
+        read_on(rt, reader_with(queue, tag, number), progress)
     };
     thread::map_vec(rt, tags, &run)
 }
@@ -115,16 +115,16 @@ pub fn read_all<R: Threads + Wait + Sync>(
     rt: &R,
     alloc: Global,
     readers: Readers<'_>,
-    told: &Told,
+    progress: &ReaderProgress,
 ) -> Result<u64, AllocError> {
     let torn = match readers {
-        Readers::Queue(tags) => read_queue(rt, tags, told)?,
+        Readers::Queue(tags) => read_queue(rt, tags, progress)?,
         Readers::RwLock(lock, threads) => {
             thread::map_indices(
                 rt,
                 alloc,
                 threads as usize,
-                &|_thread: usize| { read_on(rt, Reader::RwLock(lock), told) },
+                &|_thread: usize| { read_on(rt, Reader::RwLock(lock), progress) },
             )?
         }
         Readers::ShardedLock(lock, threads) => {
@@ -132,7 +132,7 @@ pub fn read_all<R: Threads + Wait + Sync>(
                 rt,
                 alloc,
                 threads as usize,
-                &|thread: usize| { read_on(rt, Reader::ShardedLock(lock, thread), told) },
+                &|thread: usize| { read_on(rt, Reader::ShardedLock(lock, thread), progress) },
             )?
         }
     };

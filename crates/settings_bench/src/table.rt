@@ -1,7 +1,7 @@
 //! The lines of the table, for a reader and for a program.
 use crate::form::Form;
+use crate::progress::Stretch;
 use crate::race::Race;
-use crate::told::Stretch;
 use bench_parts::{Column, Hundredths};
 use std::fmt;
 

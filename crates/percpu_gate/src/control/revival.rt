@@ -7,8 +7,9 @@ ghost use Rattle.percpu_gate.specs.ControlCalls.{fault_of, live_phase, dead_refu
 use super::Control;
 use crate::control_fault::ControlFault;
 use crate::gate::Gate;
-use crate::mode::Mode;
 use crate::revived::Revived;
+use percpu_core::Phase;
+use percpu_words::Mode;
 
 impl<const W: usize> Control<W> {
     /// Revives a gate that has reached zero. Refuses MidSwitch, NotDead, NotZero. Linux: `percpu_ref_reinit`
@@ -53,7 +54,7 @@ impl<const W: usize> Control<W> {
         if self.wants == Mode::Slots {
             self.seat.open_all(&gate.table);
         }
-        self.phase = self.wants.live_phase();
+        self.phase = Phase::live(self.wants);
         at_zero
     }
 }

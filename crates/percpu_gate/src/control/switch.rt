@@ -3,15 +3,15 @@ ghost use Rattle.std.specs.Prelude.{◌≡◌, IfOk, IfErr};
 ghost use Rattle.percpu_core.specs.Phases.{next_slot};
 ghost use Rattle.percpu_words.specs.SlotWord.{IsDelta};
 ghost use Rattle.percpu_core.specs.declared.phase.Phase.TheVariants as phases;
-ghost use Rattle.percpu_gate.specs.declared.mode.Mode.TheVariants as modes;
+ghost use Rattle.percpu_words.specs.declared.mode.Mode.TheVariants as modes;
 ghost use Rattle.percpu_gate.specs.Seats.{FindsDelta};
 ghost use Rattle.percpu_gate.specs.ControlCalls.{fault_of, switch_refusal, HasSlotToClose, HasClosedAll, after_close, after_collect, after_switch};
 
 use super::Control;
 use crate::control_fault::ControlFault;
 use crate::gate::Gate;
-use crate::mode::Mode;
 use percpu_core::Phase;
+use percpu_words::Mode;
 
 impl<const W: usize> Control<W> {
     /// The slot that a kill closes next.

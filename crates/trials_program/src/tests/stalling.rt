@@ -27,7 +27,7 @@ impl Stall for Counts {
         match point {
             Point::Entered => self.entered.fetch_add(place, Ordering::SeqCst),
             Point::Drawn => self.drawn.fetch_add(place, Ordering::SeqCst),
-            Point::Answered => self.answered.fetch_add(place, Ordering::SeqCst),
+            Point::Completed => self.answered.fetch_add(place, Ordering::SeqCst),
             Point::Drained => {
                 let before = self.drained.load(Ordering::SeqCst);
                 let after = before.wrapping_mul(10).wrapping_add(number);
@@ -144,7 +144,7 @@ impl Stall for Gathers {
                 self.drawn.fetch_add(1, Ordering::SeqCst);
                 self.hold();
             }
-            Point::Answered | Point::Drained => {}
+            Point::Completed | Point::Drained => {}
         }
     }
 }

@@ -158,7 +158,7 @@ fn every_drain_waits_for_the_tag(rt: HostRuntime) -> Result<(), Fail> {
             "blkq {version}\ndisk 8 hw 8\nwrite 0 2 01\nwrite 4 2 02\n{last}"
         )?;
         assert!(rt;
-            drains_after(&rt, text.as_bytes(), 0, Point::Answered)?,
+            drains_after(&rt, text.as_bytes(), 0, Point::Completed)?,
             "{last}"
         );
     }
@@ -168,7 +168,7 @@ fn every_drain_waits_for_the_tag(rt: HostRuntime) -> Result<(), Fail> {
 // An ordered request waits for the one that it overlaps.
 #[test]
 fn ordered_requests_wait(rt: HostRuntime) -> Result<(), Fail> {
-    for point in [Point::Entered, Point::Drawn, Point::Answered] {
+    for point in [Point::Entered, Point::Drawn, Point::Completed] {
         assert!(rt; drains_after(&rt, ORDERED, 2, point)?);
     }
     Ok(())
@@ -260,7 +260,7 @@ impl Stall for HoldsOne {
 #[test]
 fn whoever_is_held(rt: HostRuntime) -> Result<(), Fail> {
     for number in 0..3 {
-        for point in [Point::Entered, Point::Drawn, Point::Answered] {
+        for point in [Point::Entered, Point::Drawn, Point::Completed] {
             let holds = HoldsOne { number, point };
             assert!(rt; agrees(&rt, WRITTEN_THEN_READ, 2, 3, &holds)?, "{number}");
         }

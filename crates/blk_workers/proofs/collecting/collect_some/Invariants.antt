@@ -4,7 +4,7 @@ use Rattle.blk_workers.proofs.collecting.collect_some.Given as goal
 
 abbrev pub invariant-loop : goal.invariant-loop
 invariant-loop g l = record {
-  collecting : IsCollecting g.J.Run.script g.C.Line.id l.desk l.collector;
+  collecting : IsCollecting g.J.Run.script g.C.QueueName.id l.desk l.collector;
   lines : length l.desk.replies ≡ length l.initial.desk.replies;
   collector : l.collector ≡ record l.initial.collector { collected = l.collector.collected };
 }

@@ -3,7 +3,7 @@ use Rattle.std.proofs.lemmas.List.{length-append}
 use Rattle.script_meaning.specs.Script.{Meant}
 use Rattle.script_meaning.specs.Requests.{accepted_at, accepted_before}
 use Rattle.run_queues.specs.Parts.{CollectorFacts, DutyFacts, SourceFacts}
-use Rattle.run_desk.specs.Desk.{MayJoin, Stands}
+use Rattle.run_desk.specs.Desk.{MayTakeRequest, Stands}
 use Rattle.run_desk.specs.Requests.{IsDue, found_at}
 use Rattle.run_desk.proofs.NextLines.{due_at}
 use Rattle.run_desk.proofs.Numbering.{counts_request}
@@ -11,8 +11,9 @@ use Rattle.blk_workers.specs.Progress.{AreAwaited}
 use Rattle.blk_workers.proofs.Awaited.{awaited_submitted}
 use Rattle.blk_workers.proofs.handing.hand_over.Goals as goal
 
-pub submit-requires-clause-may_join : goal.submit-requires-clause-may_join
-submit-requires-clause-may_join g c = subst (λ (s : Meant). MayJoin s c.args.desk.now.replies) (sym (c.script.ensures ∙ c.hall.invariant.its_script)) c.requires.ready.may_join
+pub submit-requires-clause-may_take : goal.submit-requires-clause-may_take
+submit-requires-clause-may_take g c =
+    subst (λ (s : Meant). MayTakeRequest s c.args.desk.now.replies c.args.accepted.request) (sym (c.script.ensures ∙ c.hall.invariant.its_script)) c.requires.ready.may_take
 
 pub new-job-requires : goal.new-job-requires
 new-job-requires g c =
@@ -27,11 +28,11 @@ new-job-requires g c =
       told = c.entered-tag.ensures.told;
       may_tell = ap (λ (d : DutyFacts). d.queue) c.duty-duty.ensures.duty ∙ c.hall.invariant.its_completions;
       numbered = record {
-        accepted = subst (λ p. is_some (accepted_at script p) ≡ true) (sym c.len-position.ensures) (ap is_some ready.accepted);
+        accepted = subst (λ p. is_some (accepted_at script p) ≡ true) (sym c.len-position.ensures) (ap is_some ready.may_take.accepted);
         count = ap (accepted_before script) c.len-position.ensures ∙ sym ready.number ∙ sym (ap (λ (d : DutyFacts). d.number) c.duty-duty.ensures.duty);
       };
       due = subst (λ p. IsDue script p c.args.accepted.limits found) (sym c.len-position.ensures)
-          (due_at script here c.args.accepted.request c.args.accepted.limits found ready.accepted ready.limits
+          (due_at script here c.args.accepted.request c.args.accepted.limits found ready.may_take.accepted ready.limits
           (subst (λ (s : Meant). found ≡ found_at s here c.args.accepted.request) (c.script.ensures ∙ c.hall.invariant.its_script) c.in_ok-found.ensures.found));
     }
 
@@ -40,7 +41,7 @@ returns-clause-handed_over g c =
     let old = c.args.desk.now.replies in
     let script = g.J.Run.script in
     let request = c.args.accepted.request in
-    let there = c.requires.ready.accepted in
+    let there = c.requires.ready.may_take.accepted in
     let more = counts_request script (length old) request there in
     let handed = c.requires.handed_over in
     let mine : CollectorFacts = c.args.ends.now.collector in

@@ -6,4 +6,4 @@ abbrev pub invariant-loop : goal.invariant-loop
 invariant-loop g l =
     (goal.iterator-loop g).can_next l.iterator' × (goal.iterator-loop g).is_finite l.iterator'
     × (l.drawer.queue ≡ l.initial.drawer.queue) × (accepted_in_all g.J.Run.script < l.drawer.room) × All (λ n. n < accepted_in_all g.J.Run.script) l.drawer.drawn
-    × (l.tally ≡ length l.drawer.drawn)
+    × (l.receipts ≡ length l.drawer.drawn)

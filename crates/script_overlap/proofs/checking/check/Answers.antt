@@ -3,7 +3,6 @@ use Rattle.std.proofs.lemmas.Bool.{false≢true}
 use Rattle.std.proofs.lemmas.Option.{slice_get_read}
 use Rattle.std.specs.List.{slice_get}
 use Rattle.script_meaning.specs.Script.{Meant}
-use Rattle.script_meaning.specs.Taken.{accepted_in}
 use Rattle.script_meaning.specs.declared.outcome.Outcome.{Outcome}
 use Rattle.script_meaning.specs.declared.request.Request.{Request}
 use Rattle.script_overlap.specs.Ordered.{MustWait}
@@ -16,7 +15,8 @@ use Rattle.script_overlap.proofs.OrderedLemmas.{all_ordered}
 use Rattle.script_overlap.proofs.OrderedLines.{IsOrderedUpTo, apart_before, none_overlaps, ordered_stepped, ordered_waited}
 use Rattle.script_overlap.proofs.Overlaps.{wait_is_found, reported}
 use Rattle.script_overlap.proofs.SpanLemmas.{span_waited}
-use Rattle.script_overlap.proofs.checking.check.Goals.{in-Some+else-not-orders_overlaps+in_ok-push, in_default}
+use Rattle.script_overlap.proofs.Written.{AreWrittenUpTo, all_written, written_more}
+use Rattle.script_overlap.proofs.checking.check.Goals.{in-Some+else-not-orders_overlaps+in_ok-push-2, in_default}
 use Rattle.script_overlap.proofs.checking.check.Goals as goal
 
 pub unwrap-earlier-requires : goal.unwrap-earlier-requires
@@ -71,8 +71,8 @@ loop-position-preserved c =
       sectors = subst (OfSectors c.take.new.self) (sym c.take-came.ensures.sectors) (c.take.ensures.sectors c.loop-position.queue.sectors before.sectors);
       so_far =
           elim c.match-take.branch [
-            | in-Some+else-not-orders_overlaps+in_ok-push w ↦
-                subst P (sym (ap (λ v. v.items) w.ordered-is ∙ w.in_ok-push.ensures.items))
+            | in-Some+else-not-orders_overlaps+in_ok-push-2 w ↦
+                subst P (sym (ap (λ v. v.items) w.ordered-is ∙ w.in_ok-push-2.ensures.items))
                 (ordered_waited script i c.loop-position.span c.take.new.self positions came w.in-Some.request part.0 w.in-Some.ensures.next before.so_far)
             | in_default w ↦
                 subst P (sym (ap (λ v. v.items) w.ordered-is))
@@ -80,12 +80,14 @@ loop-position-preserved c =
           ];
       of_version = λ one.
           elim c.match-take.branch [
-            | in-Some+else-not-orders_overlaps+in_ok-push w ↦ absurd (false≢true (sym one ∙ sym w.orders_overlaps.ensures ∙ w.if-not-orders_overlaps.false))
+            | in-Some+else-not-orders_overlaps+in_ok-push-2 w ↦ absurd (false≢true (sym one ∙ sym w.orders_overlaps.ensures ∙ w.if-not-orders_overlaps.false))
             | in_default w ↦ ap (λ v. v.items) w.ordered-is ∙ before.of_version one
           ];
-      so_many = counted_so script i line c.loop-position.queue came (is_some (accepted_in came)) c.loop-position.accepted c.counted-accepted.result inside is before.stands c.take-came.ensures.outcome refl
-          before.so_many c.counted-accepted.ensures;
-      few = omega (arith, before.few, counts_one (is_some (accepted_in came)) c.loop-position.accepted c.counted-accepted.result c.counted-accepted.ensures);
+      written = subst (AreWrittenUpTo script (i + 1)) (sym c.in_ok-push.ensures.items)
+          (written_more script i c.loop-position.requests.items c.accepted-request.result (part.0 ∙ sym c.accepted-request.ensures) before.written);
+      so_many = counted_so script i line c.loop-position.queue came (is_some c.accepted-request.result) c.loop-position.accepted c.counted-accepted.result inside is before.stands c.take-came.ensures.outcome
+          (ap is_some c.accepted-request.ensures) before.so_many c.counted-accepted.ensures;
+      few = omega (arith, before.few, counts_one (is_some c.accepted-request.result) c.loop-position.accepted c.counted-accepted.result c.counted-accepted.ensures);
     }
 
 pub new-requires-2 : goal.new-requires-2
@@ -97,6 +99,7 @@ new-requires-2 c =
     let are = all_ordered script c.loop-position.ordered.items i last before.so_far.ordered in
     let count = all_counted script i c.loop-position.accepted last before.so_many in
     record {
+      written = all_written script i c.loop-position.requests.items last before.written;
       apart = none_overlaps script c.loop-position.ordered.items are before.of_version;
       order = are;
       of_version = before.of_version;

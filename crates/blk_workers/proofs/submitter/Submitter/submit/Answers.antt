@@ -1,9 +1,11 @@
-use Rattle.std.proofs.Common.{◌∙◌, sym, ap, subst, ◌+◌, arith, length}
+use Rattle.std.proofs.Common.{◌≡◌, ◌∙◌, sym, ap, subst, ◌+◌, arith, length}
 use Rattle.run_queues.specs.Parts.{CollectorFacts, SourceFacts}
 use Rattle.script_meaning.specs.Queue.{Queue}
-use Rattle.blk_workers.specs.Following.{mode_of}
+use Rattle.script_meaning.specs.Taken.{request_counted}
 use Rattle.blk_workers.specs.Progress.{AreHandedOver}
+use Rattle.run_desk.proofs.NextLines.{counted_there}
 use Rattle.run_desk.proofs.Numbering.{counts_request}
+use Rattle.script_meaning.proofs.Counted.{counted_mode}
 use Rattle.blk_workers.proofs.submitter.Submitter.submit.Goals as goal
 
 pub returns-clause-taken : goal.returns-clause-taken
@@ -13,6 +15,7 @@ returns-clause-taken g c =
     let way = c.in_ok-make_way.ensures.collected in
     let next = c.requires.next in
     let counted = c.requires.taken.at.counted in
+    let counts : c.count.new.self ≡ request_counted c.args.self.now.state c.args.request = c.count.ensures ∙ ap (λ (q : Queue). request_counted q c.args.request) way.state in
     let over = c.in_ok-hand_over.ensures.handed_over in
     let source : SourceFacts = c.hand_over.new.ends.source in
     let collector : CollectorFacts = c.hand_over.new.ends.collector in
@@ -20,13 +23,13 @@ returns-clause-taken g c =
       at = record {
         stands = over.stands;
         lines = over.lines ∙ ap (λ n. n + 1) way.lines;
-        state = next.queue;
+        state = counted_there script here c.args.request c.args.self.now.state c.count.new.self next.accepted c.requires.taken.at.state counts;
         freezer = way.follows;
-        mode = way.mode ∙ ap (λ (q : Queue). mode_of q.mode) way.state ∙ ap mode_of (sym next.mode);
+        mode = way.mode ∙ ap (λ (q : Queue). q.mode) way.state ∙ sym (ap (λ (q : Queue). q.mode) counts ∙ counted_mode c.args.self.now.state c.args.request);
         counted = record {
           is = ap (λ n. n + 1) (way.accepted ∙ counted.is) ∙ sym (counts_request script here c.args.request next.accepted);
           few = omega (arith, way.accepted, counted.few);
         };
       };
-      handed_over = subst (λ n. AreHandedOver script g.L.Line.id g.C.Line.id (n + 1) c.hand_over.new.desk.replies source collector) way.lines over.all;
+      handed_over = subst (λ n. AreHandedOver script g.L.QueueName.id g.C.QueueName.id (n + 1) c.hand_over.new.desk.replies source collector) way.lines over.all;
     }

@@ -6,8 +6,8 @@ use Rattle.run_desk.proofs.desk.Desk.submit.Goals as goal
 pub returns-clause-stands : goal.returns-clause-stands
 returns-clause-stands c =
     subst (λ replies. Stands c.args._script.now replies c.args.self.now.disk) (sym c.in_ok-push_owed.ensures.ok)
-    (stands_submitted c.args._script.now c.args.self.now.replies c.args.self.now.disk c.args.request c.requires.stands c.requires.accepted c.requires.may_join)
+    (stands_submitted c.args._script.now c.args.self.now.replies c.args.self.now.disk c.args.request c.requires.stands c.requires.may_take.accepted c.requires.may_take.may_join)
 
 pub returns-clause-found : goal.returns-clause-found
 returns-clause-found c =
-    c.in_ok-found.ensures ∙ finds_there c.args._script.now c.args.self.now.replies c.args.self.now.disk c.args.request c.requires.stands c.requires.accepted c.requires.may_join
+    c.in_ok-found.ensures ∙ finds_there c.args._script.now c.args.self.now.replies c.args.self.now.disk c.args.request c.requires.stands c.requires.may_take.accepted c.requires.may_take.may_join

@@ -8,15 +8,15 @@ use std::time::{Clock, Instant};
 /// What readers tell of their rounds, and whether they are to end. Each on a cache line of its own: a reader looks at the one
 /// and adds to the other only once in many rounds.
 #[derive(Drop)]
-pub struct Told {
+pub struct ReaderProgress {
     rounds: CachePadded<AtomicU64>,
     is_over: CachePadded<AtomicBool>,
 }
 
-impl Told {
+impl ReaderProgress {
     /// No round yet, and readers go on.
-    pub fn new() -> Told {
-        Told {
+    pub fn new() -> ReaderProgress {
+        ReaderProgress {
             rounds: CachePadded::new(AtomicU64::new(0)),
             is_over: CachePadded::new(AtomicBool::new(false)),
         }
@@ -54,15 +54,15 @@ pub struct Mark {
 
 impl Mark {
     /// A stretch begins.
-    pub fn new<R: Clock>(rt: &R, told: &Told) -> io::Result<Mark> {
+    pub fn new<R: Clock>(rt: &R, progress: &ReaderProgress) -> io::Result<Mark> {
         Ok(Mark {
-            rounds: told.rounds.load(Ordering::SeqCst),
+            rounds: progress.rounds.load(Ordering::SeqCst),
             at: Instant::now(rt)?,
         })
     }
 
     /// It ends.
-    pub fn stretch<R: Clock>(self, rt: &R, told: &Told) -> io::Result<Stretch> {
+    pub fn stretch<R: Clock>(self, rt: &R, progress: &ReaderProgress) -> io::Result<Stretch> {
         Ok(Stretch {
             rounds: told
                 .rounds

@@ -1,6 +1,6 @@
 use Rattle.std.proofs.Common.{◌≡◌}
 use Rattle.crossbeam_queue.specs.Passes.{view, IsSamePass}
-use Rattle.run_queues.proofs.line.Line.find_as.Given as goal
+use Rattle.run_queues.proofs.ruled_queue.RuledQueue.find_as.Given as goal
 
 abbrev pub invariant-loop : goal.invariant-loop
 invariant-loop g l = IsSamePass l.initial.pass l.pass × (view l.pass ≡ view l.initial.pass)

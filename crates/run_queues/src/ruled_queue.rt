@@ -27,7 +27,7 @@ const LOOKERS: usize = 4;
 /// A push wakes nobody while a thread looks, since that one finds the item. Where it finds one and leaves others, it
 /// wakes the next, once it no longer counts as looking.
 #[derive(Drop)]
-pub(crate) struct Line<T: Drop, V, P: Protocol<T, V>> {
+pub(crate) struct RuledQueue<T: Drop, V, P: Protocol<T, V>> {
     pub(crate) ring: RuledArrayQueue<T, V, P>,
     /// Those who wait for an item.
     added: WaitQueue,
@@ -39,15 +39,18 @@ pub(crate) struct Line<T: Drop, V, P: Protocol<T, V>> {
     looking: CachePadded<AtomicUsize>,
 }
 
-impl<T: Drop, V, P: Protocol<T, V>> Line<T, V, P> {
+impl<T: Drop, V, P: Protocol<T, V>> RuledQueue<T, V, P> {
     /// A queue with room for so many items, and its first pass.
-    pub(crate) fn new(alloc: Global, room: usize) -> Result<(Line<T, V, P>, Pass<T, V>), AllocError>
+    pub(crate) fn new(
+        alloc: Global,
+        room: usize,
+    ) -> Result<(RuledQueue<T, V, P>, Pass<T, V>), AllocError>
         requires room { 0 < room }
         requires rule { P.holds [] (P.first ∷ []) }
         ensures { IfOk result (λ q. (ruled_capacity q.0.ring ≡ room) × IsPassOf q.0.ring q.1 × (view q.1 ≡ P.first)) }
     {
         let (ring, pass) = RuledArrayQueue::ruled(alloc, room)?;
-        let line = Line {
+        let line = RuledQueue {
             ring,
             added: WaitQueue::new(),
             taken: WaitQueue::new(),

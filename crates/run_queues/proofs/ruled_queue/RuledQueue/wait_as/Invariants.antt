@@ -1,6 +1,6 @@
 use Rattle.std.proofs.Common.{◌≡◌}
 use Rattle.crossbeam_queue.specs.Passes.{view, IsSamePass}
-use Rattle.run_queues.proofs.line.Line.wait_as.Given as goal
+use Rattle.run_queues.proofs.ruled_queue.RuledQueue.wait_as.Given as goal
 
 abbrev pub invariant-loop : goal.invariant-loop
 invariant-loop g l =

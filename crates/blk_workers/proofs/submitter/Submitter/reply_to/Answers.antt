@@ -1,0 +1,86 @@
+use Rattle.std.proofs.Common.{◌≡◌, ◌∙◌, sym, ap, subst, refl, ◌+◌, length, None, inl}
+use Rattle.script_meaning.specs.Requests.{accepted_before}
+use Rattle.script_meaning.specs.Script.{Meant}
+use Rattle.script_meaning.specs.declared.outcome.Outcome.TheVariants.{Drained, Replied}
+use Rattle.script_meaning.specs.Requests.{accepted_at}
+use Rattle.blk_script.specs.Texts.{reply_line}
+use Rattle.run_desk.specs.Requests.{IsQueueAt, IsReplyLine}
+use Rattle.run_desk.proofs.NextLines.{came_to, next_queue, accepted_there, drains_there, reply_drained, reply_replied}
+use Rattle.run_queues.specs.Parts.{CollectorFacts}
+use Rattle.run_desk.proofs.Desks.{on_ok}
+use Rattle.run_desk.proofs.Numbering.{counts_line}
+use Rattle.blk_workers.specs.Progress.{IsAt}
+use Rattle.blk_workers.proofs.submitter.Submitter.reply_to.Goals as goal
+
+pub pass-requires-clause-next : goal.pass-requires-clause-next
+pass-requires-clause-next g c =
+    let came = came_to g.J.Run.script g.J.Run.script (length c.args.self.now.desk.replies) c.len.result c.lines.result.now c.index-lines-len.result c.args.self.now.state c.take.new.self (Drained c.in-Drained.reply) refl
+    (c.lines.ensures ∙ ap (λ (s : Meant). s.lines) (c.script.ensures ∙ c.hall.invariant.its_script)) c.len.ensures c.requires.more c.index-lines-len.is c.requires.taken.at.state c.in-Drained.ensures.outcome c.take.ensures.after c.take.ensures.counts in
+    let same = sym c.drain.ensures.collected.lines in
+    record {
+      refused = subst (λ p. accepted_at g.J.Run.script p ≡ None) same (accepted_there g.J.Run.script (length c.args.self.now.desk.replies) c.index-lines-len.result c.args.self.now.state c.take.new.self (Drained c.in-Drained.reply) came);
+      reply = subst (λ p. IsReplyLine g.J.Run.script p (reply_line (c.index-lines-len.result.number, c.in-Drained.reply))) same (reply_drained g.J.Run.script (length c.args.self.now.desk.replies) c.index-lines-len.result c.args.self.now.state c.take.new.self c.in-Drained.reply came);
+      queue = subst (λ p. IsQueueAt g.J.Run.script (p + 1) c.take.new.self) same (next_queue g.J.Run.script (length c.args.self.now.desk.replies) c.index-lines-len.result c.args.self.now.state c.take.new.self (Drained c.in-Drained.reply) came);
+    }
+
+pub pass-requires-in-Replied-clause-passes : goal.pass-requires-in-Replied-clause-passes
+pass-requires-in-Replied-clause-passes g c =
+    let came = came_to g.J.Run.script g.J.Run.script (length c.args.self.now.desk.replies) c.len.result c.lines.result.now c.index-lines-len.result c.args.self.now.state c.take.new.self (Replied c.in-Replied.reply) refl
+    (c.lines.ensures ∙ ap (λ (s : Meant). s.lines) (c.script.ensures ∙ c.hall.invariant.its_script)) c.len.ensures c.requires.more c.index-lines-len.is c.requires.taken.at.state c.in-Replied.ensures.outcome c.take.ensures.after c.take.ensures.counts in
+    inl (drains_there g.J.Run.script (length c.args.self.now.desk.replies) c.index-lines-len.result c.args.self.now.state c.take.new.self (Replied c.in-Replied.reply) came)
+
+pub pass-requires-in-Replied-clause-next : goal.pass-requires-in-Replied-clause-next
+pass-requires-in-Replied-clause-next g c =
+    let came = came_to g.J.Run.script g.J.Run.script (length c.args.self.now.desk.replies) c.len.result c.lines.result.now c.index-lines-len.result c.args.self.now.state c.take.new.self (Replied c.in-Replied.reply) refl
+    (c.lines.ensures ∙ ap (λ (s : Meant). s.lines) (c.script.ensures ∙ c.hall.invariant.its_script)) c.len.ensures c.requires.more c.index-lines-len.is c.requires.taken.at.state c.in-Replied.ensures.outcome c.take.ensures.after c.take.ensures.counts in
+    record {
+      refused = accepted_there g.J.Run.script (length c.args.self.now.desk.replies) c.index-lines-len.result c.args.self.now.state c.take.new.self (Replied c.in-Replied.reply) came;
+      reply = reply_replied g.J.Run.script (length c.args.self.now.desk.replies) c.index-lines-len.result c.args.self.now.state c.take.new.self c.in-Replied.reply came;
+      queue = next_queue g.J.Run.script (length c.args.self.now.desk.replies) c.index-lines-len.result c.args.self.now.state c.take.new.self (Replied c.in-Replied.reply) came;
+    }
+
+pub returns-in_ok-drain-in-Drained-clause-taken : goal.returns-in_ok-drain-in-Drained-clause-taken
+returns-in_ok-drain-in-Drained-clause-taken g c =
+    let came = came_to g.J.Run.script g.J.Run.script (length c.args.self.now.desk.replies) c.len.result c.lines.result.now c.index-lines-len.result c.args.self.now.state c.take.new.self (Drained c.in-Drained.reply) refl
+    (c.lines.ensures ∙ ap (λ (s : Meant). s.lines) (c.script.ensures ∙ c.hall.invariant.its_script)) c.len.ensures c.requires.more c.index-lines-len.is c.requires.taken.at.state c.in-Drained.ensures.outcome c.take.ensures.after c.take.ensures.counts in
+    let here = length c.args.self.now.desk.replies in
+    let same = sym (counts_line g.J.Run.script here (accepted_there g.J.Run.script (length c.args.self.now.desk.replies) c.index-lines-len.result c.args.self.now.state c.take.new.self (Drained c.in-Drained.reply) came)) in
+    let handed = c.requires.taken.handed_over in
+    let drained = c.drain.ensures.collected in
+    let mine : CollectorFacts = c.drain.new.collector in
+    let given = ap (λ (k : CollectorFacts). k.given) drained.collector ∙ handed.duties in
+    on_ok c.pass.result _ _
+    (λ passed. record {
+      at = subst (λ n. IsAt g.J.Run.script g.J.Run.queue (n + 1) c.pass.new.self) drained.lines passed.at;
+      handed_over = record {
+        pushes = handed.pushes;
+        collects = drained.collecting.own;
+        pushed = handed.pushed ∙ same;
+        not_ended = handed.not_ended;
+        duties = given ∙ same;
+        awaited = passed.awaited mine.given mine.collected (given ∙ ap (accepted_before g.J.Run.script) (sym drained.lines)) drained.collecting.awaited;
+      };
+    })
+    c.pass.ensures.passed
+
+pub returns-in-Replied-clause-taken : goal.returns-in-Replied-clause-taken
+returns-in-Replied-clause-taken g c =
+    let came = came_to g.J.Run.script g.J.Run.script (length c.args.self.now.desk.replies) c.len.result c.lines.result.now c.index-lines-len.result c.args.self.now.state c.take.new.self (Replied c.in-Replied.reply) refl
+    (c.lines.ensures ∙ ap (λ (s : Meant). s.lines) (c.script.ensures ∙ c.hall.invariant.its_script)) c.len.ensures c.requires.more c.index-lines-len.is c.requires.taken.at.state c.in-Replied.ensures.outcome c.take.ensures.after c.take.ensures.counts in
+    let here = length c.args.self.now.desk.replies in
+    let same = sym (counts_line g.J.Run.script here (accepted_there g.J.Run.script (length c.args.self.now.desk.replies) c.index-lines-len.result c.args.self.now.state c.take.new.self (Replied c.in-Replied.reply) came)) in
+    let handed = c.requires.taken.handed_over in
+    let mine : CollectorFacts = c.args.ends.now.collector in
+    on_ok c.pass-in-Replied.result _ _
+    (λ passed. record {
+      at = passed.at;
+      handed_over = record {
+        pushes = handed.pushes;
+        collects = handed.collects;
+        pushed = handed.pushed ∙ same;
+        not_ended = handed.not_ended;
+        duties = handed.duties ∙ same;
+        awaited = passed.awaited mine.given mine.collected handed.duties handed.awaited;
+      };
+    })
+    c.pass-in-Replied.ensures.passed
