@@ -56,9 +56,9 @@ awaited_taken script replies given last here text collected done awaited = λ nu
     owed_set_other replies here position text other ∙ awaited number position at less (not_before number last collected none)
 
 -- a line is taken that is no accepted request, and one that is
-pub awaited_settled : (script : Meant) (replies : List (Option (List ℕ))) (given : ℕ) (collected : List ℕ) (reply : Option (List ℕ)) → given ≡ accepted_before script (length replies)
+pub awaited_replied : (script : Meant) (replies : List (Option (List ℕ))) (given : ℕ) (collected : List ℕ) (reply : Option (List ℕ)) → given ≡ accepted_before script (length replies)
     → AreAwaited script replies given collected → AreAwaited script (replies ++ reply ∷ []) given collected
-awaited_settled script replies given collected reply is awaited = λ number position at less none.
+awaited_replied script replies given collected reply is awaited = λ number position at less none.
     owed_push replies reply position (stands_before script number position (length replies) at (omega (arith, less, is))) ∙ awaited number position at less none
 
 pub awaited_submitted : (script : Meant) (replies : List (Option (List ℕ))) (given : ℕ) (collected : List ℕ) (request : Request) → given ≡ accepted_before script (length replies)

@@ -33,7 +33,7 @@ pub record IsReadUnderItsTag (script : Meant) (job : JobFacts) : Type 0 where
   pub in_force : AreInForce job.tag.queue.gate job.tag.queue.hardware job.tag.seat limits
   pub due : IsDue script job.position limits job.found
 
--- a request that a worker is done with: its number, and the position of its line
+-- what comes back of a request: its number, and the position of its line
 pub record CompletionFacts : Type 0 where
   pub number : ℕ
   pub position : ℕ

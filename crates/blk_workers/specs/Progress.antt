@@ -31,16 +31,16 @@ pub record IsCounted (script : Meant) (position accepted : ℕ) : Type 0 where
   pub is : accepted ≡ accepted_before script position
   pub few : accepted ≤ position
 
--- the reply to each accepted request whose completion may come and wasn't collected yet is owed
+-- a reply is owed to each accepted request whose duty was given (a number below `given`) and that wasn't collected
 abbrev pub AreAwaited : Meant → List (Option (List ℕ)) → ℕ → List ℕ → Type 0
 AreAwaited script replies given collected =
     (number position : ℕ) → IsAcceptedAt script number position → number < given → times number collected ≡ 0 → is_owed replies position ≡ true
 
--- what was awaited beside these replies is so beside those, but for the request of a number
+-- what was awaited at `before` is so at `after`, once the completion of this number counts as collected
 abbrev pub StaysAwaitedBut : Meant → List (Option (List ℕ)) → List (Option (List ℕ)) → ℕ → Type 0
 StaysAwaitedBut script before after number = (given : ℕ) (collected : List ℕ) → AreAwaited script before given collected → AreAwaited script after given (collected ++ number ∷ [])
 
--- what was awaited beside these replies, of the requests before the next line, is so beside those
+-- what was awaited at `before`, when each request before the next line had its duty, is awaited at `after`
 abbrev pub StaysAwaited : Meant → List (Option (List ℕ)) → List (Option (List ℕ)) → Type 0
 StaysAwaited script before after =
     (given : ℕ) (collected : List ℕ) → given ≡ accepted_before script (length before) → AreAwaited script before given collected → AreAwaited script after given collected
@@ -69,8 +69,8 @@ pub record HasTaken (script : Meant) (queue : QueueFacts) (requests completions 
   pub at : IsAt script queue position s
   pub handed_over : AreHandedOver script requests completions position s.desk.replies source collector
 
--- whatever came of it, the right to push is as it was but for what was pushed, and the freezer is the queue's
-pub record StayOwn (queue : QueueFacts) (before after : SourceFacts) (f : FreezerFacts) : Type 0 where
+-- also where it fails: the right to push is as it was but for what was pushed, and the freezer is the queue's
+pub record KeepTheirQueues (queue : QueueFacts) (before after : SourceFacts) (f : FreezerFacts) : Type 0 where
   pub source : after ≡ record before { pushed = after.pushed }
   pub own : f.queue ≡ queue
 
@@ -81,7 +81,7 @@ pub record IsCollecting (script : Meant) (completions : TableId) (desk : Desk) (
   pub awaited : AreAwaited script desk.replies collector.given collector.collected
 
 -- the completion of this number is taken, whether or not it brought an answer: the desk is right, and what else was awaited still is
-pub record HasCompleted (script : Meant) (number : ℕ) (old new : Desk) : Type 0 where
+pub record HasTakenCompletion (script : Meant) (number : ℕ) (old new : Desk) : Type 0 where
   pub stands : Stands script new.replies new.disk
   pub lines : length new.replies ≡ length old.replies
   pub awaited : StaysAwaitedBut script old.replies new.replies number
@@ -108,7 +108,7 @@ pub record HasHandedOver (script : Meant) (requests completions : TableId) (old 
   pub lines : length new.replies ≡ length old.replies + 1
   pub all : AreHandedOver script requests completions (length old.replies + 1) new.replies source collector
 
--- the next line is this accepted request, which a number has room for
+-- the next line is this accepted request, and few lines stand before it
 pub record IsRequestNext (script : Meant) (position : ℕ) (request : Request) : Type 0 where
   pub few : position + 1 < 2 ^ 32
   pub accepted : accepted_at script position ≡ Some request
@@ -126,17 +126,17 @@ pub record HasReplied (script : Meant) (old new : Desk) : Type 0 where
   pub awaited : StaysAwaited script old.replies new.replies
 
 -- the lines before the next are taken, but the freezer may have killed its gate once more
-pub record MayTake (script : Meant) (queue : QueueFacts) (s : Submitter) : Type 0 where
+pub record IsBeforeLine (script : Meant) (queue : QueueFacts) (s : Submitter) : Type 0 where
   pub stands : Stands script s.desk.replies s.desk.disk
   pub follows : IsFollowing queue (length s.desk.replies + 1) s.freezer
   pub counted : IsCounted script (length s.desk.replies) s.accepted
 
--- the next line is taken, and what was awaited still is
+-- the next line is taken with its reply, and the freezer follows; what was awaited still is
 pub record HasPassed (script : Meant) (queue : QueueFacts) (old new : Submitter) : Type 0 where
   pub at : IsAt script queue (length old.desk.replies + 1) new
   pub awaited : StaysAwaited script old.desk.replies new.desk.replies
 
--- with a freezer that follows the script's queue from its start, no line is taken
+-- no line is taken, in the run of whichever queue this freezer follows from its start, in the mode of the script's start
 abbrev pub IsAtStartWith : Meant → FreezerFacts → Submitter → Type 0
 IsAtStartWith script freezer s = (queue : QueueFacts) → IsFollowing queue 0 freezer → freezer.mode ≡ (start_queue script).mode → IsAt script queue 0 s
 
@@ -147,8 +147,8 @@ pub record IsEnd (script : Meant) (s : Submitter) : Type 0 where
   pub none_owed : owed_count s.desk.replies ≡ 0
 
 -- the right to push, of whose parts so many are with drawers, with room for their lists, before the first request
-pub record IsNewSource (line : TableId) (out : ℕ) (source : SourceFacts) : Type 0 where
-  pub own : source.queue ≡ line
+pub record IsNewSource (requests : TableId) (out : ℕ) (source : SourceFacts) : Type 0 where
+  pub own : source.queue ≡ requests
   pub parts : source.parts + out ≡ all_parts
   pub none_pushed : source.pushed ≡ 0
   pub not_ended : source.marks ≡ 0
@@ -162,8 +162,8 @@ pub record AreNewEnds (requests completions : TableId) (out : ℕ) (source : Sou
   pub none_given : collector.given ≡ 0
 
 -- the right to draw, before the first request, with room for so many
-pub record IsNewDrawer (line : TableId) (room : ℕ) (drawer : DrawerFacts) : Type 0 where
-  pub own : drawer.queue ≡ line
+pub record IsNewDrawer (requests : TableId) (room : ℕ) (drawer : DrawerFacts) : Type 0 where
+  pub own : drawer.queue ≡ requests
   pub none_drawn : drawer.drawn ≡ []
   pub has_room : room ≤ drawer.room
 
@@ -181,9 +181,9 @@ pub record AreDrawers (script : Meant) (requests : TableId) (workers : ℕ) (dra
   pub some : 0 < workers
   pub few : workers ≤ 32
 
--- all workers are back, each with the list of what it drew
-pub record AreBack (line : TableId) (workers : ℕ) (source : SourceFacts) : Type 0 where
-  pub own : source.queue ≡ line
+-- all workers are back, each with the list of what it drew, and one at least took an end mark
+pub record AreBack (requests : TableId) (workers : ℕ) (source : SourceFacts) : Type 0 where
+  pub own : source.queue ≡ requests
   pub parts : source.parts ≡ all_parts
   pub drained : source.drained ≡ true
   pub lists : length source.lists ≡ workers
@@ -203,19 +203,19 @@ abbrev pub IsRanBy : Meant → ℕ → Ran → Type 0
 IsRanBy script workers ran = IsRun script ran.replies.items ran.disk × AreDrawn script workers (map (λ list. list.items) ran.drawn.items)
 
 -- as a run's threads are led to the end: every line is taken, and all workers are back with what they drew of all requests
-pub record IsLed (script : Meant) (line : TableId) (workers : ℕ) (s : Submitter) (source : SourceFacts) : Type 0 where
+pub record IsLed (script : Meant) (requests : TableId) (workers : ℕ) (s : Submitter) (source : SourceFacts) : Type 0 where
   pub end : IsEnd script s
-  pub back : AreBack line workers source
+  pub back : AreBack requests workers source
   pub pushed : source.pushed ≡ accepted_in_all script
 
 -- before the first line: this submitter with its ends, and a right to draw for each of some workers
-abbrev pub AreReady : Meant → QueueFacts → TableId → TableId → ℕ → Submitter → SourceFacts → CollectorFacts → List DrawerFacts → Type 0
-AreReady script queue requests completions workers s source collector drawers =
+abbrev pub AreAtStart : Meant → QueueFacts → TableId → TableId → ℕ → Submitter → SourceFacts → CollectorFacts → List DrawerFacts → Type 0
+AreAtStart script queue requests completions workers s source collector drawers =
     IsAt script queue 0 s × AreNewEnds requests completions workers source collector × AreDrawers script requests workers drawers
 
 -- so many workers are to come back, each of which has a part of the right to push, and there is room for their lists
-pub record AreOut (line : TableId) (workers : ℕ) (source : SourceFacts) : Type 0 where
-  pub own : source.queue ≡ line
+pub record AreOut (requests : TableId) (workers : ℕ) (source : SourceFacts) : Type 0 where
+  pub own : source.queue ≡ requests
   pub out : source.parts + workers ≡ all_parts
   pub parts : 0 < source.parts
   pub some : 0 < workers
@@ -227,10 +227,10 @@ pub record AreFreeTags (queue : QueueFacts) (tags : List TagFacts) : Type 0 wher
   pub some : 0 < length tags
   pub free : All (λ (t : TagFacts). (t.queue ≡ queue) × (t.entered ≡ false)) tags
 
--- a queue of so many slots is one that requests of a script can enter, whose lines are few enough to be numbered
-pub record Suits (script : Meant) (number : ℕ) (queue : QueueFacts) : Type 0 where
+-- the queue has so many slots and the script's hardware, and the script's lines are few enough to be numbered
+pub record Suits (script : Meant) (slot_count : ℕ) (queue : QueueFacts) : Type 0 where
   pub hardware : queue.hardware ≡ script.hardware
-  pub slots : queue.gate.slots ≡ number
+  pub slots : queue.gate.slots ≡ slot_count
   pub few : length script.lines < 2 ^ 32
 
 -- a queue as it is made for a script and these sizes: it suits the script, its freezer follows the script's queue from its start, and its tags are free and as many

@@ -1,6 +1,6 @@
 //! How completions are collected, and free tags taken.
 ghost use Rattle.std.specs.Prelude.{◌≡◌, ◌+◌, true, Some, OnOk, length};
-ghost use Rattle.blk_workers.specs.Progress.{HasCompleted, IsCollecting};
+ghost use Rattle.blk_workers.specs.Progress.{HasTakenCompletion, IsCollecting};
 ghost use Rattle.run_desk.specs.Desk.{Stands, is_owed, owed_count};
 
 use crate::fault::RunFault;
@@ -24,7 +24,7 @@ fn take<J: Run, C: QueueName, L: QueueName, R, S>(
 ) -> Result<(), RunFault>
     requires stands { Stands J.script desk.old.replies desk.old.disk }
     requires owed { is_owed desk.old.replies completion.position ≡ true }
-    ensures taken { HasCompleted J.script completion.number desk.old desk.new }
+    ensures taken { HasTakenCompletion J.script completion.number desk.old desk.new }
     ensures filled { OnOk result (owed_count desk.new.replies + 1 ≡ owed_count desk.old.replies) }
 {
     let (position, answer) = completion.into_parts();
@@ -34,7 +34,7 @@ fn take<J: Run, C: QueueName, L: QueueName, R, S>(
 }
 
 /// Collects the completions that are there now, as many as are owed at most, once so many are owed as there are tags. A
-/// look for each request would take the queue's lines from the workers each time.
+/// look for each request would take the queue's cache lines from the workers each time.
 pub(crate) fn collect_some<J: Run, C: QueueName, L: QueueName, R: Wait, S>(
     hall: &Hall<'_, J, C, L, R, S>,
     collector: &mut Collector<Completion<J>>,
@@ -79,7 +79,8 @@ pub(crate) fn collect_all<J: Run, C: QueueName, L: QueueName, R: Wait, S>(
     unreachable!()
 }
 
-/// A tag that has entered the queue and was told these limits. One that is told others leaves, and enters again.
+/// A tag that has entered the queue and was told these limits. They never differ, since this thread set them, which no
+/// proof says; so it looks, and a tag that is told others leaves and enters again.
 pub(crate) fn entered<J: Run, C: QueueName, L: QueueName, R: Wait, S>(
     hall: &Hall<'_, J, C, L, R, S>,
     limits: Limits,

@@ -41,7 +41,7 @@ fn free_tags<J: Run, R: Wait>(
 }
 
 impl<J: Run, C: QueueName> Queues<J, C> {
-    /// A run's queues, in which all tags are free, and the right to push requests. The room of both queues is taken here,
+    /// A run's queues, with all tags free, and the right to push requests. The room for requests and free tags is taken here,
     /// and that for the workers' lists.
     pub(crate) fn new<R: Wait>(
         rt: &R,

@@ -47,7 +47,7 @@ impl<J: Run, C: QueueName> Numbered for Job<J, C> {
     }
 }
 
-/// A request that a worker is done with.
+/// What comes back of a request: its number, the position of its line, and its answer.
 ///
 /// The type keeps that the line at the position is the accepted request of this number, and that the answer is that
 /// of a single thread to it, unless the worker was refused memory.

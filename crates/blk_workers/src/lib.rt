@@ -3,7 +3,7 @@
 //! [`run`] starts workers and then submits: it takes the script's lines in order. For a request that the queue
 //! accepts, a tag enters the queue and is told the limits in force; the request goes to the workers with the tag,
 //! and with the sectors that a read finds. A worker reads the limits under the tag, cuts the pieces, makes the
-//! line of the reply and the sectors that a write leaves, queues both as the request's completion, leaves, and
+//! line of the reply and the sectors that a write leaves, tells both as the request's completion, leaves, and
 //! gives the tag back. Where a line drains, the queue is frozen until every tag has left, and all completions are
 //! collected; so it is at the end, and before an ordered request: one that overlaps a request since the last drain, as the
 //! script's check found (`script_overlap::Checked`).
@@ -27,8 +27,8 @@
 //! - *ends*: the submitter's right to push requests and to collect completions. A *drawer* is a worker's right to draw requests,
 //!   a *duty* the right to tell one completion, which goes with its request.
 //! - *job*: an accepted request on its way to a worker, with its tag. Its *answer* is the line of its reply and the sectors that a
-//!   write leaves; its *completion* brings the answer back. Once it is told, a *receipt* is left of the duty: a worker comes back
-//!   with as many as it drew requests.
+//!   write leaves; its *completion* brings the answer back. Once the completion is told, a *receipt* is left of the duty: a
+//!   worker comes back with as many receipts as it drew requests.
 //! - `J` is the run: `J.script` its script, `J.queue` the queue that requests enter. `C` is its queue of completions, and `L` its
 //!   queue of requests: `C.id` and `L.id` say which. Each is a name that a run takes once it has the thing (src/naming.rt).
 #![tactic(auto)]

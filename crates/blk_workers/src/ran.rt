@@ -9,7 +9,7 @@ pub struct Ran {
     pub replies: Vec<u8>,
     /// The disk that the script leaves.
     pub disk: Disk,
-    /// For each worker the numbers of the requests that it drew, as the accepted ones are counted from 0 in the
-    /// script's order.
+    /// One list for each worker, in no order that is promised: the numbers of the requests that it drew, as the accepted
+    /// ones are counted from 0 in the script's order.
     pub drawn: Vec<Vec<u32>>,
 }

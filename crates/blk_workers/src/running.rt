@@ -22,7 +22,8 @@ use std::marker::Brand;
 use std::sync::Wait;
 use std::thread::Threads;
 
-// A run whose types name its queue of requests.
+// A run takes three names, each once the thing is made: that of the run in `run`, those of its queues in `run_as` and
+// `run_on`. This one has all three.
 fn run_in<
     J: Run + Send + Sync,
     C: QueueName + Send + Sync,

@@ -7,10 +7,10 @@ pub enum Point {
     Entered,
     /// A worker has taken the request.
     Drawn,
-    /// A worker has queued the request's completion, and not left the queue yet.
+    /// A worker has told the request's completion, and not left the queue yet.
     Completed,
-    /// The submitter has drained the queue. A line that finds it frozen, and so drained, tells nothing, and nor does
-    /// the end.
+    /// The submitter has drained the queue. Where a line, or the end, finds it frozen, it is drained already, and the point
+    /// isn't passed.
     Drained,
 }
 

@@ -3,7 +3,7 @@ ghost use Rattle.std.specs.Prelude.{◌≡◌, ◌+◌, ◌<◌, IfOk, None, OnO
 ghost use Rattle.script_meaning.specs.Script.{Meant};
 ghost use Rattle.script_meaning.specs.Requests.{accepted_at, accepted_in_all};
 ghost use Rattle.blk_script.specs.Texts.{reply_line};
-ghost use Rattle.blk_workers.specs.Progress.{HasCollected, HasPassed, HasReplied, HasTaken, IsAt, IsAtStartWith, IsCollecting, IsEnd, IsReplyNext, IsRequestNext, IsRun, MayTake, StayOwn};
+ghost use Rattle.blk_workers.specs.Progress.{HasCollected, HasPassed, HasReplied, HasTaken, IsAt, IsAtStartWith, IsCollecting, IsEnd, IsReplyNext, IsRequestNext, IsRun, IsBeforeLine, KeepTheirQueues};
 ghost use Rattle.run_desk.specs.Desk.{MayJoin, MayPass, MayTakeReply, Stands, owed_count};
 
 use crate::collecting::{collect_all, collect_some};
@@ -95,7 +95,7 @@ impl Submitter {
         })
     }
 
-    // Drains the queue, and opens it again, before an ordered request.
+    // Collects what is there; before an ordered request it drains the queue, and opens it again.
     fn make_way<J: Run, C: QueueName, L: QueueName, R: Wait, S: Stall>(
         &mut self,
         hall: &Hall<'_, J, C, L, R, S>,
@@ -112,6 +112,7 @@ impl Submitter {
         }
         self.drain(hall, collector)?;
         let queue = hall.queue;
+        // Each line kills the gate once at most.
         let lines = self.desk.replies.len() + 1;
         follow(&mut self.freezer, queue, &self.state, lines);
         Ok(())
@@ -127,7 +128,7 @@ impl Submitter {
         requires taken { HasTaken J.script J.queue L.id C.id (length self.old.desk.replies) self.old ends.old.source ends.old.collector }
         requires next { IsRequestNext J.script (length self.old.desk.replies) request }
         ensures taken { OnOk result (HasTaken J.script J.queue L.id C.id (length self.old.desk.replies + 1) self.new ends.new.source ends.new.collector) }
-        ensures kept { StayOwn J.queue ends.old.source ends.new.source self.new.freezer }
+        ensures kept { KeepTheirQueues J.queue ends.old.source ends.new.source self.new.freezer }
     {
         let accepted = Accepted {
             request,
@@ -161,14 +162,14 @@ impl Submitter {
     }
 
     // Takes the next line, whose reply is there and after which the script's queue is `next`.
-    fn pass<J: Run, C: QueueName, L: QueueName, R, S>(
+    fn reply_and_follow<J: Run, C: QueueName, L: QueueName, R, S>(
         &mut self,
         hall: &Hall<'_, J, C, L, R, S>,
         next: QueueState,
         number: u32,
         reply: &Reply,
     ) -> Result<(), RunFault>
-        requires may_take { MayTake J.script J.queue self.old }
+        requires may_take { IsBeforeLine J.script J.queue self.old }
         requires passes { MayPass J.script self.old.desk.replies }
         requires next { IsReplyNext J.script self.old.desk.replies number reply.now next }
         ensures passed { OnOk result (HasPassed J.script J.queue self.old self.new) }
@@ -197,16 +198,16 @@ impl Submitter {
         requires more { length self.old.desk.replies < length J.script.lines }
         requires next { accepted_at J.script (length self.old.desk.replies) ≡ None }
         ensures taken { OnOk result (HasTaken J.script J.queue L.id C.id (length self.old.desk.replies + 1) self.new ends.new.source ends.new.collector) }
-        ensures kept { StayOwn J.queue ends.old.source ends.new.source self.new.freezer }
+        ensures kept { KeepTheirQueues J.queue ends.old.source ends.new.source self.new.freezer }
     {
         let line = &hall.checked.script().lines()[self.desk.replies.len()];
         let mut next = self.state;
         match next.take(&line.what) {
             Outcome::Drained(reply) => {
                 self.drain(hall, &mut ends.collector)?;
-                self.pass(hall, next, line.number, &reply)
+                self.reply_and_follow(hall, next, line.number, &reply)
             }
-            Outcome::Replied(reply) => { self.pass(hall, next, line.number, &reply) }
+            Outcome::Replied(reply) => { self.reply_and_follow(hall, next, line.number, &reply) }
             // The check found that the queue accepts no request here.
             Outcome::Accepted(_) => unreachable!(),
         }
@@ -221,7 +222,7 @@ impl Submitter {
         requires taken { HasTaken J.script J.queue L.id C.id (length self.old.desk.replies) self.old ends.old.source ends.old.collector }
         requires more { length self.old.desk.replies < length J.script.lines }
         ensures taken { OnOk result (HasTaken J.script J.queue L.id C.id (length self.old.desk.replies + 1) self.new ends.new.source ends.new.collector) }
-        ensures kept { StayOwn J.queue ends.old.source ends.new.source self.new.freezer }
+        ensures kept { KeepTheirQueues J.queue ends.old.source ends.new.source self.new.freezer }
     {
         match hall.checked.request(self.desk.replies.len()) {
             Some(request) => self.submit(hall, ends, request),
@@ -238,7 +239,7 @@ impl Submitter {
         requires start { HasTaken J.script J.queue L.id C.id 0 self.old ends.old.source ends.old.collector }
         ensures end { OnOk result (IsEnd J.script self.new) }
         ensures pushed { OnOk result (ends.new.source ≡ record ends.old.source { pushed = accepted_in_all J.script }) }
-        ensures kept { StayOwn J.queue ends.old.source ends.new.source self.new.freezer }
+        ensures kept { KeepTheirQueues J.queue ends.old.source ends.new.source self.new.freezer }
     {
         for position in 0..hall.checked.script().lines().len() {
             let _ = position;

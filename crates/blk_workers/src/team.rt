@@ -2,7 +2,7 @@
 ghost use Rattle.std.specs.Prelude.{◌≡◌, ◌+◌, ◌-◌, ◌<◌, ◌≤◌, All, IfOk, IfSome, OnOk, length, vec_capacity};
 ghost use Rattle.run_queues.specs.Requests.{all_parts};
 ghost use Rattle.script_meaning.specs.Requests.{accepted_in_all};
-ghost use Rattle.blk_workers.specs.Progress.{AreBack, AreNewEnds, AreOut, AreReady, IsAt, IsEnd, IsLed, IsNewDrawer};
+ghost use Rattle.blk_workers.specs.Progress.{AreBack, AreNewEnds, AreOut, AreAtStart, IsAt, IsEnd, IsLed, IsNewDrawer};
 
 use crate::fault::RunFault;
 use crate::hall::Hall;
@@ -129,7 +129,7 @@ fn gather<J: Run, C: QueueName, L: QueueName, R: Threads, S>(
 }
 
 // Starts a worker for each of these rights to draw, on one slot after the other. They are fewer where the start of a
-// thread is refused.
+// thread is refused. The list comes in empty, with room for all: once a thread runs, no memory is asked for its handle.
 fn start<
     's,
     'e,
@@ -212,7 +212,7 @@ pub(crate) fn with_workers<
     ends: Ends<J, C>,
     drawers: Vec<Drawer<Job<J, C>>>,
 ) -> Result<(Submitter, Source<Job<J, C>>), RunFault>
-    requires ready { AreReady J.script J.queue L.id C.id (length drawers.items) submitter ends.source ends.collector drawers.items }
+    requires ready { AreAtStart J.script J.queue L.id C.id (length drawers.items) submitter ends.source ends.collector drawers.items }
     ensures led { IfOk result (λ led. IsLed J.script L.id (length drawers.items) led.0 led.1) }
 {
     let workers = drawers.len();
@@ -221,7 +221,7 @@ pub(crate) fn with_workers<
         thread::scope_env(),
         hall.rt,
         move |scope| -> Result<(Submitter, Source<Job<J, C>>), RunFault>
-            requires ready { AreReady J.script J.queue L.id C.id workers submitter ends.source ends.collector drawers.items }
+            requires ready { AreAtStart J.script J.queue L.id C.id workers submitter ends.source ends.collector drawers.items }
             requires room { (length room.items ≡ 0) × (workers ≤ vec_capacity room) }
             ensures led { IfOk result (λ led. IsLed J.script L.id workers led.0 led.1) }
         {

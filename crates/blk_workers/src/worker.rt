@@ -60,7 +60,7 @@ impl<J: Run, C: QueueName, L: QueueName> FinishedWorker<J, C, L> {
     }
 }
 
-// Does a request: the tag leaves on this worker's own slot once the completion is queued, and goes back to whoever
+// Does a request: the tag leaves on this worker's own slot once the completion is told, and goes back to whoever
 // submits.
 fn serve<J: Run, C: QueueName, L: QueueName, R: Wait, S: Stall>(
     hall: &Hall<'_, J, C, L, R, S>,

@@ -66,7 +66,7 @@ pub record IsReplyLine (script : Meant) (position : ℕ) (text : List ℕ) : Typ
   pub replied : IsReply (state_at script position) line.what reply
   pub told : text ≡ reply_line (line.number, reply)
 
--- what a worker answers to a request: the line of its reply, and the sectors that a write leaves, from the request's first on
+-- what a request is answered: the line of its reply, and the sectors that a write leaves, from the request's first on
 pub record IsAnswer (script : Meant) (position : ℕ) (text : List ℕ) (start : ℕ) (sectors : List (List ℕ)) : Type 0 where
   pub line : Line
   pub request : IsRequestAt script position line

@@ -17,7 +17,8 @@ pub struct Desk {
     pub replies: Replies,
 }
 
-// The sectors of a disk that a request finds: none where it writes.
+// The sectors of a disk that an accepted request finds: none where it writes. It is within the disk, so only memory can be
+// refused.
 fn found(alloc: Global, disk: &Disk, request: Request) -> Result<Vec<Sector>, AllocError>
     ensures { IfOk result (λ found. found.items ≡ (if request.writes then [] else sectors_read request.start request.count disk.now)) }
 {

@@ -1,4 +1,4 @@
--- What a queue of requests, and those who push and draw, are to a caller.
+-- What the queues, and those who push, draw, tell and collect, are to a caller.
 use Rattle.std.specs.Prelude.{◌≡◌, ℕ, ◌+◌, ◌||◌, ◌++◌, ◌∷◌, [], Bool, true, false, List, Option, Some, None}
 use Rattle.atomic_table.specs.Seated.{TableId}
 use Rattle.crossbeam_queue.specs.Passes.{Pass, view}

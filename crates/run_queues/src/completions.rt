@@ -154,9 +154,9 @@ impl<T: Numbered + Drop> Model for Receipt<T> {
 
     ghost Value = { DutyFacts };
 
-    ghost view = { λ t. record { queue = t.seat.table_id; number = t.number } };
+    ghost view = { λ r. record { queue = r.seat.table_id; number = r.number } };
 
-    ghost invariant = { λ t. known t.seat ≡ no_turn };
+    ghost invariant = { λ r. known r.seat ≡ no_turn };
 }
 
 impl<T: Numbered + Drop> CompletionQueue<T> {

@@ -6,13 +6,13 @@
 //! back, `finish` gives the lists of what they drew: each increases, and together they have each request once.
 //!
 //! A [`CompletionQueue`] goes the other way: its [`Collector`] gives a [`Duty`] for each request, which goes with the
-//! request and is used up when its completion is told: what is left of it is [`Receipt`], by which a thread shows that it
+//! request and is used up when its completion is told: what is left of it is a [`Receipt`], by which a thread shows that it
 //! told. So each is collected once at most. A [`SpareQueue`] holds what isn't in use; what is known of it is what its type
 //! keeps.
 //!
 //! `specs/Requests.antt` and `specs/Completions.antt` have the rules, which hold at each moment and which each step
 //! keeps; `specs/Parts.antt` what those who take part know, and `specs/Numbers.antt` what draws are. The tests in
-//! `run_trials` show how a caller reasons. That a thread that waits gets on is promised nowhere: they show it.
+//! `trials_run` show how a caller reasons. That a thread that waits gets on is promised nowhere: they show it.
 #![tactic(auto)]
 
 mod completions;

@@ -35,7 +35,7 @@ pub(crate) struct RuledQueue<T: Drop, V, P: Protocol<T, V>> {
     taken: WaitQueue,
     /// How many threads sleep, or are about to, because there was no item.
     sleeping: AtomicUsize,
-    /// How many threads look for an item. It changes with each look, so it shares its lines with nothing else.
+    /// How many threads look for an item. It changes with each look, so it shares its cache lines with nothing else.
     looking: CachePadded<AtomicUsize>,
 }
 
@@ -199,7 +199,7 @@ impl<T: Drop, V, P: Protocol<T, V>> RuledQueue<T, V, P> {
     }
 
     // After a pop: there is room, and what is left is for the next. The queue is looked at only for one who sleeps,
-    // since each look takes lines from whoever pushes.
+    // since each look takes cache lines from whoever pushes.
     fn pass_on(&self, pass: &mut Pass<T, V>)
         requires { IsPassOf self.now.ring pass.old }
         ensures { IsSamePass pass.old pass.new × (view pass.new ≡ view pass.old) }

@@ -129,8 +129,8 @@ impl QueueState {
         }
     }
 
-    /// Counts a request that the queue accepts. Whoever knows that it does, and which one, takes the line by this: it is
-    /// what [`take`](QueueState::take) does of such a line.
+    /// Counts an accepted request. Whoever knows already that a line is one takes the line by this alone: it is what
+    /// [`take`](QueueState::take) does of such a line.
     pub fn count(&mut self, request: &Request)
         requires { counted self.old + 1 < 2 ^ 64 }
         ensures { self.new ≡ request_counted self.old request.now }
@@ -142,6 +142,7 @@ impl QueueState {
         }
     }
 
+    // Decides whether a request is accepted: the queue isn't frozen, and the request ends within the disk.
     fn request(&mut self, request: Request) -> Outcome
         requires { counted self.old + 1 < 2 ^ 64 }
         ensures outcome { result ≡ (request_taken self.old request).0 }

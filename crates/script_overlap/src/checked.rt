@@ -10,8 +10,8 @@ use std::marker::Model;
 
 /// A script of which no two requests overlap, as [`check`](crate::check) found. Contracts see the script.
 ///
-/// It keeps what the check decided of the requests, so that whoever runs the script decides none of it again: which the
-/// queue accepts, how many they are, and which are ordered.
+/// It keeps which requests the queue accepts, how many they are, and which are ordered, so that whoever runs the script
+/// decides none of these again. The other lines are taken anew, for their replies.
 #[derive(Drop)]
 pub struct Checked {
     script: Script,

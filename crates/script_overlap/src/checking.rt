@@ -11,7 +11,7 @@ use script_meaning::{Outcome, QueueState, Request, Script};
 use std::alloc::Global;
 
 // The number of the first line before a position whose request is in the span that reaches there, and clashes
-// with the request.
+// with the request. It takes the lines anew, once, for a script that is refused.
 fn earliest(script: &Script, position: usize, request: &Request) -> Option<u32>
     requires { position ≤ length script.now.lines }
     ensures { Finds script.now position request.now result }

@@ -1,7 +1,7 @@
 use Rattle.std.proofs.Common.{◌∙◌, sym, ap, subst, ◌∷◌, [], length, Some}
 use Rattle.std.proofs.lemmas.List.{length-append}
 use Rattle.blk_workers.specs.Progress.{AreAwaited}
-use Rattle.blk_workers.proofs.Awaited.{awaited_settled}
+use Rattle.blk_workers.proofs.Awaited.{awaited_replied}
 use Rattle.blk_workers.proofs.submitter.reply_now.Goals as goal
 
 pub returns : goal.returns
@@ -11,6 +11,6 @@ returns c = record {
     lines = ap length c.in_ok-reply.ensures.told ∙ length-append c.args.desk.now.replies (Some c.in-Ok.text.items ∷ []);
     awaited = λ given collected is awaited.
         subst (λ replies. AreAwaited c.args.script.now replies given collected) (sym c.in_ok-reply.ensures.told)
-        (awaited_settled c.args.script.now c.args.desk.now.replies given collected (Some c.in-Ok.text.items) is awaited);
+        (awaited_replied c.args.script.now c.args.desk.now.replies given collected (Some c.in-Ok.text.items) is awaited);
   };
 }

@@ -12,8 +12,8 @@ use Rattle.run_desk.proofs.Numbering.{counts_line}
 use Rattle.blk_workers.specs.Progress.{IsAt}
 use Rattle.blk_workers.proofs.submitter.Submitter.reply_to.Goals as goal
 
-pub pass-requires-clause-next : goal.pass-requires-clause-next
-pass-requires-clause-next g c =
+pub reply_and_follow-requires-clause-next : goal.reply_and_follow-requires-clause-next
+reply_and_follow-requires-clause-next g c =
     let came = came_to g.J.Run.script g.J.Run.script (length c.args.self.now.desk.replies) c.len.result c.lines.result.now c.index-lines-len.result c.args.self.now.state c.take.new.self (Drained c.in-Drained.reply) refl
     (c.lines.ensures ∙ ap (λ (s : Meant). s.lines) (c.script.ensures ∙ c.hall.invariant.its_script)) c.len.ensures c.requires.more c.index-lines-len.is c.requires.taken.at.state c.in-Drained.ensures.outcome c.take.ensures.after c.take.ensures.counts in
     let same = sym c.drain.ensures.collected.lines in
@@ -23,14 +23,14 @@ pass-requires-clause-next g c =
       queue = subst (λ p. IsQueueAt g.J.Run.script (p + 1) c.take.new.self) same (next_queue g.J.Run.script (length c.args.self.now.desk.replies) c.index-lines-len.result c.args.self.now.state c.take.new.self (Drained c.in-Drained.reply) came);
     }
 
-pub pass-requires-in-Replied-clause-passes : goal.pass-requires-in-Replied-clause-passes
-pass-requires-in-Replied-clause-passes g c =
+pub reply_and_follow-requires-in-Replied-clause-passes : goal.reply_and_follow-requires-in-Replied-clause-passes
+reply_and_follow-requires-in-Replied-clause-passes g c =
     let came = came_to g.J.Run.script g.J.Run.script (length c.args.self.now.desk.replies) c.len.result c.lines.result.now c.index-lines-len.result c.args.self.now.state c.take.new.self (Replied c.in-Replied.reply) refl
     (c.lines.ensures ∙ ap (λ (s : Meant). s.lines) (c.script.ensures ∙ c.hall.invariant.its_script)) c.len.ensures c.requires.more c.index-lines-len.is c.requires.taken.at.state c.in-Replied.ensures.outcome c.take.ensures.after c.take.ensures.counts in
     inl (drains_there g.J.Run.script (length c.args.self.now.desk.replies) c.index-lines-len.result c.args.self.now.state c.take.new.self (Replied c.in-Replied.reply) came)
 
-pub pass-requires-in-Replied-clause-next : goal.pass-requires-in-Replied-clause-next
-pass-requires-in-Replied-clause-next g c =
+pub reply_and_follow-requires-in-Replied-clause-next : goal.reply_and_follow-requires-in-Replied-clause-next
+reply_and_follow-requires-in-Replied-clause-next g c =
     let came = came_to g.J.Run.script g.J.Run.script (length c.args.self.now.desk.replies) c.len.result c.lines.result.now c.index-lines-len.result c.args.self.now.state c.take.new.self (Replied c.in-Replied.reply) refl
     (c.lines.ensures ∙ ap (λ (s : Meant). s.lines) (c.script.ensures ∙ c.hall.invariant.its_script)) c.len.ensures c.requires.more c.index-lines-len.is c.requires.taken.at.state c.in-Replied.ensures.outcome c.take.ensures.after c.take.ensures.counts in
     record {
@@ -49,9 +49,9 @@ returns-in_ok-drain-in-Drained-clause-taken g c =
     let drained = c.drain.ensures.collected in
     let mine : CollectorFacts = c.drain.new.collector in
     let given = ap (λ (k : CollectorFacts). k.given) drained.collector ∙ handed.duties in
-    on_ok c.pass.result _ _
+    on_ok c.reply_and_follow.result _ _
     (λ passed. record {
-      at = subst (λ n. IsAt g.J.Run.script g.J.Run.queue (n + 1) c.pass.new.self) drained.lines passed.at;
+      at = subst (λ n. IsAt g.J.Run.script g.J.Run.queue (n + 1) c.reply_and_follow.new.self) drained.lines passed.at;
       handed_over = record {
         pushes = handed.pushes;
         collects = drained.collecting.own;
@@ -61,7 +61,7 @@ returns-in_ok-drain-in-Drained-clause-taken g c =
         awaited = passed.awaited mine.given mine.collected (given ∙ ap (accepted_before g.J.Run.script) (sym drained.lines)) drained.collecting.awaited;
       };
     })
-    c.pass.ensures.passed
+    c.reply_and_follow.ensures.passed
 
 pub returns-in-Replied-clause-taken : goal.returns-in-Replied-clause-taken
 returns-in-Replied-clause-taken g c =
@@ -71,7 +71,7 @@ returns-in-Replied-clause-taken g c =
     let same = sym (counts_line g.J.Run.script here (accepted_there g.J.Run.script (length c.args.self.now.desk.replies) c.index-lines-len.result c.args.self.now.state c.take.new.self (Replied c.in-Replied.reply) came)) in
     let handed = c.requires.taken.handed_over in
     let mine : CollectorFacts = c.args.ends.now.collector in
-    on_ok c.pass-in-Replied.result _ _
+    on_ok c.reply_and_follow-in-Replied.result _ _
     (λ passed. record {
       at = passed.at;
       handed_over = record {
@@ -83,4 +83,4 @@ returns-in-Replied-clause-taken g c =
         awaited = passed.awaited mine.given mine.collected handed.duties handed.awaited;
       };
     })
-    c.pass-in-Replied.ensures.passed
+    c.reply_and_follow-in-Replied.ensures.passed

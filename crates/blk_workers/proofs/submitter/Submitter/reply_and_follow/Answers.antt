@@ -7,7 +7,7 @@ use Rattle.run_desk.specs.Desk.{Stands}
 use Rattle.blk_workers.specs.Progress.{IsFollowing, StaysAwaited}
 use Rattle.run_desk.proofs.Numbering.{counts_line}
 use Rattle.run_desk.proofs.NextLines.{hardware_at}
-use Rattle.blk_workers.proofs.submitter.Submitter.pass.Goals as goal
+use Rattle.blk_workers.proofs.submitter.Submitter.reply_and_follow.Goals as goal
 
 pub follow-requires-clause-hardware : goal.follow-requires-clause-hardware
 follow-requires-clause-hardware g c =
@@ -18,19 +18,19 @@ pub returns-clause-passed : goal.returns-clause-passed
 returns-clause-passed g c =
     let here = length c.args.self.now.desk.replies in
     let refused : accepted_at g.J.Run.script here ≡ None = c.requires.next.refused in
-    let settled = c.in_ok-reply_now.ensures.replied in
+    let replied = c.in_ok-reply_now.ensures.replied in
     let desk = c.reply_now.new.desk in
     record {
       at = record {
-        stands = subst (λ (s : Meant). Stands s desk.replies desk.disk) (c.script.ensures ∙ c.hall.invariant.its_script) settled.stands;
-        lines = settled.lines;
+        stands = subst (λ (s : Meant). Stands s desk.replies desk.disk) (c.script.ensures ∙ c.hall.invariant.its_script) replied.stands;
+        lines = replied.lines;
         state = c.requires.next.queue;
         freezer =
             subst (λ (q : QueueFacts). IsFollowing q (here + 1) c.follow.new.freezer) c.hall.invariant.its_queue
-            (subst (λ n. IsFollowing c.hall.inside.queue.now n c.follow.new.freezer) (c.len-lines.ensures ∙ settled.lines) c.follow.ensures.follows);
+            (subst (λ n. IsFollowing c.hall.inside.queue.now n c.follow.new.freezer) (c.len-lines.ensures ∙ replied.lines) c.follow.ensures.follows);
         mode = c.follow.ensures.mode;
         counted = record { is = c.requires.may_take.counted.is ∙ sym (counts_line g.J.Run.script here refused); few = omega (arith, c.requires.may_take.counted.few) };
       };
       awaited =
-          subst (λ (s : Meant). StaysAwaited s c.args.self.now.desk.replies desk.replies) (c.script.ensures ∙ c.hall.invariant.its_script) settled.awaited;
+          subst (λ (s : Meant). StaysAwaited s c.args.self.now.desk.replies desk.replies) (c.script.ensures ∙ c.hall.invariant.its_script) replied.awaited;
     }
