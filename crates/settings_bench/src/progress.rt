@@ -64,7 +64,7 @@ impl Mark {
     /// It ends.
     pub fn stretch<R: Clock>(self, rt: &R, progress: &ReaderProgress) -> io::Result<Stretch> {
         Ok(Stretch {
-            rounds: told
+            rounds: progress
                 .rounds
                 .load(Ordering::SeqCst)
                 .saturating_sub(self.rounds),
