@@ -1,4 +1,4 @@
-# What the Makefiles of the libraries for C have in common. What rt lib proves and builds of a crate, the kit's C part and
+# What the Makefiles of the libraries for C have in common. What is proved and built of a crate, the kit's C part and
 # library/NAME.c become one static library and one shared object, which show NAME_* alone. Of the Makefile that includes
 # this:
 #
@@ -27,7 +27,7 @@ PAGES = $(HEADERS:%=out/c/%.3)
 all: out/c/lib$(NAME).a out/c/lib$(NAME).so.1 $(PAGES)
 
 $(PROVED): ../../crates.txt $(SOURCES)
-	$(COMMON)/prove $(CRATE)
+	../../tools/prove_below --with $(CRATE)
 	touch $@
 
 out/c/$(NAME).o: $(PROVED) library/$(NAME).c $(INCLUDED)

@@ -26,7 +26,7 @@ use std::rt::Env;
 use std::sync::Wait;
 use std::thread::Threads;
 use std::time::{Clock, CpuClock};
-use table::{CSV_HEAD, CsvLine, HEADS, Line};
+use table::{CSV_HEAD, CsvRow, HEADS, Row};
 
 /// The most threads at once, and the most rounds of each.
 const MOST: Most = Most {
@@ -65,7 +65,7 @@ fn time<R: Threads + Wait + Sync + Clock + CpuClock + Print + Eprint + AllocGlob
         if first == 0 {
             first = timed.clock.least;
         }
-        let line = Line {
+        let row = Row {
             form,
             threads,
             rounds,
@@ -73,9 +73,9 @@ fn time<R: Threads + Wait + Sync + Clock + CpuClock + Print + Eprint + AllocGlob
             first,
         };
         if is_csv {
-            println!(rt; "{}", CsvLine(line))?;
+            println!(rt; "{}", CsvRow(row))?;
         } else {
-            println!(rt; "{line}")?;
+            println!(rt; "{row}")?;
         }
     }
     Ok(())

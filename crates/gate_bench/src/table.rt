@@ -1,4 +1,4 @@
-//! The lines of the table, for a reader and for a program.
+//! The rows of the table, for a reader and for a program.
 use crate::form::Form;
 use crate::runs::Timed;
 use bench_parts::{Column, Hundredths};
@@ -15,7 +15,7 @@ pub const CSV_HEAD: &str = "form,threads,clock least,clock middle,processor leas
 
 /// What so many threads took for a form: nanoseconds of a round by the clock, and in processor time of one thread.
 #[derive(Clone, Copy, Debug, PartialEq, Eq)]
-pub struct Line {
+pub struct Row {
     pub form: Form,
     pub threads: u32,
     /// On each thread.
@@ -25,7 +25,7 @@ pub struct Line {
     pub first: u64,
 }
 
-impl Line {
+impl Row {
     /// The least and the middle by the clock, and the least and the middle in processor time.
     fn rounds_taken(&self) -> [Hundredths; 4] {
         let (rounds, timed) = (u128::from(self.rounds), self.timed);
@@ -39,7 +39,7 @@ impl Line {
     }
 }
 
-impl fmt::Display for Line {
+impl fmt::Display for Row {
     fn fmt<W: fmt::Write>(&self, f: &mut fmt::Formatter<W>) -> fmt::Result {
         let [least, middle, processor, processor_middle] = self.rounds_taken();
         let ratio = Hundredths::of(self.timed.clock.least, u128::from(self.first));
@@ -59,17 +59,17 @@ impl fmt::Display for Line {
 
 /// The same for a program: words with a comma between them. A form's name has commas, so it stands in quotes.
 #[derive(Clone, Copy, Debug, PartialEq, Eq)]
-pub struct CsvLine(pub Line);
+pub struct CsvRow(pub Row);
 
-impl fmt::Display for CsvLine {
+impl fmt::Display for CsvRow {
     fn fmt<W: fmt::Write>(&self, f: &mut fmt::Formatter<W>) -> fmt::Result {
-        let line = self.0;
-        let [least, middle, processor, processor_middle] = line.rounds_taken();
+        let row = self.0;
+        let [least, middle, processor, processor_middle] = row.rounds_taken();
         write!(
             f,
             "\"{}\",{},{least},{middle},{processor},{processor_middle}",
-            line.form.name(),
-            line.threads
+            row.form.name(),
+            row.threads
         )
     }
 }

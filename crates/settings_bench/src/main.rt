@@ -29,7 +29,7 @@ use std::rt::Env;
 use std::sync::Wait;
 use std::thread::Threads;
 use std::time::Clock;
-use table::{CSV_HEAD, CsvLine, HEADS, Line};
+use table::{CSV_HEAD, CsvRow, HEADS, Row};
 
 /// The most threads that read, and the most changes.
 const MOST: Most = Most {
@@ -67,15 +67,15 @@ fn time<R: Threads + Wait + Sync + Clock + Print + AllocGlobal>(
 {
     for form in FORMS {
         let race = run_race(rt, rt.alloc(), form, threads, changes)?;
-        let line = Line {
+        let row = Row {
             form,
             threads,
             race,
         };
         if is_csv {
-            println!(rt; "{}", CsvLine(line))?;
+            println!(rt; "{}", CsvRow(row))?;
         } else {
-            println!(rt; "{line}")?;
+            println!(rt; "{row}")?;
         }
     }
     Ok(())

@@ -1,4 +1,4 @@
-//! The lines of the table, for a reader and for a program.
+//! The rows of the table, for a reader and for a program.
 use crate::form::Form;
 use crate::progress::Stretch;
 use crate::race::Race;
@@ -29,14 +29,14 @@ fn millions(stretch: Stretch) -> Hundredths {
 
 /// What came of a form on so many threads.
 #[derive(Clone, Copy, Debug, PartialEq, Eq)]
-pub struct Line {
+pub struct Row {
     pub form: Form,
     /// Those that read.
     pub threads: u32,
     pub race: Race,
 }
 
-impl Line {
+impl Row {
     /// A change's median and 99th percentile, and the rounds with no change and meanwhile.
     fn figures(&self) -> [Hundredths; 4] {
         let race = self.race;
@@ -49,7 +49,7 @@ impl Line {
     }
 }
 
-impl fmt::Display for Line {
+impl fmt::Display for Row {
     fn fmt<W: fmt::Write>(&self, f: &mut fmt::Formatter<W>) -> fmt::Result {
         let [median, ninety_ninth, alone, meanwhile] = self.figures();
         let kept = Hundredths::of(u64::try_from(meanwhile.0).unwrap_or(u64::MAX), alone.0);
@@ -69,17 +69,17 @@ impl fmt::Display for Line {
 
 /// The same for a program: words with a comma between them.
 #[derive(Clone, Copy, Debug, PartialEq, Eq)]
-pub struct CsvLine(pub Line);
+pub struct CsvRow(pub Row);
 
-impl fmt::Display for CsvLine {
+impl fmt::Display for CsvRow {
     fn fmt<W: fmt::Write>(&self, f: &mut fmt::Formatter<W>) -> fmt::Result {
-        let line = self.0;
-        let [median, ninety_ninth, alone, meanwhile] = line.figures();
+        let row = self.0;
+        let [median, ninety_ninth, alone, meanwhile] = row.figures();
         write!(
             f,
             "{},{},{median},{ninety_ninth},{alone},{meanwhile}",
-            line.form.name(),
-            line.threads
+            row.form.name(),
+            row.threads
         )
     }
 }
