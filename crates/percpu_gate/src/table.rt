@@ -4,7 +4,7 @@ ghost use Rattle.percpu_core.specs.declared.limits.TheConstants.{SLOT_LIMIT, WOR
 ghost use Rattle.percpu_core.specs.Cells.{slot_spelling};
 ghost use Rattle.percpu_core.specs.Starts.{first_cells, first_slot};
 ghost use Rattle.percpu_core.specs.Snapshots.{first_control};
-ghost use Rattle.percpu_gate.specs.Layout.{words_in_all, Spell};
+ghost use Rattle.percpu_gate.specs.Layout.{slot_place, words_in_all, Spell};
 ghost use Rattle.percpu_gate.specs.Rule.{opening_of};
 ghost use Rattle.percpu_gate.specs.Seats.{facts_of, Moment};
 ghost use Rattle.percpu_core.specs.declared.view.View.TheVariants.{OfControl};
@@ -27,10 +27,18 @@ pub(crate) const FRONT: usize = 32;
 pub(crate) const FIRST_WORD: usize = 33;
 
 /// Where the first slot lies, apart from the words before it by more than 128 bytes.
-pub(crate) const FIRST_SLOT: usize = 64;
+const FIRST_SLOT: usize = 64;
 
 /// A slot is hot in every thread, so it is alone on 128 bytes.
-pub(crate) const WORDS_OF_A_SLOT: usize = 16;
+const WORDS_OF_A_SLOT: usize = 16;
+
+/// Where a slot lies.
+#[inline]
+pub(crate) fn place_of(slot: u32) -> usize
+    ensures { result ≡ slot_place slot }
+{
+    FIRST_SLOT + WORDS_OF_A_SLOT * slot as usize
+}
 
 /// The words of a gate.
 #[derive(Drop)]
@@ -72,7 +80,8 @@ fn first_words(alloc: Global, key: &GateKey) -> Result<Vec<u64>, AllocError>
     ensures count { IfOk result (λ ws. length (take key.now.count key.now.words) ≡ key.now.count) }
 {
     let slot = first_slot_word(key.start);
-    let size = FIRST_SLOT + WORDS_OF_A_SLOT * key.slots as usize;
+    // It ends where one slot more would begin.
+    let size = place_of(key.slots);
     let mut words = Vec::with_capacity(alloc, size)?;
     words.resize(SHARED, slot)?;
     words.push(key.start.shared())?;

@@ -15,7 +15,7 @@ ghost use Rattle.percpu_gate.specs.Rule.{sizes_at};
 
 use super::ControlSeat;
 use crate::control_plays::{AddsBias, ClosesSlot, Collects, OpensSlot};
-use crate::table::{FIRST_SLOT, GateTable, SHARED, WORDS_OF_A_SLOT};
+use crate::table::{GateTable, SHARED, place_of};
 use percpu_words::{BIAS, CLOSED, slot_delta, slot_word};
 
 impl ControlSeat {
@@ -28,7 +28,7 @@ impl ControlSeat {
         ensures own { self.new.gate ≡ self.old.gate }
         ensures step { ControlStep (facts_of gate.now) events.Close self.old.view self.new.view (Collected (unwrap_or result (pos 0))) }
     {
-        let place = FIRST_SLOT + WORDS_OF_A_SLOT * slot as usize;
+        let place = place_of(slot);
         let found = gate
             .table
             .shared
@@ -69,7 +69,7 @@ impl ControlSeat {
         ensures own { self.new.gate ≡ self.old.gate }
         ensures step { ControlStep (facts_of gate.now) events.OpenNext self.old.view self.new.view Done }
     {
-        let place = FIRST_SLOT + WORDS_OF_A_SLOT * slot as usize;
+        let place = place_of(slot);
         let word = slot_word(0);
         gate.table
             .shared

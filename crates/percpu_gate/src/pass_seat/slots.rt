@@ -13,7 +13,7 @@ ghost use Rattle.percpu_gate.specs.Counts.{SlotTake, TryCounts, LiveCounts};
 
 use super::PassSeat;
 use crate::plays::{GivesOnSlot, LooksAtSlot, TakesOnSlot};
-use crate::table::{FIRST_SLOT, GateTable, WORDS_OF_A_SLOT};
+use crate::table::{GateTable, place_of};
 use crate::tried::Put;
 use percpu_words::{DELTA_MAX, slot_delta, slot_word};
 
@@ -45,7 +45,7 @@ impl PassSeat {
         ensures step { PassStep (facts_of gate.now) (events.Look slot) self.old.view self.new.view (looked result) }
         ensures small { IfSome result IsDelta }
     {
-        let place = FIRST_SLOT + WORDS_OF_A_SLOT * slot as usize;
+        let place = place_of(slot);
         slot_delta(gate.table.shared.load::<LooksAtSlot>(&mut self.seat, place))
     }
 
@@ -57,7 +57,7 @@ impl PassSeat {
         ensures own { self.new.gate ≡ self.old.gate }
         ensures step { PassStep (facts_of gate.now) (events.Take slot seen n) self.old.view self.new.view (exchanged result) }
     {
-        let place = FIRST_SLOT + WORDS_OF_A_SLOT * slot as usize;
+        let place = place_of(slot);
         let expected = slot_word(seen);
         let wanted = word_of_more(seen, n);
         let shared = &gate.table.shared;
@@ -73,7 +73,7 @@ impl PassSeat {
         ensures own { self.new.gate ≡ self.old.gate }
         ensures step { PassStep (facts_of gate.now) (events.Give slot seen n) self.old.view self.new.view (exchanged result) }
     {
-        let place = FIRST_SLOT + WORDS_OF_A_SLOT * slot as usize;
+        let place = place_of(slot);
         let expected = slot_word(seen);
         let wanted = word_of_fewer(seen, n);
         let shared = &gate.table.shared;

@@ -4,7 +4,7 @@ use Rattle.percpu_gate.proofs.SwitchSteps.{opens_at}
 use Rattle.percpu_gate.proofs.control_seat.ControlSeat.open_slot.Goals as goal
 
 pub store-requires : goal.store-requires
-store-requires c = (rw (← c.gate.view_is, ← c.self.view_is) at (ap (λ g. g.id) c.requires.own), search rules, opens_at c.gate.inside.table.shared.key _ _ _ (control_at c.gate.inside.table.shared.key _ _ _ c.self.invariant (rw (← c.gate.view_is, ← c.self.view_is) at c.requires.own)) c.args.slot c.slot_word-word.result (rw (← c.self.view_is) at c.requires.next) (search rules) (rw (← c.self.view_is) at c.requires.enabled))
+store-requires c = (rw (← c.gate.view_is, ← c.self.view_is) at (ap (λ g. g.id) c.requires.own), search rules, rw c.place_of-place.ensures (opens_at c.gate.inside.table.shared.key _ _ _ (control_at c.gate.inside.table.shared.key _ _ _ c.self.invariant (rw (← c.gate.view_is, ← c.self.view_is) at c.requires.own)) c.args.slot c.slot_word-word.result (rw (← c.self.view_is) at c.requires.next) (search rules) (rw (← c.self.view_is) at c.requires.enabled)))
 
 pub returns-clause-step : goal.returns-clause-step
 returns-clause-step c = rw (← c.gate.view_is, ← c.self.view_is) (done_as c.gate.inside.table.shared.key 0 0 _ (control_at c.gate.inside.table.shared.key _ _ _ c.self.invariant (rw (← c.gate.view_is, ← c.self.view_is) at c.requires.own)) _ _ _ _ _ (λ s cells. refl) c.store.ensures.2)
