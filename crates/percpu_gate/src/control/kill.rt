@@ -37,31 +37,16 @@ impl<const W: usize> Control<W> {
         ensures slots { IfOk result (λ slots. slots ≡ to_close self.old.view.standing.phase gate.now.slots) }
         ensures begun { IfOk result (λ slots. self.new ≡ record self.old { view = after_mark_dead self.old.view }) }
     {
-        self.begin(gate)?;
-        Ok(if self.phase == Phase::Collected {
-            0
-        } else {
-            gate.slots()
-        })
-    }
-
-    /// Begins a kill: sets DEAD.
-    fn begin(&mut self, gate: &Gate<W>) -> Result<(), ControlFault>
-        requires own { self.old.gate ≡ gate.now }
-        ensures refused { fault_of result ≡ kill_refusal self.old.view.standing.phase self.old.view.standing.kills }
-        ensures unchanged { IfErr result (λ why. self.new ≡ self.old) }
-        ensures live { IfOk result (λ _. is_live self.old.view.standing.phase ≡ true) }
-        ensures begun { IfOk result (λ _. self.new ≡ record self.old { view = after_mark_dead self.old.view }) }
-    {
         self.refuse_unless_live()?;
         self.seat.set_dead(&gate.table);
-        self.phase = if self.phase == Phase::LiveSlots {
-            Phase::Closing(0)
-        } else {
-            Phase::Collected
-        };
         self.kills += 1;
-        Ok(())
+        if self.phase == Phase::LiveSlots {
+            self.phase = Phase::Closing(0);
+            Ok(gate.slots())
+        } else {
+            self.phase = Phase::Collected;
+            Ok(0)
+        }
     }
 
     /// Begins a kill, and closes and collects what slots are open.
@@ -71,12 +56,13 @@ impl<const W: usize> Control<W> {
         ensures unchanged { IfErr result (λ why. self.new ≡ self.old) }
         ensures begun { IfOk result (λ _. self.new ≡ record self.old { view = after_gathering (after_mark_dead self.old.view) }) }
     {
-        let on_slots = self.phase == Phase::LiveSlots;
-        self.begin(gate)?;
-        if on_slots {
+        self.refuse_unless_live()?;
+        self.seat.set_dead(&gate.table);
+        self.kills += 1;
+        if self.phase == Phase::LiveSlots {
             self.seat.gather(&gate.table);
-            self.phase = Phase::Collected;
         }
+        self.phase = Phase::Collected;
         Ok(())
     }
 
