@@ -113,6 +113,14 @@ impl<const W: usize> Control<W> {
         self.releases
     }
 
+    /// The passes that aren't retired.
+    #[inline]
+    pub fn passes(&self) -> u32
+        ensures { result ≡ self.now.view.passes }
+    {
+        self.passes
+    }
+
     /// Ends a pass that holds nothing, and adds its releases to the control's. (A control that has no pass out
     /// takes none in: by the laws there is none then.)
     pub fn retire(&mut self, gate: &Gate<W>, pass: Pass<W>)
@@ -128,14 +136,15 @@ impl<const W: usize> Control<W> {
         }
     }
 
-    /// Why the gate may not end now.
-    pub(crate) fn refuse_exit(&self) -> Option<ExitWhy>
-        ensures { result ≡ exit_refusal self.now.view.standing.phase self.now.view.passes }
+    /// Why the gate may not end where so many passes are out: MidSwitch, PassesOut. Who keeps passes that he has given to
+    /// nobody, and retires them before the end, leaves these out. Linux: `percpu_ref_exit` (lib/percpu-refcount.c).
+    pub fn refuse_exit(&self, out: u32) -> Option<ExitWhy>
+        ensures { result ≡ exit_refusal self.now.view.standing.phase out }
     {
         if self.phase.is_mid_switch() {
             Some(ExitWhy::MidSwitch)
-        } else if self.passes > 0 {
-            Some(ExitWhy::PassesOut(self.passes))
+        } else if out > 0 {
+            Some(ExitWhy::PassesOut(out))
         } else {
             None
         }

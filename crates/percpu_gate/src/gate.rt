@@ -109,7 +109,7 @@ impl<const W: usize> Gate<W> {
         ensures ended { IfOk result (λ f. IsFinal control.entry.view f) }
         ensures nothing_lost { IfOk result (λ f. Ended self.entry control.entry.view) }
     {
-        if let Some(why) = control.refuse_exit() {
+        if let Some(why) = control.refuse_exit(control.passes()) {
             let gate = self;
             return Err(ExitFault { why, gate, control });
         }

@@ -19,8 +19,7 @@ use std::alloc::Global;
 use std::marker::Model;
 use std::sync::Arc;
 
-/// The control with its gate, the gate's number, the passes that no handle has had yet, and how many aren't
-/// retired.
+/// The control with its gate, the gate's number, and the passes that no handle has had yet.
 #[derive(Drop)]
 #[repr(C)]
 pub struct OpenControl {
@@ -29,7 +28,6 @@ pub struct OpenControl {
     number: GateNumber,
     waiting: Vec<Pass<WORDS>>,
     spare: Option<Pass<WORDS>>,
-    passes: u32,
     control: Control<WORDS>,
     after: [u64; 16],
 }
@@ -44,7 +42,7 @@ impl Model for OpenControl {
 
     ghost view = { λ c. record { number = c.number; waiting = length c.waiting.items + length (option_to_list c.spare); control = c.control } };
 
-    ghost invariant = { λ c. (c.control.gate ≡ arc_value c.gate) × (c.control.view.passes ≡ c.passes)
+    ghost invariant = { λ c. (c.control.gate ≡ arc_value c.gate)
         × All (λ p. p ≡ fresh_pass (arc_value c.gate)) c.waiting.items
         × IfSome c.spare (λ p. p ≡ fresh_pass (arc_value c.gate)) };
 }
@@ -106,7 +104,6 @@ impl OpenControl {
             number,
             waiting,
             spare: None,
-            passes,
             control,
             after: [0; 16],
         })
@@ -289,9 +286,6 @@ impl OpenControl {
         ensures { self.new ≡ knowing self.old (after_retire pass.pass.view self.old.control.view) }
     {
         self.control.retire(&self.gate, pass.into_pass());
-        if self.passes > 0 {
-            self.passes -= 1;
-        }
     }
 
     /// The number of its gate.
@@ -306,25 +300,14 @@ impl OpenControl {
         ensures { result ≡ self.now.control.view.passes - self.now.waiting }
     {
         let waiting = self.waiting.len() + usize::from(self.spare.is_some());
-        if waiting < self.passes as usize {
-            self.passes - waiting as u32
-        } else {
-            0
-        }
+        (self.control.passes() as usize).saturating_sub(waiting) as u32
     }
 
     /// Why the gate may not end: 20, or 22.
     pub fn refuse_exit(&self) -> Option<ExitWhy>
         ensures { result ≡ end_refusal self.now }
     {
-        let out = self.given_out();
-        if self.control.phase().is_mid_switch() {
-            Some(ExitWhy::MidSwitch)
-        } else if out > 0 {
-            Some(ExitWhy::PassesOut(out))
-        } else {
-            None
-        }
+        self.control.refuse_exit(self.given_out())
     }
 
     /// Ends the gate, once the passes that nobody asked for are taken in. Itself where somebody has a share of the
@@ -339,7 +322,6 @@ impl OpenControl {
             number,
             waiting,
             spare,
-            passes,
             mut control,
             after,
         } = self;
@@ -352,7 +334,6 @@ impl OpenControl {
                     number,
                     waiting,
                     spare,
-                    passes,
                     control,
                     after,
                 });

@@ -76,10 +76,9 @@ freezer_facts control depth limits = record {
 }
 
 -- what a freezer keeps true of what the control knows
-pub record Keeps (c : ControlView) (mode : Mode) (depth : ℕ) (limits : Bounds) (tags : ℕ) : Type 0 where
+pub record Keeps (c : ControlView) (mode : Mode) (depth : ℕ) (limits : Bounds) : Type 0 where
   pub phase : c.standing.phase ≡ (if depth == 0 then live_in mode else Dead)
   pub drained : depth ≡ 0 → c.knows_zero ≡ false
   pub most : depth ≤ MOST_DEPTH
   pub words : c.words ≡ to_words limits
   pub allowed : AreAllowed limits
-  pub out : c.passes ≡ tags

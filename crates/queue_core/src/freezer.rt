@@ -50,7 +50,6 @@ pub struct Freezer {
     control: Control<LIMIT_WORDS>,
     depth: u32,
     limits: Limits,
-    tags: u32,
 }
 
 impl Model for Freezer {
@@ -62,21 +61,20 @@ impl Model for Freezer {
 
     ghost view = { λ f. freezer_facts f.control f.depth f.limits };
 
-    ghost invariant = { λ f. Keeps f.control.view f.control.wants f.depth f.limits f.tags };
+    ghost invariant = { λ f. Keeps f.control.view f.control.wants f.depth f.limits };
 }
 
 impl Freezer {
     /// The freezer of a new queue, which counts on its slots.
-    pub(crate) fn new(control: Control<LIMIT_WORDS>, limits: Limits, tags: u32) -> Freezer
-        requires new { control ≡ after_switch Slots (fresh_control control.gate tags (to_words limits)) }
+    pub(crate) fn new(control: Control<LIMIT_WORDS>, limits: Limits) -> Freezer
+        requires new { control ≡ after_switch Slots (fresh_control control.gate control.view.passes (to_words limits)) }
         requires live { control.gate.start ≡ Atomic }
-        ensures { result ≡ first_freezer (record { gate = control.gate; hardware = limits.hardware }) limits tags }
+        ensures { result ≡ first_freezer (record { gate = control.gate; hardware = limits.hardware }) limits control.view.passes }
     {
         Freezer {
             control,
             depth: 0,
             limits,
-            tags,
         }
     }
 
@@ -97,7 +95,7 @@ impl Freezer {
     pub fn tags(&self) -> u32
         ensures { result ≡ self.now.tags }
     {
-        self.tags
+        self.control.passes()
     }
 
     /// The limits in force.
@@ -235,7 +233,6 @@ impl Freezer {
         ensures { self.new ≡ after_return tag self.old }
     {
         self.control.retire(&queue.gate, tag.into_pass());
-        self.tags = self.tags.saturating_sub(1);
     }
 
     /// The control of a freezer that ends.
@@ -250,7 +247,6 @@ impl Freezer {
             control,
             depth: _,
             limits: _,
-            tags: _,
         } = self;
         control
     }

@@ -74,7 +74,7 @@ impl BlockQueue {
         let hardware = limits.hw();
         let made = make_tags(alloc, &gate, passes, hardware)?;
         let queue = BlockQueue { gate, hardware };
-        Ok((queue, Freezer::new(control, limits, tags), made))
+        Ok((queue, Freezer::new(control, limits), made))
     }
 
     /// The slots of the queue: 1 to 64.
