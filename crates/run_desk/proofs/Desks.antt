@@ -74,10 +74,10 @@ told_more script here replies disk r up replied p text at =
           subst (λ q. IsReplyLine script q text) here_is (replied text is)
     ]
 
-pub settled : (script : Meant) (here : ℕ) (line : Line) (replies : List (Option (List ℕ))) (disk : List (List ℕ)) (text : List ℕ) → IsUpTo script here replies disk
+pub line_taken : (script : Meant) (here : ℕ) (line : Line) (replies : List (Option (List ℕ))) (disk : List (List ℕ)) (text : List ℕ) → IsUpTo script here replies disk
     → slice_get script.lines here ≡ Some line → accepted_at script here ≡ None → Passes script here replies → IsReplyLine script here text
     → IsUpTo script (here + 1) (replies ++ Some text ∷ []) disk
-settled script here line replies disk text up at refused pass replied = record {
+line_taken script here line replies disk text up at refused pass replied = record {
   lines = length-append replies (Some text ∷ []) ∙ ap (λ n. n + 1) up.lines;
   told = told_more script here replies disk (Some text) up (λ other is. let same : text ≡ other = cc in subst (IsReplyLine script here) same replied);
   span = record {
@@ -301,13 +301,13 @@ stands_collected script replies disk p text start sectors stands owed answer =
     }
 
 -- the next line is taken, with its reply
-pub stands_settled : (script : Meant) (replies : List (Option (List ℕ))) (disk : List (List ℕ)) (text : List ℕ) → Stands script replies disk → accepted_at script (length replies) ≡ None
+pub stands_line_taken : (script : Meant) (replies : List (Option (List ℕ))) (disk : List (List ℕ)) (text : List ℕ) → Stands script replies disk → accepted_at script (length replies) ≡ None
     → MayPass script replies → IsReplyLine script (length replies) text → Stands script (replies ++ Some text ∷ []) disk
-stands_settled script replies disk text stands refused pass replied =
+stands_line_taken script replies disk text stands refused pass replied =
     let len = length-append replies (Some text ∷ []) in
     let less = slice_get_within script.lines (length replies) replied.line replied.at in
     let passes : Passes script (length replies) replies = elim pass [ inl stays ↦ inl stays | inr none ↦ inr (λ p. none_counted replies p none) ] in
-    let next = settled script (length replies) replied.line replies disk text stands.up replied.at refused passes replied in
+    let next = line_taken script (length replies) replied.line replies disk text stands.up replied.at refused passes replied in
     record {
       within = omega (arith, len, less);
       up = subst (λ n. IsUpTo script n (replies ++ Some text ∷ []) disk) (sym len) next;

@@ -32,14 +32,14 @@ fn pieces(alloc: Global, limits: Limits, start: u32, count: u32) -> Result<Piece
 }
 
 // The line of a reply.
-fn told(alloc: Global, number: u32, reply: &Reply) -> Result<Vec<u8>, AllocError>
+fn reply_text(alloc: Global, number: u32, reply: &Reply) -> Result<Vec<u8>, AllocError>
     ensures { IfOk result (λ text. text.items ≡ reply_line (number, reply.now)) }
 {
     render(alloc, number, reply).map_err(|_| AllocError)
 }
 
 // The line of a read's reply: its pieces, and the runs of the sectors that it found.
-fn told_read(
+fn read_text(
     alloc: Global,
     number: u32,
     pieces: &PieceLengths,
@@ -51,7 +51,7 @@ fn told_read(
 }
 
 // The sectors of a write.
-fn made(alloc: Global, pattern: &Pattern, count: u32) -> Result<Vec<Sector>, AllocError>
+fn sectors_of(alloc: Global, pattern: &Pattern, count: u32) -> Result<Vec<Sector>, AllocError>
     ensures { IfOk result (λ sectors. sectors.items ≡ pattern_sectors pattern.now count) }
 {
     patterned(alloc, pattern.bytes(), count).map_err(|_| AllocError)
@@ -69,7 +69,7 @@ fn read(
     ensures { IfOk result (IsReadAnswer number limits start count found.now) }
 {
     let pieces = pieces(alloc, limits, start, count)?;
-    let text = told_read(alloc, number, &pieces, found)?;
+    let text = read_text(alloc, number, &pieces, found)?;
     Ok(Answer {
         text,
         start,
@@ -89,8 +89,8 @@ fn write(
     ensures { IfOk result (IsWriteAnswer number limits start count pattern.now) }
 {
     let pieces = pieces(alloc, limits, start, count)?;
-    let text = told(alloc, number, &Reply::Written { pieces })?;
-    let sectors = made(alloc, pattern, count)?;
+    let text = reply_text(alloc, number, &Reply::Written { pieces })?;
+    let sectors = sectors_of(alloc, pattern, count)?;
     Ok(Answer {
         text,
         start,

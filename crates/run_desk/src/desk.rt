@@ -30,7 +30,8 @@ fn found(alloc: Global, disk: &Disk, request: Request) -> Result<Vec<Sector>, Al
 }
 
 impl Desk {
-    /// Takes the answer to a request, which is owed: installs what it leaves, and keeps the reply.
+    /// Takes the answer to a request, which is owed: installs what it leaves, and keeps the reply. `_script` stands in the
+    /// contract alone.
     pub fn complete(&mut self, _script: &Script, position: usize, answer: Answer)
         requires stands { Stands _script.now self.old.replies self.old.disk }
         requires owed { is_owed self.old.replies position ≡ true }
@@ -47,7 +48,8 @@ impl Desk {
         self.replies.fill(position, text);
     }
 
-    /// Takes the next line, whose reply is there. Where the line drains, nothing may be owed.
+    /// Takes the next line, whose reply is there. Where the line drains, nothing may be owed. `_script` stands in the
+    /// contract alone.
     pub fn reply(&mut self, _script: &Script, text: Vec<u8>) -> Result<(), AllocError>
         requires stands { Stands _script.now self.old.replies self.old.disk }
         requires may_take { MayTakeReply _script.now self.old.replies text.items }
@@ -59,7 +61,8 @@ impl Desk {
     }
 
     /// Takes the next line, an accepted request, which is under way from now on: it may join those that are. Gives the
-    /// sectors that it finds, which are those that a single thread finds there; none where it writes.
+    /// sectors that it finds, which are those that a single thread finds there; none where it writes. `_script` stands in
+    /// the contract alone.
     pub fn submit(
         &mut self,
         alloc: Global,

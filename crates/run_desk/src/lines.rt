@@ -7,12 +7,12 @@ use std::marker::Model;
 
 /// Lines that stand in one text, one after another. Contracts see each line's bytes.
 #[derive(Drop)]
-pub(crate) struct Lines {
+pub(crate) struct JoinedLines {
     text: Vec<u8>,
     lengths: Vec<usize>,
 }
 
-impl Model for Lines {
+impl Model for JoinedLines {
     ghost use Rattle.std.specs.Prelude.{◌≡◌, List, ℕ, length, sum};
     ghost use Rattle.run_desk.specs.Lines.{lines_of};
 
@@ -23,12 +23,12 @@ impl Model for Lines {
     ghost invariant = { λ l. sum l.lengths.items ≡ length l.text.items };
 }
 
-impl Lines {
+impl JoinedLines {
     /// No lines yet, and room for so many.
-    pub(crate) fn new(alloc: Global, room: usize) -> Result<Lines, AllocError>
+    pub(crate) fn new(alloc: Global, room: usize) -> Result<JoinedLines, AllocError>
         ensures { IfOk result (λ lines. lines ≡ []) }
     {
-        Ok(Lines {
+        Ok(JoinedLines {
             text: Vec::new(alloc),
             lengths: Vec::with_capacity(alloc, room)?,
         })
@@ -58,7 +58,7 @@ impl Lines {
     pub(crate) fn into_text(self) -> Vec<u8>
         ensures { result.items ≡ joined (map Some self) }
     {
-        let Lines { text, lengths: _ } = self;
+        let JoinedLines { text, lengths: _ } = self;
         text
     }
 }

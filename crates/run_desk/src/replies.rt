@@ -2,7 +2,7 @@
 ghost use Rattle.std.specs.Prelude.{◌≡◌, ◌++◌, ◌∷◌, [], ◌<◌, true, IfOk, OnOk, OnErr, Some, None, length, set};
 ghost use Rattle.run_desk.specs.Desk.{is_owed, owed_count, joined};
 
-use crate::lines::Lines;
+use crate::lines::JoinedLines;
 use std::alloc::{AllocError, Global};
 use std::collections::VecDeque;
 use std::marker::Model;
@@ -41,7 +41,7 @@ impl Text {
 /// Lines up to the first that is owed are put into one text as more are taken, so that no line is held twice.
 #[derive(Drop)]
 pub struct Replies {
-    told: Lines,
+    told: JoinedLines,
     rest: VecDeque<Option<Text>>,
     owed: usize,
 }
@@ -63,7 +63,7 @@ impl Replies {
         ensures { IfOk result (λ replies. replies ≡ []) }
     {
         Ok(Replies {
-            told: Lines::new(alloc, room)?,
+            told: JoinedLines::new(alloc, room)?,
             rest: VecDeque::new(alloc),
             owed: 0,
         })
@@ -85,8 +85,8 @@ impl Replies {
         self.owed
     }
 
-    // Puts the first line that isn't in the text yet there, unless it is owed. Whether it did.
-    fn tell_first(&mut self) -> Result<bool, AllocError>
+    // Appends the first line behind the text to it, unless it is owed. Whether it did.
+    fn join_first(&mut self) -> Result<bool, AllocError>
         ensures { self.new ≡ self.old }
     {
         let Some(Some(line)) = self.rest.front() else {
@@ -98,11 +98,11 @@ impl Replies {
     }
 
     // Puts the lines up to the first that is owed into the text.
-    fn tell(&mut self) -> Result<(), AllocError>
+    fn join(&mut self) -> Result<(), AllocError>
         ensures { self.new ≡ self.old }
     {
         for _ in 0..self.rest.len() {
-            if !self.tell_first()? {
+            if !self.join_first()? {
                 break;
             }
         }
@@ -115,7 +115,7 @@ impl Replies {
         ensures ok { OnOk result (self.new ≡ self.old ++ Some text.items ∷ []) }
         ensures err { OnErr result (self.new ≡ self.old) }
     {
-        self.tell()?;
+        self.join()?;
         self.rest.reserve(1)?;
         self.rest.push_back_reserved(Some(Text::new(text)));
         Ok(())
@@ -127,7 +127,7 @@ impl Replies {
         ensures ok { OnOk result (self.new ≡ self.old ++ None ∷ []) }
         ensures err { OnErr result (self.new ≡ self.old) }
     {
-        self.tell()?;
+        self.join()?;
         self.rest.reserve(1)?;
         self.rest.push_back_reserved(None);
         self.owed += 1;

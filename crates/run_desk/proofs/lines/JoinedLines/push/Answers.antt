@@ -1,6 +1,6 @@
 use Rattle.std.proofs.Common.{◌∙◌, ap, ◌++◌, ◌∷◌, []}
 use Rattle.run_desk.proofs.TextLines.{one_more}
-use Rattle.run_desk.proofs.lines.Lines.push.Goals as goal
+use Rattle.run_desk.proofs.lines.JoinedLines.push.Goals as goal
 
 pub returns-clause-ok : goal.returns-clause-ok
 returns-clause-ok c =
