@@ -114,9 +114,9 @@ pub record IsRequestNext (script : Meant) (position : ℕ) (request : Request) :
   pub accepted : accepted_at script position ≡ Some request
 
 -- the next line is no accepted request; it has this reply, and leaves the script's queue as it says
-pub record IsReplyNext (script : Meant) (replies : List (Option (List ℕ))) (number : ℕ) (told : Reply) (next : Queue) : Type 0 where
+pub record IsReplyNext (script : Meant) (replies : List (Option (List ℕ))) (line_number : ℕ) (told : Reply) (next : Queue) : Type 0 where
   pub refused : accepted_at script (length replies) ≡ None
-  pub reply : IsReplyLine script (length replies) (reply_line (number, told))
+  pub reply : IsReplyLine script (length replies) (reply_line (line_number, told))
   pub queue : IsQueueAt script (length replies + 1) next
 
 -- the next line is taken with its reply, and what was awaited still is

@@ -26,6 +26,7 @@
 //! - *stall*: what a test holds a run by at its points; it changes no answer.
 //! - *ends*: the submitter's right to push requests and to collect completions. A *drawer* is a worker's right to draw requests,
 //!   a *duty* the right to tell one completion, which goes with its request.
+//! - *position*: a line's place in the script, from 0. *number*: a request's place among the accepted ones, from 0.
 //! - *job*: an accepted request on its way to a worker, with its tag. Its *answer* is the line of its reply and the sectors that a
 //!   write leaves; its *completion* brings the answer back. Once the completion is told, a *receipt* is left of the duty: a
 //!   worker comes back with as many receipts as it drew requests.

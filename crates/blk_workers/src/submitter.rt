@@ -16,7 +16,7 @@ use crate::naming::{QueueName, Run};
 use crate::ran::Ran;
 use crate::stall::{Point, Stall};
 use blk_script::render;
-use freeze_queue::Freezer;
+use freeze_queue::{BlockQueue, Freezer};
 use ram_disk::Disk;
 use run_desk::{Desk, Replies};
 use run_queues::Collector;
@@ -35,21 +35,19 @@ pub(crate) struct Submitter {
     pub(crate) accepted: u32,
 }
 
-// Takes the next line, whose reply is there.
+// Makes the line of a reply, and takes the script's next line with it.
 fn reply_now(
     alloc: Global,
     script: &Script,
     desk: &mut Desk,
-    number: u32,
+    line_number: u32,
     reply: &Reply,
 ) -> Result<(), RunFault>
     requires stands { Stands script.now desk.old.replies desk.old.disk }
-    requires may_take { MayTakeReply script.now desk.old.replies (reply_line (number, reply.now)) }
+    requires may_take { MayTakeReply script.now desk.old.replies (reply_line (line_number, reply.now)) }
     ensures replied { OnOk result (HasReplied script.now desk.old desk.new) }
 {
-    let Ok(text) = render(alloc, number, reply) else {
-        return Err(RunFault::Memory);
-    };
+    let text = render(alloc, line_number, reply).map_err(|_| RunFault::Memory)?;
     desk.reply(script, text)?;
     Ok(())
 }
@@ -63,9 +61,7 @@ impl Submitter {
     ) -> Result<Submitter, RunFault>
         ensures { IfOk result (IsAtStartWith script.now freezer) }
     {
-        let Ok(disk) = Disk::new(alloc, script.disk()) else {
-            return Err(RunFault::Memory);
-        };
+        let disk = Disk::new(alloc, script.disk()).map_err(|_| RunFault::Memory)?;
         let replies = Replies::new(alloc, script.lines().len())?;
         Ok(Submitter {
             desk: Desk { disk, replies },
@@ -166,12 +162,12 @@ impl Submitter {
         &mut self,
         hall: &Hall<'_, J, C, L, R, S>,
         next: QueueState,
-        number: u32,
+        line_number: u32,
         reply: &Reply,
     ) -> Result<(), RunFault>
-        requires may_take { IsBeforeLine J.script J.queue self.old }
+        requires before { IsBeforeLine J.script J.queue self.old }
         requires passes { MayPass J.script self.old.desk.replies }
-        requires next { IsReplyNext J.script self.old.desk.replies number reply.now next }
+        requires next { IsReplyNext J.script self.old.desk.replies line_number reply.now next }
         ensures passed { OnOk result (HasPassed J.script J.queue self.old self.new) }
         ensures own { self.new.freezer.queue ≡ J.queue }
     {
@@ -179,7 +175,7 @@ impl Submitter {
             hall.alloc,
             hall.checked.script(),
             &mut self.desk,
-            number,
+            line_number,
             reply,
         )?;
         let lines = self.desk.replies.len();
@@ -241,15 +237,15 @@ impl Submitter {
         ensures pushed { OnOk result (ends.new.source ≡ record ends.old.source { pushed = accepted_in_all J.script }) }
         ensures kept { KeepTheirQueues J.queue ends.old.source ends.new.source self.new.freezer }
     {
-        for position in 0..hall.checked.script().lines().len() {
-            let _ = position;
+        for _position in 0..hall.checked.script().lines().len() {
             self.take_next(hall, ends)?;
         }
         self.drain(hall, &mut ends.collector)
     }
 
-    /// Waits until no request is under way any more, whether or not its answer is collected.
-    pub(crate) fn give_up<R: Wait>(&mut self, rt: &R, queue: &freeze_queue::BlockQueue)
+    /// Freezes the queue where it isn't frozen, and waits until it is drained: then no request is under way. A frozen one is
+    /// drained already.
+    pub(crate) fn give_up<R: Wait>(&mut self, rt: &R, queue: &BlockQueue)
         requires own { self.old.freezer.queue ≡ queue.now }
     {
         if self.freezer.depth() == 0 {

@@ -29,7 +29,7 @@ returns-clause-passed g c =
             subst (λ (q : QueueFacts). IsFollowing q (here + 1) c.follow.new.freezer) c.hall.invariant.its_queue
             (subst (λ n. IsFollowing c.hall.inside.queue.now n c.follow.new.freezer) (c.len-lines.ensures ∙ replied.lines) c.follow.ensures.follows);
         mode = c.follow.ensures.mode;
-        counted = record { is = c.requires.may_take.counted.is ∙ sym (counts_line g.J.Run.script here refused); few = omega (arith, c.requires.may_take.counted.few) };
+        counted = record { is = c.requires.before.counted.is ∙ sym (counts_line g.J.Run.script here refused); few = omega (arith, c.requires.before.counted.few) };
       };
       awaited =
           subst (λ (s : Meant). StaysAwaited s c.args.self.now.desk.replies desk.replies) (c.script.ensures ∙ c.hall.invariant.its_script) replied.awaited;
