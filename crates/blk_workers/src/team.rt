@@ -32,8 +32,7 @@ pub(crate) fn drawers<J: Run, C: QueueName, L: QueueName, R, S>(
     ensures source { OnOk result (source.new ≡ record source.old { parts = all_parts - workers }) }
 {
     let mut drawers = Vec::with_capacity(hall.alloc, workers as usize)?;
-    for worker in 0..workers {
-        let _ = worker;
+    for _worker in 0..workers {
         drawers.push(hall.requests.drawer(hall.alloc, source, room)?)?;
     }
     Ok(drawers)
@@ -68,10 +67,10 @@ fn end<J: Run, C: QueueName, L: QueueName, R: Wait, S>(
 // Waits for workers that were ended. What a thread hands back is let go only where it is joined.
 fn dismiss<J: Run, C: QueueName, L: QueueName, R: Threads>(
     rt: &R,
-    workers: &mut Vec<JoinHandle<FinishedWorker<J, C, L>>>,
+    started: &mut Vec<JoinHandle<FinishedWorker<J, C, L>>>,
 ) {
-    for _ in 0..workers.len() {
-        let Some(worker) = workers.pop() else {
+    for _ in 0..started.len() {
+        let Some(worker) = started.pop() else {
             break;
         };
         drop(worker.join(rt));
@@ -117,14 +116,13 @@ fn gather<J: Run, C: QueueName, L: QueueName, R: Threads, S>(
     ensures back { AreBack L.id (length workers.items) source.new }
     ensures pushed { source.new.pushed ≡ source.old.pushed }
 {
-    for gathered in 0..workers.len() {
-        let _ = gathered;
+    for _gathered in 0..workers.len() {
         let Some(worker) = workers.pop() else {
             break;
         };
         let back = worker.join(hall.rt);
-        let gathered = hall.requests.gather(source, back.into_drawer());
-        prove!(gathered.is_ok());
+        let taken_back = hall.requests.gather(source, back.into_drawer());
+        prove!(taken_back.is_ok());
     }
 }
 
@@ -150,8 +148,7 @@ fn start<
 {
     let slots = hall.queue.slots();
     let mut slot = 0;
-    for worker in 0..drawers.len() {
-        let _ = worker;
+    for _worker in 0..drawers.len() {
         let Some(drawer) = take_drawer::<J, C, L>(&mut drawers) else {
             break;
         };

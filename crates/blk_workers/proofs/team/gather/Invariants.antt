@@ -6,6 +6,6 @@ abbrev pub invariant-loop-gathered : goal.invariant-loop-gathered
 invariant-loop-gathered g l =
     (l.source.queue ≡ l.initial.source.queue) × (l.source.pushed ≡ l.initial.source.pushed)
     × (l.source.parts + length l.workers.items ≡ all_parts) × (0 < l.source.parts)
-    × (length l.source.lists ≡ l.gathered) × (length l.workers.items + l.gathered ≡ length l.initial.workers.items)
+    × (length l.source.lists ≡ l._gathered) × (length l.workers.items + l._gathered ≡ length l.initial.workers.items)
     × (length l.initial.workers.items ≤ l.source.room)
-    × (0 < l.gathered → l.source.drained ≡ true)
+    × (0 < l._gathered → l.source.drained ≡ true)

@@ -6,5 +6,5 @@ use Rattle.blk_workers.proofs.team.start.Given as goal
 
 abbrev pub invariant-loop-worker : goal.invariant-loop-worker
 invariant-loop-worker g l =
-    (length l.drawers.items + l.worker ≡ length l.initial.drawers.items) × All (IsNewDrawer g.L.QueueName.id (accepted_in_all g.J.Run.script + 1)) l.drawers.items
-    × (length l.started.items ≡ l.worker) × (length l.initial.drawers.items ≤ vec_capacity l.started) × (l.slot < l.slots)
+    (length l.drawers.items + l._worker ≡ length l.initial.drawers.items) × All (IsNewDrawer g.L.QueueName.id (accepted_in_all g.J.Run.script + 1)) l.drawers.items
+    × (length l.started.items ≡ l._worker) × (length l.initial.drawers.items ≤ vec_capacity l.started) × (l.slot < l.slots)
