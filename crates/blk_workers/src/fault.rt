@@ -2,6 +2,7 @@
 ghost use Rattle.std.specs.Prelude.{◌≡◌};
 ghost use Rattle.blk_workers.specs.Faults.{number_of};
 
+use freeze_queue::Memory;
 use std::alloc::AllocError;
 use thiserror::Error;
 
@@ -35,6 +36,16 @@ impl From<AllocError> for RunFault {
     ghost from_gives = { λ e fault. fault ≡ Memory };
 
     fn from(_e: AllocError) -> Self {
+        RunFault::Memory
+    }
+}
+
+impl From<Memory> for RunFault {
+    ghost use Rattle.blk_workers.specs.declared.fault.RunFault.TheVariants as fault;
+
+    ghost from_gives = { λ _ it. it ≡ fault.Memory };
+
+    fn from(_refused: Memory) -> Self {
         RunFault::Memory
     }
 }

@@ -22,6 +22,16 @@ use std::marker::Brand;
 use std::sync::Wait;
 use std::thread::Threads;
 
+/// What the caller gave: the runtime, the allocator, the script, the shape of the run, and what holds it at its points.
+#[derive(Drop)]
+struct Inputs<'a, R, S> {
+    rt: &'a R,
+    alloc: Global,
+    checked: &'a Checked,
+    config: Config,
+    stall: &'a S,
+}
+
 // A run takes three names, each once the thing is made: that of the run in `run`, those of its queues in `run_as` and
 // `run_on`. This one has all three.
 fn run_in<
@@ -31,24 +41,28 @@ fn run_in<
     R: Threads + Wait + Sync,
     S: Stall,
 >(
-    rt: &R,
-    alloc: Global,
-    checked: &Checked,
-    config: Config,
-    stall: &S,
+    inputs: &Inputs<'_, R, S>,
     queues: &Queues<J, C>,
     submitter: Submitter,
     mut ends: Ends<J, C>,
 ) -> Result<Ran, RunFault>
-    requires hall { IsHall J.script J.queue L.id C.id checked.now queues.now.queue queues.now.requests.id queues.now.completions.id }
+    requires hall { IsHall J.script J.queue L.id C.id inputs.now.checked.now queues.now.queue queues.now.requests.id queues.now.completions.id }
     requires start { IsAt J.script J.queue 0 submitter }
     requires ends { AreNewEnds L.id C.id 0 ends.source ends.collector }
-    requires room { config.workers ≤ ends.source.room }
-    ensures ran { IfOk result (IsRanBy J.script config.workers) }
+    requires room { inputs.now.config.workers ≤ ends.source.room }
+    ensures ran { IfOk result (IsRanBy J.script inputs.now.config.workers) }
 {
-    let workers = config.workers();
-    let hall = Hall::<J, C, L, R, S>::new(rt, alloc, checked, stall, queues);
-    let room = checked.accepted() + 1;
+    let workers = inputs.config.workers();
+    // Lent anew, since a hall has one lifetime for all that it stands on.
+    let hall = Hall::<J, C, L, R, S>::new(
+        &*inputs.rt,
+        inputs.alloc,
+        &*inputs.checked,
+        &*inputs.stall,
+        queues,
+    );
+    // One place more than there are numbers to draw: a draw makes sure of one before it takes an end mark too.
+    let room = inputs.checked.accepted() + 1;
     let drawers = drawers(&hall, &mut ends.source, workers, room)?;
     let (submitter, source) = with_workers(&hall, submitter, ends, drawers)?;
     submitter.into_ran(hall.requests.finish(source))
@@ -56,58 +70,48 @@ fn run_in<
 
 // A run whose types name its queue of completions.
 fn run_on<J: Run + Send + Sync, C: QueueName + Send + Sync, R: Threads + Wait + Sync, S: Stall>(
-    rt: &R,
-    alloc: Global,
-    checked: &Checked,
-    config: Config,
-    stall: &S,
+    inputs: &Inputs<'_, R, S>,
     queue: BlockQueue,
     tags: Vec<Tag>,
     completions: CompletionQueue<Completion<J>>,
     collector: Collector<Completion<J>>,
     submitter: Submitter,
 ) -> Result<Ran, RunFault>
-    requires own { (checked.now ≡ J.script) × (queue ≡ J.queue) × Suits J.script config.slots J.queue }
+    requires own { (inputs.now.checked.now ≡ J.script) × (queue ≡ J.queue) × Suits J.script inputs.now.config.slots J.queue }
     requires completions { AreNewCompletions J.script C.id completions.room completions.id collector }
     requires start { IsAt J.script J.queue 0 submitter }
     requires tags { AreFreeTags J.queue tags.items }
-    ensures ran { IfOk result (IsRanBy J.script config.workers) }
+    ensures ran { IfOk result (IsRanBy J.script inputs.now.config.workers) }
 {
-    let workers = config.workers();
-    let (queues, source) = Queues::<J, C>::new(rt, alloc, queue, tags, completions, workers)?;
+    let workers = inputs.config.workers();
+    let (queues, source) = Queues::<J, C>::new(
+        inputs.rt,
+        inputs.alloc,
+        queue,
+        tags,
+        completions,
+        workers,
+    )?;
     let ends = Ends { source, collector };
-    run_in::<J, C, Brand, R, S>(rt, alloc, checked, config, stall, &queues, submitter, ends)
+    run_in::<J, C, Brand, R, S>(inputs, &queues, submitter, ends)
 }
 
 // A run whose types name its script and its queue.
 fn run_as<J: Run + Send + Sync, R: Threads + Wait + Sync, S: Stall>(
-    rt: &R,
-    alloc: Global,
-    checked: &Checked,
-    config: Config,
-    stall: &S,
+    inputs: &Inputs<'_, R, S>,
     parts: NewQueue,
 ) -> Result<Ran, RunFault>
-    requires script { checked.now ≡ J.script }
+    requires script { inputs.now.checked.now ≡ J.script }
     requires queue { parts.0 ≡ J.queue }
-    requires new { IsNewQueue J.script config J.queue parts.1 parts.2.items }
-    ensures ran { IfOk result (IsRanBy J.script config.workers) }
+    requires new { IsNewQueue J.script inputs.now.config J.queue parts.1 parts.2.items }
+    ensures ran { IfOk result (IsRanBy J.script inputs.now.config.workers) }
 {
     let (queue, freezer, tags) = parts;
-    let (completions, collector) = CompletionQueue::new(alloc, checked.accepted().max(1))?;
-    let submitter = Submitter::new(alloc, checked.script(), freezer)?;
-    run_on::<J, Brand, R, S>(
-        rt,
-        alloc,
-        checked,
-        config,
-        stall,
-        queue,
-        tags,
-        completions,
-        collector,
-        submitter,
-    )
+    // Room for each, so that no worker waits to tell one; a queue has one place at least.
+    let room = inputs.checked.accepted().max(1);
+    let (completions, collector) = CompletionQueue::new(inputs.alloc, room)?;
+    let submitter = Submitter::new(inputs.alloc, inputs.checked.script(), freezer)?;
+    run_on::<J, Brand, R, S>(inputs, queue, tags, completions, collector, submitter)
 }
 
 /// Runs a checked script on as many workers as the config says, whose replies and disk are those of a single thread.
@@ -130,12 +134,17 @@ pub fn run<R: Threads + Wait + Sync, S: Stall>(
     if script.lines().len() >= 1 << 32 {
         return Err(RunFault::Memory);
     }
+    // A script's hardware is in range, and these are the limits that the script's queue starts with.
     let Ok(limits) = Limits::start(script.hw()) else {
         unreachable!()
     };
-    let parts = BlockQueue::new(alloc, limits, config.slots(), config.tags());
-    let Ok(parts) = parts else {
-        return Err(RunFault::Memory);
+    let parts = BlockQueue::new(alloc, limits, config.slots(), config.tags())?;
+    let inputs = Inputs {
+        rt,
+        alloc,
+        checked,
+        config,
+        stall,
     };
-    run_as::<Brand, R, S>(rt, alloc, checked, config, stall, parts)
+    run_as::<Brand, R, S>(&inputs, parts)
 }
