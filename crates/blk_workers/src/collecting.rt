@@ -1,5 +1,5 @@
-//! How completions are collected, and free tags taken.
-ghost use Rattle.std.specs.Prelude.{◌≡◌, ◌+◌, true, Some, OnOk, length};
+//! How completions are collected.
+ghost use Rattle.std.specs.Prelude.{◌≡◌, ◌+◌, true, OnOk, length};
 ghost use Rattle.blk_workers.specs.Progress.{HasTakenCompletion, IsCollecting};
 ghost use Rattle.run_desk.specs.Desk.{Stands, is_owed, owed_count};
 
@@ -7,14 +7,9 @@ use crate::fault::RunFault;
 use crate::hall::Hall;
 use crate::job::Completion;
 use crate::naming::{QueueName, Run};
-use freeze_queue::Tag;
-use queue_limits::Limits;
 use run_desk::Desk;
 use run_queues::Collector;
 use std::sync::Wait;
-
-/// The slot on which the thread that submits enters.
-const OWN_SLOT: u32 = 0;
 
 // Takes the completion of a request, which is owed until then. `Memory` where the worker was refused it.
 fn take<J: Run, C: QueueName, L: QueueName, R, S>(
@@ -75,27 +70,6 @@ pub(crate) fn collect_all<J: Run, C: QueueName, L: QueueName, R: Wait, S>(
         }
         let completion = hall.completions.collect(hall.rt, collector);
         take(hall, desk, completion)?;
-    }
-    unreachable!()
-}
-
-/// A tag that has entered the queue and was told these limits. They never differ, since this thread set them, which no
-/// proof says; so it looks, and a tag that is told others leaves and enters again.
-pub(crate) fn entered<J: Run, C: QueueName, L: QueueName, R: Wait, S>(
-    hall: &Hall<'_, J, C, L, R, S>,
-    limits: Limits,
-) -> Box<Tag>
-    ensures own { result.value.queue ≡ J.queue }
-    ensures entered { result.value.entered ≡ true }
-    ensures told { result.value.limits ≡ Some limits }
-{
-    let mut tag = hall.tags.take(hall.rt).into_tag();
-    for _ in hall.rt.forever() {
-        hall.queue.enter(hall.rt, &mut tag, OWN_SLOT);
-        if hall.queue.limits(&mut tag) == limits {
-            return tag;
-        }
-        let _last = hall.queue.leave(&mut tag, OWN_SLOT);
     }
     unreachable!()
 }

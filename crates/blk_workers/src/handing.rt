@@ -1,19 +1,22 @@
 //! How an accepted request is handed to the workers.
-ghost use Rattle.std.specs.Prelude.{◌≡◌, OnOk, length};
+ghost use Rattle.std.specs.Prelude.{◌≡◌, true, Some, OnOk, length};
 ghost use Rattle.run_desk.specs.Desk.{Stands};
 ghost use Rattle.blk_workers.specs.Progress.{AreHandedOver, HasHandedOver, IsReady};
 
-use crate::collecting::entered;
 use crate::fault::RunFault;
 use crate::hall::Hall;
 use crate::job::{Completion, Job};
 use crate::naming::{QueueName, Run};
 use crate::stall::{Point, Stall};
+use freeze_queue::Tag;
 use queue_limits::Limits;
 use run_desk::Desk;
 use run_queues::{Collector, Source};
 use script_meaning::Request;
 use std::sync::Wait;
+
+// The slot on which the thread that submits enters.
+const OWN_SLOT: u32 = 0;
 
 /// The ends of the run's queues that the thread that submits and collects has: the right to push requests, and the
 /// right to collect completions.
@@ -29,6 +32,27 @@ pub(crate) struct Accepted {
     pub(crate) request: Request,
     pub(crate) number: u32,
     pub(crate) limits: Limits,
+}
+
+// Takes a free tag, which it waits for, and enters the queue with it: a tag that was told these limits. They never differ,
+// since this thread set them, which no proof says; so it looks, and a tag that is told others leaves and enters again.
+fn entered<J: Run, C: QueueName, L: QueueName, R: Wait, S>(
+    hall: &Hall<'_, J, C, L, R, S>,
+    limits: Limits,
+) -> Box<Tag>
+    ensures own { result.value.queue ≡ J.queue }
+    ensures entered { result.value.entered ≡ true }
+    ensures told { result.value.limits ≡ Some limits }
+{
+    let mut tag = hall.tags.take(hall.rt).into_tag();
+    for _ in hall.rt.forever() {
+        hall.queue.enter(hall.rt, &mut tag, OWN_SLOT);
+        if hall.queue.limits(&mut tag) == limits {
+            return tag;
+        }
+        let _last = hall.queue.leave(&mut tag, OWN_SLOT);
+    }
+    unreachable!()
 }
 
 /// Hands an accepted request to the workers: it enters the queue under the limits in force, and is owed.

@@ -1,5 +1,5 @@
 use Rattle.std.proofs.Common.{◌≡◌, false}
-use Rattle.blk_workers.proofs.collecting.entered.Given as goal
+use Rattle.blk_workers.proofs.handing.entered.Given as goal
 
 abbrev pub invariant-loop : goal.invariant-loop
 invariant-loop g l =
