@@ -8,7 +8,8 @@ use queue_limits::Limits;
 use script_meaning::QueueState;
 use std::sync::Wait;
 
-/// Freezes the queue and waits until it is drained, where it isn't frozen already. Whether it did.
+/// Freezes the queue and waits until it is drained, where it isn't frozen already. Whether it did. `_kills` stands in the
+/// contract alone: how often the gate was killed, at most.
 pub(crate) fn freeze<R: Wait>(
     rt: &R,
     freezer: &mut Freezer,
@@ -61,7 +62,8 @@ fn step_to(freezer: &mut Freezer, queue: &BlockQueue, depth: u32)
 }
 
 /// Brings the queue to the mode that the script's queue has, and a frozen one to its limits and nearer to its
-/// depth. A queue that the script removed stays frozen.
+/// depth. A queue that the script removed stays frozen. `_kills` stands in the contract alone: how often the gate was
+/// killed, at most.
 pub(crate) fn follow(freezer: &mut Freezer, queue: &BlockQueue, state: &QueueState, _kills: usize)
     requires follows { IsFollowing queue.now _kills freezer.old }
     requires hardware { state.now.limits.hardware ≡ queue.now.hardware }

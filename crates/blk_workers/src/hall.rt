@@ -71,8 +71,8 @@ impl<J: Run, C: QueueName> Queues<J, C> {
 /// What a run's threads stand on: the runtime, the allocator, the checked script, what holds the run at its points, and the run's
 /// queues.
 ///
-/// The type keeps that the script and the queues are those which its parameters name, that the script's hardware is the
-/// queue's, and that the script's lines are few enough to be numbered.
+/// The type keeps that the script and the queues are those which its parameters name, that the queue has a slot and the
+/// script's hardware, and that the script's lines are few enough to be numbered.
 #[derive(Drop)]
 pub(crate) struct Hall<'a, J: Run, C: QueueName, L: QueueName, R, S> {
     pub(crate) rt: &'a R,

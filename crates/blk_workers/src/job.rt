@@ -38,6 +38,53 @@ impl<J: Run, C: QueueName> Model for Job<J, C> {
     ghost invariant = { λ j. IsJob J.script J.queue C.id (record { duty = j.duty; position = j.position; tag = j.tag.value; found = j.found.items }) };
 }
 
+impl<J: Run, C: QueueName> Job<J, C> {
+    pub(crate) fn new(
+        duty: Duty<Completion<J>>,
+        position: usize,
+        tag: Box<Tag>,
+        found: Vec<Sector>,
+    ) -> Job<J, C>
+        requires { IsJob J.script J.queue C.id (record { duty = duty; position = position; tag = tag.value; found = found.items }) }
+        ensures { result.duty ≡ duty }
+    {
+        Job {
+            duty,
+            position,
+            tag,
+            found,
+            of: PhantomData,
+        }
+    }
+
+    /// Does the request: reads the limits under its tag, cuts the pieces, and makes the line of its reply and the
+    /// sectors that a write leaves.
+    pub(crate) fn done(self, alloc: Global, queue: &BlockQueue, script: &Script) -> DoneJob<J, C>
+        requires queue { queue.now ≡ J.queue }
+        requires script { script.now ≡ J.script }
+        ensures request { IsAcceptedAt J.script self.duty.number self.position }
+        ensures number { result ≡ self.duty.number }
+        ensures read { IsReadUnderItsTag J.script self }
+    {
+        let Job {
+            duty,
+            position,
+            mut tag,
+            found,
+            of: _,
+        } = self;
+        let limits = queue.limits(&mut tag);
+        let answer = answer_to(alloc, script, position, limits, &found);
+        let completion = Completion::new(duty.number(), position, answer);
+        DoneJob {
+            tag,
+            duty,
+            completion,
+            of: PhantomData,
+        }
+    }
+}
+
 impl<J: Run, C: QueueName> Numbered for Job<J, C> {
     ghost number = { λ j. j.duty.number };
 
@@ -83,6 +130,7 @@ impl<J: Run> Numbered for Completion<J> {
 /// A tag that isn't entered, on its way back to whoever submits.
 #[derive(Drop)]
 pub(crate) struct FreeTag<J: Run> {
+    // Boxed, since by value it would take the 128 unused bytes about its pass through two queues.
     tag: Box<Tag>,
     of: PhantomData<J>,
 }
@@ -147,53 +195,6 @@ impl<J: Run> Completion<J> {
             of: _,
         } = self;
         (position, answer)
-    }
-}
-
-impl<J: Run, C: QueueName> Job<J, C> {
-    pub(crate) fn new(
-        duty: Duty<Completion<J>>,
-        position: usize,
-        tag: Box<Tag>,
-        found: Vec<Sector>,
-    ) -> Job<J, C>
-        requires { IsJob J.script J.queue C.id (record { duty = duty; position = position; tag = tag.value; found = found.items }) }
-        ensures { result.duty ≡ duty }
-    {
-        Job {
-            duty,
-            position,
-            tag,
-            found,
-            of: PhantomData,
-        }
-    }
-
-    /// Does the request: reads the limits under its tag, cuts the pieces, and makes the line of its reply and the
-    /// sectors that a write leaves.
-    pub(crate) fn done(self, alloc: Global, queue: &BlockQueue, script: &Script) -> DoneJob<J, C>
-        requires queue { queue.now ≡ J.queue }
-        requires script { script.now ≡ J.script }
-        ensures request { IsAcceptedAt J.script self.duty.number self.position }
-        ensures number { result ≡ self.duty.number }
-        ensures read { IsReadUnderItsTag J.script self }
-    {
-        let Job {
-            duty,
-            position,
-            mut tag,
-            found,
-            of: _,
-        } = self;
-        let limits = queue.limits(&mut tag);
-        let answer = answer_to(alloc, script, position, limits, &found);
-        let completion = Completion::new(duty.number(), position, answer);
-        DoneJob {
-            tag,
-            duty,
-            completion,
-            of: PhantomData,
-        }
     }
 }
 
