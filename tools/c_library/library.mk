@@ -20,7 +20,8 @@ KIT = $(patsubst %/bin/,%,$(dir $(realpath $(shell command -v rt))))
 PROVED = out/lib$(CRATE).a
 # What that is made from: this crate and those that it stands on, as crates.txt has them.
 CRATES := $(shell ../../tools/crates_below $(CRATE) | sed 's/:.*//')
-SOURCES = $(shell find $(CRATES:%=../%) -name out -prune -o \( -name '*.rt' -o -name '*.antt' \) -print)
+# With their folders, which are newer where a file was removed.
+SOURCES = $(shell find $(foreach it,$(CRATES),$(addprefix ../$(it)/,src specs proofs)) 2>/dev/null)
 INCLUDED = $(HEADERS:%=include/%.h)
 PAGES = $(HEADERS:%=out/c/%.3)
 
@@ -28,7 +29,6 @@ all: out/c/lib$(NAME).a out/c/lib$(NAME).so.1 $(PAGES)
 
 $(PROVED): ../../crates.txt $(SOURCES)
 	../../tools/prove_below --with $(CRATE)
-	touch $@
 
 out/c/$(NAME).o: $(PROVED) library/$(NAME).c $(INCLUDED)
 	mkdir -p out/c
@@ -58,4 +58,5 @@ install: all
 		>$(AT)/lib/pkgconfig/$(NAME).pc
 	install -m 644 $(PAGES) $(AT)/share/man/man3
 
+.DELETE_ON_ERROR:
 .PHONY: all install

@@ -1,6 +1,5 @@
 """The kit's own module by which rt reads crates.txt and calls the prover, and locks on crates' folders."""
 
-import contextlib
 import fcntl
 import functools
 import importlib.machinery
@@ -29,9 +28,14 @@ def hold(crates):
     """Keeps rt from making anything anew in these crates' folders until what this returns is closed; others may read there too."""
     held = [os.open(it, os.O_RDONLY) for it in sorted({os.path.realpath(it.folder) for it in crates})]
     for it in held:
-        with contextlib.suppress(OSError):
-            # Some file systems have no locks.
+        try:
+            fcntl.flock(it, fcntl.LOCK_SH | fcntl.LOCK_NB)
+        except BlockingIOError:
+            print("waiting for another command to finish in these crates", file=sys.stderr, flush=True)
             fcntl.flock(it, fcntl.LOCK_SH)
+        except OSError:
+            # Some file systems have no locks.
+            pass
     return held
 
 

@@ -69,11 +69,6 @@ pub record HasTaken (script : Meant) (queue : QueueFacts) (requests completions 
   pub at : IsAt script queue position s
   pub handed_over : AreHandedOver script requests completions position s.desk.replies source collector
 
--- also where it fails: the right to push is as it was but for what was pushed, and the freezer is the queue's
-pub record KeepTheirQueues (queue : QueueFacts) (before after : SourceFacts) (f : FreezerFacts) : Type 0 where
-  pub source : after ≡ record before { pushed = after.pushed }
-  pub own : f.queue ≡ queue
-
 -- the desk is right, and the replies are owed to the requests whose completions this right to collect may still bring
 pub record IsCollecting (script : Meant) (completions : TableId) (desk : Desk) (collector : CollectorFacts) : Type 0 where
   pub stands : Stands script desk.replies desk.disk

@@ -11,7 +11,8 @@ use run_desk::Desk;
 use run_queues::Collector;
 use std::sync::Wait;
 
-// Takes the completion of a request, which is owed until then. `Memory` where the worker was refused it.
+// Takes a completion: the reply to its request is owed until then. `Memory` where the worker was refused it; then the reply
+// stays owed.
 fn take<J: Run, C: QueueName, L: QueueName, R, S>(
     hall: &Hall<'_, J, C, L, R, S>,
     desk: &mut Desk,

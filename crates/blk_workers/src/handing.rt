@@ -15,8 +15,8 @@ use run_queues::{Collector, Source};
 use script_meaning::Request;
 use std::sync::Wait;
 
-// The slot on which the thread that submits enters.
-const OWN_SLOT: u32 = 0;
+// The slot on which the thread that submits enters. The first worker leaves on it too.
+const SUBMITTER_SLOT: u32 = 0;
 
 /// The ends of the run's queues that the thread that submits and collects has: the right to push requests, and the
 /// right to collect completions.
@@ -46,11 +46,11 @@ fn entered<J: Run, C: QueueName, L: QueueName, R: Wait, S>(
 {
     let mut tag = hall.tags.take(hall.rt).into_tag();
     for _ in hall.rt.forever() {
-        hall.queue.enter(hall.rt, &mut tag, OWN_SLOT);
+        hall.queue.enter(hall.rt, &mut tag, SUBMITTER_SLOT);
         if hall.queue.limits(&mut tag) == limits {
             return tag;
         }
-        let _last = hall.queue.leave(&mut tag, OWN_SLOT);
+        let _last = hall.queue.leave(&mut tag, SUBMITTER_SLOT);
     }
     unreachable!()
 }

@@ -127,7 +127,8 @@ impl<J: Run> Numbered for Completion<J> {
     }
 }
 
-/// A tag that isn't entered, on its way back to whoever submits.
+/// A tag that isn't entered, free for the next request. The type keeps that, and that it is of the run's queue. Contracts
+/// see the tag.
 #[derive(Drop)]
 pub(crate) struct FreeTag<J: Run> {
     // Boxed, since by value it would take the 128 unused bytes about its pass through two queues.
@@ -147,7 +148,7 @@ impl<J: Run> Model for FreeTag<J> {
 }
 
 impl<J: Run> FreeTag<J> {
-    // A tag of the run's queue that no request has, as one that stands among the free ones.
+    /// A free tag, of a tag of the run's queue that isn't entered.
     pub(crate) fn new(tag: Box<Tag>) -> FreeTag<J>
         requires own { tag.value.queue ≡ J.queue }
         requires out { tag.value.entered ≡ false }
@@ -199,7 +200,7 @@ impl<J: Run> Completion<J> {
 }
 
 /// A request that is done: its tag is still entered, and its completion still to be told. It is told first, since what
-/// it becomes by that is the one way to its tag.
+/// it becomes by that is the one way to its tag. Contracts see its number.
 #[derive(Drop)]
 pub(crate) struct DoneJob<J: Run, C: QueueName> {
     tag: Box<Tag>,
@@ -243,7 +244,7 @@ impl<J: Run, C: QueueName> DoneJob<J, C> {
     }
 }
 
-/// A request whose completion is told, and whose tag is still entered.
+/// A request whose completion is told, and whose tag is still entered. Contracts see its receipt.
 #[derive(Drop)]
 pub(crate) struct CompletedJob<J: Run, C: QueueName> {
     tag: Box<Tag>,

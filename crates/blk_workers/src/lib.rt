@@ -27,11 +27,14 @@
 //! - *ends*: the submitter's right to push requests and to collect completions. A *drawer* is a worker's right to draw requests,
 //!   a *duty* the right to tell one completion, which goes with its request.
 //! - *position*: a line's place in the script, from 0. *number*: a request's place among the accepted ones, from 0.
+//! - *slot*: a place over which the queue's gate (`freeze_queue`) spreads its count of entered tags, so that threads which name
+//!   different ones share no word while it counts on slots. A tag may leave on another than it entered on.
 //! - *job*: an accepted request on its way to a worker, with its tag. Its *answer* is the line of its reply and the sectors that a
 //!   write leaves; its *completion* brings the answer back. Once the completion is told, a *receipt* is left of the duty: a
 //!   worker comes back with as many receipts as it drew requests.
 //! - `J` is the run: `J.script` its script, `J.queue` the queue that requests enter. `C` is its queue of completions, and `L` its
 //!   queue of requests: `C.id` and `L.id` say which. Each is a name that a run takes once it has the thing (src/naming.rt).
+//!   `R` is the runtime's type, `S` the stall's.
 #![tactic(auto)]
 
 mod collecting;

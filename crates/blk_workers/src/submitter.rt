@@ -3,7 +3,7 @@ ghost use Rattle.std.specs.Prelude.{◌≡◌, ◌+◌, ◌<◌, IfOk, None, OnO
 ghost use Rattle.script_meaning.specs.Script.{Meant};
 ghost use Rattle.script_meaning.specs.Requests.{accepted_at, accepted_in_all};
 ghost use Rattle.blk_script.specs.Texts.{reply_line};
-ghost use Rattle.blk_workers.specs.Progress.{HasCollected, HasPassed, HasReplied, HasTaken, IsAt, IsAtStartWith, IsCollecting, IsEnd, IsReplyNext, IsRequestNext, IsRun, IsBeforeLine, KeepTheirQueues};
+ghost use Rattle.blk_workers.specs.Progress.{HasCollected, HasPassed, HasReplied, HasTaken, IsAt, IsAtStartWith, IsCollecting, IsEnd, IsReplyNext, IsRequestNext, IsRun, IsBeforeLine};
 ghost use Rattle.run_desk.specs.Desk.{MayJoin, MayPass, MayTakeReply, Stands, owed_count};
 
 use crate::collecting::{collect_all, collect_some};
@@ -16,7 +16,7 @@ use crate::naming::{QueueName, Run};
 use crate::ran::Ran;
 use crate::stall::{Point, Stall};
 use blk_script::render;
-use freeze_queue::{BlockQueue, Freezer};
+use freeze_queue::Freezer;
 use ram_disk::Disk;
 use run_desk::{Desk, Replies};
 use run_queues::Collector;
@@ -24,8 +24,8 @@ use script_meaning::{Outcome, QueueState, Reply, Request, Script};
 use std::alloc::Global;
 use std::sync::Wait;
 
-/// What the thread that submits and collects has, and no other: the disk and the replies, the script's queue
-/// without its disk, and the freezer of the queue that requests enter.
+/// What the thread that submits and collects has beside its ends, and no other has: the disk and the replies, the script's
+/// queue without its disk, and the freezer of the queue that requests enter.
 #[derive(Drop)]
 pub(crate) struct Submitter {
     pub(crate) desk: Desk,
@@ -91,7 +91,8 @@ impl Submitter {
         })
     }
 
-    // Collects what is there; before an ordered request it drains the queue, and opens it again.
+    // Collects what is there, once as many are owed as there are tags; before an ordered request it drains the queue, and opens
+    // it again.
     fn make_way<J: Run, C: QueueName, L: QueueName, R: Wait, S: Stall>(
         &mut self,
         hall: &Hall<'_, J, C, L, R, S>,
@@ -124,7 +125,7 @@ impl Submitter {
         requires taken { HasTaken J.script J.queue L.id C.id (length self.old.desk.replies) self.old ends.old.source ends.old.collector }
         requires next { IsRequestNext J.script (length self.old.desk.replies) request }
         ensures taken { OnOk result (HasTaken J.script J.queue L.id C.id (length self.old.desk.replies + 1) self.new ends.new.source ends.new.collector) }
-        ensures kept { KeepTheirQueues J.queue ends.old.source ends.new.source self.new.freezer }
+        ensures kept { ends.new.source ≡ record ends.old.source { pushed = ends.new.source.pushed } }
     {
         let accepted = Accepted {
             request,
@@ -169,7 +170,6 @@ impl Submitter {
         requires passes { MayPass J.script self.old.desk.replies }
         requires next { IsReplyNext J.script self.old.desk.replies line_number reply.now next }
         ensures passed { OnOk result (HasPassed J.script J.queue self.old self.new) }
-        ensures own { self.new.freezer.queue ≡ J.queue }
     {
         reply_now(
             hall.alloc,
@@ -194,7 +194,7 @@ impl Submitter {
         requires more { length self.old.desk.replies < length J.script.lines }
         requires next { accepted_at J.script (length self.old.desk.replies) ≡ None }
         ensures taken { OnOk result (HasTaken J.script J.queue L.id C.id (length self.old.desk.replies + 1) self.new ends.new.source ends.new.collector) }
-        ensures kept { KeepTheirQueues J.queue ends.old.source ends.new.source self.new.freezer }
+        ensures kept { ends.new.source ≡ record ends.old.source { pushed = ends.new.source.pushed } }
     {
         let line = &hall.checked.script().lines()[self.desk.replies.len()];
         let mut next = self.state;
@@ -218,7 +218,7 @@ impl Submitter {
         requires taken { HasTaken J.script J.queue L.id C.id (length self.old.desk.replies) self.old ends.old.source ends.old.collector }
         requires more { length self.old.desk.replies < length J.script.lines }
         ensures taken { OnOk result (HasTaken J.script J.queue L.id C.id (length self.old.desk.replies + 1) self.new ends.new.source ends.new.collector) }
-        ensures kept { KeepTheirQueues J.queue ends.old.source ends.new.source self.new.freezer }
+        ensures kept { ends.new.source ≡ record ends.old.source { pushed = ends.new.source.pushed } }
     {
         match hall.checked.request(self.desk.replies.len()) {
             Some(request) => self.submit(hall, ends, request),
@@ -235,21 +235,11 @@ impl Submitter {
         requires start { HasTaken J.script J.queue L.id C.id 0 self.old ends.old.source ends.old.collector }
         ensures end { OnOk result (IsEnd J.script self.new) }
         ensures pushed { OnOk result (ends.new.source ≡ record ends.old.source { pushed = accepted_in_all J.script }) }
-        ensures kept { KeepTheirQueues J.queue ends.old.source ends.new.source self.new.freezer }
+        ensures kept { ends.new.source ≡ record ends.old.source { pushed = ends.new.source.pushed } }
     {
         for _position in 0..hall.checked.script().lines().len() {
             self.take_next(hall, ends)?;
         }
         self.drain(hall, &mut ends.collector)
-    }
-
-    /// Freezes the queue where it isn't frozen, and waits until it is drained: then no request is under way. A frozen one is
-    /// drained already.
-    pub(crate) fn give_up<R: Wait>(&mut self, rt: &R, queue: &BlockQueue)
-        requires own { self.old.freezer.queue ≡ queue.now }
-    {
-        if self.freezer.depth() == 0 {
-            let _frozen = self.freezer.freeze(rt, queue);
-        }
     }
 }

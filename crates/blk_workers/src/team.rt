@@ -92,9 +92,6 @@ fn lead<J: Run, C: QueueName, L: QueueName, R: Threads + Wait, S: Stall>(
     ensures started { OnOk result (started.new.items ≡ started.old.items) }
 {
     let submitted = submitter.submit_all(hall, ends);
-    if submitted.is_err() {
-        submitter.give_up(hall.rt, hall.queue);
-    }
     end(hall, &mut ends.source, workers);
     match submitted {
         Ok(()) => Ok(submitter),

@@ -60,7 +60,7 @@ impl<J: Run, C: QueueName, L: QueueName> FinishedWorker<J, C, L> {
     }
 }
 
-// Does a request: the tag leaves on this worker's own slot once the completion is told, and goes back to whoever
+// Does a request: the tag leaves on this worker's slot once the completion is told, and goes back to whoever
 // submits.
 fn serve<J: Run, C: QueueName, L: QueueName, R: Wait, S: Stall>(
     hall: &Hall<'_, J, C, L, R, S>,
@@ -81,8 +81,8 @@ fn serve<J: Run, C: QueueName, L: QueueName, R: Wait, S: Stall>(
     receipt
 }
 
-/// Does requests until it takes an end mark. There is room for the number of each request of the script, so no
-/// memory is asked for.
+/// Does requests until it takes an end mark. There is room for the number of each request of the script, so a draw asks for
+/// no memory.
 pub(crate) fn work<J: Run, C: QueueName, L: QueueName, R: Wait, S: Stall>(
     hall: &Hall<'_, J, C, L, R, S>,
     slot: u32,

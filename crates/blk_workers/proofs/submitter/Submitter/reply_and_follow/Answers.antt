@@ -14,23 +14,25 @@ follow-requires-clause-hardware g c =
     ap (λ (q : Queue). q.limits.hardware) c.requires.next.queue.is ∙ hardware_at g.J.Run.script (length c.args.self.now.desk.replies + 1) ∙ sym c.hall.invariant.hardware
     ∙ sym (ap (λ (q : QueueFacts). q.hardware) c.hall.invariant.its_queue)
 
-pub returns-clause-passed : goal.returns-clause-passed
-returns-clause-passed g c =
+pub returns : goal.returns
+returns g c =
     let here = length c.args.self.now.desk.replies in
     let refused : accepted_at g.J.Run.script here ≡ None = c.requires.next.refused in
     let replied = c.in_ok-reply_now.ensures.replied in
     let desk = c.reply_now.new.desk in
     record {
-      at = record {
-        stands = subst (λ (s : Meant). Stands s desk.replies desk.disk) (c.script.ensures ∙ c.hall.invariant.its_script) replied.stands;
-        lines = replied.lines;
-        state = c.requires.next.queue;
-        freezer =
-            subst (λ (q : QueueFacts). IsFollowing q (here + 1) c.follow.new.freezer) c.hall.invariant.its_queue
-            (subst (λ n. IsFollowing c.hall.inside.queue.now n c.follow.new.freezer) (c.len-lines.ensures ∙ replied.lines) c.follow.ensures.follows);
-        mode = c.follow.ensures.mode;
-        counted = record { is = c.requires.before.counted.is ∙ sym (counts_line g.J.Run.script here refused); few = omega (arith, c.requires.before.counted.few) };
+      passed = record {
+        at = record {
+          stands = subst (λ (s : Meant). Stands s desk.replies desk.disk) (c.script.ensures ∙ c.hall.invariant.its_script) replied.stands;
+          lines = replied.lines;
+          state = c.requires.next.queue;
+          freezer =
+              subst (λ (q : QueueFacts). IsFollowing q (here + 1) c.follow.new.freezer) c.hall.invariant.its_queue
+              (subst (λ n. IsFollowing c.hall.inside.queue.now n c.follow.new.freezer) (c.len-lines.ensures ∙ replied.lines) c.follow.ensures.follows);
+          mode = c.follow.ensures.mode;
+          counted = record { is = c.requires.before.counted.is ∙ sym (counts_line g.J.Run.script here refused); few = omega (arith, c.requires.before.counted.few) };
+        };
+        awaited =
+            subst (λ (s : Meant). StaysAwaited s c.args.self.now.desk.replies desk.replies) (c.script.ensures ∙ c.hall.invariant.its_script) replied.awaited;
       };
-      awaited =
-          subst (λ (s : Meant). StaysAwaited s c.args.self.now.desk.replies desk.replies) (c.script.ensures ∙ c.hall.invariant.its_script) replied.awaited;
     }
