@@ -11,5 +11,6 @@ mod rounds;
 mod sharing;
 mod together;
 mod turns;
+mod using;
 mod waiting;
 mod waking;

@@ -16,6 +16,3 @@ pub use cutting::{Command, commands};
 pub use racing::{Raced, race};
 pub use removal::{Served, remove, serve};
 pub use settings::{change_limits, enter_under, submit};
-
-#[cfg(test)]
-mod tests;

@@ -1,8 +1,7 @@
-//! Each function on its happy path, and what no clause says: that there is memory for many commands, that a request leaves on
-//! its own slot, and that a race is one.
+//! What `uses` shows to drivers, on its happy paths, and what no clause of it says: that there is memory for many commands,
+//! that a request leaves on its own slot, and that a race is one.
 ghost use Rattle.std.specs.Prelude.{◌≡◌};
 
-use crate::{Command, Served, change_limits, commands, enter_under, race, remove, serve, submit};
 use freeze_queue::BlockQueue;
 use percpu_gate::{Control, Gate, Phase, Put, Start, Tried};
 use queue_limits::Limits;
@@ -10,6 +9,7 @@ use std::alloc::Global;
 use std::process::Abort;
 use std::test::Fail;
 use std::thread::Threads;
+use uses::{Command, Served, change_limits, commands, enter_under, race, remove, serve, submit};
 
 #[test]
 fn a_range_is_cut(rt: HostRuntime) -> Result<(), Fail> {
