@@ -49,3 +49,30 @@ fn a_copy_goes_its_own_way(rt: HostRuntime) -> Result<(), Fail> {
     assert_eq!(rt; read.last(), Some(&Answer::Yes));
     Ok(())
 }
+
+/// An answer that feeds a hasher the same again: lists of it are told apart by how long they are, or a search compares every two.
+#[test]
+fn repeated_answers_have_other_numbers(rt: HostRuntime) -> Result<(), Fail> {
+    let mut answers = Answers::new();
+    for _ in 0..1_000 {
+        let before = answers.number();
+        answers = answers.with(rt.alloc(), Answer::Number(1_722_786_858_469_902_748))?;
+        assert!(rt; answers.number() != before);
+    }
+    Ok(())
+}
+
+/// One list that very many share.
+#[test]
+fn many_lists_share_one(rt: HostRuntime) -> Result<(), Fail> {
+    let answers = numbers(rt.alloc(), 1_000)?;
+    let mut copies = Vec::new(rt.alloc());
+    for _ in 0..200_000 {
+        copies.push(answers.copy()?)?;
+    }
+    drop(answers);
+    let last = copies.pop().ok_or("a list")?;
+    drop(copies);
+    assert_eq!(rt; last.to_vec(rt.alloc())?.len(), 1_000);
+    Ok(())
+}
