@@ -96,16 +96,27 @@ fn the_last_to_leave_wakes_all_who_freeze() {
     });
 }
 
-/// A freeze whose patience is at an end thaws: those who wait to enter are woken by that.
+/// A freeze whose patience is at an end thaws: those who wait to enter are woken by that. Until one was seen there is another, since
+/// who looks for it may not run for as long as one stands.
 #[test]
 fn a_late_freeze_wakes_those_who_enter() {
     ends(|| {
         let (queue, mut tags) = queue(4);
+        let seen = AtomicBool::new(false);
         let (first, rest) = tags.split_first_mut().unwrap();
         let request = queue.enter(first).unwrap();
         thread::scope(|threads| {
-            let late = threads.spawn(|| queue.freeze_timeout(SOON * 4).map(drop));
+            let late = threads.spawn(|| {
+                loop {
+                    let late = queue.freeze_timeout(SOON * 4).map(drop);
+                    if seen.load(Ordering::SeqCst) {
+                        break late;
+                    }
+                    assert_eq!(late, Err(FreezeTimeoutError::TimedOut));
+                }
+            });
             until("it freezes", || queue.depth() == 1);
+            seen.store(true, Ordering::SeqCst);
             for (number, tag) in rest.iter_mut().enumerate() {
                 let queue = &queue;
                 threads.spawn(move || match number {
