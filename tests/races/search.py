@@ -1,5 +1,5 @@
 #!/usr/bin/env python3
-"""Finds all moments of a race by exhaustive search, from docs/GATE.md alone, and says how many there are.
+"""Finds all moments of a race by exhaustive search, from docs/GATE.md and docs/FORMATS.md alone, and says how many there are.
 
 usage: tests/races/search.py [--outcomes] [NAME|FILE ..]
 
