@@ -152,7 +152,7 @@ pub record IsNewSource (requests : TableId) (out : ℕ) (source : SourceFacts) :
 
 -- the ends of both queues before the first request
 pub record AreNewEnds (requests completions : TableId) (out : ℕ) (source : SourceFacts) (collector : CollectorFacts) : Type 0 where
-  pub none_pushed : IsNewSource requests out source
+  pub new_source : IsNewSource requests out source
   pub collects : collector.queue ≡ completions
   pub none_given : collector.given ≡ 0
 

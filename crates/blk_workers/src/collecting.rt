@@ -11,8 +11,8 @@ use run_desk::Desk;
 use run_queues::Collector;
 use std::sync::Wait;
 
-// Takes a completion: the reply to its request is owed until then. `Memory` where the worker was refused it; then the reply
-// stays owed.
+// Takes a completion: the reply to its request is owed until then, and one less is owed behind it. `Memory` where the worker was
+// refused it; then the reply stays owed, with no completion to come, and every caller ends the run.
 fn take<J: Run, C: QueueName, L: QueueName, R, S>(
     hall: &Hall<'_, J, C, L, R, S>,
     desk: &mut Desk,
@@ -41,7 +41,7 @@ pub(crate) fn collect_some<J: Run, C: QueueName, L: QueueName, R: Wait, S>(
     ensures lines { length desk.new.replies ≡ length desk.old.replies }
     ensures collector { collector.new ≡ record collector.old { collected = collector.new.collected } }
 {
-    if desk.replies.owed() < hall.tags.room() {
+    if desk.replies.owed() < hall.free_tags.room() {
         return Ok(());
     }
     for _ in 0..desk.replies.owed() {
@@ -69,6 +69,7 @@ pub(crate) fn collect_all<J: Run, C: QueueName, L: QueueName, R: Wait, S>(
         if desk.replies.owed() == 0 {
             return Ok(());
         }
+        // What is owed has a completion to come: where one brought no answer, `take` has ended the run.
         let completion = hall.completions.collect(hall.rt, collector);
         take(hall, desk, completion)?;
     }

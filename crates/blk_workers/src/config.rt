@@ -14,7 +14,7 @@ pub const MOST_SLOTS: u32 = 64;
 pub const MOST_TAGS: u32 = 63;
 
 /// How a run is shaped: how many threads work on requests, over how many slots the gate spreads its count,
-/// and how many requests can be under way. None of this changes what a run answers.
+/// and how many requests can be in the queue at the same time. None of this changes what a run answers.
 #[derive(Clone, Copy, Debug, PartialEq, Eq)]
 pub struct Config {
     workers: u32,
@@ -70,7 +70,7 @@ impl Config {
         self.slots
     }
 
-    /// The requests that can be under way: 1 to 63.
+    /// The requests that can be in the queue at the same time: 1 to 63.
     pub fn tags(&self) -> u32
         ensures value { result ≡ self.now.tags }
         ensures within { AreWithin self.now }

@@ -9,7 +9,7 @@ use script_meaning::QueueState;
 use std::sync::Wait;
 
 /// Freezes the queue and waits until it is drained, where it isn't frozen already. Whether it did. `_kills` stands in the
-/// contract alone: how often the gate was killed, at most.
+/// contract alone: how often the gate was killed, at most; a gate is killed 2^40 times (`percpu_core`, `KILL_LIMIT`).
 pub(crate) fn freeze<R: Wait>(
     rt: &R,
     freezer: &mut Freezer,
@@ -43,7 +43,8 @@ fn set_limits(freezer: &mut Freezer, queue: &BlockQueue, limits: Limits)
     }
 }
 
-// Brings the depth of a frozen queue one step nearer to this one.
+// Brings the depth of a frozen queue one step nearer to this one. One is enough: a line changes the script's depth by one at most,
+// to 1,000 at most, and each line that isn't an accepted request is followed.
 fn step_to(freezer: &mut Freezer, queue: &BlockQueue, depth: u32)
     requires own { (freezer.old.queue ≡ queue.now) × (0 < freezer.old.depth) }
     requires shallow { depth ≤ 1000 }

@@ -21,7 +21,7 @@ pub(crate) struct Queues<J: Run, C: QueueName> {
     queue: BlockQueue,
     requests: RequestQueue<Job<J, C>>,
     completions: CompletionQueue<Completion<J>>,
-    tags: SpareQueue<FreeTag<J>>,
+    free_tags: SpareQueue<FreeTag<J>>,
 }
 
 // A queue of these tags.
@@ -42,7 +42,7 @@ fn free_tags<J: Run, R: Wait>(
 
 impl<J: Run, C: QueueName> Queues<J, C> {
     /// A run's queues, with all tags free, and the right to push requests. The room for requests and free tags is taken here,
-    /// and that for the workers' lists.
+    /// and a place for each worker's list to come back to; the lists take theirs in `team::drawers`.
     pub(crate) fn new<R: Wait>(
         rt: &R,
         alloc: Global,
@@ -53,7 +53,7 @@ impl<J: Run, C: QueueName> Queues<J, C> {
     ) -> Result<(Queues<J, C>, Source<Job<J, C>>), RunFault>
         requires own { (queue ≡ J.queue) × AreFreeTags J.queue tags.items }
         ensures queue { IfOk result (λ made. made.0.queue ≡ queue) }
-        ensures rooms { IfOk result (λ made. (made.0.requests.room ≡ length tags.items) × (made.0.tags ≡ length tags.items)) }
+        ensures rooms { IfOk result (λ made. (made.0.requests.room ≡ length tags.items) × (made.0.free_tags ≡ length tags.items)) }
         ensures completions { IfOk result (λ made. made.0.completions ≡ completions) }
         ensures source { IfOk result (λ made. made.1 ≡ new_source made.0.requests.id workers) }
     {
@@ -62,14 +62,14 @@ impl<J: Run, C: QueueName> Queues<J, C> {
             queue,
             requests,
             completions,
-            tags: free_tags(rt, alloc, tags)?,
+            free_tags: free_tags(rt, alloc, tags)?,
         };
         Ok((queues, source))
     }
 }
 
 /// What a run's threads stand on: the runtime, the allocator, the checked script, what holds the run at its points, and the run's
-/// queues.
+/// queues. `J` is the run, `C` its queue of completions, `L` its queue of requests, `R` the runtime's type, `S` the stall's.
 ///
 /// The type keeps that the script and the queues are those which its parameters name, that the queue has a slot and the
 /// script's hardware, and that the script's lines are few enough to be numbered.
@@ -82,7 +82,8 @@ pub(crate) struct Hall<'a, J: Run, C: QueueName, L: QueueName, R, S> {
     pub(crate) queue: &'a BlockQueue,
     pub(crate) requests: &'a RequestQueue<Job<J, C>>,
     pub(crate) completions: &'a CompletionQueue<Completion<J>>,
-    pub(crate) tags: &'a SpareQueue<FreeTag<J>>,
+    /// The submitter takes them and workers put them back; there is room for all tags of the run.
+    pub(crate) free_tags: &'a SpareQueue<FreeTag<J>>,
     of: PhantomData<L>,
 }
 
@@ -93,7 +94,7 @@ impl<'a, J: Run, C: QueueName, L: QueueName, R, S> Model for Hall<'a, J, C, L, R
 
     ghost Value = { ℕ };
 
-    ghost view = { λ h. h.tags.now };
+    ghost view = { λ h. h.free_tags.now };
 
     ghost invariant = { λ h. IsHall J.script J.queue L.id C.id h.checked.now h.queue.now h.requests.now.id h.completions.now.id };
 }
@@ -117,7 +118,7 @@ impl<'a, J: Run, C: QueueName, L: QueueName, R, S> Hall<'a, J, C, L, R, S> {
             queue: &queues.queue,
             requests: &queues.requests,
             completions: &queues.completions,
-            tags: &queues.tags,
+            free_tags: &queues.free_tags,
             of: PhantomData,
         }
     }

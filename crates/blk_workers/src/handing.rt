@@ -44,7 +44,7 @@ fn entered<J: Run, C: QueueName, L: QueueName, R: Wait, S>(
     ensures entered { result.value.entered ≡ true }
     ensures told { result.value.limits ≡ Some limits }
 {
-    let mut tag = hall.tags.take(hall.rt).into_tag();
+    let mut tag = hall.free_tags.take(hall.rt).into_tag();
     for _ in hall.rt.forever() {
         hall.queue.enter(hall.rt, &mut tag, SUBMITTER_SLOT);
         if hall.queue.limits(&mut tag) == limits {

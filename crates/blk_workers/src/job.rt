@@ -58,7 +58,8 @@ impl<J: Run, C: QueueName> Job<J, C> {
     }
 
     /// Does the request: reads the limits under its tag, cuts the pieces, and makes the line of its reply and the
-    /// sectors that a write leaves.
+    /// sectors that a write leaves. It says once more that the request is an accepted one of the script: by that a worker's list
+    /// has room for its number.
     pub(crate) fn done(self, alloc: Global, queue: &BlockQueue, script: &Script) -> DoneJob<J, C>
         requires queue { queue.now ≡ J.queue }
         requires script { script.now ≡ J.script }
@@ -131,7 +132,7 @@ impl<J: Run> Numbered for Completion<J> {
 /// see the tag.
 #[derive(Drop)]
 pub(crate) struct FreeTag<J: Run> {
-    // Boxed, since by value it would take the 128 unused bytes about its pass through two queues.
+    // Boxed: a tag has 128 unused bytes about its gate's pass, which by value would be copied through two queues.
     tag: Box<Tag>,
     of: PhantomData<J>,
 }
@@ -200,7 +201,8 @@ impl<J: Run> Completion<J> {
 }
 
 /// A request that is done: its tag is still entered, and its completion still to be told. It is told first, since what
-/// it becomes by that is the one way to its tag. Contracts see its number.
+/// it becomes by that is the one way to its tag: so once the queue is drained each completion is in its queue, and whoever
+/// collects them all then waits for no worker. Contracts see its number.
 #[derive(Drop)]
 pub(crate) struct DoneJob<J: Run, C: QueueName> {
     tag: Box<Tag>,

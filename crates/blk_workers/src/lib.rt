@@ -21,11 +21,14 @@
 //! Words of this crate:
 //! - *hall*: what the threads stand on, which is the runtime, the allocator, the checked script, the stall, the queue that requests
 //!   enter, and three queues by which they hand on requests, completions and free tags.
-//! - *desk*: the disk and the replies so far, which the submitter alone has (`run_desk`). A reply is *owed* while its request is
-//!   under way.
+//! - *desk*: the disk and the replies so far, which the submitter alone has (`run_desk`). A reply is *owed* from when its request
+//!   is handed over until its completion is collected. That is longer than its tag is entered, so more may be owed than there are
+//!   tags.
 //! - *stall*: what a test holds a run by at its points; it changes no answer.
 //! - *ends*: the submitter's right to push requests and to collect completions. A *drawer* is a worker's right to draw requests,
 //!   a *duty* the right to tell one completion, which goes with its request.
+//! - *part*: the right to push has all parts of the right to draw at first (`all_parts`); each drawer takes one, and brings
+//!   it back. Once all are back no worker's list is missing.
 //! - *position*: a line's place in the script, from 0. *number*: a request's place among the accepted ones, from 0.
 //! - *slot*: a place over which the queue's gate (`freeze_queue`) spreads its count of entered tags, so that threads which name
 //!   different ones share no word while it counts on slots. A tag may leave on another than it entered on.

@@ -12,6 +12,8 @@ pub(crate) trait Run {
     ghost queue: { QueueFacts };
 }
 
+// What stands here counts only where no call picks the name. A call `f::<Brand, ..>` picks its own: the `ghosts` of
+// proofs/running/*/Invariants.antt.
 impl Run for Brand {
     ghost use Rattle.blk_workers.specs.Nobody.{no_script, no_queue};
 
@@ -28,6 +30,7 @@ pub(crate) trait QueueName {
     ghost id: { TableId };
 }
 
+// Likewise.
 impl QueueName for Brand {
     ghost use Rattle.run_queues.specs.Nobody.{no_table};
 

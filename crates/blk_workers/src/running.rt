@@ -62,8 +62,8 @@ fn run_in<
         queues,
     );
     // One place more than there are numbers to draw: a draw makes sure of one before it takes an end mark too.
-    let room = inputs.checked.accepted() + 1;
-    let drawers = drawers(&hall, &mut ends.source, workers, room)?;
+    let numbers_each = inputs.checked.accepted() + 1;
+    let drawers = drawers(&hall, &mut ends.source, workers, numbers_each)?;
     let (submitter, source) = with_workers(&hall, submitter, ends, drawers)?;
     submitter.into_ran(hall.requests.finish(source))
 }

@@ -109,9 +109,9 @@ impl Submitter {
         }
         self.drain(hall, collector)?;
         let queue = hall.queue;
-        // Each line kills the gate once at most.
-        let lines = self.desk.replies.len() + 1;
-        follow(&mut self.freezer, queue, &self.state, lines);
+        // Each line kills the gate once at most; for the contract alone, as below.
+        let kills = self.desk.replies.len() + 1;
+        follow(&mut self.freezer, queue, &self.state, kills);
         Ok(())
     }
 
@@ -151,8 +151,8 @@ impl Submitter {
         ensures collected { HasCollected J.script J.queue C.id self.old self.new collector.old collector.new }
         ensures none_owed { OnOk result (owed_count self.new.desk.replies ≡ 0) }
     {
-        let lines = self.desk.replies.len();
-        if freeze(hall.rt, &mut self.freezer, hall.queue, lines) {
+        let kills = self.desk.replies.len();
+        if freeze(hall.rt, &mut self.freezer, hall.queue, kills) {
             hall.stall.at(self.accepted, Point::Drained);
         }
         collect_all(hall, collector, &mut self.desk)
@@ -178,8 +178,8 @@ impl Submitter {
             line_number,
             reply,
         )?;
-        let lines = self.desk.replies.len();
-        follow(&mut self.freezer, hall.queue, &next, lines);
+        let kills = self.desk.replies.len();
+        follow(&mut self.freezer, hall.queue, &next, kills);
         self.state = next;
         Ok(())
     }

@@ -18,27 +18,28 @@ use std::sync::Wait;
 use std::thread;
 use std::thread::{JoinHandle, Scope, Threads};
 
-/// The right to draw for each worker, with room for all that it may draw.
+/// The right to draw for each worker, with room for so many numbers in the list of what it draws. Each takes one part of the
+/// source's.
 pub(crate) fn drawers<J: Run, C: QueueName, L: QueueName, R, S>(
     hall: &Hall<'_, J, C, L, R, S>,
     source: &mut Source<Job<J, C>>,
     workers: u32,
-    room: usize,
+    numbers_each: usize,
 ) -> Result<Vec<Drawer<Job<J, C>>>, AllocError>
     requires own { source.old.queue ≡ L.id }
     requires parts { source.old.parts ≡ all_parts }
     requires few { workers ≤ 32 }
-    ensures drawers { IfOk result (λ ds. (length ds.items ≡ workers) × All (IsNewDrawer L.id room) ds.items) }
+    ensures drawers { IfOk result (λ ds. (length ds.items ≡ workers) × All (IsNewDrawer L.id numbers_each) ds.items) }
     ensures source { OnOk result (source.new ≡ record source.old { parts = all_parts - workers }) }
 {
     let mut drawers = Vec::with_capacity(hall.alloc, workers as usize)?;
     for _worker in 0..workers {
-        drawers.push(hall.requests.drawer(hall.alloc, source, room)?)?;
+        drawers.push(hall.requests.drawer(hall.alloc, source, numbers_each)?)?;
     }
     Ok(drawers)
 }
 
-// Takes one of these rights to draw.
+// Takes one of these rights to draw: each has room for the number of each accepted request, and one place more (src/running.rt).
 fn take_drawer<J: Run, C: QueueName, L: QueueName>(
     drawers: &mut Vec<Drawer<Job<J, C>>>,
 ) -> Option<Drawer<Job<J, C>>>
@@ -51,7 +52,7 @@ fn take_drawer<J: Run, C: QueueName, L: QueueName>(
 }
 
 // Puts an end mark for each worker that was started.
-fn end<J: Run, C: QueueName, L: QueueName, R: Wait, S>(
+fn push_end_marks<J: Run, C: QueueName, L: QueueName, R: Wait, S>(
     hall: &Hall<'_, J, C, L, R, S>,
     source: &mut Source<Job<J, C>>,
     started: usize,
@@ -92,7 +93,7 @@ fn lead<J: Run, C: QueueName, L: QueueName, R: Threads + Wait, S: Stall>(
     ensures started { OnOk result (started.new.items ≡ started.old.items) }
 {
     let submitted = submitter.submit_all(hall, ends);
-    end(hall, &mut ends.source, workers);
+    push_end_marks(hall, &mut ends.source, workers);
     match submitted {
         Ok(()) => Ok(submitter),
         Err(why) => {
@@ -102,8 +103,8 @@ fn lead<J: Run, C: QueueName, L: QueueName, R: Threads + Wait, S: Stall>(
     }
 }
 
-// Waits for the workers, which were ended, and takes back their right to draw with what they drew. There is room for
-// their lists, so each of them is waited for.
+// Waits for the workers, which were ended, and takes back their right to draw with what they drew. There is a place for each
+// list (`AreOut`), so none is refused and no worker is left unjoined.
 fn gather<J: Run, C: QueueName, L: QueueName, R: Threads, S>(
     hall: &Hall<'_, J, C, L, R, S>,
     source: &mut Source<Job<J, C>>,
@@ -166,7 +167,7 @@ fn start<
 
 // Submits and collects while the workers work that were started, ends them, and takes back what they drew. `Thread`
 // where fewer were started than there are to be: then they are ended at once.
-fn lead_all<J: Run, C: QueueName, L: QueueName, R: Threads + Wait, S: Stall>(
+fn lead_and_gather<J: Run, C: QueueName, L: QueueName, R: Threads + Wait, S: Stall>(
     hall: &Hall<'_, J, C, L, R, S>,
     submitter: Submitter,
     mut ends: Ends<J, C>,
@@ -180,7 +181,7 @@ fn lead_all<J: Run, C: QueueName, L: QueueName, R: Threads + Wait, S: Stall>(
     ensures led { IfOk result (λ led. IsLed J.script L.id workers led.0 led.1) }
 {
     if started.len() < workers {
-        end(hall, &mut ends.source, started.len());
+        push_end_marks(hall, &mut ends.source, started.len());
         dismiss(hall.rt, &mut started);
         return Err(RunFault::Thread);
     }
@@ -210,17 +211,19 @@ pub(crate) fn with_workers<
     ensures led { IfOk result (λ led. IsLed J.script L.id (length drawers.items) led.0 led.1) }
 {
     let workers = drawers.len();
-    let room: Vec<JoinHandle<FinishedWorker<J, C, L>>> = Vec::with_capacity(hall.alloc, workers)?;
+    let no_handles: Vec<JoinHandle<FinishedWorker<J, C, L>>> = Vec::with_capacity(
+        hall.alloc, workers,
+    )?;
     thread::scope(
         thread::scope_env(),
         hall.rt,
         move |scope| -> Result<(Submitter, Source<Job<J, C>>), RunFault>
             requires ready { AreAtStart J.script J.queue L.id C.id workers submitter ends.source ends.collector drawers.items }
-            requires room { (length room.items ≡ 0) × (workers ≤ vec_capacity room) }
+            requires room { (length no_handles.items ≡ 0) × (workers ≤ vec_capacity no_handles) }
             ensures led { IfOk result (λ led. IsLed J.script L.id workers led.0 led.1) }
         {
-            let started = start(scope, hall, drawers, room);
-            lead_all(hall, submitter, ends, started, workers)
+            let started = start(scope, hall, drawers, no_handles);
+            lead_and_gather(hall, submitter, ends, started, workers)
         },
     )
 }

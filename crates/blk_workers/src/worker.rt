@@ -77,7 +77,7 @@ fn serve<J: Run, C: QueueName, L: QueueName, R: Wait, S: Stall>(
     let completed = done.tell(hall.rt, hall.completions);
     hall.stall.at(number, Point::Completed);
     let (tag, receipt) = completed.leave(hall.queue, slot);
-    hall.tags.put(hall.rt, tag);
+    hall.free_tags.put(hall.rt, tag);
     receipt
 }
 

@@ -28,7 +28,7 @@ returns g c =
           state = c.requires.next.queue;
           freezer =
               subst (λ (q : QueueFacts). IsFollowing q (here + 1) c.follow.new.freezer) c.hall.invariant.its_queue
-              (subst (λ n. IsFollowing c.hall.inside.queue.now n c.follow.new.freezer) (c.len-lines.ensures ∙ replied.lines) c.follow.ensures.follows);
+              (subst (λ n. IsFollowing c.hall.inside.queue.now n c.follow.new.freezer) (c.len-kills.ensures ∙ replied.lines) c.follow.ensures.follows);
           mode = c.follow.ensures.mode;
           counted = record { is = c.requires.before.counted.is ∙ sym (counts_line g.J.Run.script here refused); few = omega (arith, c.requires.before.counted.few) };
         };
