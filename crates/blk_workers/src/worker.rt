@@ -61,7 +61,8 @@ impl<J: Run, C: QueueName, L: QueueName> FinishedWorker<J, C, L> {
 }
 
 // Does a request: the tag leaves on this worker's slot once the completion is told, and goes back to whoever
-// submits.
+// submits. It says again that the request is an accepted one: by that `work` knows that the list has room for its
+// number.
 fn serve<J: Run, C: QueueName, L: QueueName, R: Wait, S: Stall>(
     hall: &Hall<'_, J, C, L, R, S>,
     slot: u32,
@@ -81,8 +82,8 @@ fn serve<J: Run, C: QueueName, L: QueueName, R: Wait, S: Stall>(
     receipt
 }
 
-/// Does requests until it takes an end mark. There is room for the number of each request of the script, so a draw asks for
-/// no memory.
+/// Does requests until it takes an end mark. There is room for the number of each request of the script, and one place
+/// more, which the draw of the end mark makes sure of too: so a draw asks for no memory.
 pub(crate) fn work<J: Run, C: QueueName, L: QueueName, R: Wait, S: Stall>(
     hall: &Hall<'_, J, C, L, R, S>,
     slot: u32,
