@@ -11,9 +11,10 @@ use run_desk::Desk;
 use run_queues::Collector;
 use std::sync::Wait;
 
-// Takes a completion: the reply to its request is owed until then, and one less is owed behind it. `Memory` where the worker was
-// refused it; then the reply stays owed, with no completion to come, and every caller ends the run.
-fn take<J: Run, C: QueueName, L: QueueName, R, S>(
+// Takes a completion. Where it brought an answer, the reply to its request was owed until now, and one less is owed afterwards.
+// `Memory` where the worker was refused it; then the reply stays owed, with no completion to come, and every caller ends the run.
+// `taken` holds then too, so that those who collect have one clause for both ends; nobody reads it once the run fails.
+fn take_completion<J: Run, C: QueueName, L: QueueName, R, S>(
     hall: &Hall<'_, J, C, L, R, S>,
     desk: &mut Desk,
     completion: Completion<J>,
@@ -30,7 +31,8 @@ fn take<J: Run, C: QueueName, L: QueueName, R, S>(
 }
 
 /// Collects the completions that are there now, as many as are owed at most, once so many are owed as there are tags. A
-/// look for each request would take the queue's cache lines from the workers each time.
+/// look for each request would take the queue's cache lines from the workers each time. `collector`: what was given
+/// stays as it was, by which the next duty is numbered.
 pub(crate) fn collect_some<J: Run, C: QueueName, L: QueueName, R: Wait, S>(
     hall: &Hall<'_, J, C, L, R, S>,
     collector: &mut Collector<Completion<J>>,
@@ -48,12 +50,12 @@ pub(crate) fn collect_some<J: Run, C: QueueName, L: QueueName, R: Wait, S>(
         let Some(completion) = hall.completions.try_collect(hall.rt, collector) else {
             break;
         };
-        take(hall, desk, completion)?;
+        take_completion(hall, desk, completion)?;
     }
     Ok(())
 }
 
-/// Collects completions until none is owed, and waits for them.
+/// Collects completions until none is owed, and waits for them. `collector` is as at `collect_some`.
 pub(crate) fn collect_all<J: Run, C: QueueName, L: QueueName, R: Wait, S>(
     hall: &Hall<'_, J, C, L, R, S>,
     collector: &mut Collector<Completion<J>>,
@@ -69,9 +71,9 @@ pub(crate) fn collect_all<J: Run, C: QueueName, L: QueueName, R: Wait, S>(
         if desk.replies.owed() == 0 {
             return Ok(());
         }
-        // What is owed has a completion to come: where one brought no answer, `take` has ended the run.
+        // What is owed has a completion to come: where one brought no answer, `take_completion` has ended the run.
         let completion = hall.completions.collect(hall.rt, collector);
-        take(hall, desk, completion)?;
+        take_completion(hall, desk, completion)?;
     }
     unreachable!()
 }

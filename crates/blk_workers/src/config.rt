@@ -4,7 +4,8 @@ ghost use Rattle.blk_workers.specs.Sizes.{AreWithin};
 
 use std::marker::Model;
 
-/// The most workers of a run.
+/// The most workers of a run: a choice, that `AreDrawers`, `team`, `sizes_in_numbers` (blkq_run/src/laws.rt), docs/FORMATS.md,
+/// docs/blkq.1 and README.md write out too.
 pub const MOST_WORKERS: u32 = 32;
 
 /// The most slots of a run's gate: as many as a gate takes (`percpu_core::SLOT_LIMIT`).
@@ -14,7 +15,7 @@ pub const MOST_SLOTS: u32 = 64;
 pub const MOST_TAGS: u32 = 63;
 
 /// How a run is shaped: how many threads work on requests, over how many slots the gate spreads its count,
-/// and how many requests can be in the queue at the same time. None of this changes what a run answers.
+/// and how many requests can be in the queue at the same time. None of this changes the replies or the disk.
 #[derive(Clone, Copy, Debug, PartialEq, Eq)]
 pub struct Config {
     workers: u32,
@@ -82,7 +83,8 @@ impl Config {
 impl Default for Config {
     ghost is_default = { λ c. c ≡ record { workers = 4; slots = 8; tags = 16 } };
 
-    /// 4 workers, 8 slots and 16 tags.
+    /// 4 workers, 8 slots and 16 tags, as `blkq run` has where no numbers are given: `usual` (blkq_run/specs/Requests.antt),
+    /// docs/FORMATS.md, docs/blkq.1 and README.md say the same.
     fn default() -> Self {
         Config {
             workers: 4,

@@ -9,7 +9,7 @@ use thiserror::Error;
 /// Why a run answers nothing. The threads that it started have ended, and nothing else is handed out.
 #[derive(Clone, Copy, Debug, PartialEq, Eq, Error)]
 pub enum RunFault {
-    /// Memory was refused.
+    /// Memory was refused, or the script has 2^32 lines or more.
     #[error("memory")]
     Memory,
     /// The start of a thread was refused.
@@ -18,7 +18,8 @@ pub enum RunFault {
 }
 
 impl RunFault {
-    /// The fault's number, from 1 in the order of declaration.
+    /// The fault's number, from 1 in the order of declaration. No crate here asks for it: it is for callers who tell faults by
+    /// numbers.
     pub fn number(&self) -> u8
         ensures { result ≡ number_of self.now }
     {

@@ -9,7 +9,7 @@ use script_meaning::QueueState;
 use std::sync::Wait;
 
 /// Freezes the queue and waits until it is drained, where it isn't frozen already. Whether it did. `_kills` stands in the
-/// contract alone: how often the gate was killed, at most; a gate is killed 2^40 times (`percpu_core`, `KILL_LIMIT`).
+/// contract alone: how often the gate was killed, at most; a gate is killed 2^40 times at most (`percpu_core`, `KILL_LIMIT`).
 pub(crate) fn freeze<R: Wait>(
     rt: &R,
     freezer: &mut Freezer,
@@ -29,7 +29,7 @@ pub(crate) fn freeze<R: Wait>(
     true
 }
 
-// Sets the limits of a frozen queue.
+// Sets the limits of a frozen queue, which is drained, where they differ: to set looks at the gate and stores each limit.
 fn set_limits(freezer: &mut Freezer, queue: &BlockQueue, limits: Limits)
     requires own { (freezer.old.queue ≡ queue.now) × (limits.hardware ≡ queue.now.hardware) }
     requires drained { (0 < freezer.old.depth) × (freezer.old.drained ≡ true) }
@@ -43,8 +43,9 @@ fn set_limits(freezer: &mut Freezer, queue: &BlockQueue, limits: Limits)
     }
 }
 
-// Brings the depth of a frozen queue one step nearer to this one. One is enough: a line changes the script's depth by one at most,
-// to 1,000 at most, and each line that isn't an accepted request is followed.
+// Brings the depth of a frozen queue one step nearer to this one. One is enough: where the depth is 0 a drain adds one, a line
+// changes the script's by one at most, and each line that isn't an accepted request is followed, as is each drain before an
+// ordered request. 1,000 is the script's `DEPTH_LIMIT` and the freezer's `MOST_DEPTH`.
 fn step_to(freezer: &mut Freezer, queue: &BlockQueue, depth: u32)
     requires own { (freezer.old.queue ≡ queue.now) × (0 < freezer.old.depth) }
     requires shallow { depth ≤ 1000 }
@@ -63,8 +64,9 @@ fn step_to(freezer: &mut Freezer, queue: &BlockQueue, depth: u32)
 }
 
 /// Brings the queue to the mode that the script's queue has, and a frozen one to its limits and nearer to its
-/// depth. A queue that the script removed stays frozen. `_kills` stands in the contract alone: how often the gate was
-/// killed, at most.
+/// depth. A queue that the script removed stays frozen. The replies need only that it is live where the script's depth is 0; it
+/// has the same depth, so that each freeze and thaw of the script is one of the queue. `_kills` stands in the contract alone:
+/// how often the gate was killed, at most.
 pub(crate) fn follow(freezer: &mut Freezer, queue: &BlockQueue, state: &QueueState, _kills: usize)
     requires follows { IsFollowing queue.now _kills freezer.old }
     requires hardware { state.now.limits.hardware ≡ queue.now.hardware }
@@ -73,6 +75,8 @@ pub(crate) fn follow(freezer: &mut Freezer, queue: &BlockQueue, state: &QueueSta
     ensures frozen { (0 < freezer.old.depth → freezer.new.limits ≡ state.now.limits) × (freezer.new.depth ≡ depth_after freezer.old.depth state.now) }
 {
     freezer.mode(queue, state.mode());
+    // A live queue has the script's limits and its depth, 0, already: a line that changes either drains first, or comes under a
+    // freeze, and so finds the queue frozen here.
     if freezer.depth() == 0 {
         return;
     }

@@ -87,7 +87,8 @@ pub(crate) struct Hall<'a, J: Run, C: QueueName, L: QueueName, R, S> {
     of: PhantomData<L>,
 }
 
-// Contracts see for how many free tags there is room. What else a hall is, its invariant says by the run's names.
+// A model shows some value: here for how many free tags there is room, which no clause reads. What else a hall is, its
+// invariant says by the run's names.
 impl<'a, J: Run, C: QueueName, L: QueueName, R, S> Model for Hall<'a, J, C, L, R, S> {
     ghost use Rattle.std.specs.Prelude.{ℕ};
     ghost use Rattle.blk_workers.specs.Halls.{IsHall};

@@ -15,7 +15,8 @@ use run_queues::{Collector, Source};
 use script_meaning::Request;
 use std::sync::Wait;
 
-// The slot on which the thread that submits enters. The first worker leaves on it too.
+// The slot on which the thread that submits enters. The first worker leaves on it too, and others where there are
+// fewer slots than workers.
 const SUBMITTER_SLOT: u32 = 0;
 
 /// The ends of the run's queues that the thread that submits and collects has: the right to push requests, and the

@@ -128,6 +128,36 @@ impl<J: Run> Numbered for Completion<J> {
     }
 }
 
+impl<J: Run> Completion<J> {
+    fn new(number: u32, position: usize, answer: Result<Answer, AllocError>) -> Completion<J>
+        requires request { IsAcceptedAt J.script number position }
+        requires answer { IfOk answer (IsAnswerTo J.script position) }
+        ensures { result ≡ record { number = number; position = position } }
+    {
+        Completion {
+            number,
+            position,
+            answer,
+            of: PhantomData,
+        }
+    }
+
+    /// The position of the request's line, and its answer, unless the worker was refused memory.
+    pub(crate) fn into_parts(self) -> (usize, Result<Answer, AllocError>)
+        ensures position { result.0 ≡ self.position }
+        ensures request { IsAcceptedAt J.script self.number self.position }
+        ensures answer { IfOk result.1 (IsAnswerTo J.script result.0) }
+    {
+        let Completion {
+            number: _,
+            position,
+            answer,
+            of: _,
+        } = self;
+        (position, answer)
+    }
+}
+
 /// A tag that isn't entered, free for the next request. The type keeps that, and that it is of the run's queue. Contracts
 /// see the tag.
 #[derive(Drop)]
@@ -167,36 +197,6 @@ impl<J: Run> FreeTag<J> {
     {
         let FreeTag { tag, of: _ } = self;
         tag
-    }
-}
-
-impl<J: Run> Completion<J> {
-    fn new(number: u32, position: usize, answer: Result<Answer, AllocError>) -> Completion<J>
-        requires request { IsAcceptedAt J.script number position }
-        requires answer { IfOk answer (IsAnswerTo J.script position) }
-        ensures { result ≡ record { number = number; position = position } }
-    {
-        Completion {
-            number,
-            position,
-            answer,
-            of: PhantomData,
-        }
-    }
-
-    /// The position of the request's line, and its answer, unless the worker was refused memory.
-    pub(crate) fn into_parts(self) -> (usize, Result<Answer, AllocError>)
-        ensures position { result.0 ≡ self.position }
-        ensures request { IsAcceptedAt J.script self.number self.position }
-        ensures answer { IfOk result.1 (IsAnswerTo J.script result.0) }
-    {
-        let Completion {
-            number: _,
-            position,
-            answer,
-            of: _,
-        } = self;
-        (position, answer)
     }
 }
 

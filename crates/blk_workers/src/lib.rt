@@ -22,9 +22,11 @@
 //! - *hall*: what the threads stand on, which is the runtime, the allocator, the checked script, the stall, the queue that requests
 //!   enter, and three queues by which they hand on requests, completions and free tags.
 //! - *desk*: the disk and the replies so far, which the submitter alone has (`run_desk`). A reply is *owed* from when its request
-//!   is handed over until its completion is collected. That is longer than its tag is entered, so more may be owed than there are
-//!   tags.
-//! - *stall*: what a test holds a run by at its points; it changes no answer.
+//!   is handed over until its completion is collected with an answer; one without ends the run. That is longer than its tag is
+//!   entered, so more may be owed than there are tags.
+//! - *stall*: what a test holds a run by at its points; it changes no reply, and not the disk.
+//! - *drained*: of a drawer, or of the right to push, that an end mark was taken; of the queue, that every tag has left and none
+//!   can enter.
 //! - *ends*: the submitter's right to push requests and to collect completions. A *drawer* is a worker's right to draw requests,
 //!   a *duty* the right to tell one completion, which goes with its request.
 //! - *part*: the right to push has all parts of the right to draw at first (`all_parts`); each drawer takes one, and brings
@@ -49,7 +51,7 @@ mod handing;
 mod job;
 mod naming;
 mod ran;
-mod receipts;
+mod receipt_count;
 mod running;
 mod stall;
 mod submitter;

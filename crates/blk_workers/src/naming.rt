@@ -12,8 +12,8 @@ pub(crate) trait Run {
     ghost queue: { QueueFacts };
 }
 
-// What stands here counts only where no call picks the name. A call `f::<Brand, ..>` picks its own: the `ghosts` of
-// proofs/running/*/Invariants.antt.
+// `Brand` is the kit's type for such names: a function is proved for every name, and the proof of a call `f::<Brand, ..>`
+// picks one (the `ghosts` of proofs/running/*/Invariants.antt). All three calls do, so what stands here counts nowhere.
 impl Run for Brand {
     ghost use Rattle.blk_workers.specs.Nobody.{no_script, no_queue};
 

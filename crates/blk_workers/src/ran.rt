@@ -1,8 +1,8 @@
-//! What a run answers.
+//! What a run answers, and which requests each worker drew.
 
 use ram_disk::Disk;
 
-/// What a run answers.
+/// What a run answers, and which requests each worker drew.
 #[derive(Drop)]
 pub struct Ran {
     /// The lines of the replies, in the script's order.

@@ -53,12 +53,11 @@ fn run_in<
     ensures ran { IfOk result (IsRanBy J.script inputs.now.config.workers) }
 {
     let workers = inputs.config.workers();
-    // Lent anew, since a hall has one lifetime for all that it stands on.
     let hall = Hall::<J, C, L, R, S>::new(
-        &*inputs.rt,
+        inputs.rt,
         inputs.alloc,
-        &*inputs.checked,
-        &*inputs.stall,
+        inputs.checked,
+        inputs.stall,
         queues,
     );
     // One place more than there are numbers to draw: a draw makes sure of one before it takes an end mark too.
@@ -96,7 +95,7 @@ fn run_on<J: Run + Send + Sync, C: QueueName + Send + Sync, R: Threads + Wait + 
     run_in::<J, C, Brand, R, S>(inputs, &queues, submitter, ends)
 }
 
-// A run whose types name its script and its queue.
+// A run whose types name its script and its queue: `parts` are the new queue, its freezer and its tags.
 fn run_as<J: Run + Send + Sync, R: Threads + Wait + Sync, S: Stall>(
     inputs: &Inputs<'_, R, S>,
     parts: NewQueue,
@@ -117,9 +116,9 @@ fn run_as<J: Run + Send + Sync, R: Threads + Wait + Sync, S: Stall>(
 /// Runs a checked script on as many workers as the config says, whose replies and disk are those of a single thread.
 ///
 /// The calling thread submits the requests and collects their answers, the workers do them. `Memory` where memory
-/// was refused, and `Thread` where the start of a thread was; then nothing more is submitted, and the workers that
-/// were started have ended. A script of 2^32 lines or more is refused as `Memory`: its requests' numbers have no
-/// room.
+/// was refused, and `Thread` where the start of a thread was, before any request is submitted. Where a worker is
+/// refused memory, requests are submitted until its completion is collected. When the run answers, the workers that
+/// were started have ended. A script of 2^32 lines or more is refused as `Memory`: its requests' numbers have no room.
 pub fn run<R: Threads + Wait + Sync, S: Stall>(
     rt: &R,
     alloc: Global,

@@ -1,9 +1,9 @@
 //! Points of a run at which it can be held, for tests of what runs at the same time.
 
-/// A point that each accepted request passes, or each drain.
+/// A point that each accepted request passes, or each drain that freezes the queue.
 #[derive(Clone, Copy, Debug, PartialEq, Eq)]
 pub enum Point {
-    /// The submitter has entered the queue for a request, and not queued it yet.
+    /// The submitter has entered the queue for a request, and not pushed it to the workers yet.
     Entered,
     /// A worker has taken the request.
     Drawn,
@@ -14,7 +14,7 @@ pub enum Point {
     Drained,
 }
 
-/// Holds a run at its points, as long as a call of `at` takes. What a run answers doesn't depend on it.
+/// Holds a run at its points, as long as a call of `at` takes. The replies and the disk don't depend on it.
 pub trait Stall: Sync {
     /// The run is at `point` with the accepted request `number`, counted from 0; at `Drained`, after `number`
     /// accepted requests.

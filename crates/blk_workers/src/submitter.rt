@@ -47,13 +47,15 @@ fn reply_now(
     requires may_take { MayTakeReply script.now desk.old.replies (reply_line (line_number, reply.now)) }
     ensures replied { OnOk result (HasReplied script.now desk.old desk.new) }
 {
+    // `Memory` is the only refusal of `render`.
     let text = render(alloc, line_number, reply).map_err(|_| RunFault::Memory)?;
     desk.reply(script, text)?;
     Ok(())
 }
 
 impl Submitter {
-    /// A run's submitter, before the first line.
+    /// A run's submitter, before the first line. It isn't told which run it is: so it is that of whichever queue this freezer
+    /// follows.
     pub(crate) fn new(
         alloc: Global,
         script: &Script,
@@ -61,6 +63,7 @@ impl Submitter {
     ) -> Result<Submitter, RunFault>
         ensures { IfOk result (IsAtStartWith script.now freezer) }
     {
+        // Only memory can be refused (`only_memory` of `Disk::new`).
         let disk = Disk::new(alloc, script.disk()).map_err(|_| RunFault::Memory)?;
         let replies = Replies::new(alloc, script.lines().len())?;
         Ok(Submitter {
@@ -101,21 +104,21 @@ impl Submitter {
         requires at { IsAt J.script J.queue (length self.old.desk.replies) self.old }
         requires collecting { IsCollecting J.script C.id self.old.desk collector.old }
         ensures collected { HasCollected J.script J.queue C.id self.old self.new collector.old collector.new }
-        ensures joins { OnOk result (MayJoin J.script self.new.desk.replies) }
+        ensures may_join { OnOk result (MayJoin J.script self.new.desk.replies) }
     {
         collect_some(hall, collector, &mut self.desk)?;
         if !hall.checked.is_ordered(self.desk.replies.len()) {
             return Ok(());
         }
         self.drain(hall, collector)?;
-        let queue = hall.queue;
-        // Each line kills the gate once at most; for the contract alone, as below.
+        // For the contract of `follow` alone: `drain` may have killed the gate once more than there are lines taken.
         let kills = self.desk.replies.len() + 1;
-        follow(&mut self.freezer, queue, &self.state, kills);
+        follow(&mut self.freezer, hall.queue, &self.state, kills);
         Ok(())
     }
 
-    // Hands over the accepted request of the next line.
+    // Hands over the accepted request of the next line. Also where it fails, nothing of the right to push changes but how much
+    // was pushed (`kept`), so `lead` can still put end marks.
     fn submit<J: Run, C: QueueName, L: QueueName, R: Wait, S: Stall>(
         &mut self,
         hall: &Hall<'_, J, C, L, R, S>,
@@ -133,8 +136,7 @@ impl Submitter {
             limits: self.state.limits(),
         };
         self.make_way(hall, &mut ends.collector)?;
-        let desk = &mut self.desk;
-        hand_over(hall, desk, ends, accepted)?;
+        hand_over(hall, &mut self.desk, ends, accepted)?;
         self.accepted += 1;
         self.state.count(&request);
         Ok(())
@@ -151,6 +153,7 @@ impl Submitter {
         ensures collected { HasCollected J.script J.queue C.id self.old self.new collector.old collector.new }
         ensures none_owed { OnOk result (owed_count self.new.desk.replies ≡ 0) }
     {
+        // For the contract of `freeze` alone: each line taken killed the gate once at most.
         let kills = self.desk.replies.len();
         if freeze(hall.rt, &mut self.freezer, hall.queue, kills) {
             hall.stall.at(self.accepted, Point::Drained);
@@ -178,6 +181,7 @@ impl Submitter {
             line_number,
             reply,
         )?;
+        // For the contract of `follow` alone: the lines taken, now with this one.
         let kills = self.desk.replies.len();
         follow(&mut self.freezer, hall.queue, &next, kills);
         self.state = next;
@@ -209,7 +213,8 @@ impl Submitter {
         }
     }
 
-    // Takes the next line.
+    // Takes the next line. `kept`: of the right to push nothing changes but how much was pushed. So `lead` can put end marks also
+    // where this fails, and where it doesn't, `gather` finds the parts, the lists and their room as they were.
     fn take_next<J: Run, C: QueueName, L: QueueName, R: Wait, S: Stall>(
         &mut self,
         hall: &Hall<'_, J, C, L, R, S>,
@@ -226,7 +231,7 @@ impl Submitter {
         }
     }
 
-    /// Takes all lines, and drains the queue at the end.
+    /// Takes all lines, and drains the queue at the end. `kept` is as at `submit`.
     pub(crate) fn submit_all<J: Run, C: QueueName, L: QueueName, R: Wait, S: Stall>(
         &mut self,
         hall: &Hall<'_, J, C, L, R, S>,

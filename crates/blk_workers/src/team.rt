@@ -28,7 +28,6 @@ pub(crate) fn drawers<J: Run, C: QueueName, L: QueueName, R, S>(
 ) -> Result<Vec<Drawer<Job<J, C>>>, AllocError>
     requires own { source.old.queue ≡ L.id }
     requires parts { source.old.parts ≡ all_parts }
-    requires few { workers ≤ 32 }
     ensures drawers { IfOk result (λ ds. (length ds.items ≡ workers) × All (IsNewDrawer L.id numbers_each) ds.items) }
     ensures source { OnOk result (source.new ≡ record source.old { parts = all_parts - workers }) }
 {
@@ -40,6 +39,8 @@ pub(crate) fn drawers<J: Run, C: QueueName, L: QueueName, R, S>(
 }
 
 // Takes one of these rights to draw: each has room for the number of each accepted request, and one place more (src/running.rt).
+// `pop` says only that the list was what is left, and behind it what it gives: that both are new drawers is answered by hand
+// here, so `start` needs no answer for it.
 fn take_drawer<J: Run, C: QueueName, L: QueueName>(
     drawers: &mut Vec<Drawer<Job<J, C>>>,
 ) -> Option<Drawer<Job<J, C>>>
@@ -65,20 +66,19 @@ fn push_end_marks<J: Run, C: QueueName, L: QueueName, R: Wait, S>(
     }
 }
 
-// Waits for workers that were ended. What a thread hands back is let go only where it is joined.
+// Waits for workers that were ended. What a thread hands back is let go only where it is joined: the scope would wait too, but
+// leak it, which `tools/sweep_refusals` would see.
 fn dismiss<J: Run, C: QueueName, L: QueueName, R: Threads>(
     rt: &R,
     started: &mut Vec<JoinHandle<FinishedWorker<J, C, L>>>,
 ) {
-    for _ in 0..started.len() {
-        let Some(worker) = started.pop() else {
-            break;
-        };
+    while let Some(worker) = started.pop() {
         drop(worker.join(rt));
     }
 }
 
-// Submits and collects while so many workers work, and ends them. Where that fails, they are waited for too.
+// Submits and collects while so many workers work, and ends them. Where that fails, it waits for them too, by the handles in
+// `started`, which it empties only then.
 fn lead<J: Run, C: QueueName, L: QueueName, R: Threads + Wait, S: Stall>(
     hall: &Hall<'_, J, C, L, R, S>,
     mut submitter: Submitter,
@@ -108,16 +108,13 @@ fn lead<J: Run, C: QueueName, L: QueueName, R: Threads + Wait, S: Stall>(
 fn gather<J: Run, C: QueueName, L: QueueName, R: Threads, S>(
     hall: &Hall<'_, J, C, L, R, S>,
     source: &mut Source<Job<J, C>>,
-    mut workers: Vec<JoinHandle<FinishedWorker<J, C, L>>>,
+    mut started: Vec<JoinHandle<FinishedWorker<J, C, L>>>,
 )
-    requires out { AreOut L.id (length workers.items) source.old }
-    ensures back { AreBack L.id (length workers.items) source.new }
+    requires out { AreOut L.id (length started.items) source.old }
+    ensures back { AreBack L.id (length started.items) source.new }
     ensures pushed { source.new.pushed ≡ source.old.pushed }
 {
-    for _gathered in 0..workers.len() {
-        let Some(worker) = workers.pop() else {
-            break;
-        };
+    while let Some(worker) = started.pop() {
         let back = worker.join(hall.rt);
         let taken_back = hall.requests.gather(source, back.into_drawer());
         prove!(taken_back.is_ok());
@@ -127,16 +124,16 @@ fn gather<J: Run, C: QueueName, L: QueueName, R: Threads, S>(
 // Starts a worker for each of these rights to draw, on one slot after the other. They are fewer where the start of a
 // thread is refused. The list comes in empty, with room for all: once a thread runs, no memory is asked for its handle.
 fn start<
-    's,
-    'e,
-    J: Run + Send + Sync + 'e,
-    C: QueueName + Send + Sync + 'e,
-    L: QueueName + Send + Sync + 'e,
+    'scope,
+    'env,
+    J: Run + Send + Sync + 'env,
+    C: QueueName + Send + Sync + 'env,
+    L: QueueName + Send + Sync + 'env,
     R: Threads + Wait + Sync,
     S: Stall,
 >(
-    scope: &'s Scope<'s, &'e ()>,
-    hall: &'e Hall<'e, J, C, L, R, S>,
+    scope: &'scope Scope<'scope, &'env ()>,
+    hall: &'env Hall<'env, J, C, L, R, S>,
     mut drawers: Vec<Drawer<Job<J, C>>>,
     mut started: Vec<JoinHandle<FinishedWorker<J, C, L>>>,
 ) -> Vec<JoinHandle<FinishedWorker<J, C, L>>>
@@ -146,10 +143,7 @@ fn start<
 {
     let slots = hall.queue.slots();
     let mut slot = 0;
-    for _worker in 0..drawers.len() {
-        let Some(drawer) = take_drawer::<J, C, L>(&mut drawers) else {
-            break;
-        };
+    while let Some(drawer) = take_drawer::<J, C, L>(&mut drawers) {
         let worker = scope.spawn(
             move || -> FinishedWorker<J, C, L>
                 requires slot { slot < J.queue.gate.slots }
@@ -166,7 +160,8 @@ fn start<
 }
 
 // Submits and collects while the workers work that were started, ends them, and takes back what they drew. `Thread`
-// where fewer were started than there are to be: then they are ended at once.
+// where fewer were started than there are to be: then they are ended at once. 32 is `MOST_WORKERS` (`AreDrawers` has the same
+// number). Any number below `all_parts`, which is 2^32, would do: the source has to keep a part (`AreOut`).
 fn lead_and_gather<J: Run, C: QueueName, L: QueueName, R: Threads + Wait, S: Stall>(
     hall: &Hall<'_, J, C, L, R, S>,
     submitter: Submitter,

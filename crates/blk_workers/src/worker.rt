@@ -7,7 +7,7 @@ ghost use Rattle.blk_workers.specs.Progress.{IsNewDrawer};
 use crate::hall::Hall;
 use crate::job::{Completion, Job};
 use crate::naming::{QueueName, Run};
-use crate::receipts::Receipts;
+use crate::receipt_count::ReceiptCount;
 use crate::stall::{Point, Stall};
 use run_queues::{Drawer, Numbered, Receipt};
 use std::marker::{Model, PhantomData};
@@ -18,7 +18,7 @@ use std::sync::Wait;
 #[derive(Drop)]
 pub(crate) struct FinishedWorker<J: Run, C: QueueName, L: QueueName> {
     drawer: Drawer<Job<J, C>>,
-    receipts: Receipts<J, C>,
+    receipts: ReceiptCount<J, C>,
     of: PhantomData<L>,
 }
 
@@ -34,7 +34,7 @@ impl<J: Run, C: QueueName, L: QueueName> Model for FinishedWorker<J, C, L> {
 }
 
 impl<J: Run, C: QueueName, L: QueueName> FinishedWorker<J, C, L> {
-    fn new(drawer: Drawer<Job<J, C>>, receipts: Receipts<J, C>) -> FinishedWorker<J, C, L>
+    fn new(drawer: Drawer<Job<J, C>>, receipts: ReceiptCount<J, C>) -> FinishedWorker<J, C, L>
         requires own { drawer.queue ≡ L.id }
         requires drained { drawer.drained ≡ true }
         requires told { receipts ≡ length drawer.drawn }
@@ -82,7 +82,7 @@ fn serve<J: Run, C: QueueName, L: QueueName, R: Wait, S: Stall>(
     receipt
 }
 
-/// Does requests until it takes an end mark. There is room for the number of each request of the script, and one place
+/// Does requests until it takes an end mark. There is room for the number of each accepted request, and one place
 /// more, which the draw of the end mark makes sure of too: so a draw asks for no memory.
 pub(crate) fn work<J: Run, C: QueueName, L: QueueName, R: Wait, S: Stall>(
     hall: &Hall<'_, J, C, L, R, S>,
@@ -92,7 +92,7 @@ pub(crate) fn work<J: Run, C: QueueName, L: QueueName, R: Wait, S: Stall>(
     requires slot { slot < J.queue.gate.slots }
     requires drawer { IsNewDrawer L.id (accepted_in_all J.script + 1) drawer }
 {
-    let mut receipts = Receipts::new();
+    let mut receipts = ReceiptCount::new();
     for _ in hall.rt.forever() {
         let Ok(drawn) = hall.requests.draw(hall.rt, &mut drawer) else {
             unreachable!()

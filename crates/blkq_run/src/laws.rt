@@ -7,7 +7,7 @@ use crate::run::MOST_READ;
 use blk_script::{one_first_overlap, one_text};
 use blk_workers::{MOST_SLOTS, MOST_TAGS, MOST_WORKERS};
 
-/// The greatest sizes of a run, and the most bytes that are read, as numbers: the other clauses name them. The
+/// The greatest sizes of a run, and the most bytes that are read, as numbers: the other public clauses name them. The
 /// contract is the law; the function does nothing.
 pub fn sizes_in_numbers()
     ensures workers { MOST_WORKERS ≡ 32 }

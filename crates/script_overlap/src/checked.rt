@@ -8,7 +8,7 @@ use script_meaning::{Request, Script};
 use std::alloc::{AllocError, Global};
 use std::marker::Model;
 
-/// A script of which no two requests overlap, as [`check`](crate::check) found. Contracts see the script.
+/// A script of which no two requests overlap that no drain parts, as [`check`](crate::check) found. Contracts see the script.
 ///
 /// It keeps which requests the queue accepts, how many they are, and which are ordered, so that whoever runs the script
 /// decides none of these again. The other lines are taken anew, for their replies.

@@ -7,21 +7,21 @@ use Rattle.blk_workers.proofs.collecting.collect_some.Goals as goal
 pub loop-preserved : goal.loop-preserved
 loop-preserved g c = record {
   collecting = record {
-    stands = c.take.ensures.taken.stands;
+    stands = c.take_completion.ensures.taken.stands;
     own = ap (λ (k : CollectorFacts). k.queue) c.in-Some.ensures.collected ∙ c.loop.invariant.collecting.own;
     awaited =
-        subst (λ (k : CollectorFacts). AreAwaited g.J.Run.script c.take.new.desk.replies k.given k.collected) (sym c.in-Some.ensures.collected)
-        (c.take.ensures.taken.awaited c.loop.collector.given c.loop.collector.collected c.loop.invariant.collecting.awaited);
+        subst (λ (k : CollectorFacts). AreAwaited g.J.Run.script c.take_completion.new.desk.replies k.given k.collected) (sym c.in-Some.ensures.collected)
+        (c.take_completion.ensures.taken.awaited c.loop.collector.given c.loop.collector.collected c.loop.invariant.collecting.awaited);
   };
-  lines = c.take.ensures.taken.lines ∙ c.loop.invariant.lines;
+  lines = c.take_completion.ensures.taken.lines ∙ c.loop.invariant.lines;
   collector = same_but_collected c.args.collector.now c.loop.collector c.try_collect.new.collector _ c.loop.invariant.collector c.in-Some.ensures.collected;
 }
 
-pub returns-in_err-take-clause-collecting : goal.returns-in_err-take-clause-collecting
-returns-in_err-take-clause-collecting g c = record {
-  stands = c.take.ensures.taken.stands;
+pub returns-in_err-take_completion-clause-collecting : goal.returns-in_err-take_completion-clause-collecting
+returns-in_err-take_completion-clause-collecting g c = record {
+  stands = c.take_completion.ensures.taken.stands;
   own = ap (λ (k : CollectorFacts). k.queue) c.in-Some.ensures.collected ∙ c.loop.invariant.collecting.own;
   awaited =
-      subst (λ (k : CollectorFacts). AreAwaited g.J.Run.script c.take.new.desk.replies k.given k.collected) (sym c.in-Some.ensures.collected)
-      (c.take.ensures.taken.awaited c.loop.collector.given c.loop.collector.collected c.loop.invariant.collecting.awaited);
+      subst (λ (k : CollectorFacts). AreAwaited g.J.Run.script c.take_completion.new.desk.replies k.given k.collected) (sym c.in-Some.ensures.collected)
+      (c.take_completion.ensures.taken.awaited c.loop.collector.given c.loop.collector.collected c.loop.invariant.collecting.awaited);
 }

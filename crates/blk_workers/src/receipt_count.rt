@@ -1,4 +1,4 @@
-//! The receipts of the completions that a worker told.
+//! How many completions a worker told, by their receipts.
 ghost use Rattle.std.specs.Prelude.{◌≡◌, ◌+◌, ◌<◌, ◌^◌};
 
 use crate::job::Completion;
@@ -6,14 +6,16 @@ use crate::naming::{QueueName, Run};
 use run_queues::Receipt;
 use std::marker::{Model, PhantomData};
 
-/// The receipts of the completions of the run that a worker told. Contracts see how many they are.
+/// How many receipts a worker has, all of completions of this run. Only the number is kept, and contracts see it: a receipt is
+/// taken by value and can't be copied, so none counts twice. `FinishedWorker::new` asks for as many as the worker drew, so
+/// `work` leaves none untold; nothing else reads the number.
 #[derive(Drop)]
-pub(crate) struct Receipts<J: Run, C: QueueName> {
+pub(crate) struct ReceiptCount<J: Run, C: QueueName> {
     count: usize,
     of: PhantomData<(J, C)>,
 }
 
-impl<J: Run, C: QueueName> Model for Receipts<J, C> {
+impl<J: Run, C: QueueName> Model for ReceiptCount<J, C> {
     ghost use Rattle.std.specs.Prelude.{ℕ};
 
     ghost Value = { ℕ };
@@ -21,12 +23,12 @@ impl<J: Run, C: QueueName> Model for Receipts<J, C> {
     ghost view = { λ r. r.count };
 }
 
-impl<J: Run, C: QueueName> Receipts<J, C> {
+impl<J: Run, C: QueueName> ReceiptCount<J, C> {
     /// None yet.
-    pub(crate) fn new() -> Receipts<J, C>
+    pub(crate) fn new() -> ReceiptCount<J, C>
         ensures { result ≡ 0 }
     {
-        Receipts {
+        ReceiptCount {
             count: 0,
             of: PhantomData,
         }

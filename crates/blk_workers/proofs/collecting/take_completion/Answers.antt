@@ -6,7 +6,7 @@ use Rattle.run_desk.specs.Desk.{Stands, is_owed, owed_count}
 use Rattle.run_desk.specs.Requests.{IsAcceptedAt}
 use Rattle.blk_workers.proofs.Awaited.{awaited_fewer, awaited_taken}
 use Rattle.run_desk.proofs.Places.{count_set}
-use Rattle.blk_workers.proofs.collecting.take.Goals as goal
+use Rattle.blk_workers.proofs.collecting.take_completion.Goals as goal
 
 pub returns-in_err-answer-clause-taken : goal.returns-in_err-answer-clause-taken
 returns-in_err-answer-clause-taken g c = record {
