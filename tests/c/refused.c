@@ -1,5 +1,5 @@
 /* Each allocation of a whole life is refused in turn: a number is answered, nothing is lost and nothing leaks. Then
- * the misuses that take two gates. (Linked with --wrap=malloc and free, so that this malloc refuses and both count.) */
+ * the misuses that take two gates; and gates of every size, to which none is refused. (Linked with --wrap=malloc and free, so that this malloc refuses and both count.) */
 #include "percpu_gate.h"
 
 #include <stdio.h>
@@ -9,11 +9,14 @@ void *__real_malloc(size_t size);
 void __real_free(void *at);
 static long allowed = -1; /* none refused */
 static long blocks;       /* that were had and not given back */
+static long refusals;     /* that malloc refused */
 
 void *__wrap_malloc(size_t size)
 {
-    if (allowed == 0)
+    if (allowed == 0) {
+        refusals++;
         return NULL;
+    }
     if (allowed > 0)
         allowed--;
     void *at = __real_malloc(size);
@@ -58,6 +61,50 @@ static long life(long allow)
         if (percpu_gate_retire(&control, &pass[i]))
             return -2;
     return percpu_gate_exit(&control, &last) || last.words[0] != 3 ? -2 : refused;
+}
+
+/* Gates of every size and start, with all their passes, are made and end where no allocation is refused: none is too large. */
+static int every_size(void)
+{
+    for (uint32_t slots = 1; slots <= PERCPU_GATE_MOST_SLOTS; slots++)
+        for (uint32_t most = 1; most <= PERCPU_GATE_MOST_PASSES; most++) {
+            percpu_gate_control control = {0};
+            percpu_gate_pass passes[PERCPU_GATE_MOST_PASSES] = {{0}};
+            percpu_gate_final last;
+            if (percpu_gate_new(&control, slots, most, (slots + most) % 3, words))
+                return 1;
+            for (uint32_t i = 0; i < most; i++)
+                if (percpu_gate_next_pass(&control, &passes[i]))
+                    return 1;
+            if (percpu_gate_next_pass(&control, &(percpu_gate_pass){0}) != PERCPU_GATE_NO_PASS)
+                return 1;
+            for (uint32_t i = 0; i < most; i++)
+                if (percpu_gate_retire(&control, &passes[i]))
+                    return 1;
+            if (percpu_gate_exit(&control, &last))
+                return 1;
+        }
+    return 0;
+}
+
+/* Each of a gate's passes in turn gets no memory once, and then it does: NO_MEMORY comes where an allocation was refused, and
+ * nowhere else. */
+static int each_pass_refused(void)
+{
+    percpu_gate_control control = {0};
+    percpu_gate_pass passes[PERCPU_GATE_MOST_PASSES] = {{0}};
+    if (percpu_gate_new(&control, 1, PERCPU_GATE_MOST_PASSES, PERCPU_GATE_SLOTS, words))
+        return 1;
+    for (int i = 0; i < PERCPU_GATE_MOST_PASSES; i++) {
+        refusals = allowed = 0;
+        uint32_t first = percpu_gate_next_pass(&control, &passes[i]);
+        allowed = -1;
+        if (first != PERCPU_GATE_NO_MEMORY || refusals == 0 || percpu_gate_next_pass(&control, &passes[i]))
+            return 1;
+        percpu_gate_free_pass(&passes[i]);
+    }
+    percpu_gate_free_control(&control);
+    return 0;
 }
 
 /* A gate ends with no memory at all: with a pass that is back from a refused next_pass, and with one never asked for. */
@@ -135,5 +182,5 @@ int main(void)
             return 1;
     if (refused < 3)
         return 2;
-    return ends_without_memory() || two_gates() || one_place_twice() || blocks != 0;
+    return every_size() || each_pass_refused() || ends_without_memory() || two_gates() || one_place_twice() || blocks != 0;
 }

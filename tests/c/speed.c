@@ -1,53 +1,41 @@
-/* How long a thread takes to enter and leave a gate on a slot of its own, beside the gate's own steps in bare C: a look and
- * an exchange on a padded word, twice. speed THREADS ROUNDS TIMES: of so many times, the least is told of each, in
- * nanoseconds of processor time for an enter and a leave, and what the gate takes of the bare steps. */
+/* Times a round of the gate, a try and a put, beside the same steps in bare C and beside one shared counter, which guards
+ * nothing. speed THREADS ROUNDS prints a line for each form, 'gate,FORM,THREADS,NANOSECONDS': the nanoseconds of a round by
+ * the clock, of so many rounds on each of so many threads. */
 #define _GNU_SOURCE
 #include "percpu_gate.h"
-#include <pthread.h>
-#include <stdatomic.h>
-#include <stdio.h>
-#include <stdlib.h>
-#include <time.h>
+#include "timing.h"
 
-enum { MOST_THREADS = 64 };
-
-/* One thread writes each, and nothing else lies on its 128 bytes. */
-static struct { _Alignas(128) _Atomic uint64_t count; } words[MOST_THREADS];
-static struct { _Alignas(128) percpu_gate_pass pass; } passes[MOST_THREADS];
-
-struct thread {
-    pthread_t id;
-    uint32_t number;
-    bool in_c;
-    double seconds;
+/* A gate, and each thread's pass. */
+struct gate {
+    percpu_gate_control control;
+    struct { _Alignas(128) percpu_gate_pass pass; } of[MOST_THREADS];
 };
 
-static uint32_t threads;
-static long rounds;
-static pthread_barrier_t start;
+static struct gate on_slots, on_one_slot, on_word;
+static struct own_word words[MOST_THREADS], shared;
 
-static void need(bool holds, const char *what)
+static void make(struct gate *gate, uint32_t slots, uint32_t start)
 {
-    if (!holds) {
-        fprintf(stderr, "speed: %s\n", what);
-        exit(1);
+    static const uint64_t guarded[PERCPU_GATE_WORD_COUNT];
+    need(percpu_gate_new(&gate->control, slots, threads, start, guarded) == PERCPU_GATE_OK, "no gate");
+    for (uint32_t i = 0; i < threads; i++)
+        need(percpu_gate_next_pass(&gate->control, &gate->of[i].pass) == PERCPU_GATE_OK, "no pass");
+}
+
+static void go_round(struct gate *gate, uint32_t number, uint32_t slot)
+{
+    percpu_gate_pass *pass = &gate->of[number].pass;
+    for (long i = 0; i < rounds; i++) {
+        need(percpu_gate_try_get_live(pass, slot) == PERCPU_GATE_OK, "a try is refused");
+        need(percpu_gate_put(pass, slot, 1) == PERCPU_GATE_OK, "a put is refused");
     }
 }
 
-static double processor_time(void)
-{
-    struct timespec now;
-    clock_gettime(CLOCK_THREAD_CPUTIME_ID, &now);
-    return (double)now.tv_sec + (double)now.tv_nsec * 1e-9;
-}
+static void own_slots(uint32_t number) { go_round(&on_slots, number, number); }
+static void one_slot(uint32_t number) { go_round(&on_one_slot, number, 0); }
+static void atomic_mode(uint32_t number) { go_round(&on_word, number, number); }
 
-static void step(_Atomic uint64_t *word, uint64_t more)
-{
-    uint64_t seen = atomic_load(word);
-    atomic_compare_exchange_strong(word, &seen, seen + more);
-}
-
-static void in_c(uint32_t number)
+static void bare_steps(uint32_t number)
 {
     for (long i = 0; i < rounds; i++) {
         step(&words[number].count, 1);
@@ -55,59 +43,32 @@ static void in_c(uint32_t number)
     }
 }
 
-static void at_the_gate(uint32_t number)
+static void shared_counter(uint32_t number)
 {
-    percpu_gate_pass *pass = &passes[number].pass;
+    (void)number;
     for (long i = 0; i < rounds; i++) {
-        need(percpu_gate_try_get_live(pass, number) == PERCPU_GATE_OK, "a try isn't given");
-        need(percpu_gate_put(pass, number, 1) == PERCPU_GATE_OK, "a put isn't taken");
+        atomic_fetch_add(&shared.count, 1);
+        atomic_fetch_sub(&shared.count, 1);
     }
 }
 
-static void *run(void *at)
-{
-    struct thread *thread = at;
-    pthread_barrier_wait(&start);
-    double began = processor_time();
-    (thread->in_c ? in_c : at_the_gate)(thread->number);
-    thread->seconds = processor_time() - began;
-    return NULL;
-}
-
-/* Nanoseconds of a round, the mean of the threads. */
-static double measured(bool c)
-{
-    static struct thread all[MOST_THREADS];
-    double sum = 0;
-    for (uint32_t i = 0; i < threads; i++) {
-        all[i] = (struct thread){.number = i, .in_c = c};
-        need(pthread_create(&all[i].id, NULL, run, &all[i]) == 0, "no thread");
-    }
-    for (uint32_t i = 0; i < threads; i++) {
-        pthread_join(all[i].id, NULL);
-        sum += all[i].seconds;
-    }
-    return sum / threads * 1e9 / (double)rounds;
-}
+static const struct { const char *name; void (*run)(uint32_t number); } forms[] = {
+    {"gate from C", own_slots},
+    {"gate from C on one slot", one_slot},
+    {"gate from C in atomic mode", atomic_mode},
+    {"the bare steps in C", bare_steps},
+    {"one shared counter", shared_counter},
+};
 
 int main(int count, char **given)
 {
-    static const uint64_t guarded[PERCPU_GATE_WORD_COUNT];
-    percpu_gate_control control = {0};
-    need(count == 4, "usage: speed THREADS ROUNDS TIMES");
-    threads = (uint32_t)strtoul(given[1], NULL, 10);
-    rounds = strtol(given[2], NULL, 10);
-    need(threads >= 1 && threads <= MOST_THREADS, "1 to 64 threads");
-    need(pthread_barrier_init(&start, NULL, threads) == 0, "no barrier");
-    need(percpu_gate_new(&control, threads, threads, PERCPU_GATE_SLOTS, guarded) == PERCPU_GATE_OK, "no gate");
-    for (uint32_t i = 0; i < threads; i++)
-        need(percpu_gate_next_pass(&control, &passes[i].pass) == PERCPU_GATE_OK, "no pass");
-    double least_c = 1e9, least_gate = 1e9;
-    for (long times = strtol(given[3], NULL, 10); times > 0; times--) {
-        double c = measured(true), gate = measured(false);
-        least_c = c < least_c ? c : least_c;
-        least_gate = gate < least_gate ? gate : least_gate;
-    }
-    printf("%u threads: bare C %.2f, the gate %.2f, that is %.3f of it\n", threads, least_c, least_gate, least_gate / least_c);
+    need(count == 3, "usage: speed THREADS ROUNDS");
+    threads = (uint32_t)number_of(given[1], MOST_THREADS);
+    rounds = number_of(given[2], 1000000000);
+    make(&on_slots, threads, PERCPU_GATE_SLOTS);
+    make(&on_one_slot, 1, PERCPU_GATE_SLOTS);
+    make(&on_word, threads, PERCPU_GATE_ATOMIC);
+    for (size_t i = 0; i < sizeof forms / sizeof *forms; i++)
+        printf("gate,%s,%u,%.2f\n", forms[i].name, threads, at_once(forms[i].run, NULL) / (double)rounds);
     return 0;
 }

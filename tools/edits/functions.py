@@ -3,7 +3,6 @@
 import json
 import os
 import re
-import subprocess
 
 
 class Function:
@@ -40,11 +39,9 @@ class Scope:
         self.function, self.module, self.owner, self.of_trait = None, module, owner, of_trait
 
 
-def tokens(rattle, folder, file):
+def tokens(kit, path):
     """The line, the first byte, the end, the kind and the text of each token."""
-    words = [rattle, "fmt", "--tokens", f"{folder}/{file}"]
-    ran = subprocess.run(words, capture_output=True, encoding="utf-8", check=True)
-    for row in ran.stdout.split("\n")[1:]:
+    for row in kit.tokens(path):
         if row:
             line, start, end, kind, text = row.split(" ", 4)
             yield int(line), int(start), int(end), kind, json.loads(text)
@@ -153,13 +150,13 @@ class Reader:
             self.head, self.item = [], None
 
 
-def functions_of(rattle, folder):
+def functions_of(kit, folder):
     """The functions of all files below a crate's src, with those of traits and of impls."""
     found, types, calls = [], {}, False
     for at, _, names in os.walk(f"{folder}/src"):
         for name in sorted(it for it in names if it.endswith(".rt")):
             reader = Reader(os.path.relpath(f"{at}/{name}", folder))
-            for token in tokens(rattle, folder, reader.file):
+            for token in tokens(kit, f"{folder}/{reader.file}"):
                 reader.read(*token)
             found, calls = found + reader.found, calls or reader.calls
             types.update(reader.types)

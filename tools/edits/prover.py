@@ -3,8 +3,9 @@
 import os
 import shutil
 import signal
-import subprocess
 import tempfile
+
+PARTS = ("src", "specs", "proofs")
 
 
 class Ran:
@@ -20,8 +21,8 @@ class Ran:
 class Prover:
     """Checks copies of one crate, each over what the ones before have proved."""
 
-    def __init__(self, rt, crate, room):
-        self.rt, self.crate, self.kept = rt, crate, f"{room}/kept"
+    def __init__(self, kit, crate, room):
+        self.kit, self.crate, self.kept = kit, crate, f"{room}/kept"
         was = f"{crate.folder}/out/incremental"
         if os.path.isdir(was):
             shutil.copytree(was, self.kept)
@@ -29,7 +30,7 @@ class Prover:
     def check(self, texts, only, jobs):
         """Checks the crate with these texts in place of its own: all of it, or only some functions."""
         with tempfile.TemporaryDirectory(prefix="wrong-bodies-") as copy:
-            for part in self.rt.PARTS:
+            for part in PARTS:
                 if os.path.isdir(f"{self.crate.folder}/{part}"):
                     shutil.copytree(f"{self.crate.folder}/{part}", f"{copy}/{part}")
             for path, text in texts.changed.items():
@@ -43,10 +44,7 @@ class Prover:
         return Ran(ran.returncode, ran.stdout)
 
     def run(self, copy, only, jobs):
-        words = self.crate.words(["--jobs", str(jobs)], keeps=False)
-        words += ["--allow-holes", "--incremental", self.kept]
+        flags = ["--allow-holes", "--incremental", self.kept]
         for name in sorted(only):
-            words += ["--only", name]
-        how = {"stdin": subprocess.DEVNULL, "stdout": subprocess.PIPE, "stderr": subprocess.STDOUT}
-        whole = [*self.rt.guarded(), self.rt.RATTLE, "check", *words]
-        return subprocess.run(whole, cwd=copy, encoding="utf-8", errors="replace", **how)
+            flags += ["--only", name]
+        return self.kit.check(self.crate, copy, jobs, flags)

@@ -87,7 +87,7 @@ class Trial:
 
     def run(self, is_known_proved=False):
         """An answer for each edit, in their order. That the crate is proved without edits may be known."""
-        functions, ready = functions_of(self.prover.rt.RATTLE, self.prover.crate.folder), []
+        functions, ready = functions_of(self.prover.kit, self.prover.crate.folder), []
         for edit in self.edits:
             try:
                 self.texts.with_edit(edit)

@@ -48,7 +48,7 @@ def standing(actor, state):
         if joined:
             return False, False, "joined"
         held = [f"holds {count}"] if count else []
-    owed = {"undo": ["owes an undo"], "mark": ["owes the mark"], None: []}[owes]
+    owed = {"undo": ["undo pending"], "mark": ["mark pending"], None: []}[owes]
     return bool(held), bool(owed), ", ".join(held + owed)
 
 
@@ -218,7 +218,7 @@ class Lanes:
 
     def draw_legend(self, y):
         x = EDGE
-        for fill, words in (("hold", "holds"), ("owe", "owes a step"), ("done", "the release")):
+        for fill, words in (("hold", "holds"), ("owe", "a step is pending"), ("done", "the release")):
             self.page.box(x, y - 9, 14, 12, fill, round_by=2)
             self.page.text(x + 20, y + 1, words, "dim", SMALL)
             x += 20 + width_of(words, SMALL) + 18

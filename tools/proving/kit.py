@@ -1,38 +1,210 @@
-"""The kit's own module by which rt reads crates.txt and calls the prover, and locks on crates' folders."""
+"""The kit's prover, and the locks on crates' folders.
+
+rt has no command that builds a library of its statements alone, or that checks a copy of a crate over libraries elsewhere. So the
+prover `rattle` is called here, with flags that its help describes, on the files of the kit in PLACES. A kit that lacks one of them
+is named in a message, and then rt's own commands do the work, in more time.
+"""
 
 import fcntl
 import functools
-import importlib.machinery
 import os
+import re
 import shutil
+import subprocess
 import sys
-import types
+import tempfile
+
+from proving.crates import PARTS
+
+# What is read of the kit, below its folder.
+PLACES = {
+    "prover": "bin/rattle",
+    "linker": "bin/rattle-link",
+    "libraries": "rlibs/std.rlib/format",
+    "logic": "rattle/logic/antt-project.json",
+    "built logic": "logic_built",
+    "toolchain": "toolchain",
+    "C of os": "c/libos_c.a",
+    "C of libc": "c/liblibc_c.a",
+}
+FLAGS = {
+    "check": ("--crate-name", "--extern", "-L", "--antt-project", "--logic-built", "--jobs", "--links", "--crate-type", "--only"),
+    "build": ("--statements", "--incremental", "--toolchain", "--backend"),
+}
+TARGET = "x86_64-unknown-linux-gnu"
 
 
+@functools.lru_cache(maxsize=None)
 def kit():
-    """The module rtlib of the kit whose rt is on the PATH."""
-    found = shutil.which("rt")
-    if not found:
+    """The kit whose rt is on the PATH."""
+    if not shutil.which("rt"):
         sys.exit("the command rt of the Rattle kit is not on the PATH")
-    made = types.ModuleType("rtlib")
-    made.__file__ = f"{os.path.dirname(os.path.realpath(found))}/rtlib.py"
-    importlib.machinery.SourceFileLoader("rtlib", made.__file__).exec_module(made)
-    # It sets a signal's handler, which only the main thread may.
-    made.guarded()
-    # Else a library's files are read once for each way that leads to it.
-    made.Crate.stamp = functools.lru_cache(maxsize=None)(made.Crate.stamp)
-    return made
+    return Kit()
 
 
-def hold(crates):
-    """Keeps rt from making anything anew in these crates' folders until what this returns is closed; others may read there too."""
+def asked(*words):
+    """What a command prints, or nothing if it fails."""
+    try:
+        return subprocess.run(words, capture_output=True, text=True, errors="replace", check=True).stdout.strip()
+    except (OSError, subprocess.CalledProcessError):
+        return ""
+
+
+class Kit:
+    def __init__(self):
+        self.name = asked("rt", "version")
+        self.folder = os.path.dirname(asked("rt", "doc"))
+        self.prover = self.at("prover")
+        # Its process group ends with this process, however that ends.
+        ends, self.held = os.pipe()
+        how = {"stdin": ends, "stdout": subprocess.DEVNULL, "stderr": subprocess.DEVNULL}
+        self.guard = subprocess.Popen(["sh", "-c", "read _; kill -9 0"], **how, **group(0))
+        os.close(ends)
+
+    def at(self, place):
+        return f"{self.folder}/{PLACES[place]}"
+
+    @functools.lru_cache(maxsize=None)
+    def lacks(self):
+        """The files and the flags that this kit lacks: with any of them rt's commands alone are used. Says so once."""
+        lacking = [it for place, it in PLACES.items() if not os.path.exists(self.at(place))]
+        if not lacking:
+            helps = {verb: asked(self.prover, verb, "--help") for verb in FLAGS}
+            lacking = [f"rattle {verb} {flag}" for verb, flags in FLAGS.items() for flag in flags if flag not in helps[verb]]
+        if lacking:
+            says = f"{self.name or 'this kit'} has no {', no '.join(lacking)}: rt lib and rt check are used instead, which take longer"
+            print(f"tools/proving/kit.py: {says} (docs/DECISIONS.md)", file=sys.stderr, flush=True)
+        return lacking
+
+    def identity(self):
+        """The kit's name, and its logic's sum."""
+        return self.name
+
+    def logic(self):
+        """The sum of the kit's logic alone, which other kits share; or the kit's whole name if it shows no such sum."""
+        found = re.search(r"\blogic ([0-9a-f]+)$", self.name)
+        return found[1] if found else self.name
+
+    def sources_of(self, library):
+        """The folder of one of the kit's libraries, or None if the kit has no sources of it."""
+        folder = f"{self.folder}/rattle/{library}"
+        return folder if os.path.isdir(f"{folder}/src") else None
+
+    def format_of(self, library):
+        """The file that has a sum of all files of one of the kit's libraries."""
+        return f"{self.folder}/rlibs/{library}.rlib/format"
+
+    def started(self, words, folder, **how):
+        """A process that ends when this one does."""
+        return subprocess.Popen(words, cwd=folder, stdin=subprocess.DEVNULL, **how, **group(self.guard.pid))
+
+    def tokens(self, path):
+        """A row for each token of a .rt file, or none if the kit doesn't show them: then each edit is tried alone."""
+        if self.lacks():
+            return []
+        words = [self.prover, "fmt", "--tokens", path]
+        return subprocess.run(words, capture_output=True, encoding="utf-8", check=True).stdout.split("\n")[1:]
+
+    def words(self, crate, jobs):
+        """The words by which the prover finds a crate and the libraries below it."""
+        words = ["--crate-name", crate.name, "src/main.rt" if crate.is_program else "src/lib.rt"]
+        for name in crate.of_kit:
+            words += ["--extern", f"{name}={self.folder}/rlibs/{name}.rlib"]
+        words += ["-L", f"dependency={self.folder}/rlibs"]
+        for dep in crate.deps:
+            words += ["--extern", f"{dep.name}={dep.rlib}"]
+        for dep in crate.below():
+            words += ["-L", f"dependency={os.path.dirname(dep.rlib)}"]
+        words += ["--antt-project", self.at("logic"), "--logic-built", self.at("built logic")]
+        # The repository declares no C functions.
+        words += ["--jobs", str(jobs), "--links", f"{crate.name}="]
+        return [*words, "--crate-type", "staticlib"] if crate.is_static else words
+
+    def check(self, crate, folder, jobs, flags):
+        """Checks the copy of a crate that is in a folder, over the repository's libraries below it. The process that ran."""
+        if self.lacks():
+            return self.check_by_rt(crate, folder, jobs, flags)
+        return self.ran([self.prover, "check", *self.words(crate, jobs), *flags], folder)
+
+    def ran(self, words, folder):
+        how = {"stdout": subprocess.PIPE, "stderr": subprocess.STDOUT, "encoding": "utf-8", "errors": "replace"}
+        with self.started(words, folder, **how) as process:
+            said = process.communicate()[0]
+        return subprocess.CompletedProcess(words, process.returncode, said)
+
+    def check_by_rt(self, crate, folder, jobs, flags):
+        """The same by rt check, in a repository of the copy and of the libraries below it, as rt lib has built them."""
+        with tempfile.TemporaryDirectory(prefix="wrong-bodies-repository-") as root:
+            top = os.path.dirname(os.path.dirname(crate.folder))
+            shutil.copy(f"{top}/crates.txt", root)
+            for it in crate.below():
+                kept = shutil.ignore_patterns("incremental")
+                shutil.copytree(it.folder, f"{root}/crates/{it.name}", ignore=kept, copy_function=link_or_copy)
+            for part in PARTS:
+                if os.path.isdir(f"{folder}/{part}"):
+                    shutil.copytree(f"{folder}/{part}", f"{root}/crates/{crate.name}/{part}")
+            words = ["rt", "check", "--jobs", str(jobs), *without(flags, "--incremental")]
+            ran = self.ran(words, f"{root}/crates/{crate.name}")
+        # The prover's last line is to be the last one: rt adds advice.
+        said = "".join(it for it in ran.stdout.splitlines(True) if not it.startswith("rt: "))
+        return subprocess.CompletedProcess(words, ran.returncode, said)
+
+    def build(self, crate, made, jobs, out):
+        """Proves a crate and builds it: a library of its statements, an archive, or a program. The status; it says all on out."""
+        if self.lacks():
+            # rt run builds a program, and its status is the program's, for which there is no input.
+            verb = "run" if crate.is_program else "lib"
+            status = self.said(["rt", verb, "--jobs", str(jobs)], crate, out)
+            return 0 if crate.is_program and os.path.isfile(made) else status
+        words = [self.prover, "build", *self.words(crate, jobs)]
+        if crate.makes_rlib():
+            return self.said([*words, "--statements", "-o", crate.rlib], crate, out)
+        tools = ["--toolchain", self.at("toolchain")]
+        words += [*tools, "--backend", "llvm"]
+        if crate.is_static:
+            # Its wrong bodies are tried over the proofs that are kept.
+            return self.said([*words, "--incremental", "out/incremental", "-o", made], crate, out)
+        if status := self.said([*words, "-o", f"{made}.o"], crate, out):
+            return status
+        link = [self.at("linker"), "--target", TARGET, *tools, "-o", made, f"{made}.o", self.at("C of os"), self.at("C of libc")]
+        return self.said(link, crate, out)
+
+    def said(self, words, crate, out):
+        out.flush()
+        with self.started(words, crate.folder, stdout=out, stderr=subprocess.STDOUT) as process:
+            return process.wait()
+
+
+def group(leader):
+    """How a process is started in a process group: its own for 0."""
+    if sys.version_info >= (3, 11):
+        return {"process_group": leader}
+    return {"preexec_fn": functools.partial(os.setpgid, 0, leader)}
+
+
+def without(flags, name):
+    """The flags without one of them and its value."""
+    at = flags.index(name) if name in flags else len(flags)
+    return [*flags[:at], *flags[at + 2 :]]
+
+
+def link_or_copy(old, new):
+    try:
+        os.link(old, new)
+    except OSError:
+        shutil.copy2(old, new)
+
+
+def hold(crates, how=fcntl.LOCK_SH):
+    """Locks these crates' folders, as rt does, until what this returns is closed: shared, for reading what is there, or for work
+    in them."""
     held = [os.open(it, os.O_RDONLY) for it in sorted({os.path.realpath(it.folder) for it in crates})]
     for it in held:
         try:
-            fcntl.flock(it, fcntl.LOCK_SH | fcntl.LOCK_NB)
+            fcntl.flock(it, how | fcntl.LOCK_NB)
         except BlockingIOError:
             print("waiting for another command to finish in these crates", file=sys.stderr, flush=True)
-            fcntl.flock(it, fcntl.LOCK_SH)
+            fcntl.flock(it, how)
         except OSError:
             # Some file systems have no locks.
             pass

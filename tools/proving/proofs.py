@@ -1,107 +1,168 @@
 """What is proved of a repository's crates, and built of what is proved: a library in out/rlib of the crate's folder, a program or
 an archive in out/.
 
-A library is built of its statements alone, as rt ci builds it: what stands on it then reads what it says, and not how that is
-proved, which is some thirty times as much. rt check and rt lib keep the proofs too, so that an edit proves again only what
-changed; a library that they have built of these sources is taken as it is, and they build anew what stands here.
+A library is built of its statements alone, as rt ci builds it: a check above it then reads the statements and not the proofs,
+which are some thirty times as much. rt check and rt lib keep the proofs too, so that an edit proves again only what changed.
+Libraries that rt has built are used, after rt lib has brought them up to date.
 """
 
+import fcntl
 import hashlib
 import os
 import re
 import shutil
+import subprocess
+import sys
+
+from proving.crates import crates_of
+from proving.kit import hold, let_go, link_or_copy
 
 
 class Proofs:
-    def __init__(self, rt):
-        self.rt = rt
+    def __init__(self, kit):
+        self.kit = kit
+        # The crates whose libraries rt lib has just built or found current.
+        self.by_rt = set()
 
     def read_by(self, crate):
         """A sum of all that a crate's proof reads, once the libraries below it are built."""
-        kit = [f"{self.rt.KIT}/WHAT", *(f"{self.rt.KIT}/rlibs/{it}.rlib/format" for it in crate.of_kit)]
-        found = hashlib.sha256(repr((crate.said, crate.of_kit, [*map(self.rt.sum_of, kit)])).encode())
-        for file in self.rt.files_of(crate.folder):
-            with open(file, "rb") as it:
-                found.update(repr((os.path.relpath(file, crate.folder), it.read())).encode())
+        of_kit = [sum_of(self.kit.format_of(it)) for it in crate.of_kit]
+        found = hashlib.sha256(repr((self.kit.identity(), crate.is_static, crate.of_kit, of_kit)).encode())
+        found.update(repr(sources_of(crate)).encode())
         # A library's format has a sum of its other files.
-        found.update(repr([(it.name, self.rt.sum_of(f"{it.rlib}/format")) for it in crate.below()]).encode())
+        found.update(repr([(it.name, sum_of(f"{it.rlib}/format")) for it in crate.below()]).encode())
         return found.hexdigest()
 
     def noted(self, crate):
-        """What stands in the note of a crate that was proved: sums of what was read, and of what was built of it."""
-        return f"{self.read_by(crate)} {self.rt.sum_of(self.made(crate))}"
+        """The content of the note of a crate that was proved: a sum of what was read, and one of what was built."""
+        return f"{self.read_by(crate)} {sum_of(made_of(crate))}"
 
     def note(self, crate):
-        """The file with the sums. A library's stands where rt lib has its stamp, which is never the same: rt ci sets it aside and
-        puts it back with the library."""
-        return f"{os.path.dirname(crate.rlib)}/stamp" if crate.makes_rlib() else f"{self.made(crate)}.sums"
-
-    def made(self, crate):
-        """What is built of a crate."""
-        if crate.is_program:
-            return f"{crate.folder}/out/{crate.name}"
-        return f"{crate.folder}/out/lib{crate.name}.a" if crate.is_static else f"{crate.rlib}/format"
+        """The file with the sums. A library's replaces the stamp of rt lib, which has one word: so each sees that the other built it."""
+        return f"{os.path.dirname(crate.rlib)}/stamp" if crate.makes_rlib() else f"{made_of(crate)}.sums"
 
     def has(self, crate):
-        """Whether what stands there was proved and built of these sources, over the libraries that stand there now."""
-        if crate.makes_rlib() and all(it.is_built() for it in [*crate.below(), crate]):
+        """Whether the library, archive or program that is there was proved and built of these sources, over the libraries that
+        are there now."""
+        if crate in self.by_rt:
             return True
-        return os.path.isfile(self.made(crate)) and self.rt.text_of(self.note(crate)) == self.noted(crate)
+        return os.path.isfile(made_of(crate)) and text_of(self.note(crate)) == self.noted(crate)
+
+    def ask_rt(self, crates):
+        """Brings the libraries up to date that rt has built, with all below them. No lock may be held on their folders."""
+        of_rt = {it for it in crates if it.makes_rlib() and all(map(self.is_of_rt, [*it.below(), it]))}
+        below = {dep for it in of_rt for dep in it.below()}
+        for top in of_rt - below:
+            print(f"rt lib brings the libraries of {top.name} up to date", file=sys.stderr, flush=True)
+            if subprocess.run(["rt", "lib"], cwd=top.folder, capture_output=True, check=False).returncode == 0:
+                self.by_rt |= {*top.below(), top}
+
+    def is_of_rt(self, crate):
+        return len(text_of(self.note(crate)).split()) == 1
 
     def prove(self, crate, jobs):
-        """Proves and builds a crate from nothing (an archive over the proofs that are kept) and over the libraries below it, and
-        says what the prover says on crate.out."""
+        """Proves and builds a crate from nothing (an archive over the proofs that are kept) and over the libraries below it. The
+        prover's output goes to crate.out."""
+        if self.kit.lacks():
+            status = self.kit.build(crate, made_of(crate), jobs, crate.out)
+            self.by_rt |= {it for it in [crate] if status == 0}
+            return status
         if crate.makes_rlib():
             shutil.rmtree(os.path.dirname(crate.rlib), ignore_errors=True)
             os.makedirs(os.path.dirname(crate.rlib))
-        self.write(crate, "")
+        write(self.note(crate), "")
         read = self.read_by(crate)
-        status = self.build(crate, crate.words(["--jobs", str(jobs)], keeps=False))
-        # No note of what was edited meanwhile.
+        status = self.kit.build(crate, made_of(crate), jobs, crate.out)
+        # No note if something was edited meanwhile.
         if status == 0 and read == self.read_by(crate):
-            self.write(crate, self.noted(crate))
+            write(self.note(crate), self.noted(crate))
         return status
 
-    def build(self, crate, words):
-        build = [self.rt.RATTLE, "build", *words]
-        if crate.makes_rlib():
-            return crate.call(*build, "--statements", "-o", crate.rlib)
-        made, tools = self.made(crate), ["--toolchain", f"{self.rt.KIT}/toolchain"]
-        build += [*tools, "--backend", "llvm"]
-        if crate.is_static:
-            # Its wrong bodies are tried over the proofs that are kept.
-            return crate.call(*build, *self.rt.KEPT, "-o", made)
-        if status := crate.call(*build, "-o", f"{made}.o"):
-            return status
-        of_c = [f"{self.rt.KIT}/c/lib{it}_c.a" for it in ("os", "libc")]
-        link = [f"{self.rt.KIT}/bin/rattle-link", "--target", "x86_64-unknown-linux-gnu", *tools]
-        return crate.call(*link, "-o", made, f"{made}.o", *of_c)
-
-    def write(self, crate, text):
-        with open(self.note(crate), "w", encoding="utf-8") as it:
-            it.write(text)
-
-    def take(self, crates, log):
-        """Takes of these crates, the lowest first, the libraries that rt ci proved in a run whose log this is, with the time at
-        which it began, and left there. The names of those taken."""
+    def take(self, crates, log, origin):
+        """Takes what rt ci has proved and built in another copy of the repository, as far as this log of it goes, for each of these
+        crates with the same sources; the lowest first. The copy's crates.txt has the time of the copy. The names of the crates taken."""
         with open(log, encoding="utf-8", errors="replace") as it:
-            proved, began, taken = proved_in(it.read()), os.path.getmtime(log), []
+            proved, began = proved_in(it.read()), os.path.getmtime(f"{origin}/crates.txt")
+        theirs, taken = {it.name: it for it in crates_of(origin)}, []
         for crate in crates:
-            if crate.name in proved and self.is_left(crate, began) and all(it.name in taken for it in crate.below()):
-                self.write(crate, self.noted(crate))
+            other = theirs.get(crate.name)
+            if not other or crate.name not in proved or any(it.name not in taken for it in crate.below()):
+                continue
+            if sources_of(crate) == sources_of(other) and self.take_one(crate, other, began):
                 taken.append(crate.name)
         return taken
 
-    def is_left(self, crate, began):
-        """Whether a run of rt ci that began then left this library, of what nobody touched since. What it puts back is older."""
+    def take_one(self, crate, other, began):
+        """Takes a crate's library, or its programs, and its tests' program. Whether there is something to take."""
+        os.makedirs(f"{crate.folder}/out", exist_ok=True)
+        if crate.makes_rlib():
+            if not os.path.isfile(made_of(other)):
+                return False
+            if sum_of(made_of(crate)) != sum_of(made_of(other)) or not self.has(crate):
+                self.take_library(crate, other)
+        for name in (crate.name, f"{crate.name}.by-rattle", f"{crate.name}_tests"):
+            take_program(f"{other.folder}/out/{name}", f"{crate.folder}/out/{name}", began)
+        if crate.is_program and os.path.isfile(made_of(crate)):
+            replace(self.note(crate), self.noted(crate))
+        return True
+
+    def take_library(self, crate, other):
+        held = hold([crate], fcntl.LOCK_EX)
         rlib = os.path.dirname(crate.rlib)
-        if not os.path.isdir(rlib) or os.path.getmtime(rlib) < began or os.path.exists(self.note(crate)):
-            return False
-        read = [at for part in self.rt.PARTS for at, _, _ in os.walk(f"{crate.folder}/{part}")]
-        read += [*self.rt.files_of(crate.folder), f"{crate.folder}/../../crates.txt"]
-        return max(os.stat(it).st_ctime for it in read) < began
+        shutil.rmtree(rlib, ignore_errors=True)
+        shutil.copytree(os.path.dirname(other.rlib), rlib, copy_function=link_or_copy)
+        replace(self.note(crate), self.noted(crate))
+        let_go(held)
+
+
+def take_program(made, to, began):
+    """Takes a built program as it is there, with the time at which its proof began: what was edited since is newer."""
+    if os.path.isfile(made) and sum_of(made) != sum_of(to):
+        shutil.copy(made, f"{to}.new")
+        os.utime(f"{to}.new", (began, began))
+        os.replace(f"{to}.new", to)
+
+
+def made_of(crate):
+    """The file that is built of a crate: of a library the one with the sums of its other files."""
+    if crate.is_program:
+        return f"{crate.folder}/out/{crate.name}"
+    return f"{crate.folder}/out/lib{crate.name}.a" if crate.is_static else f"{crate.rlib}/format"
+
+
+def sources_of(crate):
+    """The path and a sum of each file that a proof of the crate reads."""
+    return [(os.path.relpath(it, crate.folder), sum_of(it)) for it in crate.files()]
 
 
 def proved_in(said):
     """The names of the crates that rt ci said to be proved, now or by an earlier run of the same sources."""
     return {*re.findall(r"^rt: (\w+) (?:proved$|is kept: )", said, re.MULTILINE)}
+
+
+def text_of(path):
+    try:
+        with open(path, encoding="utf-8", errors="replace") as it:
+            return it.read()
+    except OSError:
+        return ""
+
+
+def sum_of(path):
+    try:
+        with open(path, "rb") as it:
+            return hashlib.sha256(it.read()).hexdigest()
+    except OSError:
+        return "none"
+
+
+def write(path, text):
+    with open(path, "w", encoding="utf-8") as it:
+        it.write(text)
+
+
+def replace(path, text):
+    """Writes a file anew, and leaves another one alone to which its name was linked."""
+    if os.path.lexists(path):
+        os.remove(path)
+    write(path, text)

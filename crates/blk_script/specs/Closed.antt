@@ -11,3 +11,7 @@ closed_text (run ∷ runs) = (run_text run ++ 44 ∷ []) ++ closed_text runs
 abbrev pub IsClosed : List ℕ → List ℕ → List (ℕ × ℕ) → List (ℕ × ℕ) → Type 0
 IsClosed old new runs left =
     (closed : List (ℕ × ℕ)) × (runs ≡ closed ++ left) × (new ≡ old ++ closed_text closed) × (length left ≡ 0 → length runs ≡ 0)
+
+-- a text is as it was, with more at its end or nothing
+abbrev pub HasGrown : List ℕ → List ℕ → Type 0
+HasGrown old new = (more : List ℕ) × (new ≡ old ++ more)

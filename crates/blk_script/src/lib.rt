@@ -2,9 +2,9 @@
 //!
 //! A script is text. Its first line names the format, its second the disk, and each further line asks the
 //! queue for something: to read or write a range of sectors, to freeze or thaw, to set a limit, to tell its
-//! counts. [`parse`] gives the [`Script`] that a text means, or the first fault of the text. [`check`] makes it a
-//! [`Checked`] one, unless two requests that may be under way together touch one sector: that tells which requests of
-//! version 2 the queue drains for, and how many are accepted. [`run_alone`] tells what the script writes on one thread. What a
+//! counts. [`parse`] gives the [`Script`] that a text means, or the first fault of the text. [`check`] refuses one in which two
+//! requests that may be under way together touch one sector, [`drains`] tells the lines before which the queue drains in
+//! version 2, and [`Checked`] keeps the decisions of both, for a run of the script. [`run_alone`] tells what the script writes on one thread. What a
 //! caller needs of `line_text`, `script_meaning` and `script_overlap` stands here too.
 #![tactic(auto)]
 
@@ -24,4 +24,4 @@ pub use run::run_alone;
 pub use script_meaning::{
     ByteRuns, Line, Mode, Pattern, PieceLengths, Reply, Script, Stat, Version, What,
 };
-pub use script_overlap::{Checked, check, one_first_overlap, one_list_of_ordered_requests};
+pub use script_overlap::{Checked, check, drains, one_first_overlap, one_list_of_ordered_requests};

@@ -1,7 +1,8 @@
 //! The texts of replies and of the disk.
-ghost use Rattle.std.specs.Prelude.{◌≡◌, ◌++◌, ◌∷◌, [], ◌<◌, ℕ, List, OnOk, IfOk, IfErr, codes, decimal};
+ghost use Rattle.std.specs.Prelude.{◌≡◌, ◌++◌, ◌∷◌, [], ◌<◌, ℕ, List, OnOk, OnErr, IfOk, IfErr, codes, decimal};
 ghost use Rattle.hex.specs.Hex.{encode_lower};
 ghost use Rattle.line_text.specs.Named.{named};
+ghost use Rattle.blk_script.specs.Closed.{HasGrown};
 ghost use Rattle.blk_script.specs.Texts.{pieces_text, run_text, runs_text, named_mode, physical_text, counts_text, reply_text, reply_line, disk_line};
 ghost use Rattle.ram_disk.specs.Runs.{IsRuns};
 ghost use Rattle.ram_disk.specs.Sector.{bytes_of};
@@ -25,7 +26,8 @@ fn hex_digits(byte: u8) -> [u8; 2]
 // Appends a run that is shorter than ten bytes, as most are where there are many, in one step.
 fn push_short_run(out: &mut Vec<u8>, byte: u8, count: u8) -> Result<(), AllocError>
     requires { count < 10 }
-    ensures { OnOk result (out.new.items ≡ out.old.items ++ run_text (byte, count)) }
+    ensures ok { OnOk result (out.new.items ≡ out.old.items ++ run_text (byte, count)) }
+    ensures err { OnErr result (out.new.items ≡ out.old.items) }
 {
     let [high, low] = hex_digits(byte);
     out.extend_from_slice(&[high, low, b'*', b'0' + count])
@@ -33,7 +35,8 @@ fn push_short_run(out: &mut Vec<u8>, byte: u8, count: u8) -> Result<(), AllocErr
 
 /// Appends a run.
 pub(crate) fn push_run(out: &mut Vec<u8>, run: (u8, u64)) -> Result<(), AllocError>
-    ensures { OnOk result (out.new.items ≡ out.old.items ++ run_text run) }
+    ensures ok { OnOk result (out.new.items ≡ out.old.items ++ run_text run) }
+    ensures err { OnErr result (HasGrown out.old.items out.new.items) }
 {
     let (byte, count) = run;
     if count < 10 {
@@ -58,7 +61,8 @@ fn push_pieces(out: &mut Vec<u8>, pieces: &[u32]) -> Result<(), AllocError>
 
 /// Appends runs.
 pub(crate) fn push_runs(out: &mut Vec<u8>, runs: &[(u8, u64)]) -> Result<(), AllocError>
-    ensures { OnOk result (out.new.items ≡ out.old.items ++ runs_text runs.now) }
+    ensures ok { OnOk result (out.new.items ≡ out.old.items ++ runs_text runs.now) }
+    ensures err { OnErr result (HasGrown out.old.items out.new.items) }
 {
     for (index, run) in runs.iter().enumerate() {
         if index > 0 {
@@ -177,15 +181,30 @@ pub fn render_read(
     Ok(line)
 }
 
-/// Appends the line of a disk, its line feed included. `Memory` is the only refusal.
-pub fn push_disk(out: &mut Vec<u8>, alloc: Global, disk: &Disk) -> Result<(), ScriptFault>
+// Appends the line of a disk, or a part of it where memory is refused.
+fn push_disk_line(out: &mut Vec<u8>, alloc: Global, disk: &Disk) -> Result<(), ScriptFault>
     ensures line { OnOk result ((runs : List (ℕ × ℕ)) × IsRuns runs (bytes_of disk.now) × (out.new.items ≡ out.old.items ++ disk_line runs)) }
+    ensures err { OnErr result (HasGrown out.old.items out.new.items) }
     ensures fault { IfErr result (λ fault. fault ≡ ScriptFault.Memory) }
 {
     push_text(out, "disk ")?;
     push_sectors(out, alloc, disk.sectors())?;
     push_text(out, "\n")?;
     Ok(())
+}
+
+/// Appends the line of a disk, its line feed included. `Memory` is the only refusal, and leaves the text as it was.
+pub fn push_disk(out: &mut Vec<u8>, alloc: Global, disk: &Disk) -> Result<(), ScriptFault>
+    ensures line { OnOk result ((runs : List (ℕ × ℕ)) × IsRuns runs (bytes_of disk.now) × (out.new.items ≡ out.old.items ++ disk_line runs)) }
+    ensures err { OnErr result (out.new.items ≡ out.old.items) }
+    ensures fault { IfErr result (λ fault. fault ≡ ScriptFault.Memory) }
+{
+    let before = out.len();
+    let pushed = push_disk_line(out, alloc, disk);
+    if pushed.is_err() {
+        out.truncate(before);
+    }
+    pushed
 }
 
 /// The line of a disk, its line feed included. `Memory` is the only refusal.

@@ -1,9 +1,9 @@
 //! The runs of sectors, told sector by sector: a list of them all would take more room than their text.
-ghost use Rattle.std.specs.Prelude.{◌≡◌, ◌++◌, ◌<◌, ℕ, List, OnOk, IfErr};
+ghost use Rattle.std.specs.Prelude.{◌≡◌, ◌++◌, ◌<◌, ℕ, List, OnErr, OnOk, IfErr};
 ghost use Rattle.ram_disk.specs.Runs.{IsRuns};
 ghost use Rattle.ram_disk.specs.Sector.{bytes_of};
 ghost use Rattle.blk_script.specs.Texts.{runs_text};
-ghost use Rattle.blk_script.specs.Closed.{IsClosed, closed_text};
+ghost use Rattle.blk_script.specs.Closed.{HasGrown, IsClosed, closed_text};
 
 use crate::rendering::{push_run, push_runs};
 use line_text::{ScriptFault, push_text};
@@ -15,7 +15,8 @@ const MOST_SECTORS: usize = usize::MAX / SECTOR_BYTES;
 
 // Appends runs, each with a comma behind it.
 fn push_closed(out: &mut Vec<u8>, runs: &[(u8, u64)]) -> Result<(), AllocError>
-    ensures { OnOk result (out.new.items ≡ out.old.items ++ closed_text runs.now) }
+    ensures ok { OnOk result (out.new.items ≡ out.old.items ++ closed_text runs.now) }
+    ensures err { OnErr result (HasGrown out.old.items out.new.items) }
 {
     for run in runs {
         push_run(out, *run)?;
@@ -26,7 +27,8 @@ fn push_closed(out: &mut Vec<u8>, runs: &[(u8, u64)]) -> Result<(), AllocError>
 
 // Appends all runs but the last, which stays: what follows may make it longer.
 fn close(out: &mut Vec<u8>, runs: &mut Vec<(u8, u64)>) -> Result<(), AllocError>
-    ensures { OnOk result (IsClosed out.old.items out.new.items runs.old.items runs.new.items) }
+    ensures ok { OnOk result (IsClosed out.old.items out.new.items runs.old.items runs.new.items) }
+    ensures err { OnErr result (HasGrown out.old.items out.new.items) }
 {
     let Some(last) = runs.pop() else {
         return Ok(());
@@ -37,13 +39,15 @@ fn close(out: &mut Vec<u8>, runs: &mut Vec<(u8, u64)>) -> Result<(), AllocError>
     Ok(())
 }
 
-/// Appends the maximal runs of these sectors' bytes. `Memory` is the only refusal.
+/// Appends the maximal runs of these sectors' bytes, or a part of their text where memory is refused. `Memory` is the only
+/// refusal.
 pub(crate) fn push_sectors(
     out: &mut Vec<u8>,
     alloc: Global,
     sectors: &[Sector],
 ) -> Result<(), ScriptFault>
     ensures text { OnOk result ((runs : List (ℕ × ℕ)) × IsRuns runs (bytes_of sectors.now) × (out.new.items ≡ out.old.items ++ runs_text runs)) }
+    ensures err { OnErr result (HasGrown out.old.items out.new.items) }
     ensures fault { IfErr result (λ fault. fault ≡ ScriptFault.Memory) }
 {
     if sectors.len() > MOST_SECTORS {

@@ -15,6 +15,7 @@ use Rattle.blk_script.specs.Texts.{reply_line}
 use Rattle.run_desk.specs.Requests.{IsAcceptedAt, IsQueueAt, IsReplyLine}
 use Rattle.run_desk.specs.Desk.{AreJoined, is_owed, MayTakeRequest, owed_count, Stands}
 use Rattle.run_desk.specs.declared.desk.Desk.{Desk}
+use Rattle.blk_workers.specs.Following.{IsFrozenFor, IsInStep, IsNear}
 use Rattle.blk_workers.specs.Sizes.{Sizes}
 use Rattle.blk_workers.specs.declared.handing.Accepted.{Accepted}
 use Rattle.blk_workers.specs.declared.ran.Ran.{Ran}
@@ -55,13 +56,13 @@ pub record AreHandedOver (script : Meant) (requests completions : TableId) (posi
   pub duties : collector.given ≡ accepted_before script position
   pub awaited : AreAwaited script replies collector.given collector.collected
 
--- the lines before a position are taken
+-- the lines before a position are taken, and the freezer is in step with the script's queue: live exactly where the script's depth is 0, and with its limits
 pub record IsAt (script : Meant) (queue : QueueFacts) (position : ℕ) (s : Submitter) : Type 0 where
   pub stands : Stands script s.desk.replies s.desk.disk
   pub lines : length s.desk.replies ≡ position
   pub state : IsQueueAt script position s.state
   pub freezer : IsFollowing queue position s.freezer
-  pub mode : s.freezer.mode ≡ s.state.mode
+  pub in_step : IsInStep s.state s.freezer
   pub counted : IsCounted script position s.accepted
 
 -- the lines before a position are taken, and what was accepted of them is handed over
@@ -81,7 +82,7 @@ pub record HasTakenCompletion (script : Meant) (number : ℕ) (old new : Desk) :
   pub lines : length new.replies ≡ length old.replies
   pub awaited : StaysAwaitedBut script old.replies new.replies number
 
--- completions were collected and no line was taken; the freezer may have killed its gate once more, and has the script's mode
+-- completions were collected and no line was taken; the freezer may have killed its gate once more
 pub record HasCollected (script : Meant) (queue : QueueFacts) (completions : TableId) (old new : Submitter) (before after : CollectorFacts) : Type 0 where
   pub collecting : IsCollecting script completions new.desk after
   pub collector : after ≡ record before { collected = after.collected }
@@ -89,7 +90,11 @@ pub record HasCollected (script : Meant) (queue : QueueFacts) (completions : Tab
   pub state : new.state ≡ old.state
   pub accepted : new.accepted ≡ old.accepted
   pub follows : IsFollowing queue (length old.desk.replies + 1) new.freezer
-  pub mode : new.freezer.mode ≡ new.state.mode
+
+-- the same, and the queue is frozen, so that it is drained
+pub record HasDrained (script : Meant) (queue : QueueFacts) (completions : TableId) (old new : Submitter) (before after : CollectorFacts) : Type 0 where
+  pub collected : HasCollected script queue completions old new before after
+  pub frozen : IsFrozenFor new.state new.freezer
 
 -- the next line is this accepted request, which may join those that are owed, and has this number and these limits
 pub record IsReady (script : Meant) (replies : List (Option (List ℕ))) (next : Accepted) : Type 0 where
@@ -120,26 +125,30 @@ pub record HasReplied (script : Meant) (old new : Desk) : Type 0 where
   pub lines : length new.replies ≡ length old.replies + 1
   pub awaited : StaysAwaited script old.replies new.replies
 
--- the lines before the next are taken, but the freezer may have killed its gate once more
-pub record IsBeforeLine (script : Meant) (queue : QueueFacts) (s : Submitter) : Type 0 where
+-- the lines before the next are taken, but the freezer may have killed its gate once more, and comes into step with the queue that the next line leaves by one step
+pub record IsBeforeLine (script : Meant) (queue : QueueFacts) (s : Submitter) (next : Queue) : Type 0 where
   pub stands : Stands script s.desk.replies s.desk.disk
   pub follows : IsFollowing queue (length s.desk.replies + 1) s.freezer
+  pub near : IsNear next s.freezer
   pub counted : IsCounted script (length s.desk.replies) s.accepted
 
 -- the next line is taken with its reply, and the freezer follows; what was awaited still is
 pub record HasPassed (script : Meant) (queue : QueueFacts) (old new : Submitter) : Type 0 where
   pub at : IsAt script queue (length old.desk.replies + 1) new
+  pub accepted : new.accepted ≡ old.accepted
   pub awaited : StaysAwaited script old.desk.replies new.desk.replies
 
--- no line is taken, in the run of whichever queue this freezer follows from its start, in the mode of the script's start
+-- no line is taken, in the run of whichever queue this freezer follows from its start, in step with the script's start
 abbrev pub IsAtStartWith : Meant → FreezerFacts → Submitter → Type 0
-IsAtStartWith script freezer s = (queue : QueueFacts) → IsFollowing queue 0 freezer → freezer.mode ≡ (start_queue script).mode → IsAt script queue 0 s
+IsAtStartWith script freezer s = (queue : QueueFacts) → IsFollowing queue 0 freezer → IsInStep (start_queue script) freezer → IsAt script queue 0 s
 
--- every line is taken, and nothing is owed
+-- every line is taken, nothing is owed, and the queue is frozen and drained
 pub record IsEnd (script : Meant) (s : Submitter) : Type 0 where
   pub stands : Stands script s.desk.replies s.desk.disk
   pub lines : length s.desk.replies ≡ length script.lines
   pub none_owed : owed_count s.desk.replies ≡ 0
+  pub frozen : 0 < s.freezer.depth
+  pub drained : s.freezer.drained ≡ true
 
 -- the right to push, of whose parts so many are with drawers, with room for their lists, before the first request
 pub record IsNewSource (requests : TableId) (out : ℕ) (source : SourceFacts) : Type 0 where
@@ -232,6 +241,6 @@ pub record Suits (script : Meant) (slot_count : ℕ) (queue : QueueFacts) : Type
 pub record IsNewQueue (script : Meant) (sizes : Sizes) (queue : QueueFacts) (f : FreezerFacts) (tags : List TagFacts) : Type 0 where
   pub suits : Suits script sizes.slots queue
   pub follows : IsFollowing queue 0 f
-  pub mode : f.mode ≡ (start_queue script).mode
+  pub in_step : IsInStep (start_queue script) f
   pub count : length tags ≡ sizes.tags
   pub free : AreFreeTags queue tags

@@ -1,5 +1,5 @@
 //! How completions are collected.
-ghost use Rattle.std.specs.Prelude.{◌≡◌, ◌+◌, true, OnOk, length};
+ghost use Rattle.std.specs.Prelude.{◌≡◌, ◌+◌, true, IfErr, OnOk, length};
 ghost use Rattle.blk_workers.specs.Progress.{HasTakenCompletion, IsCollecting};
 ghost use Rattle.run_desk.specs.Desk.{Stands, is_owed, owed_count};
 
@@ -23,6 +23,7 @@ fn take_completion<J: Run, C: QueueName, L: QueueName, R, S>(
     requires owed { is_owed desk.old.replies completion.position ≡ true }
     ensures taken { HasTakenCompletion J.script completion.number desk.old desk.new }
     ensures filled { OnOk result (owed_count desk.new.replies + 1 ≡ owed_count desk.old.replies) }
+    ensures memory { IfErr result (λ fault. fault ≡ RunFault.Memory) }
 {
     let (position, answer) = completion.into_parts();
     let answer = answer?;
@@ -42,6 +43,7 @@ pub(crate) fn collect_some<J: Run, C: QueueName, L: QueueName, R: Wait, S>(
     ensures collecting { IsCollecting J.script C.id desk.new collector.new }
     ensures lines { length desk.new.replies ≡ length desk.old.replies }
     ensures collector { collector.new ≡ record collector.old { collected = collector.new.collected } }
+    ensures memory { IfErr result (λ fault. fault ≡ RunFault.Memory) }
 {
     if desk.replies.owed() < hall.free_tags.room() {
         return Ok(());
@@ -66,6 +68,7 @@ pub(crate) fn collect_all<J: Run, C: QueueName, L: QueueName, R: Wait, S>(
     ensures lines { length desk.new.replies ≡ length desk.old.replies }
     ensures collector { collector.new ≡ record collector.old { collected = collector.new.collected } }
     ensures none_owed { OnOk result (owed_count desk.new.replies ≡ 0) }
+    ensures memory { IfErr result (λ fault. fault ≡ RunFault.Memory) }
 {
     for _ in hall.rt.forever() {
         if desk.replies.owed() == 0 {

@@ -1,6 +1,6 @@
 //! How the queue's freezer follows a script.
 ghost use Rattle.std.specs.Prelude.{◌≡◌, ℕ, ◌+◌, ◌<◌, ◌≤◌, ◌^◌, true};
-ghost use Rattle.blk_workers.specs.Following.{depth_after, one_nearer};
+ghost use Rattle.blk_workers.specs.Following.{IsInStep, IsNear, once_frozen, one_nearer};
 ghost use Rattle.blk_workers.specs.Progress.{IsFollowing};
 
 use freeze_queue::{BlockQueue, Freezer};
@@ -8,25 +8,20 @@ use queue_limits::Limits;
 use script_meaning::QueueState;
 use std::sync::Wait;
 
-/// Freezes the queue and waits until it is drained, where it isn't frozen already. Whether it did. `_kills` stands in the
+/// Freezes the queue and waits until it is drained, where it isn't frozen, and so drained, already. `_kills` stands in the
 /// contract alone: how often the gate was killed, at most; a gate is killed 2^40 times at most (`percpu_core`, `KILL_LIMIT`).
-pub(crate) fn freeze<R: Wait>(
-    rt: &R,
-    freezer: &mut Freezer,
-    queue: &BlockQueue,
-    _kills: usize,
-) -> bool
+pub(crate) fn freeze<R: Wait>(rt: &R, freezer: &mut Freezer, queue: &BlockQueue, _kills: usize)
     requires follows { IsFollowing queue.now _kills freezer.old }
     requires few { _kills < 2 ^ 40 }
     ensures follows { IsFollowing queue.now (_kills + 1) freezer.new }
-    ensures mode { freezer.new.mode ≡ freezer.old.mode }
+    ensures depth { freezer.new.depth ≡ once_frozen freezer.old.depth }
+    ensures others { (freezer.new.limits ≡ freezer.old.limits) × (freezer.new.mode ≡ freezer.old.mode) }
 {
     if freezer.depth() > 0 {
-        return false;
+        return;
     }
     let frozen = freezer.freeze(rt, queue);
     prove!(frozen.is_ok());
-    true
 }
 
 // Sets the limits of a frozen queue, which is drained, where they differ: to set looks at the gate and stores each limit.
@@ -63,16 +58,15 @@ fn step_to(freezer: &mut Freezer, queue: &BlockQueue, depth: u32)
     }
 }
 
-/// Brings the queue to the mode that the script's queue has, and a frozen one to its limits and nearer to its
-/// depth. A queue that the script removed stays frozen. The replies need only that it is live where the script's depth is 0; it
-/// has the same depth, so that each freeze and thaw of the script is one of the queue. `_kills` stands in the contract alone:
-/// how often the gate was killed, at most.
+/// Brings the queue into step with the script's: to its mode, and a frozen one to its limits and its depth, so that each freeze
+/// and thaw of the script is one of the queue. A queue that the script removed stays frozen. `_kills` stands in the contract
+/// alone: how often the gate was killed, at most.
 pub(crate) fn follow(freezer: &mut Freezer, queue: &BlockQueue, state: &QueueState, _kills: usize)
     requires follows { IsFollowing queue.now _kills freezer.old }
     requires hardware { state.now.limits.hardware ≡ queue.now.hardware }
+    requires near { IsNear state.now freezer.old }
     ensures follows { IsFollowing queue.now _kills freezer.new }
-    ensures mode { freezer.new.mode ≡ state.now.mode }
-    ensures frozen { (0 < freezer.old.depth → freezer.new.limits ≡ state.now.limits) × (freezer.new.depth ≡ depth_after freezer.old.depth state.now) }
+    ensures in_step { IsInStep state.now freezer.new }
 {
     freezer.mode(queue, state.mode());
     // A live queue has the script's limits and its depth, 0, already: a line that changes either drains first, or comes under a

@@ -1,5 +1,5 @@
 //! What the threads of a run stand on.
-ghost use Rattle.std.specs.Prelude.{◌≡◌, IfOk, length};
+ghost use Rattle.std.specs.Prelude.{◌≡◌, IfOk, OnOk, length};
 ghost use Rattle.run_queues.specs.Parts.{new_source};
 ghost use Rattle.blk_workers.specs.Halls.{IsHall};
 ghost use Rattle.blk_workers.specs.Progress.{AreFreeTags};
@@ -8,7 +8,7 @@ use crate::fault::RunFault;
 use crate::job::{Completion, FreeTag, Job};
 use crate::naming::{QueueName, Run};
 use freeze_queue::{BlockQueue, Tag};
-use run_queues::{CompletionQueue, RequestQueue, Source, SpareQueue};
+use run_queues::{CompletionQueue, PutCount, RequestQueue, Source, SpareQueue, Taker};
 use script_overlap::Checked;
 use std::alloc::{AllocError, Global};
 use std::marker::{Model, PhantomData};
@@ -24,25 +24,36 @@ pub(crate) struct Queues<J: Run, C: QueueName> {
     free_tags: SpareQueue<FreeTag<J>>,
 }
 
-// A queue of these tags.
+// A queue of free tags, and the right to take them.
+type FreeTags<J> = (SpareQueue<FreeTag<J>>, Taker<FreeTag<J>>);
+
+// A queue of these tags, all of which are put there, with the right to take them.
 fn free_tags<J: Run, R: Wait>(
     rt: &R,
     alloc: Global,
     tags: Vec<Tag>,
-) -> Result<SpareQueue<FreeTag<J>>, AllocError>
-    requires { AreFreeTags J.queue tags.items }
-    ensures room { IfOk result (λ free. free ≡ length tags.items) }
+    count: &mut PutCount<FreeTag<J>>,
+) -> Result<FreeTags<J>, AllocError>
+    requires free { AreFreeTags J.queue tags.items }
+    requires none { count.old ≡ 0 }
+    ensures room { IfOk result (λ free. free.0 ≡ length tags.items) }
+    ensures taker { IfOk result (λ free. free.1 ≡ 0) }
+    ensures all { OnOk result (count.new ≡ length tags.items) }
 {
-    let free = SpareQueue::new(alloc, tags.len())?;
+    let (free, taker) = SpareQueue::new(alloc, tags.len())?;
     for tag in tags {
-        free.put(rt, FreeTag::new(Box::new(alloc, tag)?));
+        free.put(rt, count, FreeTag::new(Box::new(alloc, tag)?));
     }
-    Ok(free)
+    Ok((free, taker))
 }
 
+// A run's queues, the right to push requests, and the right to take free tags.
+type NewQueues<J, C> = (Queues<J, C>, Source<Job<J, C>>, Taker<FreeTag<J>>);
+
 impl<J: Run, C: QueueName> Queues<J, C> {
-    /// A run's queues, with all tags free, and the right to push requests. The room for requests and free tags is taken here,
-    /// and a place for each worker's list to come back to; the lists take theirs in `team::drawers`.
+    /// A run's queues, with all tags free, the right to push requests, and the right to take free tags. The room for requests
+    /// and free tags is taken here, and a place for each worker's list to come back to; the lists take theirs in
+    /// `team::drawers`.
     pub(crate) fn new<R: Wait>(
         rt: &R,
         alloc: Global,
@@ -50,21 +61,23 @@ impl<J: Run, C: QueueName> Queues<J, C> {
         tags: Vec<Tag>,
         completions: CompletionQueue<Completion<J>>,
         workers: u32,
-    ) -> Result<(Queues<J, C>, Source<Job<J, C>>), RunFault>
+    ) -> Result<NewQueues<J, C>, RunFault>
         requires own { (queue ≡ J.queue) × AreFreeTags J.queue tags.items }
         ensures queue { IfOk result (λ made. made.0.queue ≡ queue) }
         ensures rooms { IfOk result (λ made. (made.0.requests.room ≡ length tags.items) × (made.0.free_tags ≡ length tags.items)) }
         ensures completions { IfOk result (λ made. made.0.completions ≡ completions) }
         ensures source { IfOk result (λ made. made.1 ≡ new_source made.0.requests.id workers) }
+        ensures taker { IfOk result (λ made. made.2 ≡ 0) }
     {
         let (requests, source) = RequestQueue::new(alloc, tags.len(), workers as usize)?;
+        let (free_tags, taker) = free_tags(rt, alloc, tags, &mut PutCount::new())?;
         let queues = Queues {
             queue,
             requests,
             completions,
-            free_tags: free_tags(rt, alloc, tags)?,
+            free_tags,
         };
-        Ok((queues, source))
+        Ok((queues, source, taker))
     }
 }
 
@@ -77,7 +90,7 @@ impl<J: Run, C: QueueName> Queues<J, C> {
 pub(crate) struct Hall<'a, J: Run, C: QueueName, L: QueueName, R, S> {
     pub(crate) rt: &'a R,
     pub(crate) alloc: Global,
-    pub(crate) checked: &'a Checked,
+    pub(crate) checked: &'a Checked<'a>,
     pub(crate) stall: &'a S,
     pub(crate) queue: &'a BlockQueue,
     pub(crate) requests: &'a RequestQueue<Job<J, C>>,
@@ -105,7 +118,7 @@ impl<'a, J: Run, C: QueueName, L: QueueName, R, S> Hall<'a, J, C, L, R, S> {
     pub(crate) fn new(
         rt: &'a R,
         alloc: Global,
-        checked: &'a Checked,
+        checked: &'a Checked<'a>,
         stall: &'a S,
         queues: &'a Queues<J, C>,
     ) -> Hall<'a, J, C, L, R, S>

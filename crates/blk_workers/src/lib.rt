@@ -62,5 +62,5 @@ pub use config::{Config, MOST_SLOTS, MOST_TAGS, MOST_WORKERS};
 pub use fault::RunFault;
 pub use ran::Ran;
 pub use run_desk::{answers_come_in_any_order, reads_stand_in_a_span};
-pub use running::run;
+pub use running::{run, run_checked};
 pub use stall::{NoStall, Point, Stall};

@@ -1,5 +1,6 @@
 //! A script's run on several threads.
 ghost use Rattle.std.specs.Prelude.{◌≡◌, ◌≤◌, IfOk, map};
+ghost use Rattle.script_overlap.specs.Overlap.{HasNoOverlap};
 ghost use Rattle.blk_workers.specs.Halls.{IsHall};
 ghost use Rattle.blk_workers.specs.Progress.{AreDrawn, AreFreeTags, AreNewCompletions, AreNewEnds, IsAt, IsNewQueue, IsRanBy, IsRun, Suits};
 
@@ -16,6 +17,7 @@ use crate::team::{drawers, with_workers};
 use freeze_queue::{BlockQueue, NewQueue, Tag};
 use queue_limits::Limits;
 use run_queues::{Collector, CompletionQueue};
+use script_meaning::Script;
 use script_overlap::Checked;
 use std::alloc::Global;
 use std::marker::Brand;
@@ -27,7 +29,7 @@ use std::thread::Threads;
 struct Inputs<'a, R, S> {
     rt: &'a R,
     alloc: Global,
-    checked: &'a Checked,
+    checked: &'a Checked<'a>,
     config: Config,
     stall: &'a S,
 }
@@ -49,6 +51,7 @@ fn run_in<
     requires hall { IsHall J.script J.queue L.id C.id inputs.now.checked.now queues.now.queue queues.now.requests.id queues.now.completions.id }
     requires start { IsAt J.script J.queue 0 submitter }
     requires ends { AreNewEnds L.id C.id 0 ends.source ends.collector }
+    requires tags { ends.taker ≡ 0 }
     requires room { inputs.now.config.workers ≤ ends.source.room }
     ensures ran { IfOk result (IsRanBy J.script inputs.now.config.workers) }
 {
@@ -83,7 +86,7 @@ fn run_on<J: Run + Send + Sync, C: QueueName + Send + Sync, R: Threads + Wait + 
     ensures ran { IfOk result (IsRanBy J.script inputs.now.config.workers) }
 {
     let workers = inputs.config.workers();
-    let (queues, source) = Queues::<J, C>::new(
+    let (queues, source, taker) = Queues::<J, C>::new(
         inputs.rt,
         inputs.alloc,
         queue,
@@ -91,7 +94,11 @@ fn run_on<J: Run + Send + Sync, C: QueueName + Send + Sync, R: Threads + Wait + 
         completions,
         workers,
     )?;
-    let ends = Ends { source, collector };
+    let ends = Ends {
+        source,
+        collector,
+        taker,
+    };
     run_in::<J, C, Brand, R, S>(inputs, &queues, submitter, ends)
 }
 
@@ -119,10 +126,10 @@ fn run_as<J: Run + Send + Sync, R: Threads + Wait + Sync, S: Stall>(
 /// was refused, and `Thread` where the start of a thread was, before any request is submitted. Where a worker is
 /// refused memory, requests are submitted until its completion is collected. When the run answers, the workers that
 /// were started have ended. A script of 2^32 lines or more is refused as `Memory`: its requests' numbers have no room.
-pub fn run<R: Threads + Wait + Sync, S: Stall>(
+pub fn run_checked<R: Threads + Wait + Sync, S: Stall>(
     rt: &R,
     alloc: Global,
-    checked: &Checked,
+    checked: &Checked<'_>,
     config: Config,
     stall: &S,
 ) -> Result<Ran, RunFault>
@@ -146,4 +153,24 @@ pub fn run<R: Threads + Wait + Sync, S: Stall>(
         stall,
     };
     run_as::<Brand, R, S>(&inputs, parts)
+}
+
+/// Runs a script of which no two requests overlap, as [`check`](script_overlap::check) tells: [`run_checked`] of what a check
+/// decides, with the same answers.
+pub fn run<R: Threads + Wait + Sync, S: Stall>(
+    rt: &R,
+    alloc: Global,
+    script: &Script,
+    config: Config,
+    stall: &S,
+) -> Result<Ran, RunFault>
+    requires { HasNoOverlap script.now }
+    ensures run { IfOk result (λ ran. IsRun script.now ran.replies.items ran.disk) }
+    ensures drawn { IfOk result (λ ran. AreDrawn script.now config.workers (map (λ list. list.items) ran.drawn.items)) }
+{
+    match Checked::of(alloc, script) {
+        Ok(checked) => run_checked(rt, alloc, &checked, config, stall),
+        // No two requests overlap, so only memory can be refused.
+        Err(_) => Err(RunFault::Memory),
+    }
 }

@@ -1,6 +1,6 @@
 //! Points of a run at which it can be held, for tests of what runs at the same time.
 
-/// A point that each accepted request passes, or each drain that freezes the queue.
+/// A point that each accepted request passes, or each drain.
 #[derive(Clone, Copy, Debug, PartialEq, Eq)]
 pub enum Point {
     /// The submitter has entered the queue for a request, and not pushed it to the workers yet.
@@ -8,9 +8,9 @@ pub enum Point {
     /// A worker has taken the request.
     Drawn,
     /// A worker has told the request's completion, and not left the queue yet.
-    Completed,
-    /// The submitter has drained the queue. Where a line, or the end, finds it frozen, it is drained already, and the point
-    /// isn't passed.
+    Answered,
+    /// The submitter has drained the queue, for a line that drains, before an ordered request or at the end; also where it found
+    /// the queue frozen, and so drained.
     Drained,
 }
 

@@ -1,9 +1,10 @@
 //! The thread that submits and collects.
-ghost use Rattle.std.specs.Prelude.{◌≡◌, ◌+◌, ◌<◌, IfOk, None, OnOk, length};
+ghost use Rattle.std.specs.Prelude.{◌≡◌, ◌+◌, ◌<◌, IfErr, IfOk, None, OnOk, length};
 ghost use Rattle.script_meaning.specs.Script.{Meant};
 ghost use Rattle.script_meaning.specs.Requests.{accepted_at, accepted_in_all};
 ghost use Rattle.blk_script.specs.Texts.{reply_line};
-ghost use Rattle.blk_workers.specs.Progress.{HasCollected, HasPassed, HasReplied, HasTaken, IsAt, IsAtStartWith, IsCollecting, IsEnd, IsReplyNext, IsRequestNext, IsRun, IsBeforeLine};
+ghost use Rattle.blk_workers.specs.Progress.{HasCollected, HasDrained, HasPassed, HasReplied, HasTaken, IsAt, IsAtStartWith, IsCollecting, IsEnd, IsReplyNext, IsRequestNext, IsRun, IsBeforeLine};
+ghost use Rattle.blk_workers.specs.Following.{IsInStep};
 ghost use Rattle.run_desk.specs.Desk.{MayJoin, MayPass, MayTakeReply, Stands, owed_count};
 
 use crate::collecting::{collect_all, collect_some};
@@ -46,6 +47,7 @@ fn reply_now(
     requires stands { Stands script.now desk.old.replies desk.old.disk }
     requires may_take { MayTakeReply script.now desk.old.replies (reply_line (line_number, reply.now)) }
     ensures replied { OnOk result (HasReplied script.now desk.old desk.new) }
+    ensures memory { IfErr result (λ fault. fault ≡ RunFault.Memory) }
 {
     // `Memory` is the only refusal of `render`.
     let text = render(alloc, line_number, reply).map_err(|_| RunFault::Memory)?;
@@ -105,6 +107,8 @@ impl Submitter {
         requires collecting { IsCollecting J.script C.id self.old.desk collector.old }
         ensures collected { HasCollected J.script J.queue C.id self.old self.new collector.old collector.new }
         ensures may_join { OnOk result (MayJoin J.script self.new.desk.replies) }
+        ensures in_step { OnOk result (IsInStep self.new.state self.new.freezer) }
+        ensures memory { IfErr result (λ fault. fault ≡ RunFault.Memory) }
     {
         collect_some(hall, collector, &mut self.desk)?;
         if !hall.checked.is_ordered(self.desk.replies.len()) {
@@ -118,7 +122,7 @@ impl Submitter {
     }
 
     // Hands over the accepted request of the next line. Also where it fails, nothing of the right to push changes but how much
-    // was pushed (`kept`), so `lead` can still put end marks.
+    // was pushed (`kept`), so `lead` can still put end marks. For each request that is accepted one tag is taken (`tags`).
     fn submit<J: Run, C: QueueName, L: QueueName, R: Wait, S: Stall>(
         &mut self,
         hall: &Hall<'_, J, C, L, R, S>,
@@ -127,7 +131,10 @@ impl Submitter {
     ) -> Result<(), RunFault>
         requires taken { HasTaken J.script J.queue L.id C.id (length self.old.desk.replies) self.old ends.old.source ends.old.collector }
         requires next { IsRequestNext J.script (length self.old.desk.replies) request }
+        requires tags { ends.old.taker ≡ self.old.accepted }
         ensures taken { OnOk result (HasTaken J.script J.queue L.id C.id (length self.old.desk.replies + 1) self.new ends.new.source ends.new.collector) }
+        ensures tags { OnOk result (ends.new.taker ≡ self.new.accepted) }
+        ensures memory { IfErr result (λ fault. fault ≡ RunFault.Memory) }
         ensures kept { ends.new.source ≡ record ends.old.source { pushed = ends.new.source.pushed } }
     {
         let accepted = Accepted {
@@ -142,7 +149,8 @@ impl Submitter {
         Ok(())
     }
 
-    // Drains the queue, which it freezes where it isn't frozen, and collects all completions.
+    // Drains the queue, which it freezes where it isn't frozen, and collects all completions. Where it is refused memory, the
+    // queue is frozen too.
     fn drain<J: Run, C: QueueName, L: QueueName, R: Wait, S: Stall>(
         &mut self,
         hall: &Hall<'_, J, C, L, R, S>,
@@ -150,14 +158,14 @@ impl Submitter {
     ) -> Result<(), RunFault>
         requires at { IsAt J.script J.queue (length self.old.desk.replies) self.old }
         requires collecting { IsCollecting J.script C.id self.old.desk collector.old }
-        ensures collected { HasCollected J.script J.queue C.id self.old self.new collector.old collector.new }
+        ensures drained { HasDrained J.script J.queue C.id self.old self.new collector.old collector.new }
         ensures none_owed { OnOk result (owed_count self.new.desk.replies ≡ 0) }
+        ensures memory { IfErr result (λ fault. fault ≡ RunFault.Memory) }
     {
         // For the contract of `freeze` alone: each line taken killed the gate once at most.
         let kills = self.desk.replies.len();
-        if freeze(hall.rt, &mut self.freezer, hall.queue, kills) {
-            hall.stall.at(self.accepted, Point::Drained);
-        }
+        freeze(hall.rt, &mut self.freezer, hall.queue, kills);
+        hall.stall.at(self.accepted, Point::Drained);
         collect_all(hall, collector, &mut self.desk)
     }
 
@@ -169,10 +177,11 @@ impl Submitter {
         line_number: u32,
         reply: &Reply,
     ) -> Result<(), RunFault>
-        requires before { IsBeforeLine J.script J.queue self.old }
+        requires before { IsBeforeLine J.script J.queue self.old next }
         requires passes { MayPass J.script self.old.desk.replies }
         requires next { IsReplyNext J.script self.old.desk.replies line_number reply.now next }
         ensures passed { OnOk result (HasPassed J.script J.queue self.old self.new) }
+        ensures memory { IfErr result (λ fault. fault ≡ RunFault.Memory) }
     {
         reply_now(
             hall.alloc,
@@ -197,7 +206,10 @@ impl Submitter {
         requires taken { HasTaken J.script J.queue L.id C.id (length self.old.desk.replies) self.old ends.old.source ends.old.collector }
         requires more { length self.old.desk.replies < length J.script.lines }
         requires next { accepted_at J.script (length self.old.desk.replies) ≡ None }
+        requires tags { ends.old.taker ≡ self.old.accepted }
         ensures taken { OnOk result (HasTaken J.script J.queue L.id C.id (length self.old.desk.replies + 1) self.new ends.new.source ends.new.collector) }
+        ensures tags { OnOk result (ends.new.taker ≡ self.new.accepted) }
+        ensures memory { IfErr result (λ fault. fault ≡ RunFault.Memory) }
         ensures kept { ends.new.source ≡ record ends.old.source { pushed = ends.new.source.pushed } }
     {
         let line = &hall.checked.script().lines()[self.desk.replies.len()];
@@ -222,7 +234,10 @@ impl Submitter {
     ) -> Result<(), RunFault>
         requires taken { HasTaken J.script J.queue L.id C.id (length self.old.desk.replies) self.old ends.old.source ends.old.collector }
         requires more { length self.old.desk.replies < length J.script.lines }
+        requires tags { ends.old.taker ≡ self.old.accepted }
         ensures taken { OnOk result (HasTaken J.script J.queue L.id C.id (length self.old.desk.replies + 1) self.new ends.new.source ends.new.collector) }
+        ensures tags { OnOk result (ends.new.taker ≡ self.new.accepted) }
+        ensures memory { IfErr result (λ fault. fault ≡ RunFault.Memory) }
         ensures kept { ends.new.source ≡ record ends.old.source { pushed = ends.new.source.pushed } }
     {
         match hall.checked.request(self.desk.replies.len()) {
@@ -238,8 +253,11 @@ impl Submitter {
         ends: &mut Ends<J, C>,
     ) -> Result<(), RunFault>
         requires start { HasTaken J.script J.queue L.id C.id 0 self.old ends.old.source ends.old.collector }
+        requires tags { ends.old.taker ≡ self.old.accepted }
         ensures end { OnOk result (IsEnd J.script self.new) }
         ensures pushed { OnOk result (ends.new.source ≡ record ends.old.source { pushed = accepted_in_all J.script }) }
+        ensures tags { OnOk result (ends.new.taker ≡ accepted_in_all J.script) }
+        ensures memory { IfErr result (λ fault. fault ≡ RunFault.Memory) }
         ensures kept { ends.new.source ≡ record ends.old.source { pushed = ends.new.source.pushed } }
     {
         for _position in 0..hall.checked.script().lines().len() {

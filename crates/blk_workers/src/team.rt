@@ -1,5 +1,5 @@
 //! The workers of a run: how they are started, led, ended and waited for.
-ghost use Rattle.std.specs.Prelude.{◌≡◌, ◌+◌, ◌-◌, ◌<◌, ◌≤◌, All, IfOk, IfSome, OnOk, length, vec_capacity};
+ghost use Rattle.std.specs.Prelude.{◌≡◌, ◌+◌, ◌-◌, ◌<◌, ◌≤◌, ◌↔◌, [], All, IfErr, IfOk, IfSome, IsErrOf, OnErr, OnOk, length, vec_capacity};
 ghost use Rattle.run_queues.specs.Requests.{all_parts};
 ghost use Rattle.script_meaning.specs.Requests.{accepted_in_all};
 ghost use Rattle.blk_workers.specs.Progress.{AreBack, AreNewEnds, AreOut, AreAtStart, IsAt, IsEnd, IsLed, IsNewDrawer};
@@ -71,7 +71,9 @@ fn push_end_marks<J: Run, C: QueueName, L: QueueName, R: Wait, S>(
 fn dismiss<J: Run, C: QueueName, L: QueueName, R: Threads>(
     rt: &R,
     started: &mut Vec<JoinHandle<FinishedWorker<J, C, L>>>,
-) {
+)
+    ensures { started.new.items ≡ [] }
+{
     while let Some(worker) = started.pop() {
         drop(worker.join(rt));
     }
@@ -88,9 +90,13 @@ fn lead<J: Run, C: QueueName, L: QueueName, R: Threads + Wait, S: Stall>(
 ) -> Result<Submitter, RunFault>
     requires ends { AreNewEnds L.id C.id workers ends.old.source ends.old.collector }
     requires start { IsAt J.script J.queue 0 submitter }
+    requires tags { ends.old.taker ≡ 0 }
     ensures end { IfOk result (IsEnd J.script) }
     ensures source { OnOk result (ends.new.source ≡ record ends.old.source { pushed = accepted_in_all J.script; marks = workers }) }
     ensures started { OnOk result (started.new.items ≡ started.old.items) }
+    ensures tags { OnOk result (ends.new.taker ≡ accepted_in_all J.script) }
+    ensures memory { IfErr result (λ fault. fault ≡ RunFault.Memory) }
+    ensures dismissed { OnErr result (started.new.items ≡ []) }
 {
     let submitted = submitter.submit_all(hall, ends);
     push_end_marks(hall, &mut ends.source, workers);
@@ -171,9 +177,11 @@ fn lead_and_gather<J: Run, C: QueueName, L: QueueName, R: Threads + Wait, S: Sta
 ) -> Result<(Submitter, Source<Job<J, C>>), RunFault>
     requires start { IsAt J.script J.queue 0 submitter }
     requires ends { AreNewEnds L.id C.id workers ends.source ends.collector }
+    requires tags { ends.taker ≡ 0 }
     requires some { (0 < workers) × (workers ≤ 32) }
     requires started { length started.items ≤ workers }
     ensures led { IfOk result (λ led. IsLed J.script L.id workers led.0 led.1) }
+    ensures thread { IsErrOf result RunFault.Thread ↔ length started.items < workers }
 {
     if started.len() < workers {
         push_end_marks(hall, &mut ends.source, started.len());
@@ -184,6 +192,7 @@ fn lead_and_gather<J: Run, C: QueueName, L: QueueName, R: Threads + Wait, S: Sta
     let Ends {
         mut source,
         collector: _,
+        taker: _,
     } = ends;
     gather(hall, &mut source, started);
     Ok((submitter, source))
@@ -203,6 +212,7 @@ pub(crate) fn with_workers<
     drawers: Vec<Drawer<Job<J, C>>>,
 ) -> Result<(Submitter, Source<Job<J, C>>), RunFault>
     requires ready { AreAtStart J.script J.queue L.id C.id (length drawers.items) submitter ends.source ends.collector drawers.items }
+    requires tags { ends.taker ≡ 0 }
     ensures led { IfOk result (λ led. IsLed J.script L.id (length drawers.items) led.0 led.1) }
 {
     let workers = drawers.len();
@@ -214,6 +224,7 @@ pub(crate) fn with_workers<
         hall.rt,
         move |scope| -> Result<(Submitter, Source<Job<J, C>>), RunFault>
             requires ready { AreAtStart J.script J.queue L.id C.id workers submitter ends.source ends.collector drawers.items }
+            requires tags { ends.taker ≡ 0 }
             requires room { (length no_handles.items ≡ 0) × (workers ≤ vec_capacity no_handles) }
             ensures led { IfOk result (λ led. IsLed J.script L.id workers led.0 led.1) }
         {

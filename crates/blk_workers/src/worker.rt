@@ -1,24 +1,25 @@
 //! What a worker does, and what it hands back.
-ghost use Rattle.std.specs.Prelude.{◌≡◌, ◌+◌, ◌<◌, true, length};
+ghost use Rattle.std.specs.Prelude.{◌≡◌, ◌+◌, ◌<◌, ◌^◌, true, length};
 ghost use Rattle.script_meaning.specs.Requests.{accepted_in_all};
 ghost use Rattle.run_desk.specs.Requests.{IsAcceptedAt};
 ghost use Rattle.blk_workers.specs.Progress.{IsNewDrawer};
 
 use crate::hall::Hall;
-use crate::job::{Completion, Job};
+use crate::job::{Completion, FreeTag, Job};
 use crate::naming::{QueueName, Run};
 use crate::receipt_count::ReceiptCount;
 use crate::stall::{Point, Stall};
-use run_queues::{Drawer, Numbered, Receipt};
+use run_queues::{Drawer, Numbered, PutCount, Receipt};
 use std::marker::{Model, PhantomData};
 use std::sync::Wait;
 
-/// What a worker hands back: the right to draw, once it has taken an end mark and told as many completions as it drew
-/// requests.
+/// What a worker hands back: the right to draw, once it has taken an end mark, and has told as many completions and put back
+/// as many tags as it drew requests.
 #[derive(Drop)]
 pub(crate) struct FinishedWorker<J: Run, C: QueueName, L: QueueName> {
     drawer: Drawer<Job<J, C>>,
     receipts: ReceiptCount<J, C>,
+    tags: PutCount<FreeTag<J>>,
     of: PhantomData<L>,
 }
 
@@ -30,18 +31,24 @@ impl<J: Run, C: QueueName, L: QueueName> Model for FinishedWorker<J, C, L> {
 
     ghost view = { λ w. w.drawer };
 
-    ghost invariant = { λ w. (w.drawer.queue ≡ L.id) × (w.drawer.drained ≡ true) × (w.receipts ≡ length w.drawer.drawn) };
+    ghost invariant = { λ w. (w.drawer.queue ≡ L.id) × (w.drawer.drained ≡ true) × (w.receipts ≡ length w.drawer.drawn) × (w.tags ≡ length w.drawer.drawn) };
 }
 
 impl<J: Run, C: QueueName, L: QueueName> FinishedWorker<J, C, L> {
-    fn new(drawer: Drawer<Job<J, C>>, receipts: ReceiptCount<J, C>) -> FinishedWorker<J, C, L>
+    fn new(
+        drawer: Drawer<Job<J, C>>,
+        receipts: ReceiptCount<J, C>,
+        tags: PutCount<FreeTag<J>>,
+    ) -> FinishedWorker<J, C, L>
         requires own { drawer.queue ≡ L.id }
         requires drained { drawer.drained ≡ true }
         requires told { receipts ≡ length drawer.drawn }
+        requires put_back { tags ≡ length drawer.drawn }
     {
         FinishedWorker {
             drawer,
             receipts,
+            tags,
             of: PhantomData,
         }
     }
@@ -54,6 +61,7 @@ impl<J: Run, C: QueueName, L: QueueName> FinishedWorker<J, C, L> {
         let FinishedWorker {
             drawer,
             receipts: _,
+            tags: _,
             of: _,
         } = self;
         drawer
@@ -61,14 +69,17 @@ impl<J: Run, C: QueueName, L: QueueName> FinishedWorker<J, C, L> {
 }
 
 // Does a request: the tag leaves on this worker's slot once the completion is told, and goes back to whoever
-// submits. It says again that the request is an accepted one: by that `work` knows that the list has room for its
+// submits, which is counted. It says again that the request is an accepted one: by that `work` knows that the list has room for its
 // number.
 fn serve<J: Run, C: QueueName, L: QueueName, R: Wait, S: Stall>(
     hall: &Hall<'_, J, C, L, R, S>,
     slot: u32,
+    tags: &mut PutCount<FreeTag<J>>,
     job: Job<J, C>,
 ) -> Receipt<Completion<J>>
     requires slot { slot < J.queue.gate.slots }
+    requires room { tags.old + 1 < 2 ^ 64 }
+    ensures tag { tags.new ≡ tags.old + 1 }
     ensures request { IsAcceptedAt J.script job.duty.number job.position }
     ensures told { (result.queue ≡ C.id) × (result.number ≡ job.duty.number) }
 {
@@ -76,9 +87,9 @@ fn serve<J: Run, C: QueueName, L: QueueName, R: Wait, S: Stall>(
     hall.stall.at(number, Point::Drawn);
     let done = job.done(hall.alloc, hall.queue, hall.checked.script());
     let completed = done.tell(hall.rt, hall.completions);
-    hall.stall.at(number, Point::Completed);
+    hall.stall.at(number, Point::Answered);
     let (tag, receipt) = completed.leave(hall.queue, slot);
-    hall.free_tags.put(hall.rt, tag);
+    hall.free_tags.put(hall.rt, tags, tag);
     receipt
 }
 
@@ -93,14 +104,15 @@ pub(crate) fn work<J: Run, C: QueueName, L: QueueName, R: Wait, S: Stall>(
     requires drawer { IsNewDrawer L.id (accepted_in_all J.script + 1) drawer }
 {
     let mut receipts = ReceiptCount::new();
+    let mut tags = PutCount::new();
     for _ in hall.rt.forever() {
         let Ok(drawn) = hall.requests.draw(hall.rt, &mut drawer) else {
             unreachable!()
         };
         let Some(job) = drawn else {
-            return FinishedWorker::new(drawer, receipts);
+            return FinishedWorker::new(drawer, receipts, tags);
         };
-        receipts.add(serve(hall, slot, job));
+        receipts.add(serve(hall, slot, &mut tags, job));
     }
     unreachable!()
 }

@@ -1,5 +1,6 @@
 -- What the program's status tells where a run or a replay ends with a fault.
-use Rattle.std.proofs.Common.{◌≡◌, ◌⊎◌, ℕ, List, Option, None, Some, IfSome, IfNone, OnSome, IsErr, IsOkAnd, Result, Ok, Err, lit<, refl, inl, inr, arith}
+use Rattle.std.proofs.Common.{◌≡◌, ◌⊎◌, ap, ℕ, true, List, Option, None, Some, is_some, IfSome, IfNone, OnSome, IsErr, IsOkAnd, Result, Ok, Err, lit<, refl, inl, inr, arith}
+use Rattle.std.proofs.lemmas.Bool.{false≢true}
 use Rattle.line_text.specs.declared.fault.ParseFault.{ParseFault}
 use Rattle.counted_io.specs.Failures.{HasFailed}
 use Rattle.counted_io.specs.Reading.{IfKnown}
@@ -16,6 +17,18 @@ use Rattle.blkq_run.specs.declared.fault.Fault.TheVariants.{Memory, Thread, Read
 map_known : (known : Option (List ℕ)) (P Q : List ℕ → Type 0) → ((input : List ℕ) → P input → Q input) → IfSome known P → IfSome known Q
 map_known None P Q f p = tt
 map_known (Some input) P Q f p = f input p
+
+-- the status of the faults by which a broken reader and a broken writer are answered
+pub four_at_read : {A : Type 0} (result : Result A Fault) (fault : Fault) → result ≡ Err fault → result ≡ Err Read → status_of fault ≡ 4
+four_at_read result fault is read = let same : fault ≡ Read = cc in ap status_of same
+
+pub four_at_write : (fault : Fault) → is_some (written_of fault) ≡ true → status_of fault ≡ 4
+four_at_write Memory some = refl
+four_at_write Thread some = refl
+four_at_write Read some = refl
+four_at_write (Write written) some = refl
+four_at_write (Parse fault) some = absurd (false≢true some)
+four_at_write (Overlap pair) some = absurd (false≢true some)
 
 no_refusal : (status : ℕ) → status ≡ 4 → (status ≡ 2) ⊎ (status ≡ 3) → ⊥
 no_refusal status four (inl is) = omega (arith, four, is)

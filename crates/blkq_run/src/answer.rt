@@ -7,8 +7,8 @@ ghost use Rattle.blkq_run.specs.Faults.{IsInside, IsRefusal};
 ghost use Rattle.script_meaning.specs.Script.{Meant};
 
 use crate::fault::Fault;
-use blk_script::{check, parse, push_disk};
-use blk_workers::{Config, Ran, Stall, run};
+use blk_script::{Checked, parse, push_disk};
+use blk_workers::{Config, Ran, Stall, run_checked};
 use std::alloc::Global;
 use std::sync::Wait;
 use std::thread::Threads;
@@ -48,7 +48,7 @@ pub(crate) fn answer<R: Threads + Wait + Sync, S: Stall>(
     ensures inside { IfErr result IsInside }
 {
     let script = parse(alloc, input)?;
-    let checked = check(alloc, script)?;
-    let ran = run(rt, alloc, &checked, config, stall)?;
+    let checked = Checked::of(alloc, &script)?;
+    let ran = run_checked(rt, alloc, &checked, config, stall)?;
     text_of(alloc, ran)
 }

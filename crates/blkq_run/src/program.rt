@@ -1,5 +1,6 @@
 //! The program, over any reader and writers.
 ghost use Rattle.std.specs.Prelude.{◌≡◌, [], ◌∷◌, map, string_bytes, Contains};
+ghost use Rattle.counted_io.specs.Failures.{IsFourIfBroken};
 ghost use Rattle.counted_io.specs.Reading.{TakesUpTo};
 ghost use Rattle.blkq_run.specs.Requests.{AsksReplay, AsksSomeRun, AsksSomething};
 ghost use Rattle.blkq_run.specs.Statuses.{TellsReplay, TellsRun};
@@ -33,6 +34,7 @@ fn run_reported<R: Read, W: Write, E: Write>(
     stall: &impl Stall,
 ) -> u8
     ensures told { TellsRun R.remaining W.contents reader.old writer.old writer.new result }
+    ensures broken { IsFourIfBroken reader.old reader.new writer.old writer.new result }
     ensures taken { TakesUpTo R.remaining reader.old reader.new MOST_READ }
 {
     match run_bytes(rt, alloc, reader, writer, config, stall) {
@@ -70,6 +72,8 @@ pub fn command<R: Read, W: Write, E: Write>(
     ensures unread { ¬ (AsksSomething (map string_bytes args.now)) → reader.new ≡ reader.old }
     ensures unwritten { ¬ (AsksSomething (map string_bytes args.now)) → writer.new ≡ writer.old }
 
+    // Where the reader or the writer broke, the status says so before all else.
+    ensures broken { IsFourIfBroken reader.old reader.new writer.old writer.new result }
     ensures taken { TakesUpTo R.remaining reader.old reader.new MOST_READ }
 {
     command_held(rt, alloc, args, reader, writer, errors, &NoStall)
@@ -96,6 +100,8 @@ pub fn command_held<R: Read, W: Write, E: Write>(
     ensures unread { ¬ (AsksSomething (map string_bytes args.now)) → reader.new ≡ reader.old }
     ensures unwritten { ¬ (AsksSomething (map string_bytes args.now)) → writer.new ≡ writer.old }
 
+    // Where the reader or the writer broke, the status says so before all else.
+    ensures broken { IsFourIfBroken reader.old reader.new writer.old writer.new result }
     ensures taken { TakesUpTo R.remaining reader.old reader.new MOST_READ }
 {
     match requested(args) {

@@ -1,4 +1,5 @@
 //! A replay, told as a status.
+ghost use Rattle.counted_io.specs.Failures.{IsFourIfBroken};
 ghost use Rattle.counted_io.specs.Reading.{TakesUpTo};
 ghost use Rattle.blkq_run.specs.Statuses.{TellsReplay};
 
@@ -21,6 +22,7 @@ pub(crate) fn replay_reported<R: Read, W: Write, E: Write>(
     errors: &mut E,
 ) -> u8
     ensures told { TellsReplay R.remaining W.contents reader.old writer.old writer.new result }
+    ensures broken { IsFourIfBroken reader.old reader.new writer.old writer.new result }
     ensures taken { TakesUpTo R.remaining reader.old reader.new MOST_READ }
 {
     match replay_bytes(alloc, reader, writer) {

@@ -1,5 +1,9 @@
 -- How a count of failures grows, and when it is taken as grown.
-use Rattle.std.specs.Prelude.{◌≡◌, ◌==◌, ℕ, ◌+◌, ◌-◌, ◌^◌, ◌<◌, ◌⊎◌, if◌then◌else◌, Bool, true, ◌&&◌, List, length, nat_lt, Result, Ok, Err}
+use Rattle.std.specs.Prelude.{◌≡◌, ◌==◌, ℕ, ◌+◌, ◌-◌, ◌^◌, ◌<◌, ◌⊎◌, if◌then◌else◌, Bool, true, false, ◌&&◌, List, length, nat_lt, Result, Ok, Err}
+use Rattle.std.specs.IoError.{error_kind}
+use Rattle.std.specs.declared.io.Error.{Error}
+use Rattle.std.specs.declared.io.ErrorKind.{ErrorKind}
+use Rattle.std.specs.declared.io.ErrorKind.TheVariants.{Interrupted}
 use Rattle.counted_io.specs.Tally.{Tally}
 
 -- u64's greatest value, where a count stays
@@ -22,3 +26,28 @@ HasFailed old new = HasGrown old.failures new.failures
 abbrev pub is_failed_write : {E : Type 0} → Result ℕ E → List ℕ → Bool
 is_failed_write (Ok taken) bytes = (taken == 0) && nat_lt 0 (length bytes)
 is_failed_write (Err e) bytes = true
+
+-- an error of this kind is no interruption, so that to try again is no answer to it
+abbrev pub lasts : ErrorKind → Bool
+lasts Interrupted = false
+lasts kind = true
+
+abbrev pub is_lasting : Error → Bool
+is_lasting e = lasts (error_kind e)
+
+-- an answer of `read`, and one of `write`, by which a reader or writer breaks: an error that is no interruption, or 0 where there was a byte to take
+abbrev pub breaks_read : Result ℕ Error → Bool
+breaks_read (Ok taken) = false
+breaks_read (Err e) = is_lasting e
+
+abbrev pub breaks_write : Result ℕ Error → List ℕ → Bool
+breaks_write (Ok taken) bytes = (taken == 0) && nat_lt 0 (length bytes)
+breaks_write (Err e) bytes = is_lasting e
+
+-- the reader or writer broke in between
+abbrev pub Breaks : {T : Type 0} → Tally T → Tally T → Type 0
+Breaks old new = (old.broken ≡ false) × (new.broken ≡ true)
+
+-- what is asked of a status: it is 4 where the reader or the writer broke
+abbrev pub IsFourIfBroken : {R W : Type 0} → Tally R → Tally R → Tally W → Tally W → ℕ → Type 0
+IsFourIfBroken reader read writer written status = (Breaks reader read → status ≡ 4) × (Breaks writer written → status ≡ 4)

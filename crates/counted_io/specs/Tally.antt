@@ -1,7 +1,8 @@
 -- What contracts see of a `Counted`.
-use Rattle.std.specs.Prelude.{ℕ}
+use Rattle.std.specs.Prelude.{ℕ, Bool}
 
--- the reader or writer inside, and how often it has failed
+-- the reader or writer inside, how often it has failed, and whether it broke: it failed by more than an interruption
 pub record Tally (T : Type 0) : Type 0 where
   pub inner : T
   pub failures : ℕ
+  pub broken : Bool

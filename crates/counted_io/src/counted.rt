@@ -1,21 +1,29 @@
 //! A reader or writer whose failures are counted.
-ghost use Rattle.std.specs.Prelude.{◌≡◌, if◌then◌else◌, is_err};
+ghost use Rattle.std.specs.Prelude.{◌≡◌, ◌||◌, false, if◌then◌else◌, is_err};
 ghost use Rattle.std.specs.Io.{ReadsAtMost, WritesAtMost};
 ghost use Rattle.std.specs.Io.KnownBytes.{Keeps, ReadConsumes, WriteAppends};
-ghost use Rattle.counted_io.specs.Failures.{is_failed_write, one_more};
+ghost use Rattle.counted_io.specs.Failures.{breaks_read, breaks_write, is_failed_write, is_lasting, one_more};
 
-use std::io::{Read, Result, Write};
+use std::io::{Error, ErrorKind, Read, Result, Write};
 use std::marker::Model;
 
-/// A reader or a writer, and how often it has failed. Contracts see the two as `inner` and `failures`.
+/// A reader or a writer, how often it has failed, and whether it broke. Contracts see these as `inner`, `failures` and `broken`.
 ///
 /// A failure is an error of `read` or `write`, of any kind (an interruption too), and a `write` that takes
-/// nothing of one byte or more. Clauses tie the count to what this type's own `read` and `write` answer; that
+/// nothing of one byte or more. By any failure but an interruption it breaks, and to try again is no answer to that. Clauses tie the count to what this type's own `read` and `write` answer; that
 /// these pass on what the inner ones answer stands in their few lines, and tests show it.
 #[derive(Debug, Drop)]
 pub struct Counted<T> {
     inner: T,
     failures: u64,
+    broken: bool,
+}
+
+/// Whether an error is more than an interruption.
+pub(crate) fn lasts(e: &Error) -> bool
+    ensures { result ≡ is_lasting e.now }
+{
+    e.kind() != ErrorKind::Interrupted
 }
 
 impl<T> Model for Counted<T> {
@@ -23,16 +31,21 @@ impl<T> Model for Counted<T> {
 
     ghost Value = { Tally T };
 
-    ghost view = { λ c. record { inner = c.inner; failures = c.failures } };
+    ghost view = { λ c. record { inner = c.inner; failures = c.failures; broken = c.broken } };
 }
 
 impl<T> Counted<T> {
-    /// `inner`, with no failure so far.
+    /// `inner`, with no failure so far, and not broken.
     pub fn new(inner: T) -> Self
         ensures inner { result.inner ≡ inner }
         ensures none { result.failures ≡ 0 }
+        ensures whole { result.broken ≡ false }
     {
-        Counted { inner, failures: 0 }
+        Counted {
+            inner,
+            failures: 0,
+            broken: false,
+        }
     }
 
     /// The failures so far. At `u64`'s greatest value the count stays, and is taken as grown.
@@ -42,10 +55,19 @@ impl<T> Counted<T> {
         self.failures
     }
 
-    fn count_one(&mut self)
+    /// Whether it has failed by more than an interruption.
+    pub fn is_broken(&self) -> bool
+        ensures { result ≡ self.now.broken }
+    {
+        self.broken
+    }
+
+    fn count_one(&mut self, lasts: bool)
         ensures inner { self.new.inner ≡ self.old.inner }
         ensures count { self.new.failures ≡ one_more self.old.failures }
+        ensures broken { self.new.broken ≡ (self.old.broken || lasts) }
     {
+        self.broken = self.broken || lasts;
         if self.failures < u64::MAX {
             self.failures += 1;
         }
@@ -59,10 +81,11 @@ impl<R: Read> Read for Counted<R> {
         ensures bound { ReadsAtMost result buf.new }
         ensures bytes { ReadConsumes (R.remaining self.old.inner) (R.remaining self.new.inner) result buf.new }
         ensures count { self.new.failures ≡ (if is_err result then one_more self.old.failures else self.old.failures) }
+        ensures broken { self.new.broken ≡ (self.old.broken || breaks_read result) }
     {
         let answer = self.inner.read(buf);
-        if answer.is_err() {
-            self.count_one();
+        if let Err(e) = &answer {
+            self.count_one(lasts(e));
         }
         answer
     }
@@ -76,14 +99,16 @@ impl<W: Write> Write for Counted<W> {
         ensures bytes { WriteAppends (W.contents self.old.inner) (W.contents self.new.inner) result buf.now }
         ensures count { self.new.failures
             ≡ (if is_failed_write result buf.now then one_more self.old.failures else self.old.failures) }
+        ensures broken { self.new.broken ≡ (self.old.broken || breaks_write result buf.now) }
     {
         let answer = self.inner.write(buf);
-        let has_failed = match &answer {
-            Ok(taken) => *taken == 0 && !buf.is_empty(),
-            Err(_) => true,
-        };
-        if has_failed {
-            self.count_one();
+        match &answer {
+            Ok(taken) => {
+                if *taken == 0 && !buf.is_empty() {
+                    self.count_one(true);
+                }
+            }
+            Err(e) => self.count_one(lasts(e)),
         }
         answer
     }
@@ -92,6 +117,7 @@ impl<W: Write> Write for Counted<W> {
     fn flush(&mut self) -> Result<()>
         ensures bytes { Keeps (W.contents self.old.inner) (W.contents self.new.inner) }
         ensures count { self.new.failures ≡ self.old.failures }
+        ensures broken { self.new.broken ≡ self.old.broken }
     {
         self.inner.flush()
     }

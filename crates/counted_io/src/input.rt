@@ -1,15 +1,15 @@
 //! An input, read to its end or as far as its limit.
-ghost use Rattle.std.specs.Prelude.{◌≡◌, ℕ, ◌+◌, ◌<◌, ◌≤◌, ◌++◌, [], length, take, vec_len, IfOk, IfSome, IsErrOf, OnErr, OnOk};
+ghost use Rattle.std.specs.Prelude.{◌≡◌, ℕ, ◌+◌, ◌<◌, ◌≤◌, ◌++◌, [], length, take, vec_len, IfErr, IfOk, IfSome, IsErrOf, OnErr, OnOk};
 ghost use Rattle.std.specs.Io.{ReadsAtMost};
 ghost use Rattle.std.specs.Io.KnownBytes.{Consumes, IsAtEnd, Keeps};
-ghost use Rattle.counted_io.specs.Failures.{HasFailed};
+ghost use Rattle.counted_io.specs.Failures.{Breaks, HasFailed};
 ghost use Rattle.counted_io.specs.InputFault.{input_number};
 ghost use Rattle.counted_io.specs.Reading.{IfKnown, TakesUpTo};
 
 use crate::TRIES;
-use crate::counted::Counted;
+use crate::counted::{Counted, lasts};
 use std::alloc::{AllocError, Global};
-use std::io::{ErrorKind, Read};
+use std::io::Read;
 use thiserror::Error;
 
 /// The bytes asked for in one read.
@@ -47,12 +47,14 @@ fn read_piece<R: Read>(reader: &mut Counted<R>, room: &mut [u8]) -> Result<usize
     ensures none { OnErr result (Keeps (R.remaining reader.old.inner) (R.remaining reader.new.inner)) }
     ensures grown { OnErr result (HasFailed reader.old reader.new) }
     ensures counts { reader.old.failures ≤ reader.new.failures }
+    ensures whole { OnOk result (reader.new.broken ≡ reader.old.broken) }
+    ensures only_read { IfErr result (λ fault. fault ≡ InputFault.Read) }
 {
     for _ in 0..TRIES {
         match reader.read(room) {
             Ok(n) => return Ok(n),
             Err(e) => {
-                if e.kind() != ErrorKind::Interrupted {
+                if lasts(&e) {
                     return Err(InputFault::Read);
                 }
             }
@@ -74,6 +76,8 @@ fn read_more<R: Read>(
     ensures end { IfOk result (λ n. n ≡ 0 → 0 < length room.old → IsAtEnd (R.remaining reader.new.inner)) }
     ensures taken { TakesUpTo R.remaining reader.old reader.new (length room.old) }
     ensures read { IsErrOf result InputFault.Read → HasFailed reader.old reader.new }
+    ensures first { Breaks reader.old reader.new → IsErrOf result InputFault.Read }
+    ensures whole { OnOk result (reader.new.broken ≡ reader.old.broken) }
     ensures counts { reader.old.failures ≤ reader.new.failures }
 {
     let count = read_piece(reader, room)?;
@@ -94,6 +98,7 @@ fn read_all<R: Read>(
     ensures bounded { OnOk result (vec_len input.new ≤ most) }
     ensures taken { TakesUpTo R.remaining reader.old reader.new most }
     ensures read { IsErrOf result InputFault.Read → HasFailed reader.old reader.new }
+    ensures first { Breaks reader.old reader.new → IsErrOf result InputFault.Read }
 {
     while input.len() < most {
         let wanted = room.len().min(most - input.len());
@@ -113,7 +118,8 @@ fn room_for(alloc: Global, size: usize) -> Result<Vec<u8>, AllocError>
 
 /// All bytes that `reader` has, or the first `most` of them, and no more is read than these.
 ///
-/// `Read` where the reader fails. A read that a signal interrupts is no reason to give up: it is tried
+/// `Read` where the reader fails, which comes before all else: a reader that fails by more than an interruption isn't read
+/// again. A read that a signal interrupts is no reason to give up: it is tried
 /// again, up to [`TRIES`] times in a row, so that this call returns. `Memory` where memory is refused. What
 /// was read by then is gone.
 pub fn read_whole<R: Read>(
@@ -125,6 +131,7 @@ pub fn read_whole<R: Read>(
     ensures bounded { IfOk result (λ input. vec_len input ≤ most) }
     ensures taken { TakesUpTo R.remaining reader.old reader.new most }
     ensures read { IsErrOf result InputFault.Read → HasFailed reader.old reader.new }
+    ensures first { Breaks reader.old reader.new → IsErrOf result InputFault.Read }
 {
     let mut room = room_for(alloc, PIECE)?;
     let mut input = Vec::new(alloc);

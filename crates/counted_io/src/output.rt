@@ -1,11 +1,11 @@
 //! A text, written whole or as far as the writer takes it.
-ghost use Rattle.std.specs.Prelude.{◌≡◌, ◌<◌, ◌≤◌, length, take, IfErr, IfOk, OnErr, OnOk};
-ghost use Rattle.counted_io.specs.Failures.{HasFailed};
+ghost use Rattle.std.specs.Prelude.{◌≡◌, ◌<◌, ◌≤◌, length, take, true, is_err, IfErr, IfOk, OnErr, OnOk};
+ghost use Rattle.counted_io.specs.Failures.{Breaks, HasFailed};
 ghost use Rattle.counted_io.specs.Writing.{Takes, TakesNothing};
 
 use crate::TRIES;
-use crate::counted::Counted;
-use std::io::{ErrorKind, Write};
+use crate::counted::{Counted, lasts};
+use std::io::Write;
 use thiserror::Error;
 
 /// A writer that failed, and how much it had taken.
@@ -30,13 +30,14 @@ fn write_piece<W: Write>(writer: &mut Counted<W>, text: &[u8]) -> Result<usize, 
     ensures none { OnErr result (TakesNothing W.contents writer.old writer.new) }
     ensures grown { OnErr result (HasFailed writer.old writer.new) }
     ensures counts { writer.old.failures ≤ writer.new.failures }
+    ensures whole { OnOk result (writer.new.broken ≡ writer.old.broken) }
 {
     for _ in 0..TRIES {
         match writer.write(text) {
             Ok(0) => return Err(Refused),
             Ok(n) => return Ok(n),
             Err(e) => {
-                if e.kind() != ErrorKind::Interrupted {
+                if lasts(&e) {
                     return Err(Refused);
                 }
             }
@@ -48,13 +49,14 @@ fn write_piece<W: Write>(writer: &mut Counted<W>, text: &[u8]) -> Result<usize, 
 /// Writes `text`, all that is left of it each time, so that it takes as few writes as the writer allows.
 /// Nothing is flushed: a writer that keeps bytes back is its owner's to flush.
 ///
-/// `Err` where the writer fails or takes nothing: then the first `written` bytes went out, and no more. A
+/// `Err` where the writer fails or takes nothing, after which nothing more is written: then the first `written` bytes went out, and no more. A
 /// write that a signal interrupts is tried again, up to [`TRIES`] times in a row.
 pub fn write_whole<W: Write>(writer: &mut Counted<W>, text: &[u8]) -> Result<(), WriteFault>
     ensures whole { OnOk result (Takes W.contents writer.old writer.new text.now) }
     ensures part { IfErr result (λ fault. Takes W.contents writer.old writer.new (take fault.written text.now)) }
     ensures short { IfErr result (λ fault. fault.written < length text.now) }
     ensures grown { OnErr result (HasFailed writer.old writer.new) }
+    ensures first { Breaks writer.old writer.new → is_err result ≡ true }
 {
     let mut written = 0;
     while written < text.len() {

@@ -3,10 +3,10 @@
  *
  * A queue stands before a device that takes so many sectors in one command. Each request enters with a tag
  * (try_enter), reads the limits under it (limits_of), cuts itself into pieces by them (first_piece), and leaves
- * (leave). Who changes a limit freezes the queue (start_freeze): no request enters any more, and the last one to leave is
- * told FREEZE_QUEUE_LAST: the queue is drained. Then the limits are set (set), and the queue thaws (thaw). So a request
- * has one setting from its entering to its leaving, and nobody who submits pays a lock for that. It is what Linux's
- * blk_mq_freeze_queue is (block/blk-mq.c), over the gate of percpu_gate.h.
+ * (leave). To change a limit, freeze the queue (start_freeze): no request enters any more, and the last leave returns
+ * FREEZE_QUEUE_LAST: the queue is drained. Then set the limits (set), and thaw the queue (thaw). A request therefore has
+ * one setting from its entering to its leaving, and a submitter takes no lock for that. Linux does the same by
+ * blk_mq_freeze_queue (block/blk-mq.c), over the gate of percpu_gate.h.
  *
  * A queue has one freezer and 1 to 63 tags. A tag has one request under way, so it goes along with its request: whoever
  * ends the request leaves with it, on whichever thread. Threads that end what they begin keep a tag each; others take
@@ -24,10 +24,10 @@
  * question answers true or false. The names in capitals below are what a call may answer besides OK, without
  * FREEZE_QUEUE_; where several apply the first is answered. Sectors are of 512 bytes.
  *
- * Whom to wake, where your program lets threads sleep: who is told that the queue is drained (is_drained of the answer)
- * wakes whoever waits for that; who is told LIVE_AGAIN wakes those who wait to enter. The telling thread may come late,
- * so look again by poll_drained under the lock by which you sleep. An entering that is refused is counted for a moment,
- * and holds the drain off meanwhile, so don't try again and again: wait for the thaw.
+ * If your program lets threads sleep: when is_drained(answer) is true, wake the threads that wait for the drain; when thaw
+ * returns LIVE_AGAIN, wake the threads that wait to enter. The waking thread may be late, so call poll_drained again under
+ * the lock by which your threads sleep. A refused entering is counted for a moment, and delays the drain meanwhile: don't
+ * try again and again, wait for the thaw.
  *
  * A change of the limits, by who owns the freezer, where request(&limits) is what each request does:
  *

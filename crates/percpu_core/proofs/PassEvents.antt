@@ -25,7 +25,7 @@ use Rattle.percpu_core.specs.ReleaseLaw.{Origin}
 use Rattle.percpu_core.specs.declared.limits.TheConstants.{HELD_LIMIT}
 use Rattle.percpu_core.specs.Laws.{Laws}
 use Rattle.percpu_core.specs.PassSteps.{plus, minus, shared_after_pass, slots_after_pass, cells_after_pass, standing_after, pending_after, given, dropped}
-use Rattle.percpu_core.specs.PassLearns.{next_even, begun, live_given_after, looks_after, times_after, pass_view_after}
+use Rattle.percpu_core.specs.PassLearns.{next_even, begun, front_loads_after, live_given_after, looks_after, times_after, pass_view_after}
 use Rattle.percpu_core.specs.Machine.{won}
 use Rattle.percpu_core.proofs.Passes.{over_passes-at, EachPass-at}
 use Rattle.percpu_core.proofs.Counting.{value-least}
@@ -149,6 +149,7 @@ module _ (o : Origin) (cells : Cells) (c : ControlView) (vs : List View) (l : La
     read = begun p;
     seen_front = p.seen_front;
     floor = floor;
+    front_loads = front_loads_after e p;
     live_given = live_given_after e cells p;
     looks = looks_after e p;
     found_dead_times = times_after e cells.shared.dead p.found_dead_times;

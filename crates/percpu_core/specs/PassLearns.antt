@@ -31,6 +31,11 @@ abbrev pub seen_front_after : PassEvent → Cells → PassView → ℕ
 seen_front_after LoadFront cells p = cells.front
 seen_front_after _ cells p = p.seen_front
 
+-- a load of the front
+abbrev pub front_loads_after : PassEvent → PassView → ℕ
+front_loads_after LoadFront p = p.front_loads + 1
+front_loads_after _ p = p.front_loads
+
 -- the least even number that is no less
 abbrev pub next_even : ℕ → ℕ
 next_even n = n + n % 2
@@ -66,6 +71,7 @@ pass_view_after e cells p = record {
   read = read_after e cells p;
   seen_front = seen_front_after e cells p;
   floor = floor_after e cells p;
+  front_loads = front_loads_after e p;
   live_given = live_given_after e cells p;
   looks = looks_after e p;
   found_dead_times = times_after e cells.shared.dead p.found_dead_times;

@@ -59,7 +59,7 @@ kept m = record { cells = m.cells; control = m.control.standing; passes = map st
 
 -- what the seats know at the start
 abbrev pub first_pass : PassView
-first_pass = record { standing = idle; read = []; seen_front = 0; floor = 0; live_given = 0; looks = 0; found_dead_times = 0; found_zero_times = 0; releases = 0; found_dead = false; found_zero = false }
+first_pass = record { standing = idle; read = []; seen_front = 0; floor = 0; front_loads = 0; live_given = 0; looks = 0; found_dead_times = 0; found_zero_times = 0; releases = 0; found_dead = false; found_zero = false }
 
 abbrev pub first_control : Opening → ControlView
 first_control o = record {

@@ -18,6 +18,8 @@ pub struct PassView {
     pub seen_front: u64,
     /// The front is at least this.
     pub floor: u64,
+    /// Its loads of the front.
+    pub front_loads: u64,
     /// Its steps that took references as a live gate gives them: additions that found DEAD clear, and exchanges of
     /// a slot that were won.
     pub live_given: u64,

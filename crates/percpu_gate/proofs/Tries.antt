@@ -104,6 +104,7 @@ adds_try old new b s = record {
   standing = ap (λ (v : PassView). v.standing) s.learned ∙ ap (λ (r : Reply). standing_after events.AddTry r old.standing) (sym s.answered) ∙ stands_after b old.standing;
   releases = ap (λ (v : PassView). v.releases) s.learned ∙ ap (λ (r : Reply). old.releases + won r) (sym s.answered) ∙ wins_none b old.releases;
   seen_front = ap (λ (v : PassView). v.seen_front) s.learned;
+  front_loads = ap (λ (v : PassView). v.front_loads) s.learned;
   floor = let same : new.floor ≡ old.floor = ap (λ (v : PassView). v.floor) s.learned in omega arith;
   same_floor = λ refused. ap (λ (v : PassView). v.floor) s.learned;
   live_given = let same : new.live_given ≡ old.live_given = ap (λ (v : PassView). v.live_given) s.learned in omega arith;
@@ -135,6 +136,7 @@ adds_live old new b s = record {
   standing = ap (λ (v : PassView). v.standing) s.learned ∙ ap (λ (r : Reply). standing_after events.AddLive r old.standing) (sym s.answered) ∙ stands_after_live b old.standing;
   releases = ap (λ (v : PassView). v.releases) s.learned ∙ ap (λ (r : Reply). old.releases + won r) (sym s.answered) ∙ wins_none b old.releases;
   seen_front = ap (λ (v : PassView). v.seen_front) s.learned;
+  front_loads = ap (λ (v : PassView). v.front_loads) s.learned;
   floor = rises b old.floor new.floor (live_floor old new b s);
   live_given = live_rises s.moment.cells.shared.dead old.live_given new.live_given (ap (λ (v : PassView). v.live_given) s.learned);
   same_floor = λ refused. live_floor old new b s ∙ ap (λ (x : Bool). if not x then old.floor else next_even old.floor) refused;
@@ -152,6 +154,7 @@ leaves old mid new true Tried.Given a is same = record {
   held = ap (λ (v : PassView). v.standing) is ∙ a.standing;
   releases = ap (λ (v : PassView). v.releases) is ∙ a.releases ∙ sym (no_more old.releases);
   seen_front = ap (λ (v : PassView). v.seen_front) is ∙ a.seen_front;
+  front_loads = ap (λ (v : PassView). v.front_loads) is ∙ a.front_loads;
   floor = let same_as : new.floor ≡ mid.floor = ap (λ (v : PassView). v.floor) is in let most = a.floor in omega arith;
   same_floor = λ refused. cc;
   live_given = let same_as : new.live_given ≡ mid.live_given = ap (λ (v : PassView). v.live_given) is in let most = a.live_given in omega arith;
@@ -168,6 +171,7 @@ leaves old mid new false (Tried.Refused r) a is same = record {
   held = ap (λ (v : PassView). v.standing) is ∙ ap (λ (p : PassStanding). record { held = p.held; pending = Nothing }) a.standing;
   releases = ap (λ (v : PassView). v.releases) is ∙ ap (λ (n : ℕ). n + released r) a.releases;
   seen_front = ap (λ (v : PassView). v.seen_front) is ∙ a.seen_front;
+  front_loads = ap (λ (v : PassView). v.front_loads) is ∙ a.front_loads;
   floor = let same_as : new.floor ≡ mid.floor = ap (λ (v : PassView). v.floor) is in let most = a.floor in omega arith;
   same_floor = λ refused. ap (λ (v : PassView). v.floor) is ∙ a.same_floor refl;
   live_given = let same_as : new.live_given ≡ mid.live_given = ap (λ (v : PassView). v.live_given) is in let most = a.live_given in omega arith;
@@ -250,6 +254,7 @@ adds_on_slot slot old new t = let is = t.won refl in record {
   standing = ap (λ (v : PassView). v.standing) is;
   releases = ap (λ (v : PassView). v.releases) is;
   seen_front = ap (λ (v : PassView). v.seen_front) is;
+  front_loads = ap (λ (v : PassView). v.front_loads) is;
   floor = let same : new.floor ≡ next_even old.floor = ap (λ (v : PassView). v.floor) is in omega arith;
   same_floor = λ refused. cc;
   live_given = let same : new.live_given ≡ old.live_given + 1 = ap (λ (v : PassView). v.live_given) is in omega arith;
@@ -292,6 +297,7 @@ adds_after old mid new b same a = let stands : mid.standing ≡ old.standing = a
   standing = a.standing ∙ ap (λ (p : PassStanding). record { held = p.held + count b; pending = to_take_back b }) stands;
   releases = a.releases ∙ ap (λ (v : PassView). v.releases) same.all;
   seen_front = a.seen_front ∙ ap (λ (v : PassView). v.seen_front) same.all;
+  front_loads = a.front_loads ∙ ap (λ (v : PassView). v.front_loads) same.all;
   floor = let is : mid.floor ≡ old.floor = ap (λ (v : PassView). v.floor) same.all in let most = a.floor in omega arith;
   same_floor = λ refused. a.same_floor refused ∙ ap (λ (v : PassView). v.floor) same.all;
   live_given = let is : mid.live_given ≡ old.live_given = ap (λ (v : PassView). v.live_given) same.all in let most = a.live_given in omega arith;

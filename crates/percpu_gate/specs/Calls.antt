@@ -67,6 +67,7 @@ pub record TryLeaves (old new : PassView) (r : Tried) : Type 0 where
   -- a floor only rises, and where the try is refused it stays
   pub floor : old.floor ≤ new.floor
   pub same_floor : is_refused r ≡ true → new.floor ≡ old.floor
+  pub front_loads : new.front_loads ≡ old.front_loads
   -- so does the count of what a live gate gave
   pub live_given : old.live_given ≤ new.live_given
   -- the guarded words that were read stay known while a reference is held, and reading begins anew where none was
@@ -138,6 +139,7 @@ pub record LookLeaves (old new : PassView) : Type 0 where
   pub releases : new.releases ≡ old.releases
   pub seen_front : new.seen_front ≡ old.seen_front
   pub floor : new.floor ≡ old.floor
+  pub front_loads : new.front_loads ≡ old.front_loads
   pub live_given : new.live_given ≡ old.live_given
   pub looks : new.looks ≡ old.looks + 1
   pub read : new.read ≡ old.read

@@ -31,6 +31,7 @@ pub record TryAdds (old new : PassView) (is_given : Bool) : Type 0 where
   pub seen_front : new.seen_front ≡ old.seen_front
   pub floor : old.floor ≤ new.floor
   pub same_floor : is_given ≡ false → new.floor ≡ old.floor
+  pub front_loads : new.front_loads ≡ old.front_loads
   pub live_given : old.live_given ≤ new.live_given
   pub read : 0 < old.standing.held → new.read ≡ old.read
   pub anew : old.standing.held ≡ 0 → new.read ≡ []

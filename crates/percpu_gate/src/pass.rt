@@ -179,7 +179,7 @@ impl<const W: usize> Pass<W> {
         requires own { self.old.gate ≡ gate.now }
         ensures own { self.new.gate ≡ self.old.gate }
         ensures step { PassStep gate.now events.LoadFront self.old.view self.new.view (Number result) }
-        ensures view { self.new.view ≡ record self.old.view { seen_front = result; floor = result } }
+        ensures view { self.new.view ≡ record self.old.view { seen_front = result; floor = result; front_loads = self.old.view.front_loads + 1 } }
         ensures floor { self.old.view.floor ≤ result }
         ensures greatest { self.old.view.seen_front ≤ result }
     {

@@ -29,6 +29,10 @@
  * NOT_ZERO. The other way round, WAS_AT_ZERO, a reinit that is OK, and is_zero say that nobody holds a reference, and not
  * that who was told LAST has freed or signalled yet.
  *
+ * Unlike percpu_ref's, a try counts first, and removes its count again if it is refused. Until then the gate may answer as
+ * if a reference were held, though no pass holds one: kill answers OK, and the try is the last (NOT_GIVEN_LAST); reinit and
+ * store_word answer NOT_ZERO. If resurrect comes before the try has removed its count, no call answers LAST for that kill.
+ *
  * A change of a setting, by who owns the control:
  *
  *     answer = percpu_gate_kill(&control);

@@ -4,6 +4,7 @@ use Rattle.percpu_gate.specs.declared.tried.Put.{Put}
 use Rattle.percpu_gate.specs.declared.control_fault.ControlFault.{ControlFault}
 use Rattle.percpu_core.specs.declared.view.ControlView.{ControlView}
 use Rattle.percpu_core.specs.declared.start.Start.{Start}
+use Rattle.percpu_core.specs.declared.phase.Phase.TheVariants as phases
 use Rattle.percpu_core.specs.declared.limits.TheConstants.{SLOT_LIMIT, PASS_LIMIT}
 use Rattle.percpu_gate.specs.declared.revived.Revived.{Revived}
 use Rattle.percpu_words.specs.declared.mode.Mode.{Mode}
@@ -40,6 +41,10 @@ pub record Killed (old new : ControlOpened) (r : Result Put ControlFault) : Type
 pub record SawZero (old new : ControlOpened) (found : Bool) : Type 0 where
   pub view : new ≡ knowing old (record old.control.view { knows_zero = old.control.view.knows_zero || found })
   pub finds : FindsZero old.control.gate old.control.view found
+  -- a zero that is known stays known, only a dead gate has one, and a dead gate has one once every pass is retired
+  pub known : old.control.view.knows_zero ≡ true → found ≡ true
+  pub dead : found ≡ true → old.control.view.standing.phase ≡ phases.Dead
+  pub none_out : old.control.view.passes ≡ 0 → old.control.view.standing.phase ≡ phases.Dead → found ≡ true
 
 -- what `reinit` leaves
 pub record Reinited (old new : ControlOpened) (r : Result (Unit {0}) ControlFault) : Type 0 where

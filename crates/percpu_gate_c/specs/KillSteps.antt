@@ -1,11 +1,12 @@
 -- What the steps of a kill leave, made one by one, and when C may not make them.
-use Rattle.std.specs.Prelude.{◌≡◌, ℕ, ◌+◌, ◌%◌, ℤ, nat_lt, nat_eq, if◌then◌else◌, Option, Some, None, Result, Ok, Err}
+use Rattle.std.specs.Prelude.{◌≡◌, ℕ, ◌+◌, ◌%◌, ℤ, false, nat_lt, nat_eq, if◌then◌else◌, Option, Some, None, Result, Ok, Err}
+use Rattle.percpu_words.specs.SlotWord.{IsDelta}
 use Rattle.percpu_core.specs.Phases.{next_slot}
 use Rattle.percpu_core.specs.declared.phase.Phase.{Phase}
 use Rattle.percpu_core.specs.declared.phase.Phase.TheVariants.{LiveSlots, LiveAtomic, Closing, Collected, Confirmed, Dead, Reviving, Fronted, Opening}
 use Rattle.percpu_gate.specs.declared.control_fault.ControlFault.{ControlFault}
 use Rattle.percpu_gate.specs.declared.tried.Put.{Put}
-use Rattle.percpu_gate.specs.ControlCalls.{fault_of, kill_refusal, to_close, after_mark_dead, after_close, after_collect, after_confirm, after_drop_base}
+use Rattle.percpu_gate.specs.ControlCalls.{IsBetweenCalls, fault_of, kill_refusal, to_close, after_mark_dead, after_close, after_collect, after_confirm, after_drop_base}
 use Rattle.percpu_gate.specs.Seats.{FindsDelta}
 use Rattle.percpu_gate_c.specs.declared.misuse.Misuse.{Misuse}
 use Rattle.percpu_gate_c.specs.declared.misuse.Misuse.TheVariants.{Step}
@@ -58,7 +59,8 @@ pub record BegunKill (old new : ControlOpened) (r : Result ℕ ControlFault) : T
 -- what `close_next` leaves, which has found this delta on the slot
 pub record ClosedSlot (old new : ControlOpened) (delta : ℤ) : Type 0 where
   pub view : new ≡ knowing old (after_close delta old.control.view)
-  pub found : FindsDelta old.control.gate (next_slot (phase_of old)) old.control.view delta
+  pub found : FindsDelta old.control.gate (next_slot old.control.view.standing.phase) old.control.view delta
+  pub small : IsDelta delta
 
 -- what `collect` leaves
 pub record CollectedSlots (old new : ControlOpened) (r : Unit {0}) : Type 0 where
@@ -79,6 +81,9 @@ pub record DroppedBase (old new : ControlOpened) (put : Put) : Type 0 where
 pub record TellsPhase (old new : ControlOpened) (phase : Phase) : Type 0 where
   pub same : new ≡ old
   pub value : phase ≡ phase_of old
+  -- it is one in which a control stands between two calls, with no zero to mark
+  pub between : IsBetweenCalls phase
+  pub settled : old.control.view.standing.to_mark ≡ false
 
 abbrev pub phase_number : Phase → ℕ
 phase_number LiveSlots = 0

@@ -4,11 +4,12 @@ use Rattle.percpu_core.specs.declared.limits.TheConstants.{HELD_LIMIT}
 use Rattle.percpu_core.specs.declared.pass_event.PassEvent.TheVariants as events
 use Rattle.percpu_core.specs.declared.reply.Reply.TheVariants.{Number}
 use Rattle.percpu_core.specs.PassLearns.{next_even}
+use Rattle.percpu_core.specs.Views.{count}
 use Rattle.percpu_gate.specs.declared.tried.Put.{Put}
 use Rattle.percpu_gate.specs.declared.tried.Tried.{Tried}
 use Rattle.percpu_gate.specs.declared.tried.Tried.TheVariants.{Given}
 use Rattle.percpu_gate.specs.Seats.{PassStep, dead_at, zero_at}
-use Rattle.percpu_gate.specs.Calls.{is_refused, taken, after_put, TryLeaves, TryFinds, LiveTryFinds, GetLeaves, PassLook, LookLeaves, HasRead}
+use Rattle.percpu_gate.specs.Calls.{is_refused, taken, after_put, has_dead, has_zero, TryLeaves, TryFinds, LiveTryFinds, TryMeets, GetLeaves, PassLook, LookLeaves, HasRead}
 use Rattle.percpu_gate_c.specs.declared.misuse.Misuse.{Misuse}
 use Rattle.percpu_gate_c.specs.declared.misuse.Misuse.TheVariants.{Slot, HeldFull, NotHeld, Amount, Word}
 use Rattle.percpu_gate_c.specs.declared.open_pass.TheConstants.{WORDS}
@@ -52,7 +53,12 @@ pub record TryGot (old new : PassOpened) (r : Tried) : Type 0 where
   pub same : SameGate old new
   pub leaves : TryLeaves old.pass.view new.pass.view r
   pub finds : TryFinds old.pass.gate old.pass.view r
-  pub again : 0 < held_by old → r ≡ Given
+  pub again : 0 < old.pass.view.standing.held → r ≡ Given
+  -- a refusal found ZERO, and so DEAD, at the one addition of this call, and the pass counts both
+  pub meets : TryMeets old.pass.gate has_zero old.pass.view new.pass.view (is_refused r)
+  pub times : new.pass.view.found_zero_times ≡ old.pass.view.found_zero_times + count (is_refused r)
+  pub both : is_refused r ≡ true → new.pass.view.found_dead_times ≡ old.pass.view.found_dead_times + 1
+  pub ground : is_refused r ≡ true → (new.pass.view.found_dead ≡ true) × (new.pass.view.found_zero ≡ true)
 
 -- what `try_get_live` leaves
 pub record LiveTryGot (slot : ℕ) (old new : PassOpened) (r : Tried) : Type 0 where
@@ -61,6 +67,10 @@ pub record LiveTryGot (slot : ℕ) (old new : PassOpened) (r : Tried) : Type 0 w
   pub finds : LiveTryFinds old.pass.gate slot old.pass.view r
   pub floor : new.pass.view.floor ≡ (if is_refused r then old.pass.view.floor else next_even old.pass.view.floor)
   pub live : new.pass.view.live_given ≡ old.pass.view.live_given + taken r
+  -- a refusal found DEAD at the one addition of this call, and the pass counts it
+  pub meets : TryMeets old.pass.gate has_dead old.pass.view new.pass.view (is_refused r)
+  pub times : new.pass.view.found_dead_times ≡ old.pass.view.found_dead_times + count (is_refused r)
+  pub ground : is_refused r ≡ true → new.pass.view.found_dead ≡ true
   -- once the odd front of a kill was seen, what is given belongs to a later life
   pub later : is_refused r ≡ false → old.pass.view.seen_front % 2 ≡ 1 → old.pass.view.seen_front + 1 ≤ new.pass.view.floor
 
@@ -72,13 +82,13 @@ pub record Got (n : ℕ) (old new : PassOpened) (r : Unit {0}) : Type 0 where
 -- what `put` leaves
 pub record HasPut (n : ℕ) (old new : PassOpened) (r : Put) : Type 0 where
   pub same : SameGate old new
-  pub view : new.pass.view ≡ after_put r (held_by old - n) old.pass.view
+  pub view : new.pass.view ≡ after_put r (old.pass.view.standing.held - n) old.pass.view
 
 -- what reading the front leaves
 pub record ReadFront (old new : PassOpened) (front : ℕ) : Type 0 where
   pub same : SameGate old new
   pub step : PassStep old.pass.gate events.LoadFront old.pass.view new.pass.view (Number front)
-  pub view : new.pass.view ≡ record old.pass.view { seen_front = front; floor = front }
+  pub view : new.pass.view ≡ record old.pass.view { seen_front = front; floor = front; front_loads = old.pass.view.front_loads + 1 }
   pub floor : old.pass.view.floor ≤ front
   pub greatest : old.pass.view.seen_front ≤ front
 
@@ -87,18 +97,21 @@ pub record LookedForDead (old new : PassOpened) (found : Bool) : Type 0 where
   pub same : SameGate old new
   pub step : (look : PassLook old.pass.gate old.pass.view new.pass.view) × (found ≡ dead_at look.moment)
   pub leaves : LookLeaves old.pass.view new.pass.view
+  pub times : new.pass.view.found_dead_times ≡ old.pass.view.found_dead_times + count found
+  pub ground : found ≡ true → new.pass.view.found_dead ≡ true
 
 -- what a look for zero leaves
 pub record LookedForZero (old new : PassOpened) (found : Bool) : Type 0 where
   pub same : SameGate old new
   pub step : (look : PassLook old.pass.gate old.pass.view new.pass.view) × (found ≡ zero_at look.moment)
   pub leaves : LookLeaves old.pass.view new.pass.view
-  pub ground : found ≡ true → held_by new ≡ 0
+  pub times : new.pass.view.found_zero_times ≡ old.pass.view.found_zero_times + count found
+  pub ground : found ≡ true → (new.pass.view.found_zero ≡ true) × (new.pass.view.standing.held ≡ 0)
 
 -- what reading the guarded word k leaves
-pub record ReadWord (k : ℕ) (old new : PassOpened) (value : ℕ) : Type 0 where
+pub record ReadWord (k : ℕ) (old new : PassOpened) (told : ℕ) : Type 0 where
   pub same : SameGate old new
-  pub step : PassStep old.pass.gate (events.LoadWord k) old.pass.view new.pass.view (Number value)
-  pub view : new.pass.view ≡ record old.pass.view { read = record { word = k; value = value } ∷ old.pass.view.read }
+  pub step : PassStep old.pass.gate (events.LoadWord k) old.pass.view new.pass.view (Number told)
+  pub view : new.pass.view ≡ record old.pass.view { read = record { word = k; value = told } ∷ old.pass.view.read }
   -- it is what the pass has read before, if it holds a reference since then
-  pub again : (v : ℕ) → HasRead k v old.pass.view.read → value ≡ v
+  pub again : (v : ℕ) → HasRead k v old.pass.view.read → told ≡ v

@@ -1,6 +1,8 @@
 //! A life through the exports, and each misuse. What the program does with C's threads, sanitizers and a failing
 //! `malloc` is tested by tests/c.
+mod amounts;
 mod ends;
+mod freed;
 mod places;
 
 use crate::control_calls::{

@@ -1,5 +1,5 @@
 //! The maximal runs of equal bytes.
-ghost use Rattle.std.specs.Prelude.{◌≡◌, ◌+◌, ◌*◌, ◌^◌, ◌<◌, ◌≤◌, List, ℕ, ◌++◌, IfOk, IsOkUnless, OnOk, length, replicate, vec_capacity, vec_len};
+ghost use Rattle.std.specs.Prelude.{◌≡◌, ◌+◌, ◌*◌, ◌^◌, ◌<◌, ◌≤◌, List, ℕ, ◌++◌, IfOk, IsOkUnless, OnErr, OnOk, length, replicate, vec_capacity, vec_len};
 ghost use Rattle.ram_disk.specs.Sector.{IsSector, bytes_of};
 ghost use Rattle.ram_disk.specs.Runs.{IsRuns, bytes_of_runs};
 
@@ -37,12 +37,13 @@ pub fn one_list_of_runs()
 
 /// Adds the runs of one more sector to maximal runs: the last of these gets longer where the sector goes on with its
 /// byte. So a caller who has no room for all runs of a long range can take them sector by sector: once a sector is added, no
-/// other makes any but the last longer. `Memory` is the only refusal.
+/// other makes any but the last longer. `Memory` is the only refusal, and leaves the runs as they were.
 pub fn add_sector(runs: &mut Vec<(u8, u64)>, sector: &Sector) -> Result<(), DiskFault>
     requires maximal { IsRuns runs.old.items (bytes_of_runs runs.old.items) }
     requires room { length (bytes_of_runs runs.old.items) + SECTOR_BYTES < 2 ^ 64 }
     ensures ok { OnOk result
         (IsRuns runs.new.items (bytes_of_runs runs.old.items ++ sector.now)) }
+    ensures err { OnErr result (runs.new.items ≡ runs.old.items) }
     ensures sector { IsSector sector.now }
     ensures only_memory { IsOkUnless result DiskFault.Memory }
 {
@@ -59,16 +60,17 @@ fn add_run(runs: &mut Vec<Run>, byte: u8, count: u64) -> Result<(), DiskFault>
     requires room { length (bytes_of_runs runs.old.items) + count < 2 ^ 64 }
     ensures ok { OnOk result
         (IsRuns runs.new.items (bytes_of_runs runs.old.items ++ replicate count byte)) }
+    ensures err { OnErr result (runs.new.items ≡ runs.old.items) }
     ensures at_most_one_more { vec_len runs.new ≤ vec_len runs.old + 1 }
     ensures capacity { vec_capacity runs.old ≤ vec_capacity runs.new }
     ensures not_empty { OnOk result (0 < vec_len runs.new) }
     ensures only_memory { IsOkUnless result DiskFault.Memory }
 {
-    if let Some(last) = runs.last_mut()
-        && last.0 == byte
-    {
-        last.1 += count;
-        return Ok(());
+    if let Some(last) = runs.last_mut() {
+        if last.0 == byte {
+            last.1 += count;
+            return Ok(());
+        }
     }
     runs.push((byte, count))?;
     Ok(())
@@ -80,6 +82,7 @@ fn add_bytes(runs: &mut Vec<Run>, bytes: &[u8]) -> Result<(), DiskFault>
     requires room { length (bytes_of_runs runs.old.items) + length bytes.now < 2 ^ 64 }
     ensures ok { OnOk result
         (IsRuns runs.new.items (bytes_of_runs runs.old.items ++ bytes.now)) }
+    ensures err { OnErr result (runs.new.items ≡ runs.old.items) }
     ensures only_memory { IsOkUnless result DiskFault.Memory }
 {
     let Some((first, rest)) = bytes.split_first() else {

@@ -61,8 +61,8 @@ impl Desk {
     }
 
     /// Takes the next line, an accepted request, which is under way from now on: it may join those that are. Gives the
-    /// sectors that it finds, which are those that a single thread finds there; none where it writes. `_script` stands in
-    /// the contract alone.
+    /// sectors that it finds, which are those that a single thread finds there; none where it writes. Refused only where
+    /// memory is, and then no line is taken. `_script` stands in the contract alone.
     pub fn submit(
         &mut self,
         alloc: Global,
@@ -74,6 +74,7 @@ impl Desk {
         ensures stands { OnOk result (Stands _script.now self.new.replies self.new.disk) }
         ensures owed { OnOk result (self.new.replies ≡ self.old.replies ++ None ∷ []) }
         ensures found { IfOk result (λ found. found.items ≡ found_at _script.now (length self.old.replies) request) }
+        ensures err { OnErr result ((self.new.replies ≡ self.old.replies) × (self.new.disk ≡ self.old.disk)) }
     {
         let found = found(alloc, &self.disk, request)?;
         self.replies.push_owed()?;

@@ -3,18 +3,21 @@ ghost use Rattle.std.specs.Prelude.{◌≡◌, ◌≤◌, MatchBool, IfOk, lengt
 ghost use Rattle.script_meaning.specs.Requests.{accepted_at, accepted_in_all};
 ghost use Rattle.script_overlap.specs.Decided.{IsDecided};
 ghost use Rattle.script_overlap.specs.Ordered.{AreDrains, IsOrdered, JoinsItsSpan};
+ghost use Rattle.script_overlap.specs.Overlap.{IsChecked};
 
+use crate::checking::decide;
+use line_text::ScriptFault;
 use script_meaning::{Request, Script};
 use std::alloc::{AllocError, Global};
 use std::marker::Model;
 
-/// A script of which no two requests overlap that no drain parts, as [`check`](crate::check) found. Contracts see the script.
+/// A script of which no two requests overlap that no drain parts, as a check found. Contracts see the script.
 ///
-/// It keeps which requests the queue accepts, how many they are, and which are ordered, so that whoever runs the script
+/// It is made by [`Checked::of`], and keeps which requests the queue accepts, how many they are, and which are ordered, so that whoever runs the script
 /// decides none of these again. The other lines are taken anew, for their replies.
 #[derive(Drop)]
-pub struct Checked {
-    script: Script,
+pub struct Checked<'s> {
+    script: &'s Script,
     // of each line the request that the queue accepts, if there is one
     requests: Vec<Option<Request>>,
     // the positions of the ordered requests, ascending
@@ -22,26 +25,34 @@ pub struct Checked {
     accepted: usize,
 }
 
-impl Model for Checked {
+impl<'s> Model for Checked<'s> {
     ghost use Rattle.script_meaning.specs.Script.{Meant};
     ghost use Rattle.script_overlap.specs.Decided.{IsDecided};
 
     ghost Value = { Meant };
 
-    ghost view = { λ c. c.script };
+    ghost view = { λ c. c.script.now };
 
-    ghost invariant = { λ c. IsDecided c.script c.requests.items c.ordered.items c.accepted };
+    ghost invariant = { λ c. IsDecided c.script.now c.requests.items c.ordered.items c.accepted };
 }
 
-impl Checked {
+impl<'s> Checked<'s> {
+    /// Checks a script as [`check`](crate::check) does, with the same refusals, and keeps what that decides.
+    pub fn of(alloc: Global, script: &'s Script) -> Result<Checked<'s>, ScriptFault>
+        ensures told { IsChecked script.now result }
+        ensures same { IfOk result (λ checked. checked ≡ script.now) }
+    {
+        decide(alloc, script)
+    }
+
     pub(crate) fn new(
-        script: Script,
+        script: &'s Script,
         requests: Vec<Option<Request>>,
         ordered: Vec<usize>,
         accepted: usize,
-    ) -> Checked
-        requires { IsDecided script requests.items ordered.items accepted }
-        ensures { result ≡ script }
+    ) -> Checked<'s>
+        requires { IsDecided script.now requests.items ordered.items accepted }
+        ensures { result ≡ script.now }
     {
         Checked {
             script,
@@ -52,10 +63,10 @@ impl Checked {
     }
 
     /// The script.
-    pub fn script(&self) -> &Script
+    pub fn script(&self) -> &'s Script
         ensures { result.now ≡ self.now }
     {
-        &self.script
+        self.script
     }
 
     /// The request at a position, counted from 0, that the queue accepts, if there is one.

@@ -1,5 +1,6 @@
 //! Which requests of a script overlap, and which are ordered.
-ghost use Rattle.std.specs.Prelude.{◌≡◌, ◌+◌, ◌<◌, ◌≤◌, ◌^◌, if◌then◌else◌, is_some, IfOk, length};
+ghost use Rattle.std.specs.Prelude.{◌≡◌, ◌+◌, ◌<◌, ◌≤◌, ◌^◌, if◌then◌else◌, is_some, IfErr, IfOk, length};
+ghost use Rattle.script_overlap.specs.Ordered.{AreDrains};
 ghost use Rattle.script_overlap.specs.Overlap.{IsChecked};
 ghost use Rattle.script_overlap.specs.Partners.{Finds};
 
@@ -43,17 +44,12 @@ fn counted(accepted: usize, request: Option<Request>) -> usize
     }
 }
 
-/// Checks that no two requests of a script overlap. In version 2 none do, since the queue orders them: it drains before
-/// a request that overlaps one of the span that it would join.
-///
-/// Refused with `Overlap` exactly where two of version 1 do: of all overlapping pairs it tells the one with the least later
-/// line, and of these the one with the least earlier line. Refused with `Memory` only where a growth of memory
-/// was refused.
-pub fn check(alloc: Global, script: Script) -> Result<Checked, ScriptFault>
-    ensures told { IsChecked script result }
-    ensures same { IfOk result (λ checked. checked ≡ script) }
+// Decides of each request of a script whether it overlaps another, and whether it is ordered.
+pub(crate) fn decide<'s>(alloc: Global, script: &'s Script) -> Result<Checked<'s>, ScriptFault>
+    ensures told { IsChecked script.now result }
+    ensures same { IfOk result (λ checked. checked ≡ script.now) }
 {
-    let mut queue = QueueState::new(&script);
+    let mut queue = QueueState::new(script);
     let mut span = Span::new(alloc, script.disk())?;
     let mut requests = Vec::with_capacity(alloc, script.lines().len())?;
     let mut ordered = Vec::new(alloc);
@@ -65,7 +61,7 @@ pub fn check(alloc: Global, script: Script) -> Result<Checked, ScriptFault>
         requests.push(request)?;
         if let Some(request) = span.take(&came) {
             if !script.orders_overlaps() {
-                let earlier = earliest(&script, position, &request).unwrap();
+                let earlier = earliest(script, position, &request).unwrap();
                 return Err(ScriptFault::Overlap(Overlap {
                     line: line.number,
                     earlier,
@@ -75,4 +71,36 @@ pub fn check(alloc: Global, script: Script) -> Result<Checked, ScriptFault>
         }
     }
     Ok(Checked::new(script, requests, ordered, accepted))
+}
+
+/// Checks that no two requests of a script overlap. In version 2 none do, since the queue orders them: it drains before
+/// a request that overlaps one of the span that it would join.
+///
+/// Refused with `Overlap` exactly where two of version 1 do: of all overlapping pairs it tells the one with the least later
+/// line, and of these the one with the least earlier line. Refused with `Memory` only where a growth of memory
+/// was refused. [`Checked::of`] keeps the decisions, for a run of the script.
+pub fn check(alloc: Global, script: &Script) -> Result<(), ScriptFault>
+    ensures { IsChecked script.now result }
+{
+    match decide(alloc, script) {
+        Ok(_) => Ok(()),
+        Err(fault) => Err(fault),
+    }
+}
+
+/// The numbers of the lines before which a drain has to stand, in the script's order: the lines of the ordered requests in
+/// version 2, and none in version 1, also where its requests overlap. `Memory` is the only refusal.
+pub fn drains(alloc: Global, script: &Script) -> Result<Vec<u32>, ScriptFault>
+    ensures lines { IfOk result (λ lines. AreDrains script.now lines.items) }
+    ensures fault { IfErr result (λ fault. fault ≡ ScriptFault.Memory) }
+{
+    if !script.orders_overlaps() {
+        return Ok(Vec::new(alloc));
+    }
+    match decide(alloc, script) {
+        Ok(checked) => Ok(checked.drains(alloc)?),
+        Err(ScriptFault::Memory) => Err(ScriptFault::Memory),
+        // No requests of version 2 overlap, and a script has no fault of a text.
+        Err(_) => unreachable!(),
+    }
 }

@@ -44,7 +44,7 @@ impl<'e> EnterAsync<'e> {
     }
 
     /// The tag enters, or doesn't; none where it waits, and the context's waker is noted.
-    fn in_or_noted(&mut self, tag: &Tag, context: &Context<'_>) -> Option<Result<(), EnterError>> {
+    fn in_or_noted(&mut self, tag: &mut Tag, context: &Context<'_>) -> Option<Result<(), EnterError>> {
         loop {
             match self.queue.in_at_once(tag) {
                 Ok(()) => return Some(Ok(())),
@@ -86,11 +86,12 @@ impl<'e> Future for EnterAsync<'e> {
 
 impl Drop for EnterAsync<'_> {
     fn drop(&mut self) {
-        if let Some(tag) = &self.tag
-            && self.is_noted
-        {
-            let old = self.queue.waits.lock().seats.forget(tag.seat);
-            drop(old);
+        match &self.tag {
+            Some(tag) if self.is_noted => {
+                let old = self.queue.waits.lock().seats.forget(tag.seat);
+                drop(old);
+            }
+            _ => {}
         }
     }
 }

@@ -37,7 +37,7 @@ impl<'e> Entered<'e> {
     /// Of a tag that has entered this queue, of which it is.
     #[inline]
     pub(crate) fn of(queue: &'e Queue, tag: &'e mut Tag) -> Entered<'e> {
-        let limits = limits_under(tag);
+        let limits = queue.limits_under(tag);
         Entered { queue, tag, limits }
     }
 
@@ -76,7 +76,7 @@ impl<'e> Entered<'e> {
     /// # Ok::<(), Box<dyn std::error::Error>>(())
     /// ```
     pub fn pieces(&self, start: u64, count: u32) -> Result<Pieces<'_>, RangeError> {
-        Pieces::of(self.limits(), start, count)
+        Pieces::of(self.limits.in_force(), start, count)
     }
 
     /// Leaves on this slot, and its tag counts there from now on: as a request does that ends on another thread.
@@ -113,10 +113,4 @@ impl fmt::Debug for Entered<'_> {
     fn fmt(&self, f: &mut fmt::Formatter<'_>) -> fmt::Result {
         f.debug_tuple("Entered").field(self.tag).finish()
     }
-}
-
-/// The limits under a tag that has entered.
-#[inline]
-pub(crate) fn limits_under(tag: &Tag) -> Limits {
-    tag.handle.limits().unwrap_or_else(|answer| answer.is_a_bug("limits_of"))
 }

@@ -1,10 +1,9 @@
 //! A frozen queue.
-use crate::answer::Answer;
-use crate::errors::{LimitsError, SetError};
+use crate::errors::SetError;
 use crate::limits::Limits;
 use crate::queue::Queue;
 use std::fmt;
-use std::mem;
+use std::mem::ManuallyDrop;
 
 /// A freeze of a queue, which is drained: no request is under way, and none enters while it is there.
 ///
@@ -55,11 +54,7 @@ impl<'q> Frozen<'q> {
     /// # Ok::<(), Box<dyn std::error::Error>>(())
     /// ```
     pub fn set(&self, limits: Limits) -> Result<(), SetError> {
-        match self.queue.waits.lock().freezer.set(&limits) {
-            Answer::OK => Ok(()),
-            Answer::OTHER_HARDWARE => Err(SetError::OtherHardware),
-            other => Err(LimitsError::of(other).unwrap_or_else(|| other.is_a_bug("set")).into()),
-        }
+        self.queue.store_limits(limits.checked()?)
     }
 
     /// Never thaws this freeze, since the device is gone: no request enters any more, and those that wait to enter, or
@@ -82,14 +77,15 @@ impl<'q> Frozen<'q> {
     /// # Ok::<(), Box<dyn std::error::Error>>(())
     /// ```
     pub fn mark_dying(self) {
-        self.queue.waits.mark_dying();
-        mem::forget(self);
+        // Before a waker is called, which may panic: this freeze isn't thawed then either.
+        let frozen = ManuallyDrop::new(self);
+        frozen.queue.waits.mark_dying();
     }
 }
 
 impl Drop for Frozen<'_> {
     fn drop(&mut self) {
-        self.queue.waits.thaw();
+        self.queue.thaw();
     }
 }
 

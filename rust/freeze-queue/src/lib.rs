@@ -1,9 +1,9 @@
-//! A queue stands before a device that takes so many sectors in one command. Each request enters with a tag
+//! A request queue for a device that takes a limited number of sectors in one command. Each request enters with a tag
 //! ([`Queue::enter`]), reads the limits under it, cuts itself into pieces by them ([`Entered::pieces`]), and leaves (the
-//! drop of its [`Entered`]). Who changes a limit freezes the queue ([`Queue::freeze`]): no request enters any more, those
-//! under way drain, the limits are set ([`Frozen::set`]), and the queue thaws (the drop of its [`Frozen`]). So a request
-//! has one setting from its entering to its leaving, and nobody who submits pays a lock for that. It is what Linux's
-//! `blk_mq_freeze_queue` is (block/blk-mq.c), over a `percpu_ref`.
+//! drop of its [`Entered`]). To change a limit, freeze the queue ([`Queue::freeze`]): no request enters any more, and the
+//! requests in flight drain. Then set the limits ([`Frozen::set`]), and thaw the queue (the drop of its [`Frozen`]). A
+//! request therefore has one setting from its entering to its leaving, and a submitter takes no lock for that. Linux does
+//! the same by `blk_mq_freeze_queue` (block/blk-mq.c), over a `percpu_ref`.
 //!
 //! ```
 //! use freeze_queue::{Limits, Queue};
@@ -30,43 +30,56 @@
 //!
 //! # A queue's parts
 //!
-//! A [`Queue`] is shared, by `&` or by an `Arc`, and has 1 to 63 [`Tag`]s. A tag has one request under way, which borrows
+//! A [`Queue`] is shared, by `&` or by an `Arc`, and has 1 to 63 [`Tag`]s. A tag has one request in flight, which borrows
 //! it ([`Entered`]), or takes it along to end on another thread ([`OwnedEntered`]). Entering and leaving count on one of 1
 //! to 64 slots: let each thread have a slot of its own. Threads may share a slot, which is slower, and a request may leave
 //! on another slot than it entered.
 //!
 //! Freezes nest, of one thread or of several: each [`Frozen`] is one, and the last that is dropped lets requests enter
-//! again. A device that goes away is frozen for ever ([`Frozen::mark_dying`]): then nobody waits to enter any more.
+//! again. A device that goes away is frozen for ever ([`Frozen::mark_dying`]): then no thread waits to enter any more.
 //!
-//! # Who waits
+//! # Waiting
 //!
 //! Entering waits while the queue is frozen, and freezing waits for the drain, by `std`'s mutex and condition variables, or
-//! by a future ([`Queue::enter_async`]) on any executor. Only the slow path touches them: an entering that is refused, the
-//! leaving that drains the queue, and what freezes, thaws or asks. A thread that waits for itself waits for ever: one that
-//! freezes while its own request is under way, or enters while it has a [`Frozen`].
+//! by a future ([`Queue::enter_async`]) on any executor. Only the slow path touches them: a refused entering, the leaving
+//! that drains the queue, and each call that freezes, thaws or asks. A thread that waits for itself waits for ever: one that
+//! freezes while its own request is in flight, or enters while it has a [`Frozen`].
 //!
-//! Only [`Queue::new`] and [`Queue::next_tag`] ask for memory, and want of it is an ordinary refusal. What was done while
-//! a request was under way, or before the freeze, is seen by who is given the [`Frozen`]; what was done before a thaw is
-//! seen by who enters in the life that it begins.
+//! Only [`Queue::new`] asks for memory, and want of it is an ordinary refusal. The holder of a [`Frozen`] sees all writes
+//! from before the freeze, and from requests that were in flight. A request that enters after a thaw sees all writes from
+//! before the thaw.
 //!
-//! # What stands below, and what doesn't
+//! # What is proved, and what isn't
 //!
-//! The steps of the queue are a static library whose calls are proved to meet their contracts, in any order of the atomic
-//! steps of all threads. This crate around it isn't proved, and nor is who waits and who wakes: its types owe the library
-//! what its header asks of a caller, all `unsafe` stands in one file, and tests try it. What misuse doesn't compile is
-//! shown in [`misuse`]. What the types can't exclude is refused by an error, and an answer of the library that they do
-//! exclude is a bug of this crate and panics. See the README beside the workspace.
-#![deny(missing_docs, unsafe_op_in_unsafe_fn)]
+//! The steps of the queue are in `src/erased`. A program cut this Rust out of sources with contracts, all of which are
+//! proved, in any order of the atomic steps of all threads. The proof is of those sources, for callers that meet the
+//! preconditions. No proof covers the program that cuts, its stand-ins, the Rust compiler, this crate around the steps, or
+//! its waits and wakes (`src/waits.rs`, `src/seats.rs`). Its types enforce the preconditions: [`misuse`] shows the misuse
+//! that doesn't compile, and an error refuses the misuse that types can't exclude. A refusal that they do exclude is a bug
+//! of this crate, and panics. There is no `unsafe` in any of it, so a mistake here could break the laws of the queue, and
+//! never the safety of memory.
+//!
+//! The module `erased` is public for the crates above this one, and no part of the API that versions promise: its functions
+//! trust their preconditions, so no user calls them.
+#![forbid(unsafe_code)]
 
-mod answer;
-mod direct;
+extern crate alloc;
+
+/// The example of the page beside the crate.
+#[cfg(doctest)]
+#[doc = include_str!("../README.md")]
+mod readme {}
+
 mod enter_async;
 mod entered;
+#[doc(hidden)]
+pub mod erased;
 mod errors;
+mod excluded;
 mod frozen;
 mod handed_back;
-mod library;
 mod limits;
+mod locked;
 #[cfg(any(doc, doctest))]
 pub mod misuse;
 mod outcomes;

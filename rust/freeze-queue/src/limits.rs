@@ -1,7 +1,6 @@
 //! Limits, and how a range of sectors is cut by them.
-use crate::answer::Answer;
+use crate::erased::queue_limits::{self as erased, LimitFault};
 use crate::errors::{LimitsError, PiecesError};
-use crate::library::first_piece;
 use crate::pieces::Pieces;
 
 /// Limits of a device, in sectors of 512 bytes. Linux: `struct queue_limits` (include/linux/blkdev.h).
@@ -15,7 +14,6 @@ use crate::pieces::Pieces;
 /// assert_eq!(limits, Limits { hardware: 64, max: 8, chunk: 128, physical: 1 });
 /// ```
 #[derive(Clone, Copy, Debug, PartialEq, Eq, Hash)]
-#[repr(C)]
 pub struct Limits {
     /// What the hardware takes in one command: 1 to 65,535, and one number for the whole life of a queue.
     pub hardware: u32,
@@ -57,10 +55,7 @@ impl Limits {
     /// assert_eq!(Limits { max: 65, ..limits }.check(), Err(LimitsError::AboveHardware));
     /// ```
     pub fn check(&self) -> Result<(), LimitsError> {
-        match first_piece(self, 0, 1) {
-            Ok(_) => Ok(()),
-            Err(answer) => Err(LimitsError::of(answer).unwrap_or_else(|| answer.is_a_bug("first_piece"))),
-        }
+        self.checked().map(drop)
     }
 
     /// The pieces of the `count` sectors from `start` on, in order: each within these limits. Who has entered a queue has
@@ -81,20 +76,38 @@ impl Limits {
     /// # Ok::<(), Box<dyn std::error::Error>>(())
     /// ```
     pub fn pieces(&self, start: u64, count: u32) -> Result<Pieces<'_>, PiecesError> {
-        self.check()?;
-        Ok(Pieces::of(self, start, count)?)
+        Ok(Pieces::of(self.checked()?, start, count)?)
+    }
+
+    /// The same limits, where a queue takes them.
+    pub(crate) fn checked(&self) -> Result<erased::Limits, LimitsError> {
+        let mut limits = erased::Limits::new(self.hardware, self.max, self.chunk)?;
+        limits.set_physical(self.physical)?;
+        Ok(limits)
+    }
+
+    /// The same limits, of a queue in force.
+    #[inline]
+    pub(crate) fn in_force(&self) -> erased::Limits {
+        let words = [self.max, self.chunk, self.physical].map(u64::from);
+        erased::Limits::from_words(self.hardware, words)
     }
 }
 
-impl LimitsError {
-    /// Which refusal of limits an answer is, if it is one.
-    pub(crate) fn of(answer: Answer) -> Option<LimitsError> {
-        match answer {
-            Answer::HARDWARE_RANGE => Some(LimitsError::HardwareRange),
-            Answer::ABOVE_HARDWARE => Some(LimitsError::AboveHardware),
-            Answer::CHUNK_TOO_LARGE => Some(LimitsError::ChunkTooLarge),
-            Answer::BAD_PHYSICAL => Some(LimitsError::BadPhysical),
-            _ => None,
+impl From<erased::Limits> for Limits {
+    #[inline]
+    fn from(limits: erased::Limits) -> Limits {
+        Limits { hardware: limits.hw(), max: limits.max(), chunk: limits.chunk(), physical: limits.physical() }
+    }
+}
+
+impl From<LimitFault> for LimitsError {
+    fn from(fault: LimitFault) -> LimitsError {
+        match fault {
+            LimitFault::HardwareRange => LimitsError::HardwareRange,
+            LimitFault::AboveHardware => LimitsError::AboveHardware,
+            LimitFault::ChunkTooLarge => LimitsError::ChunkTooLarge,
+            LimitFault::BadPhysical => LimitsError::BadPhysical,
         }
     }
 }

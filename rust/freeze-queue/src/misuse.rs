@@ -1,9 +1,9 @@
-//! What doesn't compile: each misuse that the C library's header forbids or answers by a number, and that the types here
-//! exclude. Each stands behind the same lines without it, which do compile, and has the compiler's number for it.
+//! What doesn't compile: each misuse that would break a precondition of the erased queue, or that its header for C forbids, and
+//! that the types here exclude. Each stands behind the same lines without it, which do compile, and has the compiler's number.
 //!
 //! # A tag that enters twice
 //!
-//! `ENTERED`:
+//! A tag has one request at a time:
 //!
 //! ```
 //! # use freeze_queue::{Limits, Queue};
@@ -23,7 +23,7 @@
 //!
 //! # A tag on two threads
 //!
-//! "One call at a time on a handle":
+//! One thread at a time uses a tag:
 //!
 //! ```
 //! # use freeze_queue::{Limits, Queue};
@@ -45,32 +45,9 @@
 //! });
 //! ```
 //!
-//! # A request that two threads look at
+//! # A tag or a queue that is copied
 //!
-//! ```
-//! # use freeze_queue::{Limits, Queue};
-//! # let queue = Queue::new(Limits::of_hardware(64), 2, 2).unwrap();
-//! # use std::thread;
-//! # let mut tag = queue.next_tag(0).unwrap();
-//! let request = queue.enter(&mut tag).unwrap();
-//! thread::scope(|threads| {
-//!     threads.spawn(move || request.limits().max);
-//! });
-//! ```
-//! ```compile_fail,E0277
-//! # use freeze_queue::{Limits, Queue};
-//! # let queue = Queue::new(Limits::of_hardware(64), 2, 2).unwrap();
-//! # use std::thread;
-//! # let mut tag = queue.next_tag(0).unwrap();
-//! let request = queue.enter(&mut tag).unwrap();
-//! thread::scope(|threads| {
-//!     threads.spawn(|| request.limits().max);
-//! });
-//! ```
-//!
-//! # A handle that is copied
-//!
-//! "Never copy one":
+//! They are moved, and never copied:
 //!
 //! ```
 //! # use freeze_queue::{Limits, Queue};
@@ -96,7 +73,7 @@
 //!
 //! # Limits that are used after leaving
 //!
-//! `NOT_ENTERED_TAG`, and limits that don't hold still:
+//! Limits hold still while the request is there:
 //!
 //! ```
 //! # use freeze_queue::{Limits, Queue};
@@ -148,7 +125,7 @@
 //!
 //! # A request that leaves twice
 //!
-//! `NOT_ENTERED_TAG`:
+//! A tag leaves once for each entering:
 //!
 //! ```
 //! # use freeze_queue::{Limits, Queue};
@@ -240,7 +217,7 @@
 //!
 //! # A tag that is given back under its request, or used after it
 //!
-//! `ENTERED`, `CLOSED`:
+//! A tag that is given back hasn't entered, and is gone then:
 //!
 //! ```
 //! # use freeze_queue::{Limits, Queue};
@@ -287,7 +264,7 @@
 //!
 //! # Limits that are set on a live queue
 //!
-//! `NOT_FROZEN`, `NOT_DRAINED`:
+//! Limits are set while the queue is frozen and drained:
 //!
 //! ```
 //! # use freeze_queue::{Limits, Queue};
@@ -310,7 +287,7 @@
 //!
 //! # A freeze that is thawed twice, or copied
 //!
-//! `NOT_FROZEN`:
+//! Each freeze is thawed once:
 //!
 //! ```
 //! # use freeze_queue::{Limits, Queue};
@@ -341,7 +318,7 @@
 //!
 //! # A queue that is removed while it is used, or used after it
 //!
-//! `CLOSED`, "a handle stays where it is until each call on it has returned":
+//! A queue is removed when no thread uses it, and is gone then:
 //!
 //! ```
 //! # use freeze_queue::{Limits, Queue};
@@ -380,7 +357,7 @@
 //! queue.depth();
 //! ```
 //!
-//! # A handle or a freeze that is made by hand
+//! # A tag or a freeze that is made by hand
 //!
 //! ```compile_fail,E0451
 //! # use freeze_queue::{Limits, Queue};

@@ -1,5 +1,4 @@
 //! A request that takes its tag along.
-use crate::entered::limits_under;
 use crate::errors::{RangeError, SlotError};
 use crate::limits::Limits;
 use crate::pieces::Pieces;
@@ -36,8 +35,8 @@ pub struct OwnedEntered {
 
 impl OwnedEntered {
     /// Of a tag that has entered this queue, of which it is.
-    pub(crate) fn of(queue: Arc<Queue>, tag: Tag) -> OwnedEntered {
-        let limits = limits_under(&tag);
+    pub(crate) fn of(queue: Arc<Queue>, mut tag: Tag) -> OwnedEntered {
+        let limits = queue.limits_under(&mut tag);
         OwnedEntered { queue, tag: Some(tag), limits }
     }
 
@@ -53,9 +52,10 @@ impl OwnedEntered {
     /// # Ok::<(), Box<dyn std::error::Error>>(())
     /// ```
     #[expect(clippy::missing_panics_doc, reason = "it never does")]
+    #[must_use = "a tag that is dropped is out of its queue for ever"]
     pub fn leave(mut self) -> Tag {
-        let tag = self.tag.take().expect("it is there until this call");
-        self.queue.leave(&tag);
+        let mut tag = self.tag.take().expect("it is there until this call");
+        self.queue.leave(&mut tag);
         tag
     }
 
@@ -92,7 +92,7 @@ impl OwnedEntered {
     /// # Ok::<(), Box<dyn std::error::Error>>(())
     /// ```
     pub fn pieces(&self, start: u64, count: u32) -> Result<Pieces<'_>, RangeError> {
-        Pieces::of(self.limits(), start, count)
+        Pieces::of(self.limits.in_force(), start, count)
     }
 
     /// Leaves on this slot, and its tag counts there from now on: as on that of the thread which ends it.
@@ -120,8 +120,8 @@ impl OwnedEntered {
 
 impl Drop for OwnedEntered {
     fn drop(&mut self) {
-        if let Some(tag) = self.tag.take() {
-            self.queue.leave(&tag);
+        if let Some(mut tag) = self.tag.take() {
+            self.queue.leave(&mut tag);
         }
     }
 }

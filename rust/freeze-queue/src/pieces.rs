@@ -1,8 +1,9 @@
 //! The pieces of a range.
+use crate::erased::queue_limits as erased;
 use crate::errors::RangeError;
-use crate::library::first_piece;
 use crate::limits::Limits;
 use std::iter::FusedIterator;
+use std::marker::PhantomData;
 
 /// Where sectors end: each lies below this.
 const SECTORS: u64 = 1 << 33;
@@ -41,17 +42,17 @@ pub struct Piece {
 #[derive(Clone, Debug)]
 #[must_use = "it is an iterator"]
 pub struct Pieces<'l> {
-    /// Limits that a queue takes.
-    limits: &'l Limits,
+    limits: erased::Limits,
     start: u64,
     left: u32,
+    of: PhantomData<&'l Limits>,
 }
 
 impl<'l> Pieces<'l> {
-    /// Of limits that a queue takes, and a range below 2^33.
-    pub(crate) fn of(limits: &'l Limits, start: u64, count: u32) -> Result<Pieces<'l>, RangeError> {
+    /// Of a range below 2^33.
+    pub(crate) fn of(limits: erased::Limits, start: u64, count: u32) -> Result<Pieces<'l>, RangeError> {
         match start.checked_add(u64::from(count)) {
-            Some(end) if end <= SECTORS => Ok(Pieces { limits, start, left: count }),
+            Some(end) if end <= SECTORS => Ok(Pieces { limits, start, left: count, of: PhantomData }),
             _ => Err(RangeError::TooFar),
         }
     }
@@ -64,8 +65,7 @@ impl Iterator for Pieces<'_> {
         if self.left == 0 {
             return None;
         }
-        let first = first_piece(self.limits, self.start, self.left);
-        let sectors = first.unwrap_or_else(|answer| answer.is_a_bug("first_piece"));
+        let sectors = self.limits.next_piece(self.start, self.left);
         let piece = Piece { start: self.start, sectors };
         self.start += u64::from(sectors);
         self.left -= sectors;

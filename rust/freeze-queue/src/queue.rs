@@ -1,21 +1,18 @@
 //! A queue: made and ended, its tags, and what it is asked.
-use crate::answer::Answer;
-use crate::errors::{GiveBackError, LimitsError, NewError, NextTagError, RemoveError};
+use crate::erased::queue_core::{self as erased, BlockQueue, FreezeFault, Mode};
+use crate::errors::{GiveBackError, NewError, NextTagError, RemoveError};
+use crate::excluded::excluded;
 use crate::handed_back::HandedBack;
-use crate::library::FreezerHandle;
 use crate::limits::Limits;
 use crate::outcomes::Final;
 use crate::tag::Tag;
-use crate::waits::Waits;
+use crate::waits::{Held, Waits};
 use std::fmt;
-use std::num::NonZeroU32;
+use std::num::NonZeroU64;
+use std::sync::atomic::{AtomicU64, Ordering::Relaxed};
 
 mod enters;
 mod freezes;
-
-/// How the header numbers the modes of counting.
-const ON_SLOTS: u32 = 0;
-const ATOMIC: u32 = 1;
 
 /// A queue, which requests enter and leave by many threads, and which can be frozen to change its limits.
 ///
@@ -41,9 +38,9 @@ const ATOMIC: u32 = 1;
 /// # Ok::<(), Box<dyn std::error::Error>>(())
 /// ```
 pub struct Queue {
-    /// What each request reads, and nobody writes.
-    number: u64,
-    slots: NonZeroU32,
+    /// What each request reads, and nobody writes: the number, which no other queue has, and where the gate's words are.
+    number: NonZeroU64,
+    erased: BlockQueue,
     pub(crate) waits: Waits,
 }
 
@@ -60,14 +57,14 @@ impl Queue {
     /// ```
     /// assert_eq!(freeze_queue::Queue::MOST_TAGS, 63);
     /// ```
-    pub const MOST_TAGS: u32 = 63;
+    pub const MOST_TAGS: u32 = erased::MOST_TAGS;
 
     /// Freezes at most that aren't thawed yet.
     ///
     /// ```
     /// assert_eq!(freeze_queue::Queue::MOST_DEPTH, 1000);
     /// ```
-    pub const MOST_DEPTH: u32 = 1000;
+    pub const MOST_DEPTH: u32 = erased::MOST_DEPTH;
 
     /// Makes a live queue of these limits that counts on 1 to 64 slots, with 1 to 63 tags. Linux: `blk_mq_alloc_queue`.
     ///
@@ -86,20 +83,22 @@ impl Queue {
     /// # Ok::<(), Box<dyn std::error::Error>>(())
     /// ```
     pub fn new(limits: Limits, slots: u32, tags: u32) -> Result<Queue, NewError> {
-        let made = FreezerHandle::new(&limits, slots, tags);
-        match (made, NonZeroU32::new(slots)) {
-            (Ok(freezer), Some(slots)) => Ok(Queue { number: freezer.number(), slots, waits: Waits::of(freezer) }),
-            (Ok(_), None) | (Err(Answer::SIZE), _) => Err(NewError::Size),
-            (Err(Answer::NO_MEMORY), _) => Err(NewError::NoMemory),
-            (Err(other), _) => Err(LimitsError::of(other).unwrap_or_else(|| other.is_a_bug("new")).into()),
+        static NUMBERS: AtomicU64 = AtomicU64::new(0);
+        let limits = limits.checked()?;
+        if slots == 0 || slots > Queue::MOST_SLOTS || tags == 0 || tags > Queue::MOST_TAGS {
+            return Err(NewError::Size);
         }
+        let made = BlockQueue::new(limits, slots, tags);
+        let (erased, freezer, tags) = made.map_err(|erased::Memory| NewError::NoMemory)?;
+        let number = NonZeroU64::MIN.saturating_add(NUMBERS.fetch_add(1, Relaxed));
+        Ok(Queue { number, erased, waits: Waits::of(Held::new(freezer, tags)) })
     }
 
     /// Gives a tag that is out of use, new or given back, which counts on this slot, from 0 on. The queue may be frozen.
     ///
     /// # Errors
     ///
-    /// [`NextTagError::NoSlot`], [`NextTagError::NoTag`] or [`NextTagError::NoMemory`].
+    /// [`NextTagError::NoSlot`] or [`NextTagError::NoTag`].
     ///
     /// # Examples
     ///
@@ -113,16 +112,14 @@ impl Queue {
     /// # Ok::<(), Box<dyn std::error::Error>>(())
     /// ```
     pub fn next_tag(&self, slot: u32) -> Result<Tag, NextTagError> {
-        if slot >= self.slots.get() {
+        if slot >= self.erased.slots() {
             return Err(NextTagError::NoSlot);
         }
         let mut held = self.waits.lock();
-        match held.freezer.next_tag() {
-            Ok(handle) => Ok(Tag::on_slot(handle, slot, self.slots, held.seats.seat())),
-            Err(Answer::NO_TAG) => Err(NextTagError::NoTag),
-            Err(Answer::NO_MEMORY) => Err(NextTagError::NoMemory),
-            Err(other) => other.is_a_bug("next_tag"),
-        }
+        let tag = held.tags.pop().ok_or(NextTagError::NoTag)?;
+        let seat = held.seats.seat();
+        drop(held);
+        Ok(Tag::on_slot(tag, slot, self.erased.slots(), self.number, seat))
     }
 
     /// Takes a tag back, for [`next_tag`](Queue::next_tag) to give again. The queue may be frozen. Needs no memory.
@@ -145,20 +142,19 @@ impl Queue {
     /// # Ok::<(), Box<dyn std::error::Error>>(())
     /// ```
     #[expect(clippy::result_large_err, reason = "a refusal hands the tag back")]
-    pub fn give_back(&self, mut tag: Tag) -> Result<(), HandedBack<Tag, GiveBackError>> {
+    pub fn give_back(&self, tag: Tag) -> Result<(), HandedBack<Tag, GiveBackError>> {
+        if tag.queue_number() != self.number() {
+            return Err(HandedBack { value: tag, reason: GiveBackError::OtherQueue });
+        }
+        if tag.erased.entered() {
+            return Err(HandedBack { value: tag, reason: GiveBackError::StillEntered });
+        }
         let mut held = self.waits.lock();
-        let reason = match held.freezer.give_tag_back(&mut tag.handle) {
-            Answer::OK => {
-                let forgotten = held.seats.free(tag.seat);
-                drop(held);
-                drop(forgotten);
-                return Ok(());
-            }
-            Answer::OTHER_QUEUE => GiveBackError::OtherQueue,
-            Answer::ENTERED => GiveBackError::StillEntered,
-            other => other.is_a_bug("give_tag_back"),
-        };
-        Err(HandedBack { value: tag, reason })
+        let forgotten = held.seats.free(tag.seat);
+        held.tags.push(tag.erased); // there is room: all of them were here once
+        drop(held);
+        drop(forgotten);
+        Ok(())
     }
 
     /// Ends a queue, live or frozen, whose tags were all given back, but for those that nobody asked for. Needs no memory.
@@ -182,14 +178,21 @@ impl Queue {
     /// # Ok::<(), Box<dyn std::error::Error>>(())
     /// ```
     #[expect(clippy::result_large_err, reason = "a refusal hands the queue back")]
-    pub fn remove(mut self) -> Result<Final, HandedBack<Queue, RemoveError>> {
-        let reason = match self.waits.alone().freezer.remove() {
-            Ok(last) => return Ok(Final { kills: last.kills, releases: last.releases, limits: last.limits }),
-            Err(Answer::TAGS_OUT) => RemoveError::TagsOut,
-            Err(Answer::WORN_OUT) => RemoveError::WornOut,
-            Err(other) => other.is_a_bug("remove"),
-        };
-        Err(HandedBack { value: self, reason })
+    pub fn remove(self) -> Result<Final, HandedBack<Queue, RemoveError>> {
+        let Queue { number, erased, waits } = self;
+        let held = waits.into_held();
+        let limits = held.freezer.limits().into();
+        match held.remove(erased) {
+            Ok(left) => Ok(Final { kills: left.kills, releases: left.releases, limits }),
+            Err((why, erased, held)) => {
+                let reason = match why {
+                    FreezeFault::TagsOut(_) => RemoveError::TagsOut,
+                    FreezeFault::WornOut => RemoveError::WornOut,
+                    other => excluded("remove", other),
+                };
+                Err(HandedBack { value: Queue { number, erased, waits: Waits::of(held) }, reason })
+            }
+        }
     }
 
     /// Counts on one shared word from now on, a frozen queue once it is thawed. Linux: `percpu_ref_switch_to_atomic_sync`
@@ -202,7 +205,7 @@ impl Queue {
     /// # Ok::<(), Box<dyn std::error::Error>>(())
     /// ```
     pub fn switch_to_atomic(&self) {
-        self.waits.lock().freezer.mode(ATOMIC).is_done("mode");
+        self.waits.lock().freezer.mode(&self.erased, Mode::Atomic);
     }
 
     /// Counts on slots from now on, as a queue does that is made; a frozen queue once it is thawed. Linux:
@@ -215,7 +218,7 @@ impl Queue {
     /// # Ok::<(), Box<dyn std::error::Error>>(())
     /// ```
     pub fn switch_to_slots(&self) {
-        self.waits.lock().freezer.mode(ON_SLOTS).is_done("mode");
+        self.waits.lock().freezer.mode(&self.erased, Mode::Slots);
     }
 
     /// The limits, as they were at a moment of the call. (Who has entered has those that hold still.)
@@ -228,7 +231,7 @@ impl Queue {
     /// ```
     #[must_use]
     pub fn limits(&self) -> Limits {
-        self.waits.lock().freezer.limits()
+        self.waits.lock().freezer.limits().into()
     }
 
     /// The freezes that weren't thawed yet, at a moment of the call; 0 of a live queue. Linux: `mq_freeze_depth`.
@@ -260,7 +263,7 @@ impl Queue {
     /// ```
     #[must_use]
     pub fn is_drained(&self) -> bool {
-        self.waits.lock().freezer.is_drained()
+        self.waits.lock().freezer.poll_drained(&self.erased)
     }
 
     /// Whether its device is gone: [`Frozen::mark_dying`](crate::Frozen::mark_dying). Linux: `blk_queue_dying`.
@@ -289,7 +292,7 @@ impl Queue {
     #[inline]
     #[must_use]
     pub fn number(&self) -> u64 {
-        self.number
+        self.number.get()
     }
 }
 

@@ -1,12 +1,13 @@
 //! Where the futures of a queue leave their wakers: a seat for each tag, so that none asks for memory.
+use crate::queue::Queue;
 use std::array;
 use std::mem;
 use std::panic::{AssertUnwindSafe, catch_unwind, resume_unwind};
 use std::task::Waker;
 use std::thread;
 
-/// Tags of a queue at most: `FREEZE_QUEUE_MOST_TAGS`.
-pub(crate) const MOST_TAGS: usize = 63;
+/// Tags of a queue at most.
+const MOST_TAGS: usize = Queue::MOST_TAGS as usize;
 
 /// A tag's seat.
 #[derive(Default)]
@@ -100,10 +101,9 @@ impl Wakers {
                 panicked.get_or_insert(panic);
             }
         }
-        if let Some(panic) = panicked
-            && !thread::panicking()
-        {
-            resume_unwind(panic);
+        match panicked {
+            Some(panic) if !thread::panicking() => resume_unwind(panic),
+            _ => {}
         }
     }
 }

@@ -1,13 +1,13 @@
 //! A tag: who enters.
+use crate::erased::queue_core as erased;
 use crate::errors::SlotError;
-use crate::library::TagHandle;
 use std::fmt;
-use std::num::NonZeroU32;
+use std::num::NonZeroU64;
 
 /// A tag, with which one request at a time enters its queue.
 ///
 /// A thread that ends what it begins keeps a tag; else a tag goes along with its request
-/// ([`OwnedEntered`](crate::OwnedEntered)). It lies alone on 128 bytes, so that the tags of two threads share no cache
+/// ([`OwnedEntered`](crate::OwnedEntered)). It lies alone on 256 bytes, so that the tags of two threads share no cache
 /// line. [`Queue::give_back`](crate::Queue::give_back) hands it back to its queue. A queue whose tag was dropped instead
 /// counts it as out for ever, and can't be [removed](crate::Queue::remove).
 ///
@@ -23,18 +23,20 @@ use std::num::NonZeroU32;
 /// ```
 #[repr(align(128))]
 pub struct Tag {
-    pub(crate) handle: TagHandle,
-    /// Below `slots`, which are the queue's. (Since there is one, an `Option` of a tag has no more bytes than a tag.)
+    pub(crate) erased: erased::Tag,
+    /// The number of its queue. (Since it isn't 0, an `Option` of a tag has no more bytes than a tag.)
+    queue: NonZeroU64,
+    /// Below `slots`, which are the queue's.
     slot: u32,
-    slots: NonZeroU32,
+    slots: u32,
     /// Where a future that waits with it leaves its waker.
     pub(crate) seat: usize,
 }
 
 impl Tag {
-    /// On a slot that there is, below `slots`.
-    pub(crate) fn on_slot(handle: TagHandle, slot: u32, slots: NonZeroU32, seat: usize) -> Tag {
-        Tag { handle, slot, slots, seat }
+    /// On a slot that there is, below `slots`, of the queue of this number.
+    pub(crate) fn on_slot(erased: erased::Tag, slot: u32, slots: u32, queue: NonZeroU64, seat: usize) -> Tag {
+        Tag { erased, queue, slot, slots, seat }
     }
 
     /// The slot that it counts on.
@@ -70,7 +72,7 @@ impl Tag {
     /// # Ok::<(), Box<dyn std::error::Error>>(())
     /// ```
     pub fn use_slot(&mut self, slot: u32) -> Result<(), SlotError> {
-        if slot >= self.slots.get() {
+        if slot >= self.slots {
             return Err(SlotError::NoSlot);
         }
         self.slot = slot;
@@ -89,7 +91,7 @@ impl Tag {
     #[inline]
     #[must_use]
     pub fn queue_number(&self) -> u64 {
-        self.handle.queue()
+        self.queue.get()
     }
 }
 

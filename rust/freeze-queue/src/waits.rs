@@ -1,29 +1,31 @@
-//! Who waits at a queue, and who wakes them. A request that enters a live queue, or leaves it, touches nothing of it.
+//! Waits at a queue, and wakes. A request that enters a live queue, or leaves it, touches nothing of it.
 //!
-//! No wake is lost, since whoever sleeps announces it, looks, and then sleeps, all under the lock: the look asks the queue
-//! itself, and what it asks for comes about before the one who tells of it locks to wake. Nobody holds the lock while the
-//! queue drains, and nobody's code runs under it: wakers are called once it is given up.
-use crate::answer::Answer;
+//! No wake is lost. A thread that sleeps announces it, looks, and then sleeps, all under the lock. The look asks the queue
+//! itself, and a waking thread changes the queue before it locks to wake. No thread holds the lock while the queue drains,
+//! and no user's code runs under it: wakers are called after it is released.
+use crate::erased::queue_core::{BlockQueue, Final, FreezeFault, Freezer, LIMIT_WORDS, RemoveFault, Tag};
 use crate::errors::FreezeTimeoutError;
-use crate::library::{FreezerHandle, Order};
+use crate::excluded::excluded;
+use crate::locked::{Lock, Locked};
 use crate::seats::{Seats, Wakers};
-use std::ops::{Deref, DerefMut};
-use std::sync::{Condvar, Mutex, MutexGuard, PoisonError};
+use std::sync::Condvar;
 use std::task::Waker;
 use std::time::Instant;
 
-/// What the lock guards.
+/// The state that the lock guards.
 pub(crate) struct Held {
-    pub(crate) freezer: FreezerHandle,
+    pub(crate) freezer: Freezer,
+    /// The tags that are out of use, with room for all of the queue.
+    pub(crate) tags: Vec<Tag>,
     pub(crate) seats: Seats,
-    /// The device is gone, and a freeze stands that nobody thaws.
+    /// The device is gone, and its freeze is never thawed.
     dying: bool,
     /// Threads that sleep until the queue is live, or until it is drained.
     entering: u32,
     draining: u32,
 }
 
-/// What somebody who waits to enter comes to see.
+/// The end of a wait to enter.
 #[derive(Clone, Copy, PartialEq, Eq)]
 pub(crate) enum Seen {
     Live,
@@ -31,54 +33,62 @@ pub(crate) enum Seen {
 }
 
 impl Held {
-    fn seen(&mut self) -> Option<Seen> {
+    /// For a queue at which no thread waits.
+    pub(crate) fn new(freezer: Freezer, tags: Vec<Tag>) -> Held {
+        Held { freezer, tags, seats: Seats::default(), dying: false, entering: 0, draining: 0 }
+    }
+
+    /// Ends the queue. Where that is refused, all comes back as it was.
+    #[expect(clippy::result_large_err, reason = "a refusal hands the queue back")]
+    pub(crate) fn remove(self, queue: BlockQueue) -> Result<Final<LIMIT_WORDS>, (FreezeFault, BlockQueue, Held)> {
+        let Held { freezer, tags, seats, dying, entering, draining } = self;
+        freezer.remove(queue, tags).map_err(|refused| {
+            let RemoveFault { why, freezer, queue, tags } = refused;
+            (why, queue, Held { freezer, tags, seats, dying, entering, draining })
+        })
+    }
+
+    fn seen(&self) -> Option<Seen> {
         match self.freezer.depth() {
             0 => Some(Seen::Live),
             _ if self.dying => Some(Seen::Dying),
             _ => None,
         }
     }
+
+    /// What somebody sees who would enter. Where it is nothing yet, the waker is noted in this seat, to be called once there
+    /// is something, and the one that was there takes its place. No waker is dropped here, since that is somebody's code.
+    pub(crate) fn seen_or_noted(&mut self, seat: usize, waker: &mut Option<Waker>) -> Option<Seen> {
+        let seen = self.seen();
+        if seen.is_none() {
+            *waker = waker.take().and_then(|waker| self.seats.note(seat, waker));
+        }
+        seen
+    }
 }
 
 /// On lines of its own, apart from what each request reads of its queue.
 #[repr(align(128))]
 pub(crate) struct Waits {
-    held: Mutex<Held>,
+    held: Lock<Held>,
     /// Where those sleep who wait to enter, and those who wait for the drain.
     live: Condvar,
     drained: Condvar,
-    /// The queue's number, by which the thread sanitizer knows its lock.
-    number: u64,
 }
 
 impl Waits {
-    pub(crate) fn of(freezer: FreezerHandle) -> Waits {
-        let number = freezer.number();
-        let held = Held { freezer, seats: Seats::default(), dying: false, entering: 0, draining: 0 };
-        Waits { held: Mutex::new(held), live: Condvar::new(), drained: Condvar::new(), number }
+    pub(crate) fn of(held: Held) -> Waits {
+        Waits { held: Lock::new(held), live: Condvar::new(), drained: Condvar::new() }
     }
 
     /// Under the lock. (What is under it is whole at each moment at which this crate's bugs panic.)
-    pub(crate) fn lock(&self) -> Locked<'_> {
-        self.locked(self.held.lock().unwrap_or_else(PoisonError::into_inner))
+    pub(crate) fn lock(&self) -> Locked<'_, Held> {
+        self.held.lock()
     }
 
-    fn locked<'w>(&self, guard: MutexGuard<'w, Held>) -> Locked<'w> {
-        let order = Order::of_lock(self.number);
-        order.acquires_if(true);
-        Locked { tells: Tells(order), guard }
-    }
-
-    /// Sleeps on one of the two until it is told, and says whether that was before the deadline.
-    fn sleep<'w>(&self, on: &Condvar, held: Locked<'w>, deadline: Option<Instant>) -> (Locked<'w>, bool) {
-        let Locked { tells, guard } = held;
-        drop(tells);
-        let Some(deadline) = deadline else {
-            return (self.locked(on.wait(guard).unwrap_or_else(PoisonError::into_inner)), true);
-        };
-        let left = deadline.saturating_duration_since(Instant::now());
-        let (guard, late) = on.wait_timeout(guard, left).unwrap_or_else(PoisonError::into_inner);
-        (self.locked(guard), !late.timed_out())
+    /// What the lock guards, of a queue that nobody else has.
+    pub(crate) fn into_held(self) -> Held {
+        self.held.into_inner()
     }
 
     /// Waits until requests enter, or never will again; none where the deadline passes before.
@@ -91,48 +101,48 @@ impl Waits {
             if seen.is_some() || !in_time {
                 break seen;
             }
-            (held, in_time) = self.sleep(&self.live, held, deadline);
+            (held, in_time) = held.sleep(&self.live, deadline);
         };
         held.entering -= 1;
         seen
     }
 
     /// Freezes the queue, and waits until it is drained. Where the deadline passes before it thaws that freeze again.
-    pub(crate) fn freeze(&self, deadline: Option<Instant>) -> Result<(), FreezeTimeoutError> {
+    pub(crate) fn freeze(&self, queue: &BlockQueue, deadline: Option<Instant>) -> Result<(), FreezeTimeoutError> {
         let mut held = self.lock();
-        match held.freezer.start_freeze() {
-            Answer::OK | Answer::DRAINED => {}
-            Answer::DEPTH_FULL => return Err(FreezeTimeoutError::DepthFull),
-            Answer::WORN_OUT => return Err(FreezeTimeoutError::WornOut),
-            other => other.is_a_bug("start_freeze"),
+        match held.freezer.start_freeze(queue) {
+            Ok(_) => {}
+            Err(FreezeFault::DepthFull) => return Err(FreezeTimeoutError::DepthFull),
+            Err(FreezeFault::WornOut) => return Err(FreezeTimeoutError::WornOut),
+            Err(other) => excluded("start_freeze", other),
         }
         held.draining += 1;
         let mut in_time = true;
         let drained = loop {
-            let drained = held.freezer.is_drained();
+            let drained = held.freezer.poll_drained(queue);
             if drained || !in_time {
                 break drained;
             }
-            (held, in_time) = self.sleep(&self.drained, held, deadline);
+            (held, in_time) = held.sleep(&self.drained, deadline);
         };
         held.draining -= 1;
         if drained {
             return Ok(());
         }
-        self.thaw_under(held);
+        self.thaw_under(queue, held);
         Err(FreezeTimeoutError::TimedOut)
     }
 
     /// Ends a freeze, and wakes those who wait to enter where it was the last.
-    pub(crate) fn thaw(&self) {
-        self.thaw_under(self.lock());
+    pub(crate) fn thaw(&self, queue: &BlockQueue) {
+        self.thaw_under(queue, self.lock());
     }
 
-    fn thaw_under(&self, mut held: Locked<'_>) {
-        match held.freezer.thaw() {
-            Answer::OK => {}
-            Answer::LIVE_AGAIN => self.wake_those_who_enter(held),
-            other => other.is_a_bug("thaw"),
+    fn thaw_under(&self, queue: &BlockQueue, mut held: Locked<'_, Held>) {
+        match held.freezer.thaw(queue) {
+            Ok(thawed) if thawed.live => self.wake_those_who_enter(held),
+            Ok(_) => {}
+            Err(fault) => excluded("thaw", fault),
         }
     }
 
@@ -147,7 +157,7 @@ impl Waits {
         self.lock().dying
     }
 
-    fn wake_those_who_enter(&self, mut held: Locked<'_>) {
+    fn wake_those_who_enter(&self, mut held: Locked<'_, Held>) {
         if held.entering > 0 {
             self.live.notify_all();
         }
@@ -157,56 +167,10 @@ impl Waits {
     }
 
     /// Wakes those who wait for the drain: by whoever was told of it.
+    #[cold]
     pub(crate) fn tell_drained(&self) {
         if self.lock().draining > 0 {
             self.drained.notify_all();
         }
-    }
-
-    /// What the lock guards, of a queue that nobody else has.
-    pub(crate) fn alone(&mut self) -> &mut Held {
-        self.held.get_mut().unwrap_or_else(PoisonError::into_inner)
-    }
-}
-
-/// The lock, held.
-pub(crate) struct Locked<'w> {
-    /// Before the guard, so that it is dropped before the lock is given up.
-    tells: Tells,
-    guard: MutexGuard<'w, Held>,
-}
-
-impl Locked<'_> {
-    /// What somebody sees who would enter. Where it is nothing yet, the waker is noted in this seat, to be called once there
-    /// is something, and the one that was there takes its place. No waker is dropped here, since that is somebody's code.
-    pub(crate) fn seen_or_noted(&mut self, seat: usize, waker: &mut Option<Waker>) -> Option<Seen> {
-        let seen = self.seen();
-        if seen.is_none() {
-            *waker = waker.take().and_then(|waker| self.seats.note(seat, waker));
-        }
-        seen
-    }
-}
-
-impl Deref for Locked<'_> {
-    type Target = Held;
-
-    fn deref(&self) -> &Held {
-        &self.guard
-    }
-}
-
-impl DerefMut for Locked<'_> {
-    fn deref_mut(&mut self) -> &mut Held {
-        &mut self.guard
-    }
-}
-
-/// What the thread sanitizer is told where the lock is given up.
-struct Tells(Order);
-
-impl Drop for Tells {
-    fn drop(&mut self) {
-        self.0.releases();
     }
 }

@@ -1,5 +1,7 @@
 //! Misuses that compile: each is refused by an error, or does what its documentation says. (Those that don't compile
 //! stand in src/misuse.rs.) An answer that the types exclude would panic as a bug of the crate, and fail the test.
+#![allow(clippy::drop_non_drop, reason = "a tag that is dropped is out for ever")]
+
 use freeze_queue::{
     EnterError, EnterFrozenError, FreezeTimeoutError, GiveBackError, Limits, OwnedEntered, Queue, RemoveError, Tag,
     TryEnterError, TryFreezeError,
@@ -283,6 +285,30 @@ fn a_waker_panics() {
     let future = entering.first_mut().unwrap();
     assert!(Pin::new(future).poll(&mut Context::from_waker(Waker::noop())).is_ready());
     assert!(queue.try_freeze().is_ok());
+}
+
+/// A waker that panics as the device goes: the others are woken, and the queue stays frozen for ever.
+#[test]
+fn a_waker_panics_as_the_device_goes() {
+    let queue = Queue::new(LIMITS, 1, 3).unwrap();
+    let mut tags: Vec<Tag> = (0..3).map(|_| queue.next_tag(0).unwrap()).collect();
+    let mut other = tags.pop().unwrap();
+    let counts = Arc::new(Counts(AtomicU64::new(0)));
+    let wakers = [Arc::new(Panics).into(), Arc::clone(&counts).into()];
+    let frozen = queue.freeze().unwrap();
+    let mut entering: Vec<_> = tags.iter_mut().map(|tag| queue.enter_async(tag)).collect();
+    for (future, waker) in entering.iter_mut().zip(&wakers) {
+        assert!(Pin::new(future).poll(&mut Context::from_waker(waker)).is_pending());
+    }
+    assert!(panics(|| frozen.mark_dying()));
+    assert_eq!((counts.0.load(Ordering::SeqCst), queue.depth(), queue.is_dying()), (1, 1, true));
+    assert_eq!(queue.try_enter(&mut other).unwrap_err(), TryEnterError::Dying);
+    for mut future in entering {
+        let polled = Pin::new(&mut future).poll(&mut Context::from_waker(Waker::noop()));
+        assert!(matches!(polled, Poll::Ready(Err(EnterError::Dying))));
+    }
+    drop(queue.freeze().unwrap());
+    assert_eq!(queue.depth(), 1);
 }
 
 /// A waker that panics where the thaw is part of a panic already: it isn't a second one, which would abort.

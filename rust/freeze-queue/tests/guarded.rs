@@ -61,7 +61,7 @@ impl Drop for Device {
 fn serve(queue: &Queue, tag: &mut Tag, device: &Device, over: &AtomicBool, requests: &AtomicU64) -> u64 {
     let (thread, mut served) = (tag.slot(), 0);
     while !over.load(Ordering::Relaxed) {
-        let entered = if thread.is_multiple_of(2) { queue.enter(tag).ok() } else { queue.try_enter_frozen(tag).ok() };
+        let entered = if thread % 2 == 0 { queue.enter(tag).ok() } else { queue.try_enter_frozen(tag).ok() };
         let Some(request) = entered else { continue };
         assert_eq!(device.serve(thread), request.limits().max);
         drop(request);
@@ -86,7 +86,7 @@ fn change(queue: &Queue, device: &Device, requests: &AtomicU64, lives: u64) -> u
             _ => queue.freeze().unwrap(),
         };
         let set = || frozen.set(Limits { max, ..LIMITS }).unwrap();
-        if life.is_multiple_of(2) {
+        if life % 2 == 0 {
             set();
         }
         served += device.renew(max);

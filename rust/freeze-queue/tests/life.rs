@@ -328,7 +328,7 @@ fn what_is_shown() {
 
 #[test]
 fn sizes_in_memory() {
-    assert_eq!((align_of::<Tag>(), mem::size_of::<Tag>()), (128, 128));
+    assert_eq!((align_of::<Tag>(), mem::size_of::<Tag>()), (128, 256));
     assert_eq!(align_of::<Queue>(), 128);
-    assert!(mem::size_of::<OwnedEntered>() <= 256);
+    assert!(mem::size_of::<OwnedEntered>() <= 384);
 }

@@ -24,7 +24,7 @@ impl Round {
             if self.0.load(Ordering::SeqCst) >= round {
                 return;
             }
-            if looks.is_multiple_of(10_000) { thread::yield_now() } else { hint::spin_loop() }
+            if looks % 10_000 == 0 { thread::yield_now() } else { hint::spin_loop() }
         }
     }
 }

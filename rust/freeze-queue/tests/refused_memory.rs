@@ -1,14 +1,12 @@
-//! Each allocation is refused in turn: that is an ordinary answer, nothing is lost and nothing leaks. Since an
-//! allocation that Rust asks for would abort here, this also shows that the crate asks for none by itself.
-//! (This program's `malloc` is its own, which refuses and counts on one thread, so it has `unsafe`.)
+//! Each allocation is refused in turn: the call returns an ordinary error, nothing is lost and nothing leaks.
+//! (This program's allocator is its own, which refuses and counts on one thread, so it has `unsafe`.)
 #![allow(unsafe_code)]
-#![cfg(all(target_os = "linux", target_env = "gnu"))]
 
 use freeze_queue::{
-    EnterTimeoutError, FreezeTimeoutError, Limits, NewError, NextTagError, Queue, Tag, TryEnterError, TryFreezeError,
+    EnterTimeoutError, FreezeTimeoutError, Limits, NewError, Queue, Tag, TryEnterError, TryFreezeError,
 };
+use std::alloc::{GlobalAlloc, Layout, System};
 use std::cell::Cell;
-use std::ffi::c_void;
 use std::future::Future;
 use std::mem;
 use std::pin::pin;
@@ -20,56 +18,48 @@ use std::time::Duration;
 const LIMITS: Limits = Limits { hardware: 64, max: 32, chunk: 128, physical: 8 };
 
 thread_local! {
-    /// How many allocations are had before one is refused; none is, where it is none.
+    /// How many allocations succeed before one is refused. `None`: none is refused.
     static ALLOWED: Cell<Option<u64>> = const { Cell::new(None) };
-    /// Blocks that were had, less those that were given back.
+    /// Allocations that were asked for.
+    static ASKED: Cell<u64> = const { Cell::new(0) };
+    /// Blocks that were allocated, less those that were freed.
     static BLOCKS: Cell<i64> = const { Cell::new(0) };
 }
 
-unsafe extern "C" {
-    fn __libc_malloc(size: usize) -> *mut c_void;
-    fn __libc_free(at: *mut c_void);
-}
+/// The system's allocator, which refuses and counts.
+struct Refusing;
 
-#[unsafe(no_mangle)]
-extern "C" fn malloc(size: usize) -> *mut c_void {
-    match ALLOWED.get() {
-        Some(0) => return ptr::null_mut(),
-        Some(left) => ALLOWED.set(Some(left - 1)),
-        None => {}
+// SAFETY: each block is the system's, of the same layout; a refusal is null, as the trait has it.
+unsafe impl GlobalAlloc for Refusing {
+    unsafe fn alloc(&self, layout: Layout) -> *mut u8 {
+        ASKED.set(ASKED.get() + 1);
+        match ALLOWED.get() {
+            Some(0) => return ptr::null_mut(),
+            Some(left) => ALLOWED.set(Some(left - 1)),
+            None => {}
+        }
+        // SAFETY: the caller meets the precondition, which is the same.
+        let at = unsafe { System.alloc(layout) };
+        BLOCKS.set(BLOCKS.get() + i64::from(!at.is_null()));
+        at
     }
-    // SAFETY: it is the C library's own, under its other name.
-    let at = unsafe { __libc_malloc(size) };
-    BLOCKS.set(BLOCKS.get() + i64::from(!at.is_null()));
-    at
+
+    unsafe fn dealloc(&self, at: *mut u8, layout: Layout) {
+        BLOCKS.set(BLOCKS.get() - 1);
+        // SAFETY: the block is the system's, of this layout.
+        unsafe { System.dealloc(at, layout) }
+    }
 }
 
-#[unsafe(no_mangle)]
-extern "C" fn free(at: *mut c_void) {
-    BLOCKS.set(BLOCKS.get() - i64::from(!at.is_null()));
-    // SAFETY: all blocks are the C library's.
-    unsafe { __libc_free(at) }
-}
+#[global_allocator]
+static ALLOCATOR: Refusing = Refusing;
 
-/// What a call answers where so many allocations are had before one is refused.
+/// What a call returns if so many allocations succeed and the next is refused.
 fn after<T>(allowed: u64, call: impl FnOnce() -> T) -> T {
     ALLOWED.set(Some(allowed));
     let answer = call();
     ALLOWED.set(None);
     answer
-}
-
-/// How many allocations are refused before a call is given what it wants: each leaves it as it was.
-fn refusals<T, E: PartialEq + std::fmt::Debug>(why: &E, mut call: impl FnMut() -> Result<T, E>) -> (u64, T) {
-    for allowed in 0.. {
-        let blocks = BLOCKS.get();
-        match after(allowed, &mut call) {
-            Ok(given) => return (allowed, given),
-            Err(refused) => assert_eq!(refused, *why),
-        }
-        assert_eq!(BLOCKS.get(), blocks);
-    }
-    unreachable!()
 }
 
 fn end(queue: Queue, tag: Tag) {
@@ -79,17 +69,24 @@ fn end(queue: Queue, tag: Tag) {
 
 #[test]
 fn each_allocation_refused() {
-    let blocks = BLOCKS.get();
-    let (refused, queue) = refusals(&NewError::NoMemory, || Queue::new(LIMITS, 64, 2));
-    assert!(refused > 1, "a queue takes more than one allocation, of which {refused} were refused");
-    let (refused, mut tag) = refusals(&NextTagError::NoMemory, || queue.next_tag(0));
-    assert!(refused > 0);
+    let new = || Queue::new(LIMITS, 64, 2);
+    let (asked, blocks) = (ASKED.get(), BLOCKS.get());
+    let queue = new().unwrap();
+    let asked = ASKED.get() - asked;
+    assert!(asked > 2, "a queue takes more than two allocations");
+    for allowed in 0..asked {
+        let blocks = BLOCKS.get();
+        assert_eq!(after(allowed, new).unwrap_err(), NewError::NoMemory);
+        assert_eq!(BLOCKS.get(), blocks);
+    }
+    assert!(after(asked, new).is_ok());
+    let mut tag = after(0, || queue.next_tag(0).unwrap());
     assert_eq!(queue.try_enter(&mut tag).unwrap().limits(), &LIMITS);
     end(queue, tag);
     assert_eq!(BLOCKS.get(), blocks, "nothing leaks");
 }
 
-/// No call but the two asks for memory: neither those that wait, nor a future that does, nor the end.
+/// No call but `Queue::new` asks for memory: neither those that wait, nor a future that does, nor the end.
 #[test]
 fn the_rest_needs_no_memory() {
     let blocks = BLOCKS.get();
@@ -121,8 +118,8 @@ fn the_rest_needs_no_memory() {
     assert_eq!(BLOCKS.get(), blocks, "nothing leaks");
 }
 
-/// What is dropped rather than ended leaks nothing: a tag after its queue, a tag whose request was forgotten, and a share
-/// of the queue that a request has.
+/// What is dropped rather than ended leaks nothing: a tag that a request takes along, one whose request was forgotten, and
+/// a share of the queue that a request has.
 #[test]
 fn what_is_dropped_is_freed() {
     let blocks = BLOCKS.get();
@@ -133,8 +130,6 @@ fn what_is_dropped_is_freed() {
     drop(queue.enter_owned(other).unwrap());
     let request = queue.enter_owned(taken).unwrap();
     drop(queue);
-    drop(request.leave());
-    drop(tag);
-    // The block of the Arc itself is aligned to 128, and so had by another name than malloc; it was given back by free.
-    assert_eq!(BLOCKS.get(), blocks - 1);
+    let _tag = request.leave();
+    assert_eq!(BLOCKS.get(), blocks);
 }

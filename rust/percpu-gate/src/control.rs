@@ -1,13 +1,15 @@
 //! A control: who kills and revives.
-use crate::OnLast;
-use crate::answer::Answer;
+use crate::erased::percpu_gate::{self as erased, ControlFault, Put};
 use crate::errors::{ExitError, KillError, NextPassError, ReinitError, ResurrectError, RetireError, StoreError};
 use crate::handed_back::HandedBack;
-use crate::library::ControlHandle;
 use crate::outcomes::{Final, Killed, Revived};
 use crate::pass::Pass;
+use crate::shared::{ErasedControl, ErasedPass, Shared};
 use crate::word::Word;
-use std::fmt;
+use alloc::sync::Arc;
+use alloc::vec::Vec;
+use core::cell::RefCell;
+use core::fmt;
 
 mod confirmed;
 mod looks;
@@ -33,21 +35,26 @@ use confirmed::Confirmed;
 /// # Ok::<(), Box<dyn std::error::Error>>(())
 /// ```
 pub struct Control {
-    handle: ControlHandle,
-    slots: u32,
-    on_last: OnLast,
+    /// Of the gate of `shared`. No kill of it is under way but during a call of this control.
+    ///
+    /// Borrowed during a call of it alone, and no such call comes back to this crate: so no borrow fails.
+    erased: RefCell<ErasedControl>,
+    /// The passes that weren't given out.
+    passes: Vec<ErasedPass>,
+    shared: Arc<Shared>,
 }
 
 impl Control {
-    pub(crate) fn of(handle: ControlHandle, slots: u32, on_last: OnLast) -> Control {
-        Control { handle, slots, on_last }
+    /// The control of this gate, which has these passes, none of them given out.
+    pub(crate) fn of(control: ErasedControl, passes: Vec<ErasedPass>, shared: Shared) -> Control {
+        Control { erased: RefCell::new(control), passes, shared: Arc::new(shared) }
     }
 
     /// Gives the next pass, live or dead, which counts on this slot, from 0 on.
     ///
     /// # Errors
     ///
-    /// [`NextPassError::NoSlot`], [`NextPassError::NoPass`] or [`NextPassError::NoMemory`].
+    /// [`NextPassError::NoSlot`] or [`NextPassError::NoPass`].
     ///
     /// # Examples
     ///
@@ -60,15 +67,11 @@ impl Control {
     /// # Ok::<(), Box<dyn std::error::Error>>(())
     /// ```
     pub fn next_pass(&mut self, slot: u32) -> Result<Pass, NextPassError> {
-        if slot >= self.slots {
+        if slot >= self.shared.gate.slots() {
             return Err(NextPassError::NoSlot);
         }
-        match self.handle.next_pass() {
-            Ok(handle) => Ok(Pass::on_slot(handle, slot, self.slots, self.on_last.clone())),
-            Err(Answer::NO_PASS) => Err(NextPassError::NoPass),
-            Err(Answer::NO_MEMORY) => Err(NextPassError::NoMemory),
-            Err(other) => other.is_a_bug("next_pass"),
-        }
+        let pass = self.passes.pop().ok_or(NextPassError::NoPass)?;
+        Ok(Pass::on_slot(pass, slot, Arc::clone(&self.shared)))
     }
 
     /// Ends a pass, live or dead.
@@ -92,13 +95,15 @@ impl Control {
     /// # Ok::<(), Box<dyn std::error::Error>>(())
     /// ```
     #[expect(clippy::result_large_err, reason = "a refusal hands the pass back")]
-    pub fn retire(&mut self, mut pass: Pass) -> Result<(), HandedBack<Pass, RetireError>> {
-        match self.handle.retire(&mut pass.handle) {
-            Answer::OK => Ok(()),
-            Answer::OTHER_GATE => Err(HandedBack { value: pass, reason: RetireError::OtherGate }),
-            Answer::STILL_HELD => Err(HandedBack { value: pass, reason: RetireError::StillHeld }),
-            other => other.is_a_bug("retire"),
+    pub fn retire(&mut self, pass: Pass) -> Result<(), HandedBack<Pass, RetireError>> {
+        if !Arc::ptr_eq(&self.shared, pass.shared()) {
+            return Err(HandedBack { value: pass, reason: RetireError::OtherGate });
         }
+        if pass.held() > 0 {
+            return Err(HandedBack { value: pass, reason: RetireError::StillHeld });
+        }
+        self.erased.get_mut().retire(&self.shared.gate, pass.into_erased());
+        Ok(())
     }
 
     /// Ends a gate, live or dead, whose passes were all retired, but for those that nobody asked for. Needs no memory.
@@ -117,11 +122,27 @@ impl Control {
     /// assert_eq!(control.exit()?.words, [1; 8]);
     /// # Ok::<(), Box<dyn std::error::Error>>(())
     /// ```
+    #[expect(clippy::result_large_err, reason = "a refusal hands the control back")]
     pub fn exit(mut self) -> Result<Final, HandedBack<Control, ExitError>> {
-        match self.handle.exit() {
-            Ok(last) => Ok(Final { dead: last.dead, kills: last.kills, releases: last.releases, words: last.words }),
-            Err(Answer::PASSES_OUT) => Err(HandedBack { value: self, reason: ExitError::PassesOut }),
-            Err(other) => other.is_a_bug("exit"),
+        if self.erased.get_mut().passes() as usize > self.passes.len() {
+            return Err(HandedBack { value: self, reason: ExitError::PassesOut });
+        }
+        let Control { erased, passes, shared } = self;
+        // Each pass that was given out is retired, which has dropped its share: this one is alone.
+        let gate = match Arc::try_unwrap(shared) {
+            Ok(shared) => shared.gate,
+            Err(shared) => {
+                let reason = ExitError::PassesOut;
+                return Err(HandedBack { value: Control { erased, passes, shared }, reason });
+            }
+        };
+        let mut control = erased.into_inner();
+        for pass in passes {
+            control.retire(&gate, pass);
+        }
+        match gate.exit(control) {
+            Ok(left) => Ok(left.into()),
+            Err(refused) => excluded("exit", refused.why),
         }
     }
 
@@ -144,11 +165,8 @@ impl Control {
     /// # Ok::<(), Box<dyn std::error::Error>>(())
     /// ```
     pub fn kill(&mut self) -> Result<Killed, KillError> {
-        match self.handle.kill() {
-            Answer::OK => Ok(Killed::WhileHeld),
-            Answer::LAST => Ok(self.told()),
-            other => Err(kill_refused("kill", other)),
-        }
+        let killed = self.erased.get_mut().kill(&self.shared.gate);
+        killed.map(|put| self.ends_kill(put)).map_err(kill_refused)
     }
 
     /// Kills the gate, and calls `confirm` in the middle of it, with the kill's odd front: when no pass is given a live
@@ -175,14 +193,15 @@ impl Control {
     /// # Ok::<(), Box<dyn std::error::Error>>(())
     /// ```
     pub fn kill_and_confirm(&mut self, confirm: impl FnOnce(u64)) -> Result<Killed, KillError> {
-        let slots = self.handle.mark_dead().map_err(|answer| kill_refused("mark_dead", answer))?;
+        let (gate, control) = (&self.shared.gate, self.erased.get_mut());
+        let slots = control.mark_dead(gate).map_err(kill_refused)?;
         for _ in 0..slots {
-            is_done("close_next", self.handle.close_next());
+            control.close_next(gate);
         }
         if slots > 0 {
-            is_done("collect", self.handle.collect());
+            control.collect(gate);
         }
-        let front = self.handle.confirm().unwrap_or_else(|answer| answer.is_a_bug("confirm"));
+        let front = control.confirm(gate);
         let confirmed = Confirmed::of(self);
         confirm(front);
         Ok(confirmed.end())
@@ -207,11 +226,11 @@ impl Control {
     /// # Ok::<(), Box<dyn std::error::Error>>(())
     /// ```
     pub fn reinit(&mut self) -> Result<(), ReinitError> {
-        match self.handle.reinit() {
-            Answer::OK => Ok(()),
-            Answer::NOT_DEAD => Err(ReinitError::NotDead),
-            Answer::NOT_ZERO => Err(ReinitError::NotZero),
-            other => other.is_a_bug("reinit"),
+        match self.erased.get_mut().reinit(&self.shared.gate) {
+            Ok(()) => Ok(()),
+            Err(ControlFault::NotDead) => Err(ReinitError::NotDead),
+            Err(ControlFault::NotZero) => Err(ReinitError::NotZero),
+            Err(other) => excluded("reinit", other),
         }
     }
 
@@ -235,11 +254,11 @@ impl Control {
     /// # Ok::<(), Box<dyn std::error::Error>>(())
     /// ```
     pub fn resurrect(&mut self) -> Result<Revived, ResurrectError> {
-        match self.handle.resurrect() {
-            Answer::OK => Ok(Revived::WhileHeld),
-            Answer::WAS_AT_ZERO => Ok(Revived::FromZero),
-            Answer::NOT_DEAD => Err(ResurrectError::NotDead),
-            other => other.is_a_bug("resurrect"),
+        match self.erased.get_mut().resurrect(&self.shared.gate) {
+            Ok(erased::Revived::Held) => Ok(Revived::WhileHeld),
+            Ok(erased::Revived::AtZero) => Ok(Revived::FromZero),
+            Err(ControlFault::NotDead) => Err(ResurrectError::NotDead),
+            Err(other) => excluded("resurrect", other),
         }
     }
 
@@ -255,7 +274,8 @@ impl Control {
     /// # Ok::<(), Box<dyn std::error::Error>>(())
     /// ```
     pub fn switch_to_atomic(&mut self) {
-        is_done("switch_to_atomic", self.handle.switch_to_atomic());
+        let switched = self.erased.get_mut().switch_to_atomic(&self.shared.gate);
+        switched.unwrap_or_else(|fault| excluded("switch_to_atomic", fault));
     }
 
     /// Counts on slots from now on; a dead gate from its revival on. Linux: `percpu_ref_switch_to_percpu`.
@@ -269,7 +289,8 @@ impl Control {
     /// # Ok::<(), Box<dyn std::error::Error>>(())
     /// ```
     pub fn switch_to_slots(&mut self) {
-        is_done("switch_to_slots", self.handle.switch_to_slots());
+        let switched = self.erased.get_mut().switch_to_slots(&self.shared.gate);
+        switched.unwrap_or_else(|fault| excluded("switch_to_slots", fault));
     }
 
     /// Stores a guarded word, of a gate that is dead and at zero.
@@ -293,18 +314,23 @@ impl Control {
     /// # Ok::<(), Box<dyn std::error::Error>>(())
     /// ```
     pub fn store_word(&mut self, which: Word, value: u64) -> Result<(), StoreError> {
-        match self.handle.store_word(which.number(), value) {
-            Answer::OK => Ok(()),
-            Answer::NOT_DEAD => Err(StoreError::NotDead),
-            Answer::NOT_ZERO => Err(StoreError::NotZero),
-            other => other.is_a_bug("store_word"),
+        match self.erased.get_mut().store_word(&self.shared.gate, which.number(), value) {
+            Ok(()) => Ok(()),
+            Err(ControlFault::NotDead) => Err(StoreError::NotDead),
+            Err(ControlFault::NotZero) => Err(StoreError::NotZero),
+            Err(other) => excluded("store_word", other),
         }
     }
 
-    /// A call of this control was told of the last.
-    fn told(&self) -> Killed {
-        (self.on_last)();
-        Killed::AtZero
+    /// What a kill found that ended with this put.
+    fn ends_kill(&self, put: Put) -> Killed {
+        match put {
+            Put::NotLast => Killed::WhileHeld,
+            Put::Last => {
+                self.shared.call_on_last();
+                Killed::AtZero
+            }
+        }
     }
 }
 
@@ -315,17 +341,17 @@ impl fmt::Debug for Control {
     }
 }
 
-fn kill_refused(call: &str, answer: Answer) -> KillError {
-    match answer {
-        Answer::ALREADY_DEAD => KillError::AlreadyDead,
-        Answer::WORN_OUT => KillError::WornOut,
-        other => other.is_a_bug(call),
+fn kill_refused(fault: ControlFault) -> KillError {
+    match fault {
+        ControlFault::AlreadyDead => KillError::AlreadyDead,
+        ControlFault::WornOut => KillError::WornOut,
+        other => excluded("kill", other),
     }
 }
 
-/// Of a call that nothing refuses here.
-fn is_done(call: &str, answer: Answer) {
-    if answer != Answer::OK {
-        answer.is_a_bug(call);
-    }
+/// Stops at a refusal that this crate's types exclude.
+#[cold]
+#[track_caller]
+fn excluded(call: &str, refusal: impl fmt::Display) -> ! {
+    panic!("a bug of percpu-gate: {call} was refused ({refusal})")
 }

@@ -1,6 +1,6 @@
 //! What a call may refuse. A refusal leaves everything as it was.
-use std::error::Error;
-use std::fmt;
+use core::error::Error;
+use core::fmt;
 
 /// Writes out the texts of errors that have no data, and that each is an `Error`.
 macro_rules! texts {
@@ -49,7 +49,7 @@ pub enum NextPassError {
     NoSlot,
     /// Every pass was given: a gate has as many as it was made with, in its whole life.
     NoPass,
-    /// There is no memory for it. The pass waits still.
+    /// There is no memory for it. Never answered any more, since a gate's passes are made with it.
     NoMemory,
 }
 
@@ -245,39 +245,4 @@ texts! {
     ReinitError { NotDead => "the gate isn't dead", NotZero => "references are held", }
     ResurrectError { NotDead => "the gate isn't dead", }
     StoreError { NotDead => "the gate isn't dead", NotZero => "references are held", }
-}
-
-#[cfg(test)]
-mod tests {
-    use super::*;
-    use crate::answer::Answer;
-
-    /// Each text is the header's for the number that the refusal stands for.
-    #[test]
-    fn texts_are_the_librarys() {
-        let pairs: [(&dyn Error, Answer); 18] = [
-            (&NewError::NoMemory, Answer::NO_MEMORY),
-            (&NextPassError::NoSlot, Answer(34)),
-            (&NextPassError::NoPass, Answer::NO_PASS),
-            (&NextPassError::NoMemory, Answer::NO_MEMORY),
-            (&SlotError::NoSlot, Answer(34)),
-            (&TryGetError::NotGiven, Answer::NOT_GIVEN),
-            (&TryGetError::HeldFull, Answer::HELD_FULL),
-            (&GetError::HeldFull, Answer::HELD_FULL),
-            (&RetireError::OtherGate, Answer::OTHER_GATE),
-            (&RetireError::StillHeld, Answer::STILL_HELD),
-            (&ExitError::PassesOut, Answer::PASSES_OUT),
-            (&KillError::AlreadyDead, Answer::ALREADY_DEAD),
-            (&KillError::WornOut, Answer::WORN_OUT),
-            (&ReinitError::NotDead, Answer::NOT_DEAD),
-            (&ReinitError::NotZero, Answer::NOT_ZERO),
-            (&ResurrectError::NotDead, Answer::NOT_DEAD),
-            (&StoreError::NotDead, Answer::NOT_DEAD),
-            (&StoreError::NotZero, Answer::NOT_ZERO),
-        ];
-        for (error, answer) in pairs {
-            assert_eq!(error.to_string(), answer.text());
-        }
-        assert_eq!(NewError::Size.to_string(), "no gate has this size");
-    }
 }

@@ -1,8 +1,8 @@
 //! Where a gate is made.
-use crate::answer::Answer;
 use crate::control::Control;
+use crate::erased::percpu_gate as erased;
 use crate::errors::NewError;
-use crate::library::ControlHandle;
+use crate::shared::{ErasedGate, Shared};
 use crate::{OnLast, WORD_COUNT};
 
 /// How a gate starts.
@@ -25,12 +25,12 @@ pub enum Start {
     Dead,
 }
 
-impl Start {
-    fn number(self) -> u32 {
-        match self {
-            Start::Slots => 0,
-            Start::Atomic => 1,
-            Start::Dead => 2,
+impl From<Start> for erased::Start {
+    fn from(start: Start) -> erased::Start {
+        match start {
+            Start::Slots => erased::Start::Slots,
+            Start::Atomic => erased::Start::Atomic,
+            Start::Dead => erased::Start::Dead,
         }
     }
 }
@@ -53,21 +53,21 @@ impl Gate {
     /// ```
     /// assert_eq!(percpu_gate::Gate::MOST_SLOTS, 64);
     /// ```
-    pub const MOST_SLOTS: u32 = 64;
+    pub const MOST_SLOTS: u32 = erased::SLOT_LIMIT;
 
     /// Passes of a gate at most, in its whole life.
     ///
     /// ```
     /// assert_eq!(percpu_gate::Gate::MOST_PASSES, 64);
     /// ```
-    pub const MOST_PASSES: u32 = 64;
+    pub const MOST_PASSES: u32 = erased::PASS_LIMIT;
 
     /// References of one pass at most.
     ///
     /// ```
     /// assert_eq!(percpu_gate::Gate::MOST_HELD, 65_535);
     /// ```
-    pub const MOST_HELD: u32 = 65_535;
+    pub const MOST_HELD: u32 = erased::HELD_LIMIT;
 
     /// Makes a gate of 1 to 64 slots and 1 to 64 passes with these guarded words. Linux: `percpu_ref_init`.
     ///
@@ -76,7 +76,8 @@ impl Gate {
     ///
     /// # Errors
     ///
-    /// [`NewError::Size`] or [`NewError::NoMemory`].
+    /// [`NewError::Size`] or [`NewError::NoMemory`]. (The block that the control and its passes share, of some 400 bytes,
+    /// is an [`Arc`](alloc::sync::Arc): stable Rust can't refuse it, and ends the program where the allocator does.)
     ///
     /// # Examples
     ///
@@ -96,11 +97,11 @@ impl Gate {
         words: [u64; WORD_COUNT],
         on_last: OnLast,
     ) -> Result<Control, NewError> {
-        match ControlHandle::new(slots, passes, start.number(), &words) {
-            Ok(handle) => Ok(Control::of(handle, slots, on_last)),
-            Err(Answer::SIZE) => Err(NewError::Size),
-            Err(Answer::NO_MEMORY) => Err(NewError::NoMemory),
-            Err(other) => other.is_a_bug("new"),
+        if slots == 0 || slots > Gate::MOST_SLOTS || passes == 0 || passes > Gate::MOST_PASSES {
+            return Err(NewError::Size);
         }
+        let made = ErasedGate::new(slots, passes, start.into(), words);
+        let (gate, control, passes) = made.map_err(|erased::Memory| NewError::NoMemory)?;
+        Ok(Control::of(control, passes, Shared::of(gate, on_last)))
     }
 }

@@ -2,8 +2,8 @@
 use crate::control::Control;
 use crate::errors::{ExitError, RetireError, TryGetError};
 use crate::pass::Pass;
-use std::error::Error;
-use std::fmt;
+use core::error::Error;
+use core::fmt;
 
 /// A refusal of a call that takes a value: it hands the value back.
 ///
@@ -55,6 +55,7 @@ reasons! {
 #[cfg(test)]
 mod tests {
     use super::*;
+    use std::string::ToString;
 
     #[test]
     fn a_refusal_that_hands_back_says_why() {

@@ -1,7 +1,7 @@
-//! A gate guards what may go away while requests run on it, as a device. Each request counts itself in
-//! ([`Pass::try_get_live`]) and out (the drop of its [`Reference`]). Who removes the device kills the gate
+//! A gate guards something that may go away while requests run on it, for example a device. Each request counts itself in
+//! ([`Pass::try_get_live`]) and out (the drop of its [`Reference`]). To remove the device, kill the gate
 //! ([`Control::kill`]): no new request is let in, and when the last reference is gone `on_last` is called, once.
-//! It is what Linux's `percpu_ref` is (lib/percpu-refcount.c).
+//! Linux has the same in `percpu_ref` (lib/percpu-refcount.c).
 //!
 //! ```
 //! use percpu_gate::{Gate, Start};
@@ -31,11 +31,11 @@
 //! A gate has one [`Control`] and 1 to 64 [`Pass`]es; each thread counts with a pass of its own, on a slot of its own.
 //! Threads may share a slot, which is slower. A reference belongs to the pass that took it, unlike `percpu_ref`'s; a
 //! request that ends on another thread takes its pass along ([`OwnedReference`]). The passes are 64 in the gate's whole
-//! life: where threads come and go, keep the passes of those that are gone for those that come.
+//! life: if threads come and go, keep the passes of the threads that are gone for new ones.
 //!
 //! A gate has eight guarded words too, for a setting: the control stores them while the gate is dead and at zero
-//! ([`Control::store_word`]), and they are read under a reference alone ([`Reference::word`]). So a request sees the words
-//! of one setting, from its try to its drop. To change a setting: kill, wait until `on_last` has said so, store, revive.
+//! ([`Control::store_word`]), and they are read under a reference alone ([`Reference::word`]). A request therefore sees the
+//! words of one setting, from its try to its drop. To change a setting: kill, wait until `on_last` was called, store, revive.
 //!
 //! ```
 //! use percpu_gate::{Gate, Start, Word};
@@ -58,32 +58,53 @@
 //! # Ok::<(), Box<dyn std::error::Error>>(())
 //! ```
 //!
-//! No call waits, takes a lock or tries again. Only [`Gate::new`] and [`Control::next_pass`] ask for memory, and want of
-//! it is an ordinary refusal. What was done while a reference was held, or before the kill, is seen by `on_last`; what
-//! was done before a revival is seen by who is given a reference in the life that it begins.
+//! No call waits, takes a lock or tries again. Only [`Gate::new`] asks for memory. `on_last` sees all writes from before the
+//! kill, and by callers while they held a reference. A caller that gets a reference after a revival sees all writes from
+//! before the revival.
 //!
-//! # What stands below, and what doesn't
+//! # What is proved, and what isn't
 //!
-//! The steps of the gate are a static library whose calls are proved to meet their contracts, in any order of the atomic
-//! steps of all threads. This crate around it isn't proved: its types owe the library what its header asks of a caller,
-//! all `unsafe` stands in one file, and tests try it. What misuse doesn't compile is shown in [`misuse`]. What the types
-//! can't exclude is refused by an error, and an answer of the library that they do exclude is a bug of this crate and
-//! panics. See the README beside the workspace.
-#![deny(missing_docs, unsafe_op_in_unsafe_fn)]
+//! The steps of the gate are in `src/erased`. A program cut this Rust out of sources with contracts, all of which are
+//! proved, in any order of the atomic steps of all threads. The proof is of those sources, for callers that meet the
+//! preconditions. No proof covers the program that cuts, its stand-in for the words that threads step on
+//! (`src/erased/atomic_table.rs`), the Rust compiler, or this crate around the steps. Its types enforce the preconditions:
+//! [`misuse`] shows the misuse that doesn't compile, and an error refuses the misuse that types can't exclude. A refusal that
+//! they do exclude is a bug of this crate, and panics. There is no `unsafe` in any of it, so a mistake here could break
+//! the laws of the gate, and never the safety of memory.
+//!
+//! The module `erased` is public for the crates above this one, and no part of the API that versions promise: its functions
+//! trust their preconditions, so no user calls them.
+//!
+//! The crate needs `alloc` and 64-bit atomics, and no other crate. Its one feature, `std`, is for the crates above
+//! it; without it (`default-features = false`) the crate is `no_std`, and its API is the same.
+#![no_std]
+#![forbid(unsafe_code)]
 
-mod answer;
+extern crate alloc;
+#[cfg(test)]
+extern crate std;
+
+#[cfg(not(target_has_atomic = "64"))]
+compile_error!("percpu-gate counts by 64-bit atomics, which this target hasn't");
+
+/// The example of the page beside the crate.
+#[cfg(doctest)]
+#[doc = include_str!("../README.md")]
+mod readme {}
+
 mod control;
-mod direct;
+#[doc(hidden)]
+pub mod erased;
 mod errors;
 mod gate;
 mod handed_back;
-mod library;
 #[cfg(any(doc, doctest))]
 pub mod misuse;
 mod outcomes;
 mod owned;
 mod pass;
 mod reference;
+mod shared;
 mod word;
 
 pub use control::Control;
@@ -99,11 +120,11 @@ pub use pass::Pass;
 pub use reference::Reference;
 pub use word::Word;
 
-use library::WORD_COUNT;
-use std::sync::Arc;
+use alloc::sync::Arc;
+use shared::WORD_COUNT;
 
-/// What is called once for each release, by the call that is told of it, on its thread. No lock of this crate is held
-/// meanwhile. Where it panics, so does that call, and the release isn't told again.
+/// Called once for each release, by the call that makes it, on its thread. No lock of this crate is held meanwhile. If it
+/// panics, so does that call, and no other call reports the release.
 ///
 /// ```
 /// use percpu_gate::{Gate, OnLast, Start};

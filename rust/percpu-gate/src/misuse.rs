@@ -1,9 +1,9 @@
-//! What doesn't compile: each misuse that the C library's header forbids or answers by a number, and that the types here
-//! exclude. Each stands behind the same lines without it, which do compile, and has the compiler's number for it.
+//! What doesn't compile: each misuse that would break a precondition of the erased gate, or that its header for C forbids, and
+//! that the types here exclude. Each stands behind the same lines without it, which do compile, and has the compiler's number.
 //!
 //! # A pass on two threads
 //!
-//! "One call at a time on a handle":
+//! One thread at a time uses a pass:
 //!
 //! ```
 //! # use percpu_gate::{Gate, Start};
@@ -54,9 +54,9 @@
 //! });
 //! ```
 //!
-//! # A handle that is copied
+//! # A pass or a control that is copied
 //!
-//! "Never copy one":
+//! They are moved, and never copied:
 //!
 //! ```
 //! # use percpu_gate::{Gate, Start};
@@ -90,7 +90,7 @@
 //!
 //! # A guarded word without a reference
 //!
-//! `NOT_HELD`:
+//! A word is read while the pass holds a reference:
 //!
 //! ```
 //! # use percpu_gate::{Gate, Start, Word};
@@ -120,7 +120,7 @@
 //!
 //! # A guarded word that there isn't
 //!
-//! `WORD`:
+//! There are eight:
 //!
 //! ```
 //! # use percpu_gate::Word;
@@ -135,7 +135,7 @@
 //!
 //! # A reference that is put twice
 //!
-//! `NOT_HELD`:
+//! A put takes a reference that the pass holds:
 //!
 //! ```
 //! # use percpu_gate::{Gate, Start};
@@ -166,7 +166,7 @@
 //!
 //! # A reference on another thread than its pass
 //!
-//! "A reference belongs to the pass that took it":
+//! A reference belongs to the pass that took it:
 //!
 //! ```
 //! # use percpu_gate::{Gate, Start};
@@ -233,7 +233,7 @@
 //!
 //! # A pass that is retired under a reference, or used after it
 //!
-//! `STILL_HELD`, `CLOSED`:
+//! A pass that retires holds nothing, and is gone then:
 //!
 //! ```
 //! # use percpu_gate::{Gate, Start};
@@ -264,7 +264,7 @@
 //!
 //! # A control that is used after its gate's end
 //!
-//! `CLOSED`:
+//! A gate that has ended has no control:
 //!
 //! ```
 //! # use percpu_gate::{Gate, Start};
@@ -283,7 +283,7 @@
 //!
 //! # A control that is used in the middle of its kill
 //!
-//! `MID_SWITCH`:
+//! A kill ends before the next call:
 //!
 //! ```
 //! # use percpu_gate::{Gate, Start};
@@ -299,14 +299,14 @@
 //! control.kill_and_confirm(|_| control.reinit().unwrap()).unwrap();
 //! ```
 //!
-//! # A handle that is made by hand
+//! # A pass that is made by hand
 //!
 //! ```compile_fail,E0451
 //! # use percpu_gate::{Gate, Pass, Start};
 //! # use std::sync::Arc;
 //! # let mut control = Gate::new(1, 2, Start::Slots, [0; 8], Arc::new(|| {})).unwrap();
 //! let (one, other) = (control.next_pass(0).unwrap(), control.next_pass(0).unwrap());
-//! let forged = Pass { slots: 64, ..one };
+//! let forged = Pass { slot: 64.into(), ..one };
 //! ```
 //!
 //! # An `on_last` that only one thread may call

@@ -1,5 +1,6 @@
 //! What calls of a control tell.
 use crate::WORD_COUNT;
+use crate::erased::percpu_gate as erased;
 
 /// What a kill found.
 ///
@@ -84,4 +85,10 @@ pub struct Final {
     pub releases: u64,
     /// The guarded words.
     pub words: [u64; WORD_COUNT],
+}
+
+impl From<erased::Final<WORD_COUNT>> for Final {
+    fn from(left: erased::Final<WORD_COUNT>) -> Final {
+        Final { dead: left.dead, kills: left.kills, releases: left.releases, words: left.words }
+    }
 }

@@ -4,7 +4,7 @@ use crate::errors::TryGetError;
 use crate::handed_back::HandedBack;
 use crate::pass::Pass;
 use crate::word::Word;
-use std::fmt;
+use core::fmt;
 
 /// A reference with the pass that took it: it may end on another thread.
 ///
@@ -35,9 +35,9 @@ impl OwnedReference {
     #[expect(clippy::result_large_err, reason = "a refusal hands the pass back")]
     pub(crate) fn of(
         pass: Pass,
-        given: Result<(), TryGetError>,
+        taken: Result<(), TryGetError>,
     ) -> Result<OwnedReference, HandedBack<Pass, TryGetError>> {
-        match given {
+        match taken {
             Ok(()) => Ok(OwnedReference { pass: Some(pass) }),
             Err(reason) => Err(HandedBack { value: pass, reason }),
         }

@@ -1,18 +1,18 @@
 //! A pass: who counts.
-use crate::OnLast;
-use crate::answer::Answer;
+use crate::erased::percpu_gate::{HELD_LIMIT, Put, Tried};
 use crate::errors::{GetError, SlotError, TryGetError};
 use crate::handed_back::HandedBack;
-use crate::library::PassHandle;
 use crate::owned::OwnedReference;
 use crate::reference::Reference;
+use crate::shared::{ErasedGate, ErasedPass, Shared};
 use crate::word::Word;
-use std::cell::Cell;
-use std::fmt;
+use alloc::sync::Arc;
+use core::cell::{Cell, RefCell};
+use core::fmt;
 
 /// A pass, with which one thread at a time takes references of its gate.
 ///
-/// It moves from thread to thread, but two never use it at once (it is `Send`, and not `Sync`). It lies alone on 128
+/// It moves from thread to thread, but two never use it at once (it is `Send`, and not `Sync`). It lies alone on 256
 /// bytes, so that the passes of two threads share no cache line. No call waits, takes a lock or tries again, and none
 /// asks for memory. [`Control::retire`](crate::Control::retire) ends it. A gate whose pass was dropped instead counts it
 /// as out for ever, and can't [`exit`](crate::Control::exit).
@@ -39,16 +39,34 @@ use std::fmt;
 /// ```
 #[repr(align(128))]
 pub struct Pass {
-    pub(crate) handle: PassHandle,
+    /// Of the gate of `shared`. It holds a reference for each [`Reference`] that is there or was forgotten.
+    ///
+    /// Borrowed during a call of it alone, and no such call comes back to this crate: so no borrow fails.
+    erased: RefCell<ErasedPass>,
+    /// Below the gate's slots.
     slot: Cell<u32>,
-    slots: u32,
-    on_last: OnLast,
+    shared: Arc<Shared>,
 }
 
 impl Pass {
-    /// On a slot that there is, below `slots`.
-    pub(crate) fn on_slot(handle: PassHandle, slot: u32, slots: u32, on_last: OnLast) -> Pass {
-        Pass { handle, slot: Cell::new(slot), slots, on_last }
+    /// A pass of this gate that holds nothing, on one of its slots.
+    pub(crate) fn on_slot(pass: ErasedPass, slot: u32, shared: Arc<Shared>) -> Pass {
+        Pass { erased: RefCell::new(pass), slot: Cell::new(slot), shared }
+    }
+
+    /// The gate that it counts at.
+    pub(crate) fn shared(&self) -> &Arc<Shared> {
+        &self.shared
+    }
+
+    /// The references that it holds.
+    pub(crate) fn held(&self) -> u32 {
+        self.erased.borrow().held()
+    }
+
+    /// The pass of a share that ends.
+    pub(crate) fn into_erased(self) -> ErasedPass {
+        self.erased.into_inner()
     }
 
     /// Takes a reference unless the gate has reached zero; while this pass holds one it is given one more. Linux:
@@ -75,7 +93,7 @@ impl Pass {
     /// ```
     #[inline]
     pub fn try_get(&self) -> Result<Reference<'_>, TryGetError> {
-        self.given("try_get", self.handle.try_get(self.slot.get()))?;
+        self.take(ErasedPass::try_get)?;
         Ok(Reference::of(self))
     }
 
@@ -100,7 +118,7 @@ impl Pass {
     /// ```
     #[inline]
     pub fn try_get_live(&self) -> Result<Reference<'_>, TryGetError> {
-        self.given("try_get_live", self.handle.try_get_live(self.slot.get()))?;
+        self.take(ErasedPass::try_get_live)?;
         Ok(Reference::of(self))
     }
 
@@ -126,8 +144,8 @@ impl Pass {
     /// ```
     #[expect(clippy::result_large_err, reason = "a refusal hands the pass back")]
     pub fn into_reference(self) -> Result<OwnedReference, HandedBack<Pass, TryGetError>> {
-        let given = self.given("try_get", self.handle.try_get(self.slot.get()));
-        OwnedReference::of(self, given)
+        let taken = self.take(ErasedPass::try_get);
+        OwnedReference::of(self, taken)
     }
 
     /// As [`try_get_live`](Pass::try_get_live), for a reference that takes the pass along.
@@ -151,8 +169,8 @@ impl Pass {
     /// ```
     #[expect(clippy::result_large_err, reason = "a refusal hands the pass back")]
     pub fn into_reference_live(self) -> Result<OwnedReference, HandedBack<Pass, TryGetError>> {
-        let given = self.given("try_get_live", self.handle.try_get_live(self.slot.get()));
-        OwnedReference::of(self, given)
+        let taken = self.take(ErasedPass::try_get_live);
+        OwnedReference::of(self, taken)
     }
 
     /// The slot that this pass counts on.
@@ -170,8 +188,8 @@ impl Pass {
         self.slot.get()
     }
 
-    /// Counts on another slot from now on, as that of the processor that the thread runs on. What was taken on one slot
-    /// may be put on another.
+    /// Counts on another slot from now on, for example the slot of the thread's processor. A reference that was taken on one
+    /// slot may be put on another.
     ///
     /// # Errors
     ///
@@ -190,7 +208,7 @@ impl Pass {
     /// # Ok::<(), Box<dyn std::error::Error>>(())
     /// ```
     pub fn use_slot(&self, slot: u32) -> Result<(), SlotError> {
-        if slot >= self.slots {
+        if slot >= self.shared.gate.slots() {
             return Err(SlotError::NoSlot);
         }
         self.slot.set(slot);
@@ -211,7 +229,7 @@ impl Pass {
     /// ```
     #[must_use]
     pub fn is_dying(&self) -> bool {
-        self.handle.is_dying()
+        self.erased.borrow_mut().is_dying(&self.shared.gate)
     }
 
     /// Whether the count has reached zero. It doesn't say that `on_last` was called yet, or has returned. Linux:
@@ -227,11 +245,11 @@ impl Pass {
     /// ```
     #[must_use]
     pub fn is_zero(&self) -> bool {
-        self.handle.is_zero()
+        self.erased.borrow_mut().is_zero(&self.shared.gate)
     }
 
-    /// The front: a number that only grows, odd from the confirmation of a kill to the next life. Who has seen the front
-    /// that [`kill_and_confirm`](crate::Control::kill_and_confirm) told is given no live reference before the next life.
+    /// The front: a number that only grows, odd from the confirmation of a kill to the next life. A pass that has seen the
+    /// front of [`kill_and_confirm`](crate::Control::kill_and_confirm) gets no live reference before the next life.
     ///
     /// ```
     /// # use percpu_gate::{Gate, Start};
@@ -247,7 +265,7 @@ impl Pass {
     /// ```
     #[must_use]
     pub fn front(&self) -> u64 {
-        self.handle.front().unwrap_or_else(|answer| answer.is_a_bug("front"))
+        self.erased.borrow_mut().front(&self.shared.gate)
     }
 
     /// The number of the gate, from 1 on, which no other has.
@@ -262,57 +280,51 @@ impl Pass {
     /// ```
     #[must_use]
     pub fn gate_number(&self) -> u64 {
-        self.handle.number()
+        self.shared.number
     }
 
-    /// What a try that answered so gives.
+    /// Takes a reference by this kind of try.
     #[inline]
-    fn given(&self, call: &str, answer: Answer) -> Result<(), TryGetError> {
-        if answer == Answer::OK { Ok(()) } else { self.not_given(call, answer) }
-    }
-
-    #[cold]
-    fn not_given(&self, call: &str, answer: Answer) -> Result<(), TryGetError> {
-        match answer {
-            Answer::NOT_GIVEN => Err(TryGetError::NotGiven),
-            Answer::NOT_GIVEN_LAST => {
-                (self.on_last)();
+    fn take(&self, try_by: impl FnOnce(&mut ErasedPass, &ErasedGate, u32) -> Tried) -> Result<(), TryGetError> {
+        let mut pass = self.erased.borrow_mut();
+        if pass.held() >= HELD_LIMIT {
+            return Err(TryGetError::HeldFull);
+        }
+        let tried = try_by(&mut pass, &self.shared.gate, self.slot.get());
+        drop(pass);
+        match tried {
+            Tried::Given => Ok(()),
+            Tried::Refused(Put::NotLast) => Err(TryGetError::NotGiven),
+            Tried::Refused(Put::Last) => {
+                self.shared.call_on_last();
                 Err(TryGetError::NotGiven)
             }
-            Answer::HELD_FULL => Err(TryGetError::HeldFull),
-            other => other.is_a_bug(call),
         }
     }
 
-    /// One reference more, of a pass that holds one.
+    /// One reference more, of a pass that holds one: of which the caller has it.
     pub(crate) fn get(&self) -> Result<(), GetError> {
-        match self.handle.get(self.slot.get(), 1) {
-            Answer::OK => Ok(()),
-            Answer::HELD_FULL => Err(GetError::HeldFull),
-            other => other.is_a_bug("get"),
+        let mut pass = self.erased.borrow_mut();
+        if pass.held() >= HELD_LIMIT {
+            return Err(GetError::HeldFull);
         }
+        pass.get(&self.shared.gate, self.slot.get(), 1);
+        Ok(())
     }
 
-    /// Drops one reference, of a pass that holds one. Its caller has it, and has no longer.
+    /// Drops the caller's reference, which this pass holds.
     #[inline]
     pub(crate) fn put(&self) {
-        let answer = self.handle.put(self.slot.get(), 1);
-        if answer != Answer::OK {
-            self.put_the_last(answer);
+        let put = self.erased.borrow_mut().put(&self.shared.gate, self.slot.get(), 1);
+        if put == Put::Last {
+            self.shared.call_on_last();
         }
     }
 
-    #[cold]
-    fn put_the_last(&self, answer: Answer) {
-        match answer {
-            Answer::LAST => (self.on_last)(),
-            other => other.is_a_bug("put"),
-        }
-    }
-
-    /// A guarded word, of a pass that holds a reference.
+    /// A guarded word, for a caller that has a reference of this pass.
+    #[inline]
     pub(crate) fn word(&self, which: Word) -> u64 {
-        self.handle.word(which.number()).unwrap_or_else(|answer| answer.is_a_bug("word"))
+        self.erased.borrow_mut().word(&self.shared.gate, which.number())
     }
 }
 

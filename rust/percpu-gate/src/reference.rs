@@ -3,7 +3,7 @@ use crate::WORD_COUNT;
 use crate::errors::GetError;
 use crate::pass::Pass;
 use crate::word::Word;
-use std::fmt;
+use core::fmt;
 
 /// A reference: while it is there the gate doesn't reach zero, and the guarded words hold still.
 ///

@@ -1,5 +1,5 @@
 //! Which guarded word.
-use crate::library::WORD_COUNT;
+use crate::shared::WORD_COUNT;
 
 /// One of a gate's eight guarded words, by its number from 0 to 7.
 ///

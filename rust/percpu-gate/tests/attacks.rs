@@ -183,7 +183,7 @@ thread_local! {
     static SHARED: RefCell<Vec<Rc<Pass>>> = const { RefCell::new(Vec::new()) };
 }
 
-/// `on_last` uses the very pass whose put is under way: the call of the library is over by then.
+/// `on_last` uses the very pass whose put is under way: the erased call is over by then.
 #[test]
 fn on_last_comes_back_to_the_pass() {
     let seen = Arc::new(AtomicU64::new(0));
@@ -210,10 +210,10 @@ fn on_last_has_the_control() {
     let told = Arc::new(AtomicU64::new(0));
     let (control, count) = (Arc::clone(&shared), Arc::clone(&told));
     let on_last: OnLast = Arc::new(move || {
-        if count.fetch_add(1, Ordering::SeqCst) < 2
-            && let Ok(mut control) = control.try_lock()
-            && let Some(control) = control.as_mut()
-        {
+        if count.fetch_add(1, Ordering::SeqCst) >= 2 {
+            return;
+        }
+        if let Some(control) = control.try_lock().ok().as_mut().and_then(|control| control.as_mut()) {
             control.reinit().unwrap();
         }
     });

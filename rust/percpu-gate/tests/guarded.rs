@@ -69,7 +69,7 @@ fn serve(pass: &Pass, thread: u32, device: &Device, signs: &Signs) -> u64 {
             thread::sleep(Duration::from_micros(20));
             continue;
         }
-        let given = if thread.is_multiple_of(2) { pass.try_get_live() } else { pass.try_get() };
+        let given = if thread % 2 == 0 { pass.try_get_live() } else { pass.try_get() };
         if let Ok(_reference) = given {
             device.serve(thread);
             served += 1;

@@ -281,7 +281,7 @@ fn what_is_shown() {
 
 #[test]
 fn sizes_in_memory() {
-    assert_eq!((align_of::<Pass>(), mem::size_of::<Pass>()), (128, 128));
-    assert_eq!(mem::size_of::<percpu_gate::OwnedReference>(), 128);
+    assert_eq!((align_of::<Pass>(), mem::size_of::<Pass>()), (128, 256));
+    assert_eq!(mem::size_of::<percpu_gate::OwnedReference>(), 256);
     assert_eq!(mem::size_of::<percpu_gate::Reference<'_>>(), mem::size_of::<usize>());
 }

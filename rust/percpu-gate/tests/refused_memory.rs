@@ -1,48 +1,51 @@
-//! Each allocation is refused in turn: that is an ordinary answer, nothing is lost and nothing leaks. Since an
-//! allocation that Rust asks for would abort here, this also shows that the crate asks for none by itself.
-//! (This program's `malloc` is its own, which refuses and counts on one thread, so it has `unsafe`.)
+//! Each allocation is refused in turn: the call returns an ordinary error, nothing is lost and nothing leaks.
+//! (This program's allocator is its own, which refuses and counts on one thread, so it has `unsafe`.)
 #![allow(unsafe_code)]
-#![cfg(all(target_os = "linux", target_env = "gnu"))]
 
-use percpu_gate::{Control, Gate, NewError, NextPassError, OnLast, Start};
+use percpu_gate::{Control, Gate, NewError, OnLast, Start};
+use std::alloc::{GlobalAlloc, Layout, System};
 use std::cell::Cell;
-use std::ffi::c_void;
 use std::ptr;
 use std::sync::Arc;
 
 thread_local! {
-    /// How many allocations are had before one is refused; none is, where it is none.
+    /// How many allocations succeed before one is refused. `None`: none is refused.
     static ALLOWED: Cell<Option<u64>> = const { Cell::new(None) };
-    /// Blocks that were had, less those that were given back.
+    /// Allocations that were asked for.
+    static ASKED: Cell<u64> = const { Cell::new(0) };
+    /// Blocks that were allocated, less those that were freed.
     static BLOCKS: Cell<i64> = const { Cell::new(0) };
 }
 
-unsafe extern "C" {
-    fn __libc_malloc(size: usize) -> *mut c_void;
-    fn __libc_free(at: *mut c_void);
-}
+/// The system's allocator, which refuses and counts.
+struct Refusing;
 
-#[unsafe(no_mangle)]
-extern "C" fn malloc(size: usize) -> *mut c_void {
-    match ALLOWED.get() {
-        Some(0) => return ptr::null_mut(),
-        Some(left) => ALLOWED.set(Some(left - 1)),
-        None => {}
+// SAFETY: each block is the system's, of the same layout; a refusal is null, as the trait has it.
+unsafe impl GlobalAlloc for Refusing {
+    unsafe fn alloc(&self, layout: Layout) -> *mut u8 {
+        ASKED.set(ASKED.get() + 1);
+        match ALLOWED.get() {
+            Some(0) => return ptr::null_mut(),
+            Some(left) => ALLOWED.set(Some(left - 1)),
+            None => {}
+        }
+        // SAFETY: the caller meets the precondition, which is the same.
+        let at = unsafe { System.alloc(layout) };
+        BLOCKS.set(BLOCKS.get() + i64::from(!at.is_null()));
+        at
     }
-    // SAFETY: it is the C library's own, under its other name.
-    let at = unsafe { __libc_malloc(size) };
-    BLOCKS.set(BLOCKS.get() + i64::from(!at.is_null()));
-    at
+
+    unsafe fn dealloc(&self, at: *mut u8, layout: Layout) {
+        BLOCKS.set(BLOCKS.get() - 1);
+        // SAFETY: the block is the system's, of this layout.
+        unsafe { System.dealloc(at, layout) }
+    }
 }
 
-#[unsafe(no_mangle)]
-extern "C" fn free(at: *mut c_void) {
-    BLOCKS.set(BLOCKS.get() - i64::from(!at.is_null()));
-    // SAFETY: all blocks are the C library's.
-    unsafe { __libc_free(at) }
-}
+#[global_allocator]
+static ALLOCATOR: Refusing = Refusing;
 
-/// What a call answers where so many allocations are had before one is refused.
+/// What a call returns if so many allocations succeed and the next is refused.
 fn after<T>(allowed: u64, call: impl FnOnce() -> T) -> T {
     ALLOWED.set(Some(allowed));
     let answer = call();
@@ -50,39 +53,32 @@ fn after<T>(allowed: u64, call: impl FnOnce() -> T) -> T {
     answer
 }
 
-/// How many allocations are refused before a call is given what it wants: each leaves it as it was.
-fn refusals<T, E: PartialEq + std::fmt::Debug>(why: &E, mut call: impl FnMut() -> Result<T, E>) -> (u64, T) {
-    for allowed in 0.. {
-        let blocks = BLOCKS.get();
-        match after(allowed, &mut call) {
-            Ok(given) => return (allowed, given),
-            Err(refused) => assert_eq!(refused, *why),
-        }
-        assert_eq!(BLOCKS.get(), blocks);
-    }
-    unreachable!()
-}
-
 fn end(mut control: Control, pass: percpu_gate::Pass) {
     control.retire(pass).unwrap();
     assert_eq!(control.exit().unwrap().words, [3; 8]);
 }
 
+/// Each but the last, which is that of the `Arc` that the control and its passes share: stable Rust can't refuse it.
 #[test]
 fn each_allocation_refused() {
     let on_last: OnLast = Arc::new(|| {});
-    let blocks = BLOCKS.get();
-    let (refused, mut control) =
-        refusals(&NewError::NoMemory, || Gate::new(64, 2, Start::Slots, [3; 8], Arc::clone(&on_last)));
-    assert!(refused > 1, "a gate takes more than one allocation, of which {refused} were refused");
-    let (refused, pass) = refusals(&NextPassError::NoMemory, || control.next_pass(0));
-    assert!(refused > 0);
+    let new = || Gate::new(64, 2, Start::Slots, [3; 8], Arc::clone(&on_last));
+    let (asked, blocks) = (ASKED.get(), BLOCKS.get());
+    let mut control = new().unwrap();
+    let asked = ASKED.get() - asked;
+    assert!(asked > 2, "a gate takes more than two allocations");
+    for allowed in 0..asked - 1 {
+        let blocks = BLOCKS.get();
+        assert_eq!(after(allowed, new).unwrap_err(), NewError::NoMemory);
+        assert_eq!(BLOCKS.get(), blocks);
+    }
+    let pass = after(0, || control.next_pass(0).unwrap());
     assert_eq!(pass.try_get_live().map(|reference| reference.words()), Ok([3; 8]));
     end(control, pass);
-    assert_eq!(BLOCKS.get(), blocks, "nothing leaks");
+    assert_eq!((BLOCKS.get(), Arc::strong_count(&on_last)), (blocks, 1), "nothing leaks");
 }
 
-/// No call but the two asks for memory, and the end needs none.
+/// No call but `Gate::new` asks for memory, and the end needs none.
 #[test]
 fn the_rest_needs_no_memory() {
     let on_last: OnLast = Arc::new(|| {});
@@ -97,7 +93,8 @@ fn the_rest_needs_no_memory() {
         control.store_word(percpu_gate::Word::ALL[0], 3).unwrap();
         control.reinit().unwrap();
         control.switch_to_atomic();
-        assert!(control.next_pass(0).is_err());
+        let other = control.next_pass(0).unwrap();
+        control.retire(other).unwrap();
         let request = pass.into_reference_live().unwrap();
         end(control, request.put());
     });

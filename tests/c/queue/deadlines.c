@@ -1,10 +1,21 @@
 /* Deadlines so near and so far as there are: each lies as many nanoseconds from now as was asked, and one that is
  * centuries away doesn't pass. */
 #define _POSIX_C_SOURCE 200809L
-#include "freeze_queue_pool.h"
-
+#include <stdbool.h>
 #include <stdio.h>
 #include <stdlib.h>
+#include <time.h>
+
+static const struct timespec *stands; /* what the clock shows, unless this is NULL */
+static int shows(clockid_t clock, struct timespec *at)
+{
+    if (!stands)
+        return clock_gettime(clock, at);
+    *at = *stands;
+    return 0;
+}
+#define clock_gettime shows
+#include "freeze_queue_pool.h"
 
 static int failures;
 
@@ -45,6 +56,19 @@ static void lies_there(uint64_t asked, int64_t seconds, long nanoseconds)
     TELLS(at.tv_nsec >= 0 && at.tv_nsec < 1000000000, true);
     TELLS(is_in_order(later_by(before, seconds, nanoseconds), at), true);
     TELLS(is_in_order(at, later_by(after, seconds, nanoseconds)), true);
+}
+
+/* Nanoseconds that add up to a second, to one less and to one more. */
+static void carries_a_second(void)
+{
+    const struct timespec now = {5, 300000000};
+    stands = &now;
+    for (int64_t off = -1; off <= 1; off++) {
+        struct timespec at = freeze_queue_deadline((uint64_t)(700000000 + off));
+        TELLS(at.tv_sec, off < 0 ? 5 : 6);
+        TELLS(at.tv_nsec, off < 0 ? 999999999 : (uint64_t)off);
+    }
+    stands = NULL;
 }
 
 static freeze_queue_freezer freezer;
@@ -115,6 +139,7 @@ int main(void)
 {
     const freeze_queue_limits limits = {8, 0, 0, 1};
     freeze_queue_final last;
+    carries_a_second();
     lies_there(0, 0, 0);
     lies_there(1, 0, 1);
     for (int i = 0; i < 1000; i++) { /* from each part of a second */

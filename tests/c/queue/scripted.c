@@ -12,6 +12,7 @@ static freeze_queue_tag tags[3];
 static long freezes;        /* how often one was begun */
 static uint32_t set_refuses; /* what the next set answers, in place of setting; 0: it sets */
 static bool is_last;        /* the next try that is refused lets the first tag leave before it answers */
+static uint32_t tried_on;   /* the slot of the last try */
 
 /* The freezer's calls, under the lock alone. */
 static freeze_queue_freezer *under_lock(freeze_queue_freezer *of, long freeze)
@@ -32,6 +33,7 @@ static uint32_t sets_or_not(freeze_queue_freezer *of, const freeze_queue_limits 
 static uint32_t tries(freeze_queue_tag *tag, uint32_t slot)
 {
     uint32_t answer = freeze_queue_try_enter(tag, slot);
+    tried_on = slot;
     if (answer != FREEZE_QUEUE_NOT_ENTERED || !is_last)
         return answer;
     is_last = false;
@@ -184,6 +186,12 @@ static void waits_for_the_thaw(void)
     IS(freeze_queue_waits_enter(&waits, &tags[0], 0, NULL), OK);
     TELLS(have_acted(), true);
     leaves(0, false);
+    /* each try is on the slot that it was given */
+    begins_a_freeze();
+    acts(thaws_and_freezes, thaws, NULL);
+    IS(freeze_queue_waits_enter(&waits, &tags[0], 1, NULL), OK);
+    TELLS(tried_on, 1);
+    leaves(0, false);
     /* both of two are let in by one thaw */
     begins_a_freeze();
     acts(second_enters, thaws, NULL);
@@ -286,6 +294,35 @@ static void changes(void)
     IS(freeze_queue_waits_set(&waits, &next), NOT_FROZEN);
 }
 
+/* A change within a freeze ends its own freeze alone. */
+static void changes_while_frozen(void)
+{
+    freeze_queue_limits next = limits;
+    next.max = 7;
+    begins_a_freeze();
+    IS(freeze_queue_waits_change(&waits, &next, NULL), OK);
+    TELLS(max_now(), 7);
+    TELLS(depth_now(), 1);
+    SHOWS(false, true);
+    thaws();
+}
+
+/* A freeze that is refused, with as many under way as there may be, ends none of them. */
+static void the_greatest_depth(void)
+{
+    for (uint32_t depth = 0; depth < FREEZE_QUEUE_MOST_DEPTH; depth++)
+        begins_a_freeze();
+    IS(freeze_queue_waits_freeze(&waits, NULL), DEPTH_FULL);
+    IS(freeze_queue_waits_freeze(&waits, &soon), DEPTH_FULL);
+    IS(freeze_queue_waits_begin_freeze(&waits), DEPTH_FULL);
+    IS(freeze_queue_waits_change(&waits, &limits, NULL), DEPTH_FULL);
+    TELLS(depth_now(), FREEZE_QUEUE_MOST_DEPTH);
+    SHOWS(false, true);
+    for (uint32_t depth = 1; depth < FREEZE_QUEUE_MOST_DEPTH; depth++)
+        IS(freeze_queue_waits_thaw(&waits), OK);
+    thaws();
+}
+
 int main(void)
 {
     freeze_queue_final last;
@@ -302,6 +339,8 @@ int main(void)
     is_frozen_before_the_next_try();
     deadlines_pass();
     changes();
+    changes_while_frozen();
+    the_greatest_depth();
     for (int i = 0; i < 3; i++)
         IS(freeze_queue_give_tag_back(&freezer, &tags[i]), OK);
     IS(freeze_queue_remove(&freezer, &last), OK);

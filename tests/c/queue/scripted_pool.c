@@ -54,6 +54,24 @@ static void takes_what_is_given(const struct timespec *deadline)
     gives_second();
 }
 
+/* One tag that is out, whichever it is, is seen by who empties the greatest pool. */
+static void each_tag_that_is_out_is_seen(const freeze_queue_limits *limits)
+{
+    static freeze_queue_freezer all;
+    static freeze_queue_pool greatest;
+    freeze_queue_final last;
+    IS(freeze_queue_new(&all, limits, 1, FREEZE_QUEUE_MOST_TAGS), OK);
+    IS(freeze_queue_pool_fill(&greatest, &all, FREEZE_QUEUE_MOST_TAGS), OK);
+    for (uint32_t place = 0; place < FREEZE_QUEUE_MOST_TAGS; place++) {
+        freeze_queue_tag *tag = freeze_queue_pool_take(&greatest, place);
+        TELLS(tag == &greatest.tags[place].tag, true);
+        IS(freeze_queue_pool_empty(&greatest, &all), TAGS_OUT);
+        freeze_queue_pool_give(&greatest, tag);
+    }
+    IS(freeze_queue_pool_empty(&greatest, &all), OK);
+    IS(freeze_queue_remove(&all, &last), OK);
+}
+
 int main(void)
 {
     const freeze_queue_limits limits = {8, 0, 0, 1};
@@ -82,6 +100,7 @@ int main(void)
     takes_what_is_given(&soon);
     IS(freeze_queue_pool_empty(&pool, &freezer), OK);
     IS(freeze_queue_remove(&freezer, &last), OK);
+    each_tag_that_is_out_is_seen(&limits);
     printf("%s\n", failures ? "FAILED" : "as the script has it");
     return failures != 0;
 }

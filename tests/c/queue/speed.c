@@ -1,186 +1,289 @@
-/* How long a request takes to enter a queue, to read its limits and to leave, each thread on a slot and with a tag of its
- * own, beside: the same steps in bare C (a look and an exchange on a padded word, three loads, a look and an exchange); the
- * waiting calls; a tag taken from a pool for each request; and a lock of pthreads held for reading. speed THREADS ROUNDS
- * TIMES: of so many times, the least is told of each, in nanoseconds of processor time for one round, and by the clock in
- * millions of rounds a second, of all threads. */
+/* Times a round of the queue (enter, read the limits, leave) and a change of its limits, beside the bare steps in C and
+ * beside other guards of the same limits. speed THREADS ROUNDS CHANGES prints a line for each form,
+ * 'queue,FORM,THREADS,NANOSECONDS': the nanoseconds of a round by the clock. Of a form whose limits can change a second line
+ * follows, 'change,FORM,THREADS,MEDIAN,NINETY_NINTH,NANOSECONDS': the microseconds of a change under load, with a pause of
+ * 100 microseconds before each, and the nanoseconds of a round meanwhile. liburcu is there with -DWITH_URCU -lurcu-memb. */
 #define _GNU_SOURCE
 #include "freeze_queue_pool.h"
 
-#include <stdatomic.h>
-#include <stdio.h>
-#include <stdlib.h>
+#include "../timing.h"
+#include <linux/membarrier.h>
+#include <sched.h>
+#include <sys/syscall.h>
+#include <unistd.h>
+#ifdef WITH_URCU
+#include <urcu/urcu-memb.h>
+#endif
 
-enum { MOST_THREADS = 16, KINDS = 5 };
+enum { BATCH = 1024, PAUSE = 100000, MOST_CHANGES = 1000000 };
 
-/* One thread writes each, and nothing else lies on its 128 bytes. */
-static struct { _Alignas(128) _Atomic uint64_t count; } words[MOST_THREADS];
+/* The limits that other guards than the queue have. */
+struct limits { _Atomic uint32_t max, chunk, physical; };
+
+static struct own_word words[MOST_THREADS], in[MOST_THREADS], done[MOST_THREADS];
 static struct { _Alignas(128) freeze_queue_tag tag; } tags[MOST_THREADS];
-static struct { _Alignas(128) _Atomic uint64_t limit[3]; } guarded;
+static struct { _Alignas(128) struct limits limits; } guarded;
+static struct { _Alignas(128) atomic_bool frozen; } asymmetric;
 static struct { _Alignas(128) pthread_rwlock_t lock; } readers = {PTHREAD_RWLOCK_INITIALIZER};
 static freeze_queue_freezer freezer, of_pool;
 static freeze_queue_waits waits;
 static freeze_queue_pool pool;
+static atomic_ulong sink; /* so that no load is left out */
 
-struct thread {
-    _Alignas(128) pthread_t id;
-    uint32_t number;
-    void (*run)(struct thread *);
-    uint64_t sum; /* so that no load is left out */
-    double seconds;
-};
-
-static uint32_t threads;
-static long rounds;
-static pthread_barrier_t start;
-
-static void need(bool holds, const char *what)
+static uint64_t three_loads(struct limits *limits)
 {
-    if (!holds) {
-        fprintf(stderr, "speed: %s\n", what);
-        exit(1);
-    }
-}
-
-static double time_of(clockid_t clock)
-{
-    struct timespec now;
-    clock_gettime(clock, &now);
-    return (double)now.tv_sec + (double)now.tv_nsec * 1e-9;
-}
-
-static void step(_Atomic uint64_t *word, uint64_t more)
-{
-    uint64_t seen = atomic_load(word);
-    atomic_compare_exchange_strong(word, &seen, seen + more);
-}
-
-static uint64_t three_loads(void)
-{
-    return atomic_load(&guarded.limit[0]) + atomic_load(&guarded.limit[1]) + atomic_load(&guarded.limit[2]);
-}
-
-static void in_c(struct thread *me)
-{
-    for (long i = 0; i < rounds; i++) {
-        step(&words[me->number].count, 1);
-        me->sum += three_loads();
-        step(&words[me->number].count, UINT64_MAX);
-    }
+    return (uint64_t)atomic_load(&limits->max) + atomic_load(&limits->chunk) + atomic_load(&limits->physical);
 }
 
 static uint64_t limits_under(freeze_queue_tag *tag)
 {
     freeze_queue_limits limits;
     need(freeze_queue_limits_of(tag, &limits) == FREEZE_QUEUE_OK, "no limits");
-    return limits.max + limits.chunk + limits.physical;
+    return (uint64_t)limits.max + limits.chunk + limits.physical;
 }
 
-static void at_the_queue(struct thread *me)
+/* ---- Rounds: each returns the sum of the limits that it read ---- */
+
+static uint64_t bare_steps(uint32_t number, long count)
 {
-    freeze_queue_tag *tag = &tags[me->number].tag;
-    for (long i = 0; i < rounds; i++) {
-        need(freeze_queue_try_enter(tag, me->number) == FREEZE_QUEUE_OK, "not entered");
-        me->sum += limits_under(tag);
-        need(freeze_queue_leave(tag, me->number) == FREEZE_QUEUE_OK, "not left");
+    uint64_t sum = 0;
+    for (long i = 0; i < count; i++) {
+        step(&words[number].count, 1);
+        sum += three_loads(&guarded.limits);
+        step(&words[number].count, UINT64_MAX);
     }
+    return sum;
 }
 
-static void by_waits(struct thread *me)
+static uint64_t at_the_queue(uint32_t number, long count)
 {
-    freeze_queue_tag *tag = &tags[me->number].tag;
-    for (long i = 0; i < rounds; i++) {
-        need(freeze_queue_waits_enter(&waits, tag, me->number, NULL) == FREEZE_QUEUE_OK, "not entered");
-        me->sum += limits_under(tag);
-        need(freeze_queue_waits_leave(&waits, tag, me->number) == FREEZE_QUEUE_OK, "not left");
+    freeze_queue_tag *tag = &tags[number].tag;
+    uint64_t sum = 0;
+    for (long i = 0; i < count; i++) {
+        need(freeze_queue_try_enter(tag, number) == FREEZE_QUEUE_OK, "not entered");
+        sum += limits_under(tag);
+        need(freeze_queue_leave(tag, number) == FREEZE_QUEUE_OK, "not left");
     }
+    return sum;
 }
 
-static void by_the_pool(struct thread *me)
+static uint64_t by_waits(uint32_t number, long count)
 {
-    for (long i = 0; i < rounds; i++) {
-        freeze_queue_tag *tag = freeze_queue_pool_take(&pool, me->number);
-        need(tag != NULL && freeze_queue_try_enter(tag, me->number) == FREEZE_QUEUE_OK, "not entered");
-        me->sum += limits_under(tag);
-        need(freeze_queue_leave(tag, me->number) == FREEZE_QUEUE_OK, "not left");
+    freeze_queue_tag *tag = &tags[number].tag;
+    uint64_t sum = 0;
+    for (long i = 0; i < count; i++) {
+        need(freeze_queue_waits_enter(&waits, tag, number, NULL) == FREEZE_QUEUE_OK, "not entered");
+        sum += limits_under(tag);
+        need(!freeze_queue_is_refused(freeze_queue_waits_leave(&waits, tag, number)), "not left");
+    }
+    return sum;
+}
+
+static uint64_t by_the_pool(uint32_t number, long count)
+{
+    uint64_t sum = 0;
+    for (long i = 0; i < count; i++) {
+        freeze_queue_tag *tag = freeze_queue_pool_take(&pool, number);
+        need(tag != NULL && freeze_queue_try_enter(tag, number) == FREEZE_QUEUE_OK, "not entered");
+        sum += limits_under(tag);
+        need(freeze_queue_leave(tag, number) == FREEZE_QUEUE_OK, "not left");
         freeze_queue_pool_give(&pool, tag);
     }
+    return sum;
 }
 
-static void under_the_lock(struct thread *me)
+static uint64_t under_the_lock(uint32_t number, long count)
 {
-    for (long i = 0; i < rounds; i++) {
+    uint64_t sum = 0;
+    (void)number;
+    for (long i = 0; i < count; i++) {
         need(pthread_rwlock_rdlock(&readers.lock) == 0, "no lock");
-        me->sum += three_loads();
+        sum += three_loads(&guarded.limits);
         need(pthread_rwlock_unlock(&readers.lock) == 0, "no unlock");
     }
+    return sum;
 }
 
-static const struct { const char *name; void (*run)(struct thread *); } kinds[KINDS] = {
-    {"the steps in bare C", in_c},          {"the queue", at_the_queue},
-    {"the queue, by the waits", by_waits},  {"the queue, a tag of the pool", by_the_pool},
-    {"a pthread_rwlock", under_the_lock},
+/* Plain stores by the readers, a barrier in all of them by the one that changes: nothing is lighter and still drains. */
+static uint64_t by_membarrier(uint32_t number, long count)
+{
+    _Atomic uint64_t *mine = &in[number].count;
+    uint64_t sum = 0;
+    for (long i = 0; i < count; i++) {
+        for (;;) {
+            atomic_store_explicit(mine, 1, memory_order_relaxed);
+            atomic_signal_fence(memory_order_seq_cst);
+            if (!atomic_load_explicit(&asymmetric.frozen, memory_order_acquire))
+                break;
+            atomic_store_explicit(mine, 0, memory_order_release);
+            sched_yield();
+        }
+        sum += three_loads(&guarded.limits);
+        atomic_store_explicit(mine, 0, memory_order_release);
+    }
+    return sum;
+}
+
+/* ---- Changes: of the greatest size of a request, to MAX sectors ---- */
+
+static void change_queue(uint32_t max)
+{
+    freeze_queue_limits limits = {.hardware = 64, .max = max, .chunk = 128, .physical = 8};
+    need(freeze_queue_waits_change(&waits, &limits, NULL) == FREEZE_QUEUE_OK, "no change");
+}
+
+static void change_under_lock(uint32_t max)
+{
+    need(pthread_rwlock_wrlock(&readers.lock) == 0, "no lock");
+    atomic_store(&guarded.limits.max, max);
+    need(pthread_rwlock_unlock(&readers.lock) == 0, "no unlock");
+}
+
+static void change_by_membarrier(uint32_t max)
+{
+    atomic_store(&asymmetric.frozen, true);
+    need(syscall(SYS_membarrier, MEMBARRIER_CMD_PRIVATE_EXPEDITED, 0, 0) == 0, "no barrier");
+    for (uint32_t i = 0; i < threads; i++)
+        while (atomic_load_explicit(&in[i].count, memory_order_acquire))
+            sched_yield();
+    atomic_store(&guarded.limits.max, max);
+    atomic_store_explicit(&asymmetric.frozen, false, memory_order_release);
+}
+
+#ifdef WITH_URCU
+static struct limits *current;
+
+static uint64_t by_urcu(uint32_t number, long count)
+{
+    uint64_t sum = 0;
+    (void)number;
+    for (long i = 0; i < count; i++) {
+        urcu_memb_read_lock();
+        sum += three_loads(rcu_dereference(current));
+        urcu_memb_read_unlock();
+    }
+    return sum;
+}
+
+static void change_by_urcu(uint32_t max)
+{
+    struct limits *before = current, *next = malloc(sizeof *next);
+    need(next != NULL, "no memory");
+    *next = (struct limits){.max = max, .chunk = 128, .physical = 8};
+    rcu_assign_pointer(current, next);
+    urcu_memb_synchronize_rcu();
+    free(before);
+}
+#endif
+
+static const struct form {
+    const char *name;
+    uint64_t (*round_on)(uint32_t number, long count);
+    void (*change)(uint32_t max);
+} forms[] = {
+    {"queue from C", at_the_queue, NULL},
+    {"queue from C by the waits", by_waits, change_queue},
+    {"queue from C by a pool", by_the_pool, NULL},
+    {"the bare steps in C", bare_steps, NULL},
+    {"a bare count with membarrier", by_membarrier, change_by_membarrier},
+#ifdef WITH_URCU
+    {"liburcu (memb)", by_urcu, change_by_urcu},
+#endif
+    {"pthread_rwlock", under_the_lock, change_under_lock},
 };
 
-static void *run(void *at)
+static const struct form *form;
+static long changes;
+static double *taken;
+static atomic_bool is_over;
+
+static void go_round(uint32_t number)
 {
-    struct thread *thread = at;
-    pthread_barrier_wait(&start);
-    double began = time_of(CLOCK_THREAD_CPUTIME_ID);
-    thread->run(thread);
-    thread->seconds = time_of(CLOCK_THREAD_CPUTIME_ID) - began;
-    return NULL;
+    atomic_fetch_add(&sink, form->round_on(number, rounds));
 }
 
-/* Nanoseconds of a round, the mean of the threads, and seconds that passed. */
-static double measured(void (*what)(struct thread *), double *passed)
+static void go_on(uint32_t number)
 {
-    static struct thread all[MOST_THREADS];
-    double sum = 0;
-    for (uint32_t i = 0; i < threads; i++) {
-        all[i] = (struct thread){.number = i, .run = what};
-        need(pthread_create(&all[i].id, NULL, run, &all[i]) == 0, "no thread");
+    uint64_t sum = 0, count = 0;
+    for (; !atomic_load(&is_over); count += BATCH)
+        sum += form->round_on(number, BATCH);
+    atomic_fetch_add(&sink, sum);
+    atomic_store(&done[number].count, count);
+}
+
+#ifdef WITH_URCU
+/* A thread has to be registered before it reads. */
+static void registered(void (*run)(uint32_t), uint32_t number)
+{
+    urcu_memb_register_thread();
+    run(number);
+    urcu_memb_unregister_thread();
+}
+static void run_rounds(uint32_t number) { registered(go_round, number); }
+static void run_on(uint32_t number) { registered(go_on, number); }
+#else
+static void run_rounds(uint32_t number) { go_round(number); }
+static void run_on(uint32_t number) { go_on(number); }
+#endif
+
+static void change_all(void)
+{
+    const struct timespec pause = {0, PAUSE};
+    for (long i = 0; i < changes; i++) {
+        nanosleep(&pause, NULL);
+        double began = now();
+        form->change(i % 2 == 0 ? 16 : 32);
+        taken[i] = now() - began;
     }
-    double began = time_of(CLOCK_MONOTONIC);
-    pthread_barrier_wait(&start);
-    for (uint32_t i = 0; i < threads; i++) {
-        pthread_join(all[i].id, NULL);
-        sum += all[i].seconds;
-    }
-    *passed = time_of(CLOCK_MONOTONIC) - began;
-    return sum / threads * 1e9 / (double)rounds;
+    atomic_store(&is_over, true);
+}
+
+static int by_size(const void *one, const void *other)
+{
+    double a = *(const double *)one, b = *(const double *)other;
+    return (a > b) - (a < b);
+}
+
+static void time_changes(void)
+{
+    uint64_t all = 0;
+    atomic_store(&is_over, false);
+    double took = at_once(run_on, change_all);
+    for (uint32_t i = 0; i < threads; i++)
+        all += atomic_load(&done[i].count);
+    qsort(taken, (size_t)changes, sizeof *taken, by_size);
+    printf("change,%s,%u,%.2f,%.2f,%.2f\n", form->name, threads, taken[changes / 2] / 1e3,
+           taken[changes - 1 - changes / 100] / 1e3, took * threads / (double)all);
 }
 
 static void make(void)
 {
     const freeze_queue_limits limits = {.hardware = 64, .max = 32, .chunk = 128, .physical = 8};
-    need(pthread_barrier_init(&start, NULL, threads + 1) == 0, "no barrier");
     need(freeze_queue_new(&freezer, &limits, threads, threads) == FREEZE_QUEUE_OK, "no queue");
     need(freeze_queue_new(&of_pool, &limits, threads, FREEZE_QUEUE_MOST_TAGS) == FREEZE_QUEUE_OK, "no queue");
     need(freeze_queue_waits_init(&waits, &freezer) == 0, "no waits");
     need(freeze_queue_pool_fill(&pool, &of_pool, FREEZE_QUEUE_MOST_TAGS) == FREEZE_QUEUE_OK, "no pool");
     for (uint32_t i = 0; i < threads; i++)
         need(freeze_queue_next_tag(&freezer, &tags[i].tag) == FREEZE_QUEUE_OK, "no tag");
+    need(syscall(SYS_membarrier, MEMBARRIER_CMD_REGISTER_PRIVATE_EXPEDITED, 0, 0) == 0, "no membarrier");
+    need((taken = malloc((size_t)changes * sizeof *taken)) != NULL, "no memory");
+#ifdef WITH_URCU
+    change_by_urcu(32);
+#endif
 }
 
 int main(int count, char **given)
 {
-    double least[KINDS], passed[KINDS], now;
-    need(count == 4, "usage: speed THREADS ROUNDS TIMES");
-    threads = (uint32_t)strtoul(given[1], NULL, 10);
-    rounds = strtol(given[2], NULL, 10);
-    need(threads >= 1 && threads <= MOST_THREADS, "1 to 16 threads");
+    need(count == 4, "usage: speed THREADS ROUNDS CHANGES");
+    threads = (uint32_t)number_of(given[1], MOST_THREADS);
+    rounds = number_of(given[2], 1000000000);
+    changes = number_of(given[3], MOST_CHANGES);
     make();
-    for (int k = 0; k < KINDS; k++)
-        least[k] = passed[k] = 1e9;
-    for (long times = strtol(given[3], NULL, 10); times > 0; times--)
-        for (int k = 0; k < KINDS; k++) {
-            double took = measured(kinds[k].run, &now);
-            least[k] = took < least[k] ? took : least[k];
-            passed[k] = now < passed[k] ? now : passed[k];
-        }
-    printf("%u threads\n", threads);
-    for (int k = 0; k < KINDS; k++)
-        printf("%-30s %8.2f ns, %6.3f of bare C; %8.2f million rounds a second\n", kinds[k].name, least[k], least[k] / least[0],
-               threads * (double)rounds / passed[k] / 1e6);
+    for (form = forms; form < forms + sizeof forms / sizeof *forms; form++) {
+        printf("queue,%s,%u,%.2f\n", form->name, threads, at_once(run_rounds, NULL) / (double)rounds);
+        if (form->change)
+            time_changes();
+    }
+    free(taken);
     return 0;
 }

@@ -4,6 +4,7 @@
 #include "freeze_queue.h"
 
 #include <errno.h>
+#include <fcntl.h>
 #include <pthread.h>
 #include <stdio.h>
 #include <sys/eventfd.h>
@@ -13,6 +14,7 @@
 static int allowed = 1000; /* how many are made before one is refused */
 static int made;           /* and not ended */
 static int monotonic;      /* attributes that were set to that clock */
+static int events_before_0 = -1; /* how many events are opened before the one that gets the number 0 */
 
 /* Makes one more, or refuses it. */
 static int makes(int refusal)
@@ -43,8 +45,15 @@ static int opens(unsigned int count, int flags)
         errno = EMFILE;
         return -1;
     }
-    return eventfd(count, flags);
+    int event = eventfd(count, flags);
+    if (events_before_0-- != 0)
+        return event;
+    return dup2(event, 0) == 0 && fcntl(0, F_SETFD, FD_CLOEXEC) == 0 && close(event) == 0 ? 0 : -1;
 }
+
+/* Whether an event isn't inherited by another program, and whether a read of it waits. */
+static bool stays_here(int event) { return (fcntl(event, F_GETFD) & FD_CLOEXEC) != 0; }
+static bool never_waits(int event) { return (fcntl(event, F_GETFL) & O_NONBLOCK) != 0; }
 
 #define pthread_mutex_init(lock, with) (makes(EAGAIN) ? EAGAIN : pthread_mutex_init(lock, with))
 #define pthread_mutex_destroy(lock) ends(pthread_mutex_destroy(lock))
@@ -107,9 +116,29 @@ static void events_are_opened(void)
     }
     TELLS(freeze_queue_waits_open_events(&waits), 0);
     TELLS(waits.live_event >= 0 && waits.drained_event >= 0, true);
+    TELLS(stays_here(waits.live_event) && stays_here(waits.drained_event), true);
+    TELLS(never_waits(waits.live_event) && never_waits(waits.drained_event), true);
     TELLS(made, 5);
     freeze_queue_waits_destroy(&waits);
     TELLS(made, 0);
+}
+
+/* An event may have the number 0, where a program has no standard input, and is closed like any other. */
+static void an_event_has_the_number_0(void)
+{
+    int input = fcntl(0, F_DUPFD_CLOEXEC, 3);
+    for (int before = 0; before < 2; before++) {
+        allowed = 9;
+        events_before_0 = before;
+        TELLS(freeze_queue_waits_init(&waits, &freezer), 0);
+        TELLS(freeze_queue_waits_open_events(&waits), 0);
+        TELLS(waits.live_event == 0 || waits.drained_event == 0, true);
+        freeze_queue_waits_destroy(&waits);
+        TELLS(made, 0);
+        TELLS(fcntl(0, F_GETFD), -1);
+        if (input >= 0)
+            TELLS(dup2(input, 0), 0);
+    }
 }
 
 static void a_pool_is_filled(void)
@@ -142,6 +171,7 @@ int main(void)
         return 1;
     waits_are_made();
     events_are_opened();
+    an_event_has_the_number_0();
     a_pool_is_filled();
     TELLS(freeze_queue_remove(&freezer, &last), FREEZE_QUEUE_OK);
     printf("%s\n", failures ? "FAILED" : "nothing is left");

@@ -1,4 +1,5 @@
 //! Worked rows by hand, limits, threads and the end.
+mod amounts;
 mod caller;
 mod ends;
 mod kills;

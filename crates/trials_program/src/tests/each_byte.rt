@@ -92,8 +92,8 @@ fn writer_fails_behind_each_byte(rt: HostRuntime) {
 /// What one thread answers that parses, checks and runs the script.
 fn alone(alloc: Global, input: &[u8]) -> Result<Vec<u8>, Fault> {
     let script = parse(alloc, input)?;
-    let checked = check(alloc, script)?;
-    Ok(run_alone(alloc, checked.script())?)
+    check(alloc, &script)?;
+    Ok(run_alone(alloc, &script)?)
 }
 
 /// Cut behind any byte, a script is answered as one thread answers what is left of it.

@@ -5,10 +5,11 @@ use std::io::{Error, ErrorKind, Read, Write};
 
 /// Some of what devices fail with. No kind but an interruption is a reason to try again, not even one that says
 /// to try later or that memory is wanted.
-pub(super) const KINDS: [ErrorKind; 6] = [
+pub(super) const KINDS: [ErrorKind; 7] = [
     ErrorKind::Other,
     ErrorKind::BrokenPipe,
     ErrorKind::WouldBlock,
+    ErrorKind::TimedOut,
     ErrorKind::UnexpectedEof,
     ErrorKind::OutOfMemory,
     ErrorKind::Interrupted,

@@ -17,7 +17,7 @@ const SCRIPT: &[u8] = b"blkq 2\ndisk 4 hw 4\nwrite 0 2 01\nwrite 1 2 02\nwrite 0
 struct Counts {
     entered: AtomicU32,
     drawn: AtomicU32,
-    completed: AtomicU32,
+    answered: AtomicU32,
     drained: AtomicU32,
 }
 
@@ -27,7 +27,7 @@ impl Stall for Counts {
         match point {
             Point::Entered => self.entered.fetch_add(place, Ordering::SeqCst),
             Point::Drawn => self.drawn.fetch_add(place, Ordering::SeqCst),
-            Point::Completed => self.completed.fetch_add(place, Ordering::SeqCst),
+            Point::Answered => self.answered.fetch_add(place, Ordering::SeqCst),
             Point::Drained => {
                 let before = self.drained.load(Ordering::SeqCst);
                 let after = before.wrapping_mul(10).wrapping_add(number);
@@ -42,18 +42,18 @@ impl Counts {
         Counts {
             entered: AtomicU32::new(0),
             drawn: AtomicU32::new(0),
-            completed: AtomicU32::new(0),
+            answered: AtomicU32::new(0),
             drained: AtomicU32::new(0),
         }
     }
 
-    /// How often each request was entered, drawn and completed.
+    /// How often each request was entered, drawn and answered.
     fn of_requests(&self) -> [u32; 3] {
-        [&self.entered, &self.drawn, &self.completed].map(|at| at.load(Ordering::SeqCst))
+        [&self.entered, &self.drawn, &self.answered].map(|at| at.load(Ordering::SeqCst))
     }
 }
 
-// Each accepted request is entered, drawn and completed once. Drained is told before each ordered request, and at the end.
+// Each accepted request is entered, drawn and answered once. Drained is told before each ordered request, and at the end.
 #[test]
 fn each_point_is_told(rt: HostRuntime) -> Result<(), Fail> {
     let counts = Counts::new();
@@ -144,7 +144,7 @@ impl Stall for Gathers {
                 self.drawn.fetch_add(1, Ordering::SeqCst);
                 self.hold();
             }
-            Point::Completed | Point::Drained => {}
+            Point::Answered | Point::Drained => {}
         }
     }
 }

@@ -124,6 +124,20 @@ fn fails_behind_each_byte(rt: HostRuntime) {
     }
 }
 
+// A writer that takes all is handed a long text once, and not piece by piece.
+#[test]
+fn a_long_text_in_one_write(rt: HostRuntime) -> Result<(), Fail> {
+    let mut text = Vec::new(rt.alloc());
+    for _ in 0..100_000 {
+        text.extend_from_slice(TEXT)?;
+    }
+    let mut sink = Sink::new(rt.alloc());
+    let mut writer = Counted::new(&mut sink);
+    assert_eq!(rt; write_whole(&mut writer, &text), Ok(()));
+    assert_eq!(rt; (sink.writes, sink.taken.len()), (1, text.len()));
+    Ok(())
+}
+
 #[test]
 fn text_of_the_fault(rt: HostRuntime) -> Result<(), Fail> {
     let fault = WriteFault { written: 5 };

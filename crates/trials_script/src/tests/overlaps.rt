@@ -1,13 +1,13 @@
 //! Overlaps by hand: the lines expected are those that the format names.
-use blk_script::{ScriptFault, check, parse};
+use blk_script::{Checked, ScriptFault, check, drains, parse};
 use std::alloc::Global;
 use std::test::Fail;
 
 // The lines of a script's first overlap, the later one first.
 fn overlap(alloc: Global, text: &str) -> Result<Option<(u32, u32)>, ScriptFault> {
     let script = parse(alloc, text.as_bytes())?;
-    match check(alloc, script) {
-        Ok(_) => Ok(None),
+    match check(alloc, &script) {
+        Ok(()) => Ok(None),
         Err(ScriptFault::Overlap(pair)) => Ok(Some((pair.line, pair.earlier))),
         Err(fault) => Err(fault),
     }
@@ -162,22 +162,25 @@ fn requests_that_are_ordered(rt: HostRuntime) -> Result<(), Fail> {
         }
         let script = parse(alloc, text.as_bytes())?;
         assert_eq!(rt; script.version(), 2);
-        let told = check(alloc, script)?.drains(alloc)?;
+        let told = drains(alloc, &script)?;
+        assert_eq!(rt; told.as_slice(), *ordered, "{lines}");
+        let told = Checked::of(alloc, &script)?.drains(alloc)?;
         assert_eq!(rt; told.as_slice(), *ordered, "{lines}");
     }
     Ok(())
 }
 
-// Version 1 orders nothing.
+// Version 1 orders nothing, also where requests overlap.
 #[test]
 fn version_one_has_no_drains(rt: HostRuntime) -> Result<(), Fail> {
     let alloc = rt.alloc();
-    let script = parse(
-        alloc,
-        b"blkq 1\ndisk 8 hw 8\nwrite 0 1 01\nstat\nread 0 1\n",
-    )?;
-    assert_eq!(rt; script.version(), 1);
-    assert_eq!(rt; check(alloc, script)?.drains(alloc)?.len(), 0);
+    for between in ["stat\n", ""] {
+        let text = format!(in alloc; "blkq 1\ndisk 8 hw 8\nwrite 0 1 01\n{between}read 0 1\n")?;
+        let script = parse(alloc, text.as_bytes())?;
+        assert_eq!(rt; script.version(), 1);
+        assert_eq!(rt; drains(alloc, &script)?.len(), 0);
+        assert_eq!(rt; check(alloc, &script).is_err(), between.is_empty());
+    }
     Ok(())
 }
 

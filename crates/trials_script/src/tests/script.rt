@@ -41,8 +41,8 @@ fn many_lines(rt: HostRuntime) -> Result<(), Fail> {
     }
     wanted.extend_from_slice(b"disk 61*512,00*512\n")?;
     let script = parse(alloc, &text)?;
-    let checked = check(alloc, script)?;
-    assert!(rt; run_alone(alloc, checked.script())?.as_slice() == wanted.as_slice());
+    check(alloc, &script)?;
+    assert!(rt; run_alone(alloc, &script)?.as_slice() == wanted.as_slice());
     Ok(())
 }
 
@@ -240,8 +240,8 @@ fn texts_of_replies(rt: HostRuntime) -> Result<(), Fail> {
 // The answer of a script, or its fault.
 fn answer(alloc: Global, text: &[u8]) -> Result<Vec<u8>, ScriptFault> {
     let script = parse(alloc, text)?;
-    let checked = check(alloc, script)?;
-    run_alone(alloc, checked.script())
+    check(alloc, &script)?;
+    run_alone(alloc, &script)
 }
 
 #[test]

@@ -1,5 +1,5 @@
 //! Scripts as long as may be, by the calls of one thread; on threads tools/sizes runs them, with the built program.
-use blk_script::{check, parse, run_alone};
+use blk_script::{check, drains, parse, run_alone};
 use line_text::LONGEST_TEXT;
 use std::alloc::{AllocError, Global};
 use std::test::Fail;
@@ -65,18 +65,14 @@ fn longest_scripts(rt: HostRuntime) -> Result<(), Fail> {
         wanted.extend_from_slice(row.disk.as_bytes())?;
         let script = parse(alloc, &text)?;
         assert_eq!(rt; script.lines().len(), numbers.len());
-        let checked = check(alloc, script)?;
+        check(alloc, &script)?;
         let ordered = if row.ordered { numbers.as_slice() } else { &[] };
         assert!(rt;
-            checked.drains(alloc)?.iter().eq(ordered.iter().skip(1)),
+            drains(alloc, &script)?.iter().eq(ordered.iter().skip(1)),
             "{}",
             row.line
         );
-        assert!(rt;
-            run_alone(alloc, checked.script())? == wanted,
-            "{}",
-            row.line
-        );
+        assert!(rt; run_alone(alloc, &script)? == wanted, "{}", row.line);
     }
     Ok(())
 }

@@ -1,51 +1,25 @@
 //! Texts.
 use super::*;
-use crate::answer::Answer;
+use crate::erased::queue_limits::LimitFault;
 
-/// Each text is the header's for the number that the refusal stands for.
+/// A refusal of limits has the words of the erased sources.
 #[test]
-fn texts_are_the_librarys() {
-    let pairs: [(&dyn Error, Answer); 30] = [
-        (&LimitsError::HardwareRange, Answer::HARDWARE_RANGE),
-        (&LimitsError::AboveHardware, Answer::ABOVE_HARDWARE),
-        (&LimitsError::ChunkTooLarge, Answer::CHUNK_TOO_LARGE),
-        (&LimitsError::BadPhysical, Answer::BAD_PHYSICAL),
-        (&NewError::Limits(LimitsError::BadPhysical), Answer::BAD_PHYSICAL),
-        (&NewError::Size, Answer::SIZE),
-        (&NewError::NoMemory, Answer::NO_MEMORY),
-        (&NextTagError::NoSlot, Answer(34)),
-        (&NextTagError::NoTag, Answer::NO_TAG),
-        (&NextTagError::NoMemory, Answer::NO_MEMORY),
-        (&SlotError::NoSlot, Answer(34)),
-        (&GiveBackError::OtherQueue, Answer::OTHER_QUEUE),
-        (&GiveBackError::StillEntered, Answer::ENTERED),
-        (&RemoveError::TagsOut, Answer::TAGS_OUT),
-        (&RemoveError::WornOut, Answer::WORN_OUT),
-        (&EnterError::OtherQueue, Answer::OTHER_QUEUE),
-        (&EnterError::StillEntered, Answer::ENTERED),
-        (&TryEnterError::Frozen, Answer::NOT_ENTERED),
-        (&EnterTimeoutError::TimedOut, Answer(30)),
-        (&EnterFrozenError::Drained, Answer::NOT_ENTERED),
-        (&EnterFrozenError::StillEntered, Answer::ENTERED),
-        (&FreezeError::DepthFull, Answer::DEPTH_FULL),
-        (&FreezeError::WornOut, Answer::WORN_OUT),
-        (&TryFreezeError::DepthFull, Answer::DEPTH_FULL),
-        (&TryFreezeError::NotDrained, Answer(19)),
-        (&FreezeTimeoutError::WornOut, Answer::WORN_OUT),
-        (&FreezeTimeoutError::TimedOut, Answer(30)),
-        (&SetError::Limits(LimitsError::AboveHardware), Answer::ABOVE_HARDWARE),
-        (&SetError::OtherHardware, Answer::OTHER_HARDWARE),
-        (&PiecesError::Limits(LimitsError::ChunkTooLarge), Answer::CHUNK_TOO_LARGE),
-    ];
-    for (error, answer) in pairs {
-        assert_eq!(error.to_string(), answer.text());
+fn texts_of_limits() {
+    let faults =
+        [LimitFault::HardwareRange, LimitFault::AboveHardware, LimitFault::ChunkTooLarge, LimitFault::BadPhysical];
+    for fault in faults {
+        assert_eq!(LimitsError::from(fault).to_string(), fault.to_string());
+        assert_eq!(NewError::Limits(fault.into()).to_string(), fault.to_string());
     }
 }
 
-/// Those that the library has no number for.
+/// A refusal has the same words, whichever call answers it.
 #[test]
-fn texts_of_this_crate() {
+fn texts_are_shared() {
     assert_eq!(EnterError::Dying.to_string(), "the queue's device is gone");
     assert_eq!(EnterTimeoutError::Dying.to_string(), TryEnterError::Dying.to_string());
+    assert_eq!(EnterError::StillEntered.to_string(), GiveBackError::StillEntered.to_string());
+    assert_eq!(EnterFrozenError::Drained.to_string(), TryEnterError::Frozen.to_string());
+    assert_eq!(EnterTimeoutError::TimedOut.to_string(), FreezeTimeoutError::TimedOut.to_string());
     assert_eq!(RangeError::TooFar.to_string(), PiecesError::TooFar.to_string());
 }

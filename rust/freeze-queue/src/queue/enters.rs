@@ -1,10 +1,11 @@
 //! Requests enter.
 use super::Queue;
-use crate::answer::Answer;
 use crate::enter_async::EnterAsync;
 use crate::entered::Entered;
+use crate::erased::queue_core::{Entry, Put};
 use crate::errors::{EnterError, EnterFrozenError, EnterTimeoutError, TryEnterError};
 use crate::handed_back::HandedBack;
+use crate::limits::Limits;
 use crate::owned::OwnedEntered;
 use crate::tag::Tag;
 use crate::waits::Seen;
@@ -107,18 +108,19 @@ impl Queue {
     /// # Ok::<(), Box<dyn std::error::Error>>(())
     /// ```
     pub fn try_enter_frozen<'e>(&'e self, tag: &'e mut Tag) -> Result<Entered<'e>, EnterFrozenError> {
-        if tag.queue_number() != self.number {
+        if tag.queue_number() != self.number() {
             return Err(EnterFrozenError::OtherQueue);
         }
-        match tag.handle.try_enter_frozen(tag.slot()) {
-            Answer::OK => Ok(Entered::of(self, tag)),
-            Answer::NOT_ENTERED => Err(EnterFrozenError::Drained),
-            Answer::NOT_ENTERED_LAST => {
-                self.waits.tell_drained();
+        if tag.erased.entered() {
+            return Err(EnterFrozenError::StillEntered);
+        }
+        let slot = tag.slot();
+        match self.erased.try_enter_frozen(&mut tag.erased, slot) {
+            Entry::Entered => Ok(Entered::of(self, tag)),
+            Entry::Refused(put) => {
+                self.dropped(put);
                 Err(EnterFrozenError::Drained)
             }
-            Answer::ENTERED => Err(EnterFrozenError::StillEntered),
-            other => other.is_a_bug("try_enter_frozen"),
         }
     }
 
@@ -163,8 +165,8 @@ impl Queue {
     /// # Ok::<(), Box<dyn std::error::Error>>(())
     /// ```
     #[expect(clippy::result_large_err, reason = "a refusal hands the tag back")]
-    pub fn enter_owned(self: &Arc<Self>, tag: Tag) -> Result<OwnedEntered, HandedBack<Tag, EnterError>> {
-        match self.in_or_waits(&tag) {
+    pub fn enter_owned(self: &Arc<Self>, mut tag: Tag) -> Result<OwnedEntered, HandedBack<Tag, EnterError>> {
+        match self.in_or_waits(&mut tag) {
             Ok(()) => Ok(OwnedEntered::of(Arc::clone(self), tag)),
             Err(reason) => Err(HandedBack { value: tag, reason }),
         }
@@ -191,8 +193,8 @@ impl Queue {
     /// # Ok::<(), Box<dyn std::error::Error>>(())
     /// ```
     #[expect(clippy::result_large_err, reason = "a refusal hands the tag back")]
-    pub fn try_enter_owned(self: &Arc<Self>, tag: Tag) -> Result<OwnedEntered, HandedBack<Tag, TryEnterError>> {
-        match self.in_at_once(&tag) {
+    pub fn try_enter_owned(self: &Arc<Self>, mut tag: Tag) -> Result<OwnedEntered, HandedBack<Tag, TryEnterError>> {
+        match self.in_at_once(&mut tag) {
             Ok(()) => Ok(OwnedEntered::of(Arc::clone(self), tag)),
             Err(reason) => Err(HandedBack { value: tag, reason }),
         }
@@ -200,29 +202,29 @@ impl Queue {
 
     /// The tag enters, or why it doesn't.
     #[inline]
-    pub(crate) fn in_at_once(&self, tag: &Tag) -> Result<(), TryEnterError> {
-        if tag.queue_number() != self.number {
+    pub(crate) fn in_at_once(&self, tag: &mut Tag) -> Result<(), TryEnterError> {
+        if tag.queue_number() != self.number() {
             return Err(TryEnterError::OtherQueue);
         }
-        match tag.handle.try_enter(tag.slot()) {
-            Answer::OK => Ok(()),
-            other => Err(self.not_in(other)),
+        if tag.erased.entered() {
+            return Err(TryEnterError::StillEntered);
+        }
+        let slot = tag.slot();
+        match self.erased.try_enter(&mut tag.erased, slot) {
+            Entry::Entered => Ok(()),
+            Entry::Refused(put) => Err(self.not_in(put)),
         }
     }
 
+    /// Why a try was refused, whose count was dropped again and that answered so.
     #[cold]
-    fn not_in(&self, answer: Answer) -> TryEnterError {
-        match answer {
-            Answer::NOT_ENTERED => {}
-            Answer::NOT_ENTERED_LAST => self.waits.tell_drained(),
-            Answer::ENTERED => return TryEnterError::StillEntered,
-            other => other.is_a_bug("try_enter"),
-        }
+    fn not_in(&self, put: Put) -> TryEnterError {
+        self.dropped(put);
         if self.is_dying() { TryEnterError::Dying } else { TryEnterError::Frozen }
     }
 
     #[inline]
-    fn in_or_waits(&self, tag: &Tag) -> Result<(), EnterError> {
+    fn in_or_waits(&self, tag: &mut Tag) -> Result<(), EnterError> {
         match self.in_at_once(tag) {
             Ok(()) => Ok(()),
             Err(why) => self.waits_until(tag, why, None).map_err(EnterError::without_end),
@@ -231,7 +233,12 @@ impl Queue {
 
     /// The tag enters by the deadline, which it couldn't at once.
     #[cold]
-    fn waits_until(&self, tag: &Tag, why: TryEnterError, deadline: Option<Instant>) -> Result<(), EnterTimeoutError> {
+    fn waits_until(
+        &self,
+        tag: &mut Tag,
+        why: TryEnterError,
+        deadline: Option<Instant>,
+    ) -> Result<(), EnterTimeoutError> {
         let mut why = why;
         loop {
             match why {
@@ -252,20 +259,25 @@ impl Queue {
         }
     }
 
-    /// Of a tag that has entered.
+    /// The limits in force, under a tag of this queue that has entered.
     #[inline]
-    pub(crate) fn leave(&self, tag: &Tag) {
-        let answer = tag.handle.leave(tag.slot());
-        if answer != Answer::OK {
-            self.left_last(answer);
-        }
+    pub(crate) fn limits_under(&self, tag: &mut Tag) -> Limits {
+        self.erased.limits(&mut tag.erased).into()
     }
 
-    #[cold]
-    fn left_last(&self, answer: Answer) {
-        match answer {
-            Answer::LAST => self.waits.tell_drained(),
-            other => other.is_a_bug("leave"),
+    /// A tag of this queue that has entered leaves.
+    #[inline]
+    pub(crate) fn leave(&self, tag: &mut Tag) {
+        let slot = tag.slot();
+        let put = self.erased.leave(&mut tag.erased, slot);
+        self.dropped(put);
+    }
+
+    /// A count was dropped: where it was the last of a freeze, those are woken who wait for the drain.
+    #[inline]
+    fn dropped(&self, put: Put) {
+        if put == Put::Last {
+            self.waits.tell_drained();
         }
     }
 }

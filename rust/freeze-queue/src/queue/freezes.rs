@@ -1,6 +1,8 @@
 //! The queue is frozen.
 use super::Queue;
-use crate::errors::{FreezeError, FreezeTimeoutError, TryFreezeError};
+use crate::erased::queue_core as erased;
+use crate::errors::{FreezeError, FreezeTimeoutError, SetError, TryFreezeError};
+use crate::excluded::excluded;
 use crate::frozen::Frozen;
 use std::time::{Duration, Instant};
 
@@ -25,7 +27,7 @@ impl Queue {
     /// # Ok::<(), Box<dyn std::error::Error>>(())
     /// ```
     pub fn freeze(&self) -> Result<Frozen<'_>, FreezeError> {
-        self.waits.freeze(None).map_err(FreezeError::without_end)?;
+        self.waits.freeze(&self.erased, None).map_err(FreezeError::without_end)?;
         Ok(Frozen::of(self))
     }
 
@@ -49,7 +51,7 @@ impl Queue {
     /// # Ok::<(), Box<dyn std::error::Error>>(())
     /// ```
     pub fn try_freeze(&self) -> Result<Frozen<'_>, TryFreezeError> {
-        self.waits.freeze(Some(Instant::now())).map_err(TryFreezeError::at_once)?;
+        self.waits.freeze(&self.erased, Some(Instant::now())).map_err(TryFreezeError::at_once)?;
         Ok(Frozen::of(self))
     }
 
@@ -73,7 +75,22 @@ impl Queue {
     /// # Ok::<(), Box<dyn std::error::Error>>(())
     /// ```
     pub fn freeze_timeout(&self, patience: Duration) -> Result<Frozen<'_>, FreezeTimeoutError> {
-        self.waits.freeze(Instant::now().checked_add(patience))?;
+        self.waits.freeze(&self.erased, Instant::now().checked_add(patience))?;
         Ok(Frozen::of(self))
+    }
+
+    /// Sets limits that were checked, under a freeze that has drained the queue.
+    pub(crate) fn store_limits(&self, limits: erased::Limits) -> Result<(), SetError> {
+        let mut held = self.waits.lock();
+        if limits.hw() != held.freezer.limits().hw() {
+            return Err(SetError::OtherHardware);
+        }
+        held.freezer.set(&self.erased, limits).unwrap_or_else(|fault| excluded("set", fault));
+        Ok(())
+    }
+
+    /// Ends a freeze.
+    pub(crate) fn thaw(&self) {
+        self.waits.thaw(&self.erased);
     }
 }

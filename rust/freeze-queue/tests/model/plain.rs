@@ -65,7 +65,7 @@ pub fn kept(limits: Limits) -> Limits {
 
 /// Whether so many sectors from start on are within the reach there, told sector by sector.
 fn within_reach(limits: &Limits, start: u64, length: u32) -> bool {
-    let crosses = |at: u64| limits.chunk > 0 && at.is_multiple_of(u64::from(limits.chunk));
+    let crosses = |at: u64| limits.chunk > 0 && at % u64::from(limits.chunk) == 0;
     length <= limits.max && !(start + 1..start + u64::from(length)).any(crosses)
 }
 
@@ -74,7 +74,7 @@ fn within_reach(limits: &Limits, start: u64, length: u32) -> bool {
 fn first(limits: &Limits, start: u64, count: u32) -> u32 {
     let reached = (1..=count).take_while(|length| within_reach(limits, start, *length));
     let greatest = reached.clone().last().unwrap();
-    let ends = |length: &u32| (start + u64::from(*length)).is_multiple_of(u64::from(limits.physical));
+    let ends = |length: &u32| (start + u64::from(*length)) % u64::from(limits.physical) == 0;
     if greatest == count { count } else { reached.filter(ends).last().unwrap_or(greatest) }
 }
 

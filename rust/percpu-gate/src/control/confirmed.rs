@@ -1,6 +1,5 @@
 //! The end of a kill, which comes whatever happens before it.
 use super::Control;
-use crate::answer::Answer;
 use crate::outcomes::Killed;
 
 /// A kill that is confirmed. It is ended once, also where what comes between panics.
@@ -28,9 +27,6 @@ impl Drop for Confirmed<'_> {
 }
 
 fn drop_base(control: &mut Control) -> Killed {
-    match control.handle.drop_base() {
-        Answer::OK => Killed::WhileHeld,
-        Answer::LAST => control.told(),
-        other => other.is_a_bug("drop_base"),
-    }
+    let put = control.erased.get_mut().drop_base(&control.shared.gate);
+    control.ends_kill(put)
 }

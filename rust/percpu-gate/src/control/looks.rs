@@ -1,7 +1,7 @@
 //! What a control is asked.
 use super::Control;
 use crate::WORD_COUNT;
-use crate::answer::Answer;
+use crate::erased::percpu_gate as erased;
 use crate::outcomes::Phase;
 
 impl Control {
@@ -16,7 +16,7 @@ impl Control {
     /// ```
     #[must_use]
     pub fn words(&self) -> [u64; WORD_COUNT] {
-        self.handle.words().unwrap_or_else(|answer| answer.is_a_bug("words"))
+        self.erased.borrow().words()
     }
 
     /// How many times the gate was killed.
@@ -31,7 +31,7 @@ impl Control {
     /// ```
     #[must_use]
     pub fn kills(&self) -> u64 {
-        self.handle.kills().unwrap_or_else(|answer| answer.is_a_bug("kills"))
+        self.erased.borrow().kills()
     }
 
     /// How many releases fell to this control's calls and to those of retired passes.
@@ -51,7 +51,7 @@ impl Control {
     /// ```
     #[must_use]
     pub fn releases(&self) -> u64 {
-        self.handle.releases().unwrap_or_else(|answer| answer.is_a_bug("releases"))
+        self.erased.borrow().releases()
     }
 
     /// Where the gate stands.
@@ -65,11 +65,11 @@ impl Control {
     /// ```
     #[must_use]
     pub fn phase(&self) -> Phase {
-        match self.handle.phase() {
-            0 => Phase::LiveOnSlots,
-            1 => Phase::LiveAtomic,
-            5 => Phase::Dead,
-            other => Answer(other).is_a_bug("phase"),
+        match self.erased.borrow().phase() {
+            erased::Phase::LiveSlots => Phase::LiveOnSlots,
+            erased::Phase::LiveAtomic => Phase::LiveAtomic,
+            // No kill is under way while the control is borrowed for this call.
+            _ => Phase::Dead,
         }
     }
 
@@ -87,7 +87,7 @@ impl Control {
     /// ```
     #[must_use]
     pub fn is_zero(&self) -> bool {
-        self.handle.is_zero()
+        self.erased.borrow_mut().is_zero(&self.shared.gate)
     }
 
     /// The number of the gate, from 1 on, which no other has.
@@ -102,6 +102,6 @@ impl Control {
     /// ```
     #[must_use]
     pub fn gate_number(&self) -> u64 {
-        self.handle.number()
+        self.shared.number
     }
 }

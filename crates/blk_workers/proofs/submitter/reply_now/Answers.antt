@@ -13,4 +13,5 @@ returns c = record {
         subst (λ replies. AreAwaited c.args.script.now replies given collected) (sym c.in_ok-reply.ensures.told)
         (awaited_replied c.args.script.now c.args.desk.now.replies given collected (Some c.in_ok-text.text.items) is awaited);
   };
+  memory = tt;
 }

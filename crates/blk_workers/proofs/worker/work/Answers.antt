@@ -1,7 +1,6 @@
 use Rattle.std.proofs.Common.{◌≡◌, ◌∙◌, sym, ap, ◌<◌, ◌∷◌, ◌++◌, [], All, arith, length, subst}
 use Rattle.std.proofs.lemmas.List.{length-append}
 use Rattle.std.proofs.lemmas.List.Elements.{All-push}
-use Rattle.run_queues.specs.Numbers.{IsIncreasing}
 use Rattle.run_queues.specs.Parts.{DrawerFacts, after_draw}
 use Rattle.script_meaning.specs.Requests.{accepted_in_all}
 use Rattle.run_desk.proofs.Numbering.{few_accepted, number_below}
@@ -10,8 +9,7 @@ use Rattle.blk_workers.proofs.worker.work.Goals as goal
 
 pub unreachable-requires : goal.unreachable-requires
 unreachable-requires g c =
-    let increasing = subst (λ (d : DrawerFacts). IsIncreasing d.drawn) c.in_default.ensures.err c.draw.ensures.increasing in
-    let few = few_increasing (accepted_in_all g.J.Run.script) c.loop.drawer.drawn increasing c.loop.invariant.4 in
+    let few = few_increasing (accepted_in_all g.J.Run.script) c.loop.drawer.drawn c.loop.invariant.7 c.loop.invariant.4 in
     omega (arith, few, c.loop.invariant.3, c.in_default.ensures.full)
 
 pub loop-preserved : goal.loop-preserved
@@ -28,6 +26,8 @@ loop-preserved g c =
       omega (arith, c.loop.invariant.3, c.in-Ok.ensures.room),
       subst (All (λ n. n < bound)) (sym longer) (All-push (λ n. n < bound) c.loop.drawer.drawn job.duty.number c.loop.invariant.4 less),
       omega (arith, c.add.ensures, c.loop.invariant.5, one_more),
+      omega (arith, c.serve.ensures.tag, c.loop.invariant.6, one_more),
+      c.draw.ensures.increasing,
     )
 
 pub add-requires-clause-room : goal.add-requires-clause-room
@@ -42,3 +42,9 @@ add-requires-clause-room g c =
     let few = few_increasing bound c.draw.new.drawer.drawn c.draw.ensures.increasing below in
     let one_more = ap length longer ∙ length-append c.loop.drawer.drawn (job.duty.number ∷ []) in
     omega (arith, c.loop.invariant.5, one_more, few, few_accepted script, c.hall.invariant.few_lines)
+
+pub serve-requires-clause-room : goal.serve-requires-clause-room
+serve-requires-clause-room g c =
+    let script = g.J.Run.script in
+    let few = few_increasing (accepted_in_all script) c.loop.drawer.drawn c.loop.invariant.7 c.loop.invariant.4 in
+    omega (arith, c.loop.invariant.6, few, few_accepted script, c.hall.invariant.few_lines)

@@ -1,5 +1,5 @@
 -- The input so far is what the reader gave.
-use Rattle.std.proofs.Common.{◌-◌, ◌≤◌, vec_len}
+use Rattle.std.proofs.Common.{◌≡◌, ◌-◌, ◌≤◌, vec_len}
 use Rattle.std.specs.Io.KnownBytes.{Consumes}
 use Rattle.counted_io.proofs.input.read_all.Given as goal
 
@@ -8,6 +8,7 @@ invariant-loop-input g l =
     Consumes (g.R.Read.remaining l.initial.reader.inner) (g.R.Read.remaining l.reader.inner) l.input.items
     × (vec_len l.input ≤ l.most)
     × (l.initial.reader.failures ≤ l.reader.failures)
+    × (l.reader.broken ≡ l.initial.reader.broken)
 
 abbrev pub decreases-loop-input : goal.decreases-loop-input
 decreases-loop-input g l = l.most - vec_len l.input

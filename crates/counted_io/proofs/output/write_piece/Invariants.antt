@@ -1,5 +1,5 @@
--- So far each try was interrupted: nothing was taken, and the count grew with each.
-use Rattle.std.proofs.Common.{◌<◌, ◌≤◌}
+-- So far each try was interrupted: nothing was taken, the count grew with each, and nothing broke.
+use Rattle.std.proofs.Common.{◌≡◌, ◌<◌, ◌≤◌}
 use Rattle.std.specs.Io.KnownBytes.{Keeps}
 use Rattle.counted_io.specs.Failures.{HasFailed}
 use Rattle.counted_io.proofs.output.write_piece.Given as goal
@@ -9,3 +9,4 @@ invariant-loop g l =
     Keeps (g.W.Write.contents l.initial.writer.inner) (g.W.Write.contents l.writer.inner)
     × (l.initial.writer.failures ≤ l.writer.failures)
     × (0 < l.counter → HasFailed l.initial.writer l.writer)
+    × (l.writer.broken ≡ l.initial.writer.broken)

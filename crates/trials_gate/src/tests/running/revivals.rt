@@ -1,4 +1,6 @@
 //! Revivals and guarded words.
+ghost use Rattle.std.specs.Prelude.{◌<◌, ◌^◌};
+
 use super::trial::Answer::{Done, Flag, Killed, Number, Put, Revived, Set, ToClose, Tried};
 use super::trial::Call::{Control, Pass, Retire};
 use super::trial::{Answer, Call, ControlCall, PassCall, Trial};
@@ -282,6 +284,71 @@ fn fronts_and_zeros_of_fifty_lives(rt: HostRuntime) -> Result<(), Fail> {
             );
             let held = a_life_that_is_held(front);
             assert_eq!(rt; trial.differs(&held), None, "the life after {front}");
+        }
+    }
+    Ok(())
+}
+
+/// A life in which nothing is at zero until the last put, and everything that looks finds so each time: the front, the
+/// mark of the kill, and this call of the control, which then finds the zero.
+fn looks_each_time(
+    front: u64,
+    looks: ControlCall,
+    before: Answer,
+    after: Answer,
+) -> [(Call, Answer); 12]
+    requires few { front < 2 ^ 63 }
+{
+    [
+        (Pass(1, PassCall::Front), Number(front)),
+        (Pass(1, PassCall::IsDying), Flag(false)),
+        (Pass(0, PassCall::TryGetLive { slot: 1 }), Tried(Given)),
+        (Control(ControlCall::IsZero), Flag(false)),
+        (Control(ControlCall::Kill), Killed(Ok(NotLast))),
+        (Pass(1, PassCall::Front), Number(front + 1)),
+        (Pass(1, PassCall::IsDying), Flag(true)),
+        (Control(looks), before),
+        (Pass(1, PassCall::IsZero), Flag(false)),
+        (Control(looks), before),
+        (Pass(0, PassCall::Put { slot: 0, n: 1 }), Put(Last)),
+        (Control(looks), after),
+    ]
+}
+
+/// Calls of the control that look for the zero, what each answers before it is there and then, and what a `reinit` behind
+/// it answers.
+const THAT_LOOK_FOR_ZERO: [(ControlCall, Answer, Answer, Answer); 3] = [
+    (ControlCall::IsZero, Flag(false), Flag(true), Set(Ok(()))),
+    (
+        ControlCall::Reinit,
+        Set(Err(NotZero)),
+        Set(Ok(())),
+        Set(Err(NotDead)),
+    ),
+    (
+        ControlCall::StoreWord { k: 0, v: 5 },
+        Set(Err(NotZero)),
+        Set(Ok(())),
+        Set(Ok(())),
+    ),
+];
+
+/// In the first life and in later ones no call answers from what an earlier one found.
+#[test]
+fn looks_each_time_in_each_life(rt: HostRuntime) -> Result<(), Fail> {
+    for start in [Start::Slots, Start::Atomic] {
+        for (looks, before, after, revived) in THAT_LOOK_FOR_ZERO {
+            let mut trial = Trial::<1>::new(rt.alloc(), 2, 2, start, [7])?;
+            for front in [0u64, 2, 4] {
+                let life = looks_each_time(front, looks, before, after);
+                assert_eq!(rt; trial.differs(&life), None, "front {front}, {before:?}");
+                let next = [
+                    (Control(ControlCall::Reinit), revived),
+                    (Pass(1, PassCall::IsZero), Flag(false)),
+                    (Control(ControlCall::IsZero), Flag(false)),
+                ];
+                assert_eq!(rt; trial.differs(&next), None, "front {front}, {before:?}");
+            }
         }
     }
     Ok(())

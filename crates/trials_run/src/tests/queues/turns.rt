@@ -2,7 +2,7 @@
 ghost use Rattle.std.specs.Prelude.{◌≡◌, ◌+◌, All, IfOk, length};
 
 use super::Valued;
-use run_queues::{Collector, CompletionQueue, Duty, SpareQueue};
+use run_queues::{Collector, CompletionQueue, Duty, PutCount, SpareQueue, Taker};
 use std::alloc::{AllocError, Global};
 use std::sync::Wait;
 use std::test::Fail;
@@ -112,24 +112,49 @@ fn none_is_there_yet(rt: HostRuntime) -> Result<(), Fail> {
     Ok(())
 }
 
-// Takes one and puts it back, so many times.
-fn take_and_put<R: Wait>(rt: &R, spares: &SpareQueue<u32>, times: u32) {
+// Takes one from a queue and puts it into another, so many times.
+fn take_and_put<R: Wait>(
+    rt: &R,
+    from: &SpareQueue<u32>,
+    taker: &mut Taker<u32>,
+    to: &SpareQueue<u32>,
+    times: u32,
+)
+    requires { taker.old ≡ 0 }
+    ensures { taker.new ≡ times }
+{
+    let mut count = PutCount::new();
     for _turn in 0..times {
-        let spare = spares.take(rt);
-        spares.put(rt, spare);
+        let spare = from.take(rt, taker);
+        to.put(rt, &mut count, spare);
     }
+}
+
+// The same, and takes the one that came back last.
+fn take_the_last<R: Wait>(
+    rt: &R,
+    from: &SpareQueue<u32>,
+    taker: &mut Taker<u32>,
+    to: &SpareQueue<u32>,
+    times: u32,
+) -> u32
+    requires { taker.old ≡ 0 }
+{
+    take_and_put(rt, from, taker, to, times);
+    from.take(rt, taker)
 }
 
 #[test]
 fn spares_go_round(rt: HostRuntime) -> Result<(), Fail> {
-    let spares = SpareQueue::new(rt.alloc(), 2)?;
-    assert_eq!(rt; spares.room(), 2);
-    spares.put(&rt, 5u32);
-    thread::join(
+    let (here, mut taker_here) = SpareQueue::new(rt.alloc(), 2)?;
+    let (there, mut taker_there) = SpareQueue::new(rt.alloc(), 1)?;
+    assert_eq!(rt; here.room(), 2);
+    here.put(&rt, &mut PutCount::new(), 5u32);
+    let (last, ()) = thread::join(
         &rt,
-        || take_and_put(&rt, &spares, 1_000),
-        || take_and_put(&rt, &spares, 1_000),
+        || take_the_last(&rt, &here, &mut taker_here, &there, 1_000),
+        || take_and_put(&rt, &there, &mut taker_there, &here, 1_000),
     );
-    assert_eq!(rt; spares.take(&rt), 5);
+    assert_eq!(rt; last, 5);
     Ok(())
 }

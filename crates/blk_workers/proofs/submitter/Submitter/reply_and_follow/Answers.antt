@@ -1,4 +1,4 @@
-use Rattle.std.proofs.Common.{◌≡◌, ◌∙◌, sym, ap, subst, ◌+◌, arith, length, None}
+use Rattle.std.proofs.Common.{◌≡◌, ◌∙◌, refl, sym, ap, subst, ◌+◌, arith, length, None}
 use Rattle.freeze_queue.specs.Queue.{QueueFacts}
 use Rattle.script_meaning.specs.Queue.{Queue}
 use Rattle.script_meaning.specs.Requests.{accepted_at}
@@ -29,10 +29,12 @@ returns g c =
           freezer =
               subst (λ (q : QueueFacts). IsFollowing q (here + 1) c.follow.new.freezer) c.hall.invariant.its_queue
               (subst (λ n. IsFollowing c.hall.inside.queue.now n c.follow.new.freezer) (c.len-kills.ensures ∙ replied.lines) c.follow.ensures.follows);
-          mode = c.follow.ensures.mode;
+          in_step = c.follow.ensures.in_step;
           counted = record { is = c.requires.before.counted.is ∙ sym (counts_line g.J.Run.script here refused); few = omega (arith, c.requires.before.counted.few) };
         };
+        accepted = refl;
         awaited =
             subst (λ (s : Meant). StaysAwaited s c.args.self.now.desk.replies desk.replies) (c.script.ensures ∙ c.hall.invariant.its_script) replied.awaited;
       };
+      memory = tt;
     }

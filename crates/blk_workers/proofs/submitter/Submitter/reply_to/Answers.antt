@@ -1,4 +1,4 @@
-use Rattle.std.proofs.Common.{◌≡◌, ◌∙◌, sym, ap, subst, refl, ◌+◌, length, None, inl}
+use Rattle.std.proofs.Common.{◌≡◌, ◌∙◌, sym, ap, subst, refl, ◌+◌, length, None, inl, arith}
 use Rattle.script_meaning.specs.Requests.{accepted_before}
 use Rattle.script_meaning.specs.Script.{Meant}
 use Rattle.script_meaning.specs.declared.outcome.Outcome.TheVariants.{Drained, Replied}
@@ -9,14 +9,41 @@ use Rattle.run_desk.proofs.NextLines.{came_to, next_queue, accepted_there, drain
 use Rattle.run_queues.specs.Parts.{CollectorFacts}
 use Rattle.run_desk.proofs.Desks.{on_ok}
 use Rattle.run_desk.proofs.Numbering.{counts_line}
-use Rattle.blk_workers.specs.Progress.{IsAt}
+use Rattle.script_meaning.specs.Queue.{Queue}
+use Rattle.blk_workers.proofs.InStep.{near_drained, near_replied}
+use Rattle.blk_workers.specs.Following.{IsFrozenFor}
+use Rattle.blk_workers.specs.Progress.{IsAt, IsBeforeLine, IsCounted, IsFollowing}
 use Rattle.blk_workers.proofs.submitter.Submitter.reply_to.Goals as goal
+
+pub reply_and_follow-requires-clause-before : goal.reply_and_follow-requires-clause-before
+reply_and_follow-requires-clause-before g c =
+    let drained = c.drain.ensures.drained in
+    let collected = drained.collected in
+    let counted = c.requires.taken.at.counted in
+    record {
+      stands = collected.collecting.stands;
+      follows = subst (λ n. IsFollowing g.J.Run.queue (n + 1) c.drain.new.self.freezer) (sym collected.lines) collected.follows;
+      near = near_drained c.args.self.now.state c.take.new.self c.index-lines-len.result.what c.in-Drained.reply c.drain.new.self.freezer c.in-Drained.ensures.outcome c.take.ensures.after
+          (subst (λ (q : Queue). IsFrozenFor q c.drain.new.self.freezer) collected.state drained.frozen);
+      counted = subst (λ n. IsCounted g.J.Run.script n c.drain.new.self.accepted) (sym collected.lines)
+          (subst (λ n. IsCounted g.J.Run.script (length c.args.self.now.desk.replies) n) (sym collected.accepted) counted);
+    }
+
+pub reply_and_follow-requires-in-Replied-clause-before : goal.reply_and_follow-requires-in-Replied-clause-before
+reply_and_follow-requires-in-Replied-clause-before g c =
+    let at = c.requires.taken.at in
+    record {
+      stands = at.stands;
+      follows = record { own = at.freezer.own; drained = at.freezer.drained; kills = omega (arith, at.freezer.kills) };
+      near = near_replied c.args.self.now.state c.take.new.self c.index-lines-len.result.what c.in-Replied.reply c.args.self.now.freezer c.in-Replied.ensures.outcome c.take.ensures.after at.in_step;
+      counted = at.counted;
+    }
 
 pub reply_and_follow-requires-clause-next : goal.reply_and_follow-requires-clause-next
 reply_and_follow-requires-clause-next g c =
     let came = came_to g.J.Run.script g.J.Run.script (length c.args.self.now.desk.replies) c.len.result c.lines.result.now c.index-lines-len.result c.args.self.now.state c.take.new.self (Drained c.in-Drained.reply) refl
     (c.lines.ensures ∙ ap (λ (s : Meant). s.lines) (c.script.ensures ∙ c.hall.invariant.its_script)) c.len.ensures c.requires.more c.index-lines-len.is c.requires.taken.at.state c.in-Drained.ensures.outcome c.take.ensures.after c.take.ensures.counts in
-    let same = sym c.drain.ensures.collected.lines in
+    let same = sym c.drain.ensures.drained.collected.lines in
     record {
       refused = subst (λ p. accepted_at g.J.Run.script p ≡ None) same (accepted_there g.J.Run.script (length c.args.self.now.desk.replies) c.index-lines-len.result c.args.self.now.state c.take.new.self (Drained c.in-Drained.reply) came);
       reply = subst (λ p. IsReplyLine g.J.Run.script p (reply_line (c.index-lines-len.result.number, c.in-Drained.reply))) same (reply_drained g.J.Run.script (length c.args.self.now.desk.replies) c.index-lines-len.result c.args.self.now.state c.take.new.self c.in-Drained.reply came);
@@ -46,7 +73,7 @@ returns-in_ok-drain-in-Drained-clause-taken g c =
     let here = length c.args.self.now.desk.replies in
     let same = sym (counts_line g.J.Run.script here (accepted_there g.J.Run.script (length c.args.self.now.desk.replies) c.index-lines-len.result c.args.self.now.state c.take.new.self (Drained c.in-Drained.reply) came)) in
     let handed = c.requires.taken.handed_over in
-    let drained = c.drain.ensures.collected in
+    let drained = c.drain.ensures.drained.collected in
     let mine : CollectorFacts = c.drain.new.collector in
     let given = ap (λ (k : CollectorFacts). k.given) drained.collector ∙ handed.duties in
     on_ok c.reply_and_follow.result _ _

@@ -5,7 +5,8 @@ use Rattle.script_meaning.specs.Taken.{request_counted}
 use Rattle.blk_workers.specs.Progress.{AreHandedOver}
 use Rattle.run_desk.proofs.NextLines.{counted_there}
 use Rattle.run_desk.proofs.Numbering.{counts_request}
-use Rattle.script_meaning.proofs.Counted.{counted_mode}
+use Rattle.blk_workers.specs.Following.{IsInStep}
+use Rattle.blk_workers.proofs.InStep.{in_step_counted}
 use Rattle.blk_workers.proofs.submitter.Submitter.submit.Goals as goal
 
 pub returns-clause-taken : goal.returns-clause-taken
@@ -25,7 +26,8 @@ returns-clause-taken g c =
         lines = over.lines ∙ ap (λ n. n + 1) way.lines;
         state = counted_there script here c.args.request c.args.self.now.state c.count.new.self next.accepted c.requires.taken.at.state counts;
         freezer = way.follows;
-        mode = way.mode ∙ ap (λ (q : Queue). q.mode) way.state ∙ sym (ap (λ (q : Queue). q.mode) counts ∙ counted_mode c.args.self.now.state c.args.request);
+        in_step = subst (λ (q : Queue). IsInStep q c.make_way.new.self.freezer) (sym c.count.ensures)
+            (in_step_counted c.make_way.new.self.state c.args.request c.make_way.new.self.freezer c.in_ok-make_way.ensures.in_step);
         counted = record {
           is = ap (λ n. n + 1) (way.accepted ∙ counted.is) ∙ sym (counts_request script here c.args.request next.accepted);
           few = omega (arith, way.accepted, counted.few);

@@ -6,4 +6,5 @@ abbrev pub invariant-loop-position : goal.invariant-loop-position
 invariant-loop-position g l = record {
   taken : HasTaken g.J.Run.script g.J.Run.queue g.L.QueueName.id g.C.QueueName.id l._position l.self l.ends.source l.ends.collector;
   source : l.ends.source ≡ record l.initial.ends.source { pushed = l.ends.source.pushed };
+  tags : l.ends.taker ≡ l.self.accepted;
 }

@@ -9,23 +9,23 @@ use Rattle.script_overlap.proofs.checked.Checked.drains.Goals as goal
 
 pub offset_bounds-lines-position : goal.offset_bounds-lines-position
 offset_bounds-lines-position c =
-    let within = ordered_within c.self.inside.script c.self.inside.ordered.items c.deref-position-items.result.now c.lines.result.now c.loop-position.position-index c.self.invariant.order
+    let within = ordered_within c.self.inside.script.now c.self.inside.ordered.items c.deref-position-items.result.now c.lines.result.now c.loop-position.position-index c.self.invariant.order
     c.deref-position-items.ensures.value c.lines.ensures c.loop-position-test.true in
     omega (arith, within, c.lines.type_inv)
 
 pub bounds-lines-position : goal.bounds-lines-position
 bounds-lines-position c =
-    ordered_within c.self.inside.script c.self.inside.ordered.items c.deref-position-items.result.now c.lines.result.now c.loop-position.position-index c.self.invariant.order
+    ordered_within c.self.inside.script.now c.self.inside.ordered.items c.deref-position-items.result.now c.lines.result.now c.loop-position.position-index c.self.invariant.order
     c.deref-position-items.ensures.value c.lines.ensures c.loop-position-test.true
 
 pub bounds-lines-position-in-loop-position : goal.bounds-lines-position-in-loop-position
 bounds-lines-position-in-loop-position c =
-    ordered_within c.self.inside.script c.self.inside.ordered.items c.deref-position-items.result.now c.lines.result.now c.loop-position.position-index c.self.invariant.order
+    ordered_within c.self.inside.script.now c.self.inside.ordered.items c.deref-position-items.result.now c.lines.result.now c.loop-position.position-index c.self.invariant.order
     c.deref-position-items.ensures.value c.lines.ensures c.loop-position-test.true
 
 pub loop-position-preserved : goal.loop-position-preserved
 loop-position-preserved c =
-    let script = c.self.inside.script in
+    let script = c.self.inside.script.now in
     let ordered = c.self.inside.ordered.items in
     let i = c.loop-position.position-index in
     let position = get_or c.deref-position-items.result.now i 0 in
@@ -42,7 +42,7 @@ loop-position-preserved c =
 
 pub returns : goal.returns
 returns c =
-    let script = c.self.inside.script in
+    let script = c.self.inside.script.now in
     let ordered = c.self.inside.ordered.items in
     let last : length ordered ≤ c.loop-position.position-index = omega (arith, c.loop-position-test.false, ap length c.deref-position-items.ensures.value) in
     let numbers = sym (ap (map (number_at script)) (take_all c.loop-position.position-index ordered last)) ∙ c.loop-position.invariant in

@@ -37,5 +37,5 @@ returns c =
     let said : IsBinarySearchResult (λ y. nat_cmp y c.args.position) c.self.inside.ordered.items c.binary_search.result =
     subst (λ xs. IsBinarySearchResult (λ y. nat_cmp y c.args.position) xs c.binary_search.result) c.deref.ensures.value c.binary_search.ensures.position in
     let found = searched c.self.inside.ordered.items c.args.position c.binary_search.result said (rises c.self.inside.ordered.items c.self.invariant.order.ascending) in
-    let tells = told c.self.inside.script c.self.inside.ordered.items c.args.position c.binary_search.result c.self.invariant.order found in
+    let tells = told c.self.inside.script.now c.self.inside.ordered.items c.args.position c.binary_search.result c.self.invariant.order found in
     rw (c.is_ok.ensures.value, ← c.self.view_is) tells

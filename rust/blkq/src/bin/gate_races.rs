@@ -1,0 +1,27 @@
+// Erased from crates/gate_races/src/main.rt by tools/erase: edit that file.
+//! All that may happen in a race of a gate.
+//!
+//! The program reads a race from standard input: a gate, and the calls of each of its actors. It writes what these
+//! calls may be answered, in all orders of their atomic steps, and a shortest schedule for each outcome. `races_run` is all of it
+//! over any reader and writers; here it gets the words after the program's name and the standard streams.
+
+use blkq::erased::counted_io::Counted;
+use blkq::erased::fallible::TryCollect;
+use blkq::erased::races_run::{command, refuse_words};
+use blkq::erased::{env, streams};
+use std::io;
+use std::process::ExitCode;
+
+/// The words after the program's name.
+fn words() -> io::Result<Vec<String>> {
+    Ok(env::args()?.skip(1).try_collected()?)
+}
+
+fn main() -> ExitCode {
+    let (mut reader, mut writer) = (Counted::new(streams::stdin()), Counted::new(streams::stdout()));
+    let mut errors = streams::stderr();
+    ExitCode::from(match words() {
+        Ok(args) => command(&args, &mut reader, &mut writer, &mut errors),
+        Err(why) => refuse_words(&mut errors, &why),
+    })
+}

@@ -1,0 +1,97 @@
+// Erased from crates/blk_workers/src/hall.rt by tools/erase: edit that file.
+//! What the threads of a run stand on.
+
+use crate::erased::blk_workers::fault::RunFault;
+use crate::erased::blk_workers::job::{Completion, FreeTag, Job};
+use crate::erased::fallible::AllocError;
+use crate::erased::freeze_queue::{BlockQueue, Tag};
+use crate::erased::pointers::TryBox;
+use crate::erased::run_queues::{CompletionQueue, PutCount, RequestQueue, Source, SpareQueue, Taker};
+use crate::erased::script_overlap::Checked;
+
+/// The queues of a run: the one that requests enter, and those by which its threads hand requests, completions and free
+/// tags to one another.
+pub(crate) struct Queues {
+    queue: BlockQueue,
+    requests: RequestQueue<Job>,
+    completions: CompletionQueue<Completion>,
+    free_tags: SpareQueue<FreeTag>,
+}
+
+// A queue of free tags, and the right to take them.
+type FreeTags = (SpareQueue<FreeTag>, Taker<FreeTag>);
+
+// A queue of these tags, all of which are put there, with the right to take them.
+//
+// # Preconditions
+//
+// - `AreFreeTags(run.queue, tags)`: there are tags, which are this queue's, and none is entered.
+// - `count` is 0.
+fn free_tags(tags: Vec<Tag>, count: &mut PutCount<FreeTag>) -> Result<FreeTags, AllocError> {
+    let (free, taker) = SpareQueue::new(tags.len())?;
+    for tag in tags {
+        free.put(count, FreeTag::new(Box::try_from_value(tag)?));
+    }
+    Ok((free, taker))
+}
+
+// A run's queues, the right to push requests, and the right to take free tags.
+type NewQueues = (Queues, Source<Job>, Taker<FreeTag>);
+
+impl Queues {
+    /// A run's queues, with all tags free, the right to push requests, and the right to take free tags. The room for requests
+    /// and free tags is taken here, and a place for each worker's list to come back to; the lists take theirs in
+    /// `team::drawers`.
+    ///
+    /// # Preconditions
+    ///
+    /// - `queue` is `run.queue`.
+    /// - `AreFreeTags(run.queue, tags)`: there are tags, which are this queue's, and none is entered.
+    pub(crate) fn new(
+        queue: BlockQueue,
+        tags: Vec<Tag>,
+        completions: CompletionQueue<Completion>,
+        workers: u32,
+    ) -> Result<NewQueues, RunFault> {
+        let (requests, source) = RequestQueue::new(tags.len(), workers as usize)?;
+        let (free_tags, taker) = free_tags(tags, &mut PutCount::new())?;
+        let queues = Queues { queue, requests, completions, free_tags };
+        Ok((queues, source, taker))
+    }
+}
+
+/// What a run's threads stand on: the runtime, the allocator, the checked script, what holds the run at its points, and the run's
+/// queues. `J` is the run, `C` its queue of completions, `L` its queue of requests, `R` the runtime's type, `S` the stall's.
+///
+/// The type keeps that the script and the queues are those which its parameters name, that the queue has a slot and the
+/// script's hardware, and that the script's lines are few enough to be numbered.
+pub(crate) struct Hall<'a, S> {
+    pub(crate) checked: &'a Checked<'a>,
+    pub(crate) stall: &'a S,
+    pub(crate) queue: &'a BlockQueue,
+    pub(crate) requests: &'a RequestQueue<Job>,
+    pub(crate) completions: &'a CompletionQueue<Completion>,
+    /// The submitter takes them and workers put them back; there is room for all tags of the run.
+    pub(crate) free_tags: &'a SpareQueue<FreeTag>,
+}
+
+impl<'a, S> Hall<'a, S> {
+    /// The hall of a run with these queues.
+    ///
+    /// # Preconditions
+    ///
+    /// - `IsHall(run.script, run.queue, requests.id, completions.id, checked, queues.queue, queues.requests.id,
+    ///   queues.completions.id)`: these are the script, the queue that requests enter, and the queues of requests and
+    ///   completions of a run of that script, in which the queue has the script's hardware and a slot, and the lines
+    ///   are few enough to be numbered.
+    pub(crate) fn new(checked: &'a Checked<'a>, stall: &'a S, queues: &'a Queues) -> Hall<'a, S> {
+        Hall {
+            checked,
+            stall,
+            queue: &queues.queue,
+            requests: &queues.requests,
+            completions: &queues.completions,
+            free_tags: &queues.free_tags,
+        }
+    }
+}

@@ -1,0 +1,80 @@
+// A stand-in for the kit's maps, written by hand: tools/erase leaves it alone.
+//! Maps whose growth may be refused, by a short hash of a fixed seed.
+
+use crate::erased::fallible::AllocError;
+use std::hash::{BuildHasher, BuildHasherDefault, Hash, Hasher};
+
+/// A map by the short hash.
+pub type HashMap<K, V> = std::collections::HashMap<K, V, BuildHasherDefault<FoldHasher>>;
+
+/// The insertion into a map, which may ask for memory. If it is refused, the map stays as it was.
+pub trait TryMap<K, V> {
+    /// Puts a value at a key, and returns the value that was there.
+    fn try_put(&mut self, key: K, value: V) -> Result<Option<V>, AllocError>;
+}
+
+impl<K: Eq + Hash, V, S: BuildHasher> TryMap<K, V> for std::collections::HashMap<K, V, S> {
+    #[inline]
+    fn try_put(&mut self, key: K, value: V) -> Result<Option<V>, AllocError> {
+        self.try_reserve(1)?;
+        Ok(self.insert(key, value))
+    }
+}
+
+// The first digits of pi and of the golden ratio.
+const SEED: u64 = 0x243f_6a88_85a3_08d3;
+const FACTOR: u128 = 0x9e37_79b9_7f4a_7c15;
+
+/// A short hash, of a fixed seed: each word is multiplied into the state, and both halves of the product are kept.
+#[derive(Clone, Copy, Debug, Default)]
+pub struct FoldHasher {
+    state: u64,
+}
+
+fn folded(word: u64) -> u64 {
+    let product = u128::from(word) * FACTOR;
+    product as u64 ^ (product >> 64) as u64
+}
+
+impl FoldHasher {
+    #[inline]
+    fn fold(&mut self, word: u64) {
+        self.state = folded(self.state ^ word ^ SEED).rotate_left(23);
+    }
+}
+
+impl Hasher for FoldHasher {
+    #[inline]
+    fn write(&mut self, bytes: &[u8]) {
+        for part in bytes.chunks(8) {
+            let mut word = [0; 8];
+            word[..part.len()].copy_from_slice(part);
+            self.fold(u64::from_le_bytes(word));
+        }
+    }
+
+    #[inline]
+    fn write_u8(&mut self, number: u8) {
+        self.fold(u64::from(number));
+    }
+
+    #[inline]
+    fn write_u32(&mut self, number: u32) {
+        self.fold(u64::from(number));
+    }
+
+    #[inline]
+    fn write_u64(&mut self, number: u64) {
+        self.fold(number);
+    }
+
+    #[inline]
+    fn write_usize(&mut self, number: usize) {
+        self.fold(number as u64);
+    }
+
+    #[inline]
+    fn finish(&self) -> u64 {
+        folded(self.state)
+    }
+}

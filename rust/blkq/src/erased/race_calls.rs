@@ -1,0 +1,20 @@
+// Erased from crates/race_calls/src/lib.rt by tools/erase: edit that file.
+//! The calls of a gate as small machines over its atomic steps.
+//!
+//! A call of a pass or of the control takes some of the gate's atomic steps, one after another: docs/GATE.md has the
+//! table. Which one comes next depends on what those before it were answered. [`PassStage`] and [`ControlStage`] say
+//! how far a call is: `first` where it begins, `step` the step that comes next, `after` how far it is once that step
+//! is answered, until it `Ends` with its [`Answer`].
+
+mod answer;
+mod control_call;
+mod control_stage;
+mod pass_call;
+mod pass_stage;
+
+pub use crate::erased::percpu_words::Mode;
+pub use answer::Answer;
+pub use control_call::ControlCall;
+pub use control_stage::{ControlStage, Seen};
+pub use pass_call::{Asked, Count, PassCall};
+pub use pass_stage::{Dropped, PassStage};

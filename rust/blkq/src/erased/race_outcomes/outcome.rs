@@ -1,0 +1,53 @@
+// Erased from crates/race_outcomes/src/outcome.rt by tools/erase: edit that file.
+//! Outcomes of a race.
+
+use crate::erased::percpu_core::Event;
+use crate::erased::race_outcomes::account::Figures;
+use crate::erased::race_world::Moment;
+
+/// An outcome of a race: what its calls have answered at an end, and the figures of its gate.
+pub struct Outcome {
+    pub(crate) end: Moment,
+    pub(crate) states: usize,
+    pub(crate) schedule: Vec<Event>,
+}
+
+impl Outcome {
+    /// The end to which the schedule leads. What its calls have answered stands there.
+    pub fn end(&self) -> &Moment {
+        &self.end
+    }
+
+    /// The figures of the gate.
+    pub fn figures(&self) -> Figures {
+        Figures::of(self.end.world())
+    }
+
+    /// How many end states have the outcome.
+    pub fn states(&self) -> usize {
+        self.states
+    }
+
+    /// A shortest schedule that leads to it.
+    pub fn schedule(&self) -> &[Event] {
+        self.schedule.as_slice()
+    }
+}
+
+/// All outcomes of a race, each of them once, those with shorter schedules first.
+pub struct Outcomes {
+    pub(crate) list: Vec<Outcome>,
+    pub(crate) moments: usize,
+}
+
+impl Outcomes {
+    /// The outcomes.
+    pub fn as_slice(&self) -> &[Outcome] {
+        self.list.as_slice()
+    }
+
+    /// How many moments were seen.
+    pub fn moments(&self) -> usize {
+        self.moments
+    }
+}

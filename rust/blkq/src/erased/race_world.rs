@@ -1,0 +1,20 @@
+// Erased from crates/race_world/src/lib.rt by tools/erase: edit that file.
+//! A race: a gate, and for each actor the calls that it makes, one after another.
+//!
+//! A [`Race`] says how the gate starts and which calls each pass and the control make. Between two atomic steps it is at a
+//! [`Moment`]: the gate as it is, and where each actor is in its calls. `next_events` are the steps that may come next, one
+//! for each actor at most, and `after` is the moment that a step leads to. A call begins as soon as the one before it has its
+//! answer; what can't be made where it stands takes no step, and is passed over. So a schedule of a race is a list of the
+//! gate's events, and `races_are_runs` says that it is a run of the gate's machine.
+
+mod control_place;
+mod fingerprint;
+mod moment;
+mod pass_place;
+mod places;
+mod race;
+
+pub use control_place::ControlProgress;
+pub use moment::Moment;
+pub use pass_place::PassProgress;
+pub use race::{PassCalls, Race};

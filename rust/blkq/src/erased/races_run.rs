@@ -1,0 +1,15 @@
+// Erased from crates/races_run/src/lib.rt by tools/erase: edit that file.
+//! From the bytes of a reader to the bytes of a writer: races, and all that may happen in them.
+//!
+//! [`outcomes_bytes`] reads a race and writes all its outcomes, each with a shortest schedule that leads to it. Data flows one
+//! way: `counted_io` reads, [`answer`] answers by `races_text`, `race_outcomes` and `races_shown`, and `counted_io` writes.
+//! [`command`] is a program of it.
+
+mod answer;
+mod fault;
+mod program;
+mod run;
+
+pub use fault::Fault;
+pub use program::{command, refuse_words};
+pub use run::{MOST_READ, outcomes_bytes};

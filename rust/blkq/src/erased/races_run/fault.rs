@@ -1,0 +1,78 @@
+// Erased from crates/races_run/src/fault.rt by tools/erase: edit that file.
+//! Why a race isn't answered.
+
+use crate::erased::counted_io::{InputFault, WriteFault};
+use crate::erased::line_text::ParseFault;
+use crate::erased::percpu_core::Memory;
+use std::error::Error;
+use std::fmt;
+
+/// Why a race isn't answered, or not by all of its answer.
+#[derive(Clone, Copy, Debug, PartialEq, Eq)]
+pub enum Fault {
+    /// Memory was refused.
+    Memory,
+    /// The reader failed.
+    Read,
+    /// The writer failed.
+    Write {
+        /// How many bytes of the answer went out before, from its first on.
+        written: u64,
+    },
+    /// The input is no race.
+    Parse(ParseFault),
+}
+
+impl fmt::Display for Fault {
+    fn fmt(&self, f: &mut fmt::Formatter<'_>) -> fmt::Result {
+        match self {
+            Fault::Memory => f.write_str("memory"),
+            Fault::Read => f.write_str("read"),
+            Fault::Write { .. } => f.write_str("write"),
+            Fault::Parse(it) => write!(f, "{it}"),
+        }
+    }
+}
+
+impl Error for Fault {}
+
+impl Fault {
+    /// The fault's number, from 1 in the order of declaration.
+    pub fn number(&self) -> u8 {
+        match self {
+            Fault::Memory => 1,
+            Fault::Read => 2,
+            Fault::Write { .. } => 3,
+            Fault::Parse(_) => 4,
+        }
+    }
+
+    /// The status that the program ends with: 2 where the input is no race, and else 4.
+    pub fn status(&self) -> u8 {
+        match self {
+            Fault::Parse(_) => 2,
+            Fault::Memory | Fault::Read | Fault::Write { .. } => 4,
+        }
+    }
+}
+
+impl From<InputFault> for Fault {
+    fn from(e: InputFault) -> Self {
+        match e {
+            InputFault::Memory => Fault::Memory,
+            InputFault::Read => Fault::Read,
+        }
+    }
+}
+
+impl From<WriteFault> for Fault {
+    fn from(e: WriteFault) -> Self {
+        Fault::Write { written: e.written }
+    }
+}
+
+impl From<Memory> for Fault {
+    fn from(_refused: Memory) -> Self {
+        Fault::Memory
+    }
+}

@@ -1,0 +1,85 @@
+// Erased from crates/ram_disk/src/disk.rt by tools/erase: edit that file.
+//! The disk: its sectors by number, read by sharing and written by moving new ones in.
+
+use crate::erased::fallible::{TryToVec, TryVec};
+use crate::erased::ram_disk::{DiskFault, Sector, runs};
+
+/// How many sectors a disk has at most.
+pub const MAX_SECTORS: u32 = 4096;
+
+/// A disk of 1 to 4,096 sectors.
+pub struct Disk {
+    sectors: Vec<Sector>,
+}
+
+impl Disk {
+    /// A disk of this many sectors of zeros. `Memory` is its only refusal.
+    ///
+    /// Linux: a new `brd` device reads as zeros, since it has no pages yet (drivers/block/brd.c).
+    ///
+    /// # Preconditions
+    ///
+    /// - `sectors` is from 1 to `MAX_SECTORS`.
+    pub fn new(sectors: u32) -> Result<Disk, DiskFault> {
+        debug_assert!(1 <= sectors);
+        debug_assert!(sectors <= MAX_SECTORS);
+        let zeros = Sector::filled(0)?;
+        let sectors = Vec::try_from_elem(zeros, sectors as usize)?;
+        Ok(Disk { sectors })
+    }
+
+    /// How many sectors the disk has, 1 to 4,096.
+    pub fn len(&self) -> u32 {
+        self.sectors.len() as u32
+    }
+
+    /// Reads `count` sectors from the sector numbered `start` on, by sharing them.
+    ///
+    /// `PastEnd` where the range reaches past the last sector, which is tested first; `Memory` where
+    /// there is none for the list. No sectors from the end on is no reach past it.
+    ///
+    /// Linux: a request past the end of the device is an I/O error (`bio_check_eod`, block/blk-core.c).
+    pub fn share(&self, start: u64, count: u32) -> Result<Vec<Sector>, DiskFault> {
+        let len = self.sectors.len() as u64;
+        if start > len || u64::from(count) > len - start {
+            return Err(DiskFault::PastEnd);
+        }
+        let start = start as usize;
+        let end = start + count as usize;
+        Ok(self.sectors[start..end].try_to_vec()?)
+    }
+
+    /// Writes these sectors over those from the sector numbered `start` on. It always succeeds.
+    ///
+    /// The sectors are moved in, and the disk's owners of the old ones are dropped.
+    ///
+    /// # Preconditions
+    ///
+    /// - `start + sectors.len()` is at most `self.len()`.
+    pub fn install(&mut self, start: u64, sectors: Vec<Sector>) {
+        replace(&mut self.sectors, start as usize, sectors);
+    }
+
+    /// The disk's sectors, in the order of their numbers.
+    pub fn sectors(&self) -> &[Sector] {
+        &self.sectors
+    }
+
+    /// The maximal runs of equal bytes of the whole disk, as `runs` gives them. `Memory` is its only refusal.
+    pub fn all_runs(&self) -> Result<Vec<(u8, u64)>, DiskFault> {
+        runs(&self.sectors)
+    }
+}
+
+/// # Preconditions
+///
+/// - `start + sectors.len()` is at most `kept.len()`.
+fn replace(kept: &mut Vec<Sector>, start: usize, sectors: Vec<Sector>) {
+    let mut place = start;
+    for sector in sectors {
+        // Reading the bytes shows that there are 512 of them.
+        let _whole = sector.bytes();
+        kept[place] = sector;
+        place += 1;
+    }
+}

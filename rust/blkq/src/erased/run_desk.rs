@@ -1,0 +1,21 @@
+// Erased from crates/run_desk/src/lib.rt by tools/erase: edit that file.
+//! What a run on several threads makes of a script's requests, apart from its threads and from the queue that they enter.
+//!
+//! [`answer_to`] makes the answer to a request: the line of its reply, and the sectors that a write leaves. The [`Desk`] has
+//! the disk and the replies of a run: requests are submitted in the script's order, and their answers are taken in any
+//! order. So while requests are under way the disk is behind the one that a single thread would have; but no two that are
+//! under way overlap, so each reads what a single thread reads, whichever writes of its span were installed before
+//! (`reads_stand_in_a_span`), and once no answer is owed the disk is the single thread's
+//! (`answers_come_in_any_order`).
+//!
+//! `specs/Requests.antt` says what is due to a request and what it is answered, `specs/Span.antt` what the disk is while
+//! requests are under way, and `specs/Desk.antt` how far the disk and the replies have come. `blk_workers` has the threads.
+
+mod answer;
+mod desk;
+mod lines;
+mod replies;
+
+pub use answer::{Answer, answer_to};
+pub use desk::Desk;
+pub use replies::Replies;

@@ -1,0 +1,68 @@
+// Erased from crates/run_desk/src/answer.rt by tools/erase: edit that file.
+//! The answer to a request: the line of its reply, and the sectors that a write leaves.
+
+use crate::erased::blk_script::{render, render_read};
+use crate::erased::fallible::{AllocError, TryCollect};
+use crate::erased::queue_limits::Limits;
+use crate::erased::ram_disk::{Sector, patterned};
+use crate::erased::script_meaning::{Pattern, PieceLengths, Reply, Script, What};
+
+/// The answer to a request: the line of its reply, and the sectors that it leaves on the disk from its first on, which
+/// are none where it reads.
+pub struct Answer {
+    pub text: Vec<u8>,
+    pub start: u32,
+    pub sectors: Vec<Sector>,
+}
+
+// The lengths of a range's pieces under these limits.
+fn pieces(limits: Limits, start: u32, count: u32) -> Result<PieceLengths, AllocError> {
+    let lengths = limits.pieces(u64::from(start), count).try_collected()?;
+    Ok(PieceLengths::new(lengths))
+}
+
+// The line of a reply.
+fn reply_text(number: u32, reply: &Reply) -> Result<Vec<u8>, AllocError> {
+    render(number, reply).map_err(|_| AllocError)
+}
+
+// The line of a read's reply: its pieces, and the runs of the sectors that it found.
+fn read_text(number: u32, pieces: &PieceLengths, found: &[Sector]) -> Result<Vec<u8>, AllocError> {
+    render_read(number, pieces.as_slice(), found).map_err(|_| AllocError)
+}
+
+// The sectors of a write.
+fn sectors_of(pattern: &Pattern, count: u32) -> Result<Vec<Sector>, AllocError> {
+    patterned(pattern.bytes(), count).map_err(|_| AllocError)
+}
+
+// The answer to a read, which found these sectors.
+fn read(number: u32, limits: Limits, start: u32, count: u32, found: &[Sector]) -> Result<Answer, AllocError> {
+    let pieces = pieces(limits, start, count)?;
+    let text = read_text(number, &pieces, found)?;
+    Ok(Answer { text, start, sectors: Vec::new() })
+}
+
+// The answer to a write.
+fn write(number: u32, limits: Limits, start: u32, count: u32, pattern: &Pattern) -> Result<Answer, AllocError> {
+    let pieces = pieces(limits, start, count)?;
+    let text = reply_text(number, &Reply::Written { pieces })?;
+    let sectors = sectors_of(pattern, count)?;
+    Ok(Answer { text, start, sectors })
+}
+
+/// The answer to the request at a position of the script, by the limits in force there and the sectors that a
+/// read finds. Refused only where memory was.
+///
+/// # Preconditions
+///
+/// - `IsDue(script, position, limits, found)`: the limits in force at a request, and the sectors that it finds.
+pub fn answer_to(script: &Script, position: usize, limits: Limits, found: &[Sector]) -> Result<Answer, AllocError> {
+    let line = &script.lines()[position];
+    match &line.what {
+        What::Read { start, count } => read(line.number, limits, *start, *count, found),
+        What::Write { start, count, pattern } => write(line.number, limits, *start, *count, pattern),
+        // No other line makes a request that is accepted.
+        _ => unreachable!(),
+    }
+}

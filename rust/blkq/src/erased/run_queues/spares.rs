@@ -1,0 +1,72 @@
+// Erased from crates/run_queues/src/spares.rt by tools/erase: edit that file.
+//! The queue of what isn't in use.
+
+use crate::erased::fallible::AllocError;
+use crate::erased::run_queues::ruled_queue::RuledQueue;
+use std::marker::PhantomData;
+
+/// A queue of things that threads take and put back. What is known of one is what its type keeps: a type of which
+/// every value is free and belongs to one owner is the rule of a queue of free things of that owner.
+pub struct SpareQueue<T> {
+    line: RuledQueue<T>,
+}
+
+/// The right to take from a queue of spare things, which comes with the queue and which one thread has.
+pub struct Taker<T> {
+    taken: u64,
+    of: PhantomData<T>,
+}
+
+/// How many a thread put back, of what can't be had but from one who took it.
+pub struct PutCount<T> {
+    put: u64,
+    of: PhantomData<T>,
+}
+
+impl<T> PutCount<T> {
+    /// None so far.
+    pub fn new() -> PutCount<T> {
+        PutCount { put: 0, of: PhantomData }
+    }
+}
+
+impl<T> SpareQueue<T> {
+    /// A queue with room for so many, which is all its memory, and the right to take from it.
+    ///
+    /// # Preconditions
+    ///
+    /// - `room` is at least 1.
+    pub fn new(room: usize) -> Result<(SpareQueue<T>, Taker<T>), AllocError> {
+        debug_assert!(0 < room);
+        let (line, _seat) = RuledQueue::new(room)?;
+        let taker = Taker { taken: 0, of: PhantomData };
+        Ok((SpareQueue { line }, taker))
+    }
+
+    /// How many it has room for.
+    pub fn room(&self) -> usize {
+        self.line.ring.capacity()
+    }
+
+    /// Puts one back behind those that are there, and waits while there is no room. It is counted.
+    ///
+    /// # Preconditions
+    ///
+    /// - `count + 1` is less than `2^64`.
+    pub fn put(&self, count: &mut PutCount<T>, item: T) {
+        let mut seat = self.line.ring.pass();
+        self.line.push_as(&mut seat, item);
+        count.put += 1;
+    }
+
+    /// Takes the first, and waits while there is none. It is counted.
+    ///
+    /// # Preconditions
+    ///
+    /// - `taker + 1` is less than `2^64`.
+    pub fn take(&self, taker: &mut Taker<T>) -> T {
+        let mut seat = self.line.ring.pass();
+        taker.taken += 1;
+        self.line.pop_as(&mut seat)
+    }
+}

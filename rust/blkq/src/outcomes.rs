@@ -1,0 +1,35 @@
+//! All outcomes of a race.
+use crate::erased::counted_io::Counted;
+use crate::erased::races_run::outcomes_bytes;
+use crate::errors::RaceError;
+use crate::text::Text;
+
+/// Goes through all orders of the atomic steps of a race, and returns its outcomes: what the calls answer, in how many states it
+/// ends so, and a shortest schedule that leads there, which [`replay`](crate::replay()) takes unchanged. The program
+/// `gate_races` writes the same.
+///
+/// It keeps each state until all are seen, so a race of many calls takes much memory. At most 1,048,576 bytes are a race.
+///
+/// # Errors
+///
+/// [`RaceError`] has each. A race with more states than there is memory for is refused for memory.
+///
+/// # Examples
+///
+/// ```
+/// // A request on a device that is removed meanwhile: exactly one of both is the last, in each outcome.
+/// let race = b"races 1\nworld 1 1 atomic 0\n0 live 0 / put 0 1\nc kill\n";
+/// let outcomes = String::from_utf8(blkq::outcomes(race)?).unwrap();
+/// let answers: Vec<&str> = outcomes.split("outcome ").skip(1).collect();
+/// assert_eq!(answers.len(), 4);
+/// for answer in answers {
+///     let calls: Vec<&str> = answer.lines().skip(1).take(2).collect();
+///     assert_eq!(calls.concat().matches("last").count() - calls.concat().matches("not last").count(), 1);
+/// }
+/// # Ok::<(), blkq::RaceError>(())
+/// ```
+pub fn outcomes(race: &[u8]) -> Result<Vec<u8>, RaceError> {
+    let mut text = Text::default();
+    outcomes_bytes(&mut Counted::new(race), &mut Counted::new(&mut text))?;
+    Ok(text.0)
+}

@@ -1,0 +1,13 @@
+//! The program of README.md: limits that change before a request enters.
+use freeze_queue::{Limits, Queue};
+
+fn main() -> Result<(), Box<dyn std::error::Error>> {
+    let queue = Queue::new(Limits::of_hardware(64), 1, 1)?; // 64 sectors; one slot, one tag
+    let mut tag = queue.next_tag(0)?;
+    queue.freeze()?.set(Limits { max: 8, ..Limits::of_hardware(64) })?; // drains, sets, thaws
+    let request = queue.enter(&mut tag)?; // waits while the queue is frozen
+    for piece in request.pieces(1000, 20)? {
+        println!("{} sectors from {}", piece.sectors, piece.start); // all under one setting
+    }
+    Ok(()) // the drop of the request leaves the queue
+}

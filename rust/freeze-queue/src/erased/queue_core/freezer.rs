@@ -1,0 +1,194 @@
+// Erased from crates/queue_core/src/freezer.rt by tools/erase: edit that file.
+//! The freezer: it freezes a queue, sets its limits and thaws it.
+
+use crate::erased::percpu_gate::{Control, Mode, Put};
+use crate::erased::queue_core::fault::FreezeFault;
+use crate::erased::queue_core::limit_words::{LIMIT_WORDS, store_words};
+use crate::erased::queue_core::queue::BlockQueue;
+use crate::erased::queue_core::tag::Tag;
+use crate::erased::queue_limits::Limits;
+
+/// The most freezes that may be under way at once.
+pub const MOST_DEPTH: u32 = 1_000;
+
+/// What a freeze that has begun answers.
+#[derive(Clone, Copy, Debug, PartialEq, Eq)]
+pub struct Frozen {
+    /// The freezes that aren't thawed yet, this one too.
+    pub depth: u32,
+    /// `Last` where this freeze found nobody in the queue: it is drained, and nobody else is told so. Else look by
+    /// `poll_drained`; where that says no, whoever drops last is told.
+    pub put: Put,
+}
+
+/// What a thaw answers.
+#[derive(Clone, Copy, Debug, PartialEq, Eq)]
+pub struct Thawed {
+    /// The freezes that are left.
+    pub depth: u32,
+    /// Whether the queue is live again: those who wait to enter are to be woken.
+    pub live: bool,
+}
+
+/// The one freezer of a queue: it counts freezes, and sets the limits while the queue is drained.
+///
+/// It moves between threads by ownership.
+pub struct Freezer {
+    control: Control<LIMIT_WORDS>,
+    depth: u32,
+    limits: Limits,
+}
+
+impl Freezer {
+    /// The freezer of a new queue, which counts on its slots.
+    ///
+    /// # Preconditions
+    ///
+    /// - `control` is `after_switch(Slots, fresh_control(control.gate, control.passes(), to_words(limits)))`.
+    /// - `control.gate.start` is `Atomic`.
+    pub(crate) fn new(control: Control<LIMIT_WORDS>, limits: Limits) -> Freezer {
+        Freezer { control, depth: 0, limits }
+    }
+
+    /// The freezes that aren't thawed yet: 0 to 1,000. The queue is live exactly where there is none. Linux:
+    /// `mq_freeze_depth` (include/linux/blkdev.h).
+    #[inline]
+    pub fn depth(&self) -> u32 {
+        self.depth
+    }
+
+    /// The tags of the queue that it hasn't taken back: all of them, until the queue ends.
+    #[inline]
+    pub fn tags(&self) -> u32 {
+        self.control.passes()
+    }
+
+    /// The limits in force.
+    #[inline]
+    pub fn limits(&self) -> Limits {
+        self.limits
+    }
+
+    /// Begins a freeze: the depth that this gives, and whether the queue is drained by it. The first one kills the gate, so
+    /// that no tag enters from then on but to look. Refuses DepthFull, WornOut. Linux: `blk_freeze_queue_start`
+    /// (block/blk-mq.c).
+    ///
+    /// # Preconditions
+    ///
+    /// - `self` belongs to `queue`.
+    pub fn start_freeze(&mut self, queue: &BlockQueue) -> Result<Frozen, FreezeFault> {
+        if self.depth >= MOST_DEPTH {
+            return Err(FreezeFault::DepthFull);
+        }
+        let mut put = Put::NotLast;
+        if self.depth == 0 {
+            match self.control.kill(&queue.gate) {
+                Ok(last) => put = last,
+                Err(_) => return Err(FreezeFault::WornOut),
+            }
+        }
+        self.depth += 1;
+        Ok(Frozen { depth: self.depth, put })
+    }
+
+    /// Whether the queue is frozen and every tag has left, at this look. Once it was true it is true until the
+    /// last thaw. Linux: `percpu_ref_is_zero` in `blk_mq_freeze_queue_wait` (block/blk-mq.c).
+    ///
+    /// # Preconditions
+    ///
+    /// - `self` belongs to `queue`.
+    pub fn poll_drained(&mut self, queue: &BlockQueue) -> bool {
+        self.control.is_zero(&queue.gate)
+    }
+
+    /// Sets the limits of a drained queue. Refuses NotFrozen, NotDrained. Linux: `queue_limits_commit_update`
+    /// (block/blk-settings.c), under a freeze.
+    ///
+    /// # Preconditions
+    ///
+    /// - `self` belongs to `queue`.
+    /// - `limits.hw()` is `self.queue.hardware`.
+    pub fn set(&mut self, queue: &BlockQueue, limits: Limits) -> Result<(), FreezeFault> {
+        if self.depth == 0 {
+            return Err(FreezeFault::NotFrozen);
+        }
+        if !self.poll_drained(queue) {
+            return Err(FreezeFault::NotDrained);
+        }
+        self.store(queue, limits);
+        Ok(())
+    }
+
+    /// Stores the limits where the control knows that nothing is held.
+    ///
+    /// # Preconditions
+    ///
+    /// - `self` belongs to `queue`.
+    /// - `limits.hw()` is `self.queue.hardware`.
+    /// - `self.drained` is `true`.
+    fn store(&mut self, queue: &BlockQueue, limits: Limits) {
+        store_words(&mut self.control, &queue.gate, limits.to_words());
+        self.limits = limits;
+    }
+
+    /// Counts in this mode from now on; a frozen queue does once it is thawed. Depth and limits stay. Linux:
+    /// `percpu_ref_switch_to_atomic_sync`, `percpu_ref_switch_to_percpu` (lib/percpu-refcount.c).
+    ///
+    /// # Preconditions
+    ///
+    /// - `self` belongs to `queue`.
+    pub fn mode(&mut self, queue: &BlockQueue, mode: Mode) {
+        let _switched = match mode {
+            Mode::Atomic => self.control.switch_to_atomic(&queue.gate),
+            Mode::Slots => self.control.switch_to_slots(&queue.gate),
+        };
+    }
+
+    /// Ends a freeze: the depth that is left, and whether the queue is live again: then those who wait to enter are to be
+    /// woken. The last thaw brings the gate back, drained or not. Refuses NotFrozen. Linux: `blk_mq_unfreeze_queue`
+    /// (block/blk-mq.c).
+    ///
+    /// # Preconditions
+    ///
+    /// - `self` belongs to `queue`.
+    pub fn thaw(&mut self, queue: &BlockQueue) -> Result<Thawed, FreezeFault> {
+        if self.depth == 0 {
+            return Err(FreezeFault::NotFrozen);
+        }
+        if self.depth == 1 {
+            self.revive(queue);
+        } else {
+            self.depth -= 1;
+        }
+        Ok(Thawed { depth: self.depth, live: self.depth == 0 })
+    }
+
+    /// Brings the gate back.
+    ///
+    /// # Preconditions
+    ///
+    /// - `self` belongs to `queue`.
+    /// - `self.depth()` is 1.
+    fn revive(&mut self, queue: &BlockQueue) {
+        debug_assert!(self.depth() == 1);
+        let _revived = self.control.resurrect(&queue.gate);
+        self.depth = 0;
+    }
+
+    /// Takes a tag back.
+    ///
+    /// # Preconditions
+    ///
+    /// - `self` belongs to `queue`.
+    /// - `tag` belongs to `queue`.
+    /// - `tag.entered()` is `false`.
+    pub(crate) fn take_back(&mut self, queue: &BlockQueue, tag: Tag) {
+        debug_assert!(!tag.entered());
+        self.control.retire(&queue.gate, tag.into_pass());
+    }
+
+    /// The control of a freezer that ends.
+    pub(crate) fn into_control(self) -> Control<LIMIT_WORDS> {
+        self.control
+    }
+}

@@ -1,0 +1,133 @@
+// Erased from crates/queue_core/src/queue.rt by tools/erase: edit that file.
+//! The queue: what tags enter and leave.
+
+use crate::erased::fallible::{AllocError, TryVec};
+use crate::erased::percpu_core::SLOT_LIMIT;
+use crate::erased::percpu_gate::{Gate, Memory, Pass, Put, Start};
+use crate::erased::queue_core::freezer::Freezer;
+use crate::erased::queue_core::limit_words::LIMIT_WORDS;
+use crate::erased::queue_core::tag::{Entry, Tag};
+use crate::erased::queue_limits::Limits;
+use alloc::vec::Vec;
+
+/// The most tags of a queue.
+pub const MOST_TAGS: u32 = 63;
+
+/// A queue, its freezer and its tags.
+pub type NewQueue = (BlockQueue, Freezer, Vec<Tag>);
+
+/// A queue that requests enter and leave, and that can be frozen. Threads share it by reference. Linux:
+/// `struct request_queue` (include/linux/blkdev.h).
+pub struct BlockQueue {
+    pub(crate) gate: Gate<LIMIT_WORDS>,
+    hardware: u32,
+}
+
+/// A tag for each of the new passes of a gate.
+///
+/// # Preconditions
+///
+/// - For each `p` of `passes` `p` is `fresh_pass(gate)`.
+fn make_tags(_gate: &Gate<LIMIT_WORDS>, passes: Vec<Pass<LIMIT_WORDS>>, hardware: u32) -> Result<Vec<Tag>, AllocError> {
+    let mut tags = Vec::try_with_room(passes.len())?;
+    for pass in passes {
+        tags.try_push(Tag::new(pass, hardware))?;
+    }
+    Ok(tags)
+}
+
+impl BlockQueue {
+    /// A live queue of these limits that counts on its slots (1 to 64), with so many tags (1 to 63), none of them
+    /// entered, and its freezer. Memory where a growth was refused. Linux: `blk_mq_alloc_queue` (block/blk-mq.c).
+    ///
+    /// # Preconditions
+    ///
+    /// - `slots` is from 1 to `SLOT_LIMIT`.
+    /// - `tags` is from 1 to `MOST_TAGS`.
+    pub fn new(limits: Limits, slots: u32, tags: u32) -> Result<NewQueue, Memory> {
+        debug_assert!(1 <= slots);
+        debug_assert!(slots <= SLOT_LIMIT);
+        debug_assert!(1 <= tags);
+        debug_assert!(tags <= MOST_TAGS);
+        let words = limits.to_words();
+        let (gate, mut control, passes) = Gate::new(slots, tags, Start::Atomic, words)?;
+        let _switched = control.switch_to_slots(&gate);
+        let hardware = limits.hw();
+        let made = make_tags(&gate, passes, hardware)?;
+        let queue = BlockQueue { gate, hardware };
+        Ok((queue, Freezer::new(control, limits), made))
+    }
+
+    /// The slots of the queue: 1 to 64.
+    #[inline]
+    pub fn slots(&self) -> u32 {
+        self.gate.slots()
+    }
+
+    /// Enters unless the queue is frozen. A refusal tells what its drop was answered: where that was the last, the
+    /// freezer is to be woken. Linux: `blk_queue_enter` with BLK_MQ_REQ_NOWAIT (block/blk-core.c).
+    ///
+    /// A refused try is counted for a moment, and so puts the drain off; in Linux `percpu_ref_tryget_live` looks at its
+    /// mark first and counts nothing then. So who tries again and again lets time pass between.
+    ///
+    /// # Preconditions
+    ///
+    /// - `tag` belongs to `self`.
+    /// - `slot` is less than `self.slots()`.
+    /// - `tag.entered()` is `false`.
+    #[inline]
+    pub fn try_enter(&self, tag: &mut Tag, slot: u32) -> Entry {
+        debug_assert!(slot < self.slots());
+        debug_assert!(!tag.entered());
+        tag.take_live(&self.gate, slot)
+    }
+
+    /// Enters a queue that may be frozen, to look at what is under way, unless it is drained. Until the tag leaves it
+    /// holds the drain off, and may read the limits. Linux: `percpu_ref_tryget` of `q_usage_counter`, as for timeouts and
+    /// for going over tags (block/blk-mq.c, block/blk-mq-tag.c).
+    ///
+    /// # Preconditions
+    ///
+    /// - `tag` belongs to `self`.
+    /// - `slot` is less than `self.slots()`.
+    /// - `tag.entered()` is `false`.
+    #[inline]
+    pub fn try_enter_frozen(&self, tag: &mut Tag, slot: u32) -> Entry {
+        debug_assert!(slot < self.slots());
+        debug_assert!(!tag.entered());
+        tag.take(&self.gate, slot)
+    }
+
+    /// Leaves. `Last` where that was the last drop of a freeze: the queue is drained, and the freezer is to be woken. Linux:
+    /// `blk_queue_exit` (block/blk-core.c).
+    ///
+    /// # Preconditions
+    ///
+    /// - `tag` belongs to `self`.
+    /// - `slot` is less than `self.slots()`.
+    /// - `tag.entered()` is `true`.
+    #[inline]
+    pub fn leave(&self, tag: &mut Tag, slot: u32) -> Put {
+        debug_assert!(slot < self.slots());
+        debug_assert!(tag.entered());
+        tag.put(&self.gate, slot)
+    }
+
+    /// The limits in force, for an entered tag: the same at each call until it leaves, in whichever threads the
+    /// calls are made.
+    ///
+    /// # Preconditions
+    ///
+    /// - `tag` belongs to `self`.
+    /// - `tag.entered()` is `true`.
+    #[inline]
+    pub fn limits(&self, tag: &mut Tag) -> Limits {
+        debug_assert!(tag.entered());
+        Limits::from_words(self.hardware, tag.words(&self.gate))
+    }
+
+    /// The gate of a queue that ends.
+    pub(crate) fn into_gate(self) -> Gate<LIMIT_WORDS> {
+        self.gate
+    }
+}

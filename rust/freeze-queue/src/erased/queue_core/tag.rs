@@ -1,0 +1,107 @@
+// Erased from crates/queue_core/src/tag.rt by tools/erase: edit that file.
+//! A tag: the right to have one request under way.
+
+use crate::erased::percpu_gate::{Gate, Pass, Put, Tried};
+use crate::erased::queue_core::limit_words::{LIMIT_WORDS, load_words};
+
+/// What an attempt to enter answers.
+#[derive(Clone, Copy, Debug, PartialEq, Eq)]
+pub enum Entry {
+    /// The tag is entered, until it leaves.
+    Entered,
+    /// The tag isn't entered. The try was counted for a moment, and dropping that was answered so: where it was the
+    /// last, the queue is drained, and the freezer is to be woken.
+    Refused(Put),
+}
+
+/// The right to have one request under way in one queue. Linux: a request's tag (block/blk-mq-tag.c).
+///
+/// It moves between threads with its request. One that is dropped while it is entered keeps the queue from
+/// ever being drained.
+pub struct Tag {
+    pass: Pass<LIMIT_WORDS>,
+    #[allow(dead_code)] // only proofs read it
+    hardware: u32,
+}
+
+impl Tag {
+    /// A tag that hasn't entered.
+    ///
+    /// # Preconditions
+    ///
+    /// - `pass` is `fresh_pass(pass.gate)`.
+    pub(crate) fn new(pass: Pass<LIMIT_WORDS>, hardware: u32) -> Tag {
+        Tag { pass, hardware }
+    }
+
+    /// Whether it has entered its queue and not left.
+    #[inline]
+    pub fn entered(&self) -> bool {
+        self.pass.held() == 1
+    }
+
+    /// Takes the one reference of a tag, unless the gate was killed.
+    ///
+    /// # Preconditions
+    ///
+    /// - `self.queue.gate` is `gate`.
+    /// - `slot` is less than `gate.slots()`.
+    /// - `self.entered()` is `false`.
+    #[inline]
+    pub(crate) fn take_live(&mut self, gate: &Gate<LIMIT_WORDS>, slot: u32) -> Entry {
+        debug_assert!(slot < gate.slots());
+        debug_assert!(!self.entered());
+        match self.pass.try_get_live(gate, slot) {
+            Tried::Given => Entry::Entered,
+            Tried::Refused(put) => Entry::Refused(put),
+        }
+    }
+
+    /// Takes it unless the gate is at zero.
+    ///
+    /// # Preconditions
+    ///
+    /// - `self.queue.gate` is `gate`.
+    /// - `slot` is less than `gate.slots()`.
+    /// - `self.entered()` is `false`.
+    #[inline]
+    pub(crate) fn take(&mut self, gate: &Gate<LIMIT_WORDS>, slot: u32) -> Entry {
+        debug_assert!(slot < gate.slots());
+        debug_assert!(!self.entered());
+        match self.pass.try_get(gate, slot) {
+            Tried::Given => Entry::Entered,
+            Tried::Refused(put) => Entry::Refused(put),
+        }
+    }
+
+    /// Drops it.
+    ///
+    /// # Preconditions
+    ///
+    /// - `self.queue.gate` is `gate`.
+    /// - `slot` is less than `gate.slots()`.
+    /// - `self.entered()` is `true`.
+    #[inline]
+    pub(crate) fn put(&mut self, gate: &Gate<LIMIT_WORDS>, slot: u32) -> Put {
+        debug_assert!(slot < gate.slots());
+        debug_assert!(self.entered());
+        self.pass.put(gate, slot, 1)
+    }
+
+    /// Loads the words that hold the limits.
+    ///
+    /// # Preconditions
+    ///
+    /// - `self.queue.gate` is `gate`.
+    /// - `self.entered()` is `true`.
+    #[inline]
+    pub(crate) fn words(&mut self, gate: &Gate<LIMIT_WORDS>) -> [u64; LIMIT_WORDS] {
+        debug_assert!(self.entered());
+        load_words(&mut self.pass, gate)
+    }
+
+    /// The pass of a tag that ends.
+    pub(crate) fn into_pass(self) -> Pass<LIMIT_WORDS> {
+        self.pass
+    }
+}

@@ -1,0 +1,46 @@
+// Erased from crates/queue_limits/src/fault.rt by tools/erase: edit that file.
+//! Why limits are refused.
+
+use core::error::Error;
+use core::fmt;
+
+/// Why limits are refused. Where several apply, [`Limits::new`](crate::erased::queue_limits::Limits::new) answers
+/// `HardwareRange` first, then `AboveHardware`, then `ChunkTooLarge`.
+#[derive(Clone, Copy, Debug, PartialEq, Eq)]
+pub enum LimitFault {
+    /// The most sectors of a request are more than the hardware takes.
+    AboveHardware,
+    /// The chunk has more than 65,535 sectors.
+    ChunkTooLarge,
+    /// The hardware limit isn't from 1 to 65,535 sectors.
+    HardwareRange,
+    /// The physical block hasn't a power of two of sectors, or more than 32,768.
+    BadPhysical,
+}
+
+impl fmt::Display for LimitFault {
+    fn fmt(&self, f: &mut fmt::Formatter<'_>) -> fmt::Result {
+        match self {
+            LimitFault::AboveHardware => f.write_str("more sectors than the hardware takes"),
+            LimitFault::ChunkTooLarge => f.write_str("a chunk of more than 65535 sectors"),
+            LimitFault::HardwareRange => f.write_str("a hardware limit outside 1 to 65535 sectors"),
+            LimitFault::BadPhysical => {
+                f.write_str("a physical block that isn't a power of two from 1 to 32768 sectors")
+            }
+        }
+    }
+}
+
+impl Error for LimitFault {}
+
+impl LimitFault {
+    /// The fault's number, from 1 in the order of declaration.
+    pub fn number(&self) -> u8 {
+        match self {
+            LimitFault::AboveHardware => 1,
+            LimitFault::ChunkTooLarge => 2,
+            LimitFault::HardwareRange => 3,
+            LimitFault::BadPhysical => 4,
+        }
+    }
+}

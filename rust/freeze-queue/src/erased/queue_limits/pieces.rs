@@ -1,0 +1,46 @@
+// Erased from crates/queue_limits/src/pieces.rt by tools/erase: edit that file.
+//! The pieces of a range, one after another.
+
+use crate::erased::queue_limits::limits::Limits;
+
+/// The lengths of the pieces that are left of a range, in sectors: an iterator that
+/// [`Limits::pieces`](crate::erased::queue_limits::Limits::pieces) makes.
+#[derive(Debug)]
+pub struct Pieces {
+    limits: Limits,
+    start: u64,
+    left: u32,
+}
+
+impl Pieces {
+    /// # Preconditions
+    ///
+    /// - `start` is less than `2^32`.
+    pub(crate) fn new(limits: Limits, start: u64, left: u32) -> Self {
+        debug_assert!(start < 1 << 32);
+        // Bound so that the proof learns what the type keeps of its numbers.
+        let _max = limits.max();
+        Pieces { limits, start, left }
+    }
+}
+
+impl Iterator for Pieces {
+    type Item = u32;
+
+    fn next(&mut self) -> Option<u32> {
+        if self.left == 0 {
+            return None;
+        }
+        let length = self.limits.first_piece(self.start, self.left);
+        self.start += u64::from(length);
+        self.left -= length;
+        Some(length)
+    }
+
+    /// At most as many pieces as are left, and above 0 where any is; and the sectors that are left, since each piece
+    /// has one at least.
+    fn size_hint(&self) -> (usize, Option<usize>) {
+        let least = self.left.div_ceil(self.limits.max());
+        (least as usize, Some(self.left as usize))
+    }
+}

@@ -1,0 +1,58 @@
+// A stand-in for types of the kit's library, written by hand: tools/erase leaves it alone.
+//! What threads wait by: a lock, a condition, and the one atomic number that [`crossbeam_utils`] reads without its lock.
+//! Nothing else of the queue waits, so a scheduler that steps through waits takes the place of this file.
+//!
+//! [`crossbeam_utils`]: crate::erased::crossbeam_utils
+
+use std::sync::PoisonError;
+
+pub use std::sync::MutexGuard;
+pub use std::sync::atomic::AtomicUsize;
+
+/// A value that one thread has at a time. It isn't poisoned: if a thread panics that has it, the others get it as it stands.
+#[derive(Debug)]
+pub struct Mutex<T>(std::sync::Mutex<T>);
+
+impl<T> Mutex<T> {
+    /// A value that no thread has.
+    pub const fn new(value: T) -> Mutex<T> {
+        Mutex(std::sync::Mutex::new(value))
+    }
+
+    /// The value, once no other thread has it.
+    #[inline]
+    pub fn lock(&self) -> MutexGuard<'_, T> {
+        self.0.lock().unwrap_or_else(PoisonError::into_inner)
+    }
+
+    /// The value, which no thread has any more.
+    pub fn into_inner(self) -> T {
+        self.0.into_inner().unwrap_or_else(PoisonError::into_inner)
+    }
+}
+
+/// A condition that threads sleep on. A thread may wake with no call, so it looks again.
+#[derive(Debug)]
+pub struct Condvar(std::sync::Condvar);
+
+impl Condvar {
+    /// No thread sleeps.
+    pub const fn new() -> Condvar {
+        Condvar(std::sync::Condvar::new())
+    }
+
+    /// Lets the lock go, sleeps, and takes the lock again.
+    pub fn wait<'a, T>(&self, guard: MutexGuard<'a, T>) -> MutexGuard<'a, T> {
+        self.0.wait(guard).unwrap_or_else(PoisonError::into_inner)
+    }
+
+    /// Wakes one thread that sleeps.
+    pub fn notify_one(&self) {
+        self.0.notify_one();
+    }
+
+    /// Wakes all threads that sleep.
+    pub fn notify_all(&self) {
+        self.0.notify_all();
+    }
+}

@@ -1,0 +1,48 @@
+//! The erased gate and queue, in every order of their steps.
+//!
+//! A test with threads sees the orders that the machine happens to take. This crate takes all of them. It compiles the erased
+//! files of `percpu-gate` and `freeze-queue` again, the same files, over stand-ins of its own: each atomic step, each lock and
+//! unlock, each sleep and each wake goes to a scheduler.
+//!
+//! There are no threads. The next step of an actor follows from the results of its steps before. The scheduler therefore runs
+//! the actor again from its start ([`Race::act`]), hands it those results, and unwinds it at its next step: once for each list of
+//! results. A state is the values of all words, and the place of each actor. [`Orders`] goes through the states layer by layer,
+//! each once, and counts the interleavings that lead there.
+//!
+//! A lock and a condition are words too, and a step on them may have to wait. A state in which no actor can step, and one hasn't
+//! ended, is a deadlock or a lost wake: [`Fault::Stuck`] has a schedule that leads to it.
+//!
+//! If a race has too many orders, [`Orders::switches`] bounds the context switches beyond those that a wait needs.
+//!
+//! The races are in `tests/`:
+//!
+//! - `gate`: the races of `examples/`, and random ones. They have the outcomes that `gate_races` finds, which searches by the
+//!   machine and not by the code.
+//! - `queue`: tags enter, read the limits twice, leave and look in, beside nested freezes, new limits, thaws and the removal. The
+//!   limits hold still under a tag, each drain has one last release, and each call is answered as its contract says.
+//! - `waits`: tags that wait to enter, beside threads that freeze by one shared freezer. No wake is lost.
+//!
+//! `tests/rust/orders_wrong` plants mistakes in a copy, each of which they find.
+//!
+//! Two things aren't tried: a memory order weaker than sequentially consistent, which no step asks for, and a thread that wakes
+//! with no call. A waiter tries once before it announces its wait, and not eleven times.
+#![forbid(unsafe_code)]
+
+extern crate alloc;
+
+mod actor;
+#[doc(hidden)]
+pub mod erased;
+mod gate_race;
+mod guarded;
+mod memory;
+mod op;
+mod orders;
+mod queue_race;
+mod wait_race;
+
+pub use actor::{at_once, join};
+pub use gate_race::{Call, GateRace};
+pub use orders::{Ending, Fault, Found, Orders, Race};
+pub use queue_race::{FIRST_MOST, Freezing, QueueRace, Told, Visit};
+pub use wait_race::{FIRST, WaitRace, Waited};

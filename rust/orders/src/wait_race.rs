@@ -1,0 +1,98 @@
+//! Races of the queue that waits.
+
+use crate::actor::{at_once, join};
+use crate::erased::freeze_queue::{BlockQueue, FreezeFault, Limits, NewQueue, SharedFreezer, Tag};
+use crate::erased::wait_queue::WaitQueue;
+use crate::orders::Race;
+
+/// Tags that enter, and wait for that; and threads that freeze by one shared freezer, wait for the drain, set limits and thaw.
+#[derive(Clone, Copy, Debug)]
+pub struct WaitRace {
+    /// How many tags enter.
+    pub tags: usize,
+    /// How many threads freeze.
+    pub freezers: usize,
+    /// How often each tag enters.
+    pub rounds: usize,
+}
+
+/// An answer.
+#[derive(Clone, Debug, PartialEq, Eq, PartialOrd, Ord)]
+pub enum Waited {
+    /// The largest request at both looks of each visit, and the releases of the tag.
+    Entered(Vec<(u32, u32)>, u64),
+    /// The depths that were seen, and whether others thawed the queue before its drain was seen.
+    Froze(Vec<u32>, bool),
+    /// At the end: depth, kills and releases of the freezer.
+    End(u32, u64, u64),
+}
+
+/// The largest request at the start. Freezers set one less, two less and so on.
+pub const FIRST: u32 = 8;
+
+/// Has a thread wait and another wake it, for each lock to be named.
+fn use_once(waits: &WaitQueue) {
+    let mut tries = waits.announced_tries();
+    tries.next();
+    waits.wake_all();
+}
+
+fn queue_of(tags: usize) -> NewQueue {
+    let tags = u32::try_from(tags).expect("few tags");
+    let made = BlockQueue::new(Limits::start(FIRST).expect("limits"), 1, tags).expect("memory");
+    use_once(&made.0.drained);
+    use_once(&made.0.thawed);
+    made
+}
+
+fn enters(queue: &BlockQueue, mut tag: Tag, rounds: usize) -> Waited {
+    let mut seen = Vec::new();
+    for _ in 0..rounds {
+        queue.enter(&mut tag, 0);
+        seen.push((queue.limits(&mut tag).max(), queue.limits(&mut tag).max()));
+        let _put = queue.leave(&mut tag, 0);
+    }
+    Waited::Entered(seen, tag.into_pass().into_parts().1)
+}
+
+/// Freezes, sets the limits and thaws; a thaw that comes from another meanwhile is no fault.
+fn freezes(shared: &SharedFreezer<'_>, most: u32) -> Waited {
+    let mut guard = match shared.freeze() {
+        Ok(guard) => guard,
+        Err(FreezeFault::NotFrozen) => return Waited::Froze(Vec::new(), true),
+        Err(other) => panic!("{other}"),
+    };
+    let queue = guard.queue;
+    let before = guard.freezer.depth();
+    guard.freezer.set(queue, Limits::new(FIRST, most, 0).expect("limits")).expect("a drained queue");
+    let after = guard.freezer.thaw(queue).expect("a frozen queue");
+    Waited::Froze(vec![before, after], false)
+}
+
+impl Race for WaitRace {
+    type Answer = Waited;
+
+    fn actors(&self) -> usize {
+        self.tags + self.freezers + 1
+    }
+
+    fn act(&self, actor: usize) -> Waited {
+        let (queue, freezer, mut tags) = at_once(|| queue_of(self.tags));
+        let shared = at_once(|| {
+            let shared = SharedFreezer::new(freezer, &queue);
+            drop(shared.lock());
+            shared
+        });
+        if actor < self.tags {
+            return enters(&queue, tags.swap_remove(actor), self.rounds);
+        }
+        if actor < self.tags + self.freezers {
+            return freezes(&shared, FIRST - 1 - u32::try_from(actor - self.tags).expect("few freezers"));
+        }
+        join();
+        let freezer = shared.into_inner().freezer;
+        let depth = freezer.depth();
+        let control = freezer.core.into_control();
+        Waited::End(depth, control.kills(), control.releases())
+    }
+}

@@ -1,0 +1,140 @@
+//! Races of the queue that doesn't wait, in all interleavings.
+
+use orders::erased::percpu_words::Mode;
+use orders::{FIRST_MOST, Freezing, Orders, QueueRace, Told, Visit};
+
+use Freezing::{Count, Freeze, Set, Thaw};
+use Visit::{Enter, Look};
+
+fn is_last(told: &Told) -> bool {
+    matches!(told, Told::Visited(_, _, true) | Told::Refused(true) | Told::Frozen(_, true))
+}
+
+/// The freezer's calls are answered as their contracts say, where that doesn't depend on the drain.
+fn check_freezer(race: &QueueRace, told: &[Told]) {
+    let mut depth = 0;
+    for (call, answer) in race.freezer.iter().zip(told) {
+        let as_it_must = match call {
+            Freeze => {
+                depth += 1;
+                matches!(answer, Told::Frozen(is, last) if *is == depth && (depth == 1 || !last))
+            }
+            Set(_) => {
+                if depth == 0 {
+                    *answer == Told::Fault(2)
+                } else {
+                    matches!(answer, Told::Set | Told::NotDrained)
+                }
+            }
+            Thaw if depth == 0 => *answer == Told::Fault(2),
+            Thaw => {
+                depth -= 1;
+                *answer == Told::Thawed(depth, depth == 0)
+            }
+            Count(_) => *answer == Told::Counts,
+        };
+        assert!(as_it_must, "{call:?} was answered {answer:?}");
+    }
+}
+
+/// The limits that were in force, in order; each freeze has at most one release, and one in which limits were set has it.
+fn check_outcome(race: &QueueRace, answers: &[Vec<Told>]) {
+    let (freezer, tags) = answers.split_last().unwrap();
+    check_freezer(race, freezer);
+    let set = race.freezer.iter().zip(freezer).filter_map(|(call, answer)| match call {
+        Set(most) if *answer == Told::Set => Some(*most),
+        _ => None,
+    });
+    let in_force: Vec<u32> = [FIRST_MOST].into_iter().chain(set).collect();
+    let lasts = answers.iter().flatten().filter(|told| is_last(told)).count() as u64;
+    for (visit, told) in race.tags.iter().flatten().zip(tags.iter().flatten()) {
+        if let Told::Visited(one, other, _) = told {
+            assert_eq!(one, other, "limits changed under a tag");
+            assert!(in_force.contains(one), "{one} of {in_force:?}");
+        } else {
+            assert!(*visit == Enter || lasts > 0, "a look in is refused by a drained queue alone");
+        }
+    }
+    let begun = |told: &&Told| matches!(told, Told::Frozen(1, _));
+    let kills = freezer.iter().filter(begun).count() as u64;
+    let drained = freezer.contains(&Told::Set);
+    assert!(lasts <= kills && (lasts == kills || !drained || kills > 1), "{lasts} were last, of {kills} freezes");
+    // A queue that is frozen to the end isn't killed again. Else the removal kills it, and is the last of that freeze.
+    let live = freezer.iter().rev().find_map(|told| match told {
+        Told::Thawed(depth, _) => Some(*depth == 0),
+        Told::Frozen(..) => Some(false),
+        _ => None,
+    });
+    let more = u64::from(live.unwrap_or(true));
+    let of_freezer = freezer.iter().filter(|told| matches!(told, Told::Frozen(_, true))).count() as u64;
+    let most = u64::from(*in_force.last().unwrap());
+    assert_eq!(*freezer.last().unwrap(), Told::Removed(kills + more, of_freezer + more, most), "{answers:?}");
+    if more == 0 {
+        assert_eq!(lasts, kills, "a queue that ends frozen is drained");
+    }
+}
+
+fn check(name: &str, tags: &[&[Visit]], freezer: &[Freezing]) -> Vec<Vec<Vec<Told>>> {
+    let race = QueueRace { tags: tags.iter().map(|it| it.to_vec()).collect(), freezer: freezer.to_vec() };
+    check_orders(name, &race, Orders::of(&race))
+}
+
+/// Checks each outcome of a race, and returns all of them.
+fn check_orders(name: &str, race: &QueueRace, mut orders: Orders<'_, QueueRace>) -> Vec<Vec<Vec<Told>>> {
+    let found = orders.find().unwrap_or_else(|fault| panic!("{name}: {fault:#?}"));
+    println!(
+        "orders of {name}: {} outcomes, {} states, {} interleavings",
+        found.outcomes.len(),
+        found.states,
+        found.interleavings
+    );
+    for (answers, ending) in &found.outcomes {
+        let is_right = std::panic::catch_unwind(|| check_outcome(race, answers)).is_ok();
+        assert!(is_right, "{name}: {answers:?} by\n{}", orders.schedule(ending).join("\n"));
+    }
+    found.outcomes.into_keys().collect()
+}
+
+#[test]
+fn two_enter_beside_a_change_of_limits() {
+    check("two tags beside a change of limits", &[&[Enter], &[Enter]], &[Freeze, Set(4), Thaw]);
+}
+
+#[test]
+fn one_enters_and_one_looks_in_beside_nested_freezes() {
+    check(
+        "a tag and a look in beside nested freezes",
+        &[&[Enter], &[Look]],
+        &[Freeze, Freeze, Set(4), Thaw, Set(2), Thaw],
+    );
+}
+
+#[test]
+fn two_look_in_beside_a_change_of_limits() {
+    check("two looks in beside a change of limits", &[&[Look], &[Look]], &[Freeze, Set(4), Thaw]);
+}
+
+#[test]
+fn one_enters_twice_beside_two_freezes() {
+    let (tags, freezer) = (vec![vec![Enter, Look, Enter]], vec![Freeze, Set(4), Thaw, Freeze, Set(2), Thaw]);
+    let race = QueueRace { tags, freezer };
+    check_orders("a tag beside two freezes, at most 4 switches", &race, Orders::of(&race).switches(4));
+}
+
+#[test]
+fn one_enters_while_the_mode_changes() {
+    check(
+        "a tag beside changes of the mode",
+        &[&[Enter, Enter]],
+        &[Count(Mode::Atomic), Freeze, Set(4), Count(Mode::Slots), Thaw, Count(Mode::Atomic)],
+    );
+}
+
+#[test]
+fn two_enter_a_queue_that_stays_frozen() {
+    let outcomes =
+        check("two tags and a queue that stays frozen", &[&[Enter], &[Enter, Look]], &[Thaw, Freeze, Set(4)]);
+    // While the one is in, the other can't enter any more, and can look in.
+    let looks = |it: &Vec<Vec<Told>>| matches!(it[1][..], [Told::Refused(_), Told::Visited(..)]);
+    assert!(outcomes.iter().any(looks), "{outcomes:?}");
+}

@@ -1,0 +1,125 @@
+// Erased from crates/percpu_core/src/control_standing.rt by tools/erase: edit that file.
+//! Where the control stands between two of its steps.
+
+use crate::erased::percpu_core::control_event::ControlEvent;
+use crate::erased::percpu_core::limits::KILL_LIMIT;
+use crate::erased::percpu_core::not_enabled::NotEnabled;
+use crate::erased::percpu_core::pass_standing::{PassStanding, Pending};
+use crate::erased::percpu_core::phase::Phase;
+use crate::erased::percpu_core::reply::Reply;
+use crate::erased::percpu_core::sizes::Sizes;
+
+/// The phase, the kills so far (those that the gate started with included), whether the control has a zero
+/// to mark, and the sum of the deltas that it has closed and not collected yet.
+#[derive(Clone, Copy, Debug, PartialEq, Eq)]
+pub struct ControlStanding {
+    pub phase: Phase,
+    pub kills: u64,
+    pub to_mark: bool,
+    pub uncollected: i64,
+}
+
+impl ControlStanding {
+    /// Why the step may not be taken, at a gate of these sizes with ZERO set or not;
+    /// `joining` is the pass that is to join. The order of the tests is part of the answer.
+    pub(crate) fn refusal(
+        self,
+        sizes: Sizes,
+        zero: bool,
+        joining: Option<PassStanding>,
+        event: ControlEvent,
+    ) -> Option<NotEnabled> {
+        if names_no_pass(joining, event) {
+            Some(NotEnabled::NoSuchActor)
+        } else if event.stores_no_word(sizes.words) {
+            Some(NotEnabled::NoSuchWord)
+        } else if self.must_mark(event) || joins_mid_call(joining, event) {
+            Some(NotEnabled::MidCall)
+        } else if !self.is_in_turn(sizes.slots, zero, event) {
+            Some(NotEnabled::WrongPhase)
+        } else if joins_holding(joining, event) {
+            Some(NotEnabled::StillHeld)
+        } else if self.wears_out(event) {
+            Some(NotEnabled::WornOut)
+        } else {
+            None
+        }
+    }
+
+    /// Whether a zero is to be marked first.
+    fn must_mark(self, event: ControlEvent) -> bool {
+        self.to_mark && !matches!(event, ControlEvent::Mark)
+    }
+
+    /// Whether the step belongs to this phase. A guarded word is stored in the phase dead with ZERO
+    /// set.
+    fn is_in_turn(self, slots: usize, zero: bool, event: ControlEvent) -> bool {
+        match event {
+            ControlEvent::MarkDead => self.phase.is_live(),
+            ControlEvent::Close => self.phase.has_slot_to_close(slots),
+            ControlEvent::Collect => self.phase.has_closed_all(slots),
+            ControlEvent::Confirm => self.phase == Phase::Collected,
+            ControlEvent::DropBase => self.phase == Phase::Confirmed,
+            ControlEvent::Mark => self.to_mark,
+            ControlEvent::TakeBase => self.phase == Phase::Dead,
+            ControlEvent::NextFront => self.phase == Phase::Reviving,
+            ControlEvent::ClearDead => self.phase == Phase::Fronted,
+            ControlEvent::AddBias => self.phase == Phase::LiveAtomic,
+            ControlEvent::OpenNext => matches!(self.phase, Phase::Opening(_)),
+            ControlEvent::StoreWord { .. } => self.phase == Phase::Dead && zero,
+            ControlEvent::Join(_) | ControlEvent::LookShared => true,
+        }
+    }
+
+    /// Whether there is no kill left for the step.
+    fn wears_out(self, event: ControlEvent) -> bool {
+        self.kills >= KILL_LIMIT && matches!(event, ControlEvent::MarkDead)
+    }
+
+    /// Where the control stands once its step is answered, at a gate with so many slots and DEAD set or
+    /// not.
+    ///
+    /// # Preconditions
+    ///
+    /// - `self.kills` is less than `2^63`.
+    /// - `next_slot(self.phase)` is at most `SLOT_LIMIT`.
+    /// - `unsigned_abs(self.uncollected)` is at most `2^32`.
+    /// - `unsigned_abs(steps.closed_delta(reply))` is at most `2^32`.
+    pub(crate) fn after(self, event: ControlEvent, reply: Reply, slots: usize, dead: bool) -> ControlStanding {
+        debug_assert!(self.kills < 1 << 63);
+        ControlStanding {
+            phase: event.phase_after(slots, dead, self.phase),
+            kills: match event {
+                ControlEvent::MarkDead => self.kills + 1,
+                _ => self.kills,
+            },
+            to_mark: reply == Reply::ToMark,
+            uncollected: match event {
+                ControlEvent::Close => self.uncollected + reply.closed_delta(),
+                ControlEvent::Collect => 0,
+                _ => self.uncollected,
+            },
+        }
+    }
+}
+
+/// Whether the pass that is to join isn't there.
+fn names_no_pass(joining: Option<PassStanding>, event: ControlEvent) -> bool {
+    joining.is_none() && matches!(event, ControlEvent::Join(_))
+}
+
+/// Whether the pass that is to join still owes something.
+fn joins_mid_call(joining: Option<PassStanding>, event: ControlEvent) -> bool {
+    match (joining, event) {
+        (Some(pass), ControlEvent::Join(_)) => pass.pending != Pending::Nothing,
+        _ => false,
+    }
+}
+
+/// Whether the pass that is to join still holds something.
+fn joins_holding(joining: Option<PassStanding>, event: ControlEvent) -> bool {
+    match (joining, event) {
+        (Some(pass), ControlEvent::Join(_)) => pass.held > 0,
+        _ => false,
+    }
+}

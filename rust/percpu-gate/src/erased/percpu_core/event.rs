@@ -1,0 +1,12 @@
+// Erased from crates/percpu_core/src/event.rt by tools/erase: edit that file.
+//! The events of a gate: each is one atomic step of one seat.
+
+use crate::erased::percpu_core::control_event::ControlEvent;
+use crate::erased::percpu_core::pass_event::PassEvent;
+
+/// One atomic step, by the pass of that number or by the control.
+#[derive(Clone, Copy, Debug, PartialEq, Eq)]
+pub enum Event {
+    Pass(u32, PassEvent),
+    Control(ControlEvent),
+}

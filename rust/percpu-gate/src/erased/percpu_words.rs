@@ -1,0 +1,18 @@
+// Erased from crates/percpu_words/src/lib.rt by tools/erase: edit that file.
+//! The words of a gate, how a count of references and its two marks share one `u64`; and the mode in which it counts.
+//!
+//! A gate counts references in a *shared word*. Bits 0 to 61 are the count. Bit 62, `DEAD`, says that
+//! the gate was killed, and bit 63, `ZERO`, that the count has reached zero since. All three change
+//! together in one atomic step, and adding to the count leaves the marks alone.
+//!
+//! While a gate counts on slots, each is a word of its own: bit 63 alone where it is closed, else `2^32 + d` for the delta `d`,
+//! what was taken on it less what was given back on it. The shared value has a bias in it then, so that it can't reach zero
+//! by what the slots hold.
+
+mod mode;
+mod shared_word;
+mod slot;
+
+pub use mode::Mode;
+pub use shared_word::{BIAS, DEAD, ZERO, is_dead, is_zero, value};
+pub use slot::{CLOSED, DELTA_MAX, is_closed, slot_delta, slot_word};

@@ -1,0 +1,32 @@
+//! What a gate's control and its passes share.
+use crate::OnLast;
+use crate::erased::percpu_gate as erased;
+use core::sync::atomic::{AtomicU64, Ordering::Relaxed};
+
+/// Guarded words of a gate.
+pub(crate) const WORD_COUNT: usize = 8;
+
+pub(crate) type ErasedGate = erased::Gate<WORD_COUNT>;
+pub(crate) type ErasedControl = erased::Control<WORD_COUNT>;
+pub(crate) type ErasedPass = erased::Pass<WORD_COUNT>;
+
+/// A gate that several threads have a share of.
+pub(crate) struct Shared {
+    pub(crate) gate: ErasedGate,
+    /// From 1 on. No other gate has it.
+    pub(crate) number: u64,
+    on_last: OnLast,
+}
+
+impl Shared {
+    pub(crate) fn of(gate: ErasedGate, on_last: OnLast) -> Shared {
+        static NUMBERS: AtomicU64 = AtomicU64::new(1);
+        Shared { gate, number: NUMBERS.fetch_add(1, Relaxed), on_last }
+    }
+
+    /// Calls `on_last`, for the one call of the gate that was answered that its reference was the last.
+    #[cold]
+    pub(crate) fn call_on_last(&self) {
+        (self.on_last)();
+    }
+}

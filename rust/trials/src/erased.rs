@@ -1,0 +1,19 @@
+//! The crates of ../../../crates that test others, without their contracts. tools/erase writes the files that say so in their
+//! first line.
+#![forbid(unsafe_code)]
+#![allow(missing_docs, missing_debug_implementations, clippy::all, clippy::pedantic, rustdoc::all)]
+
+pub mod trials_gate;
+pub mod trials_program;
+pub mod trials_queue;
+pub mod trials_races;
+pub mod trials_run;
+pub mod trials_script;
+pub mod uses;
+
+pub use ::blkq::erased::{
+    atomic_table, blk_script, blk_workers, blkq_run, counted_io, crossbeam_queue, crossbeam_utils, env, fallible,
+    freeze_queue, gate_replay, line_text, maps, percpu_core, percpu_gate, percpu_words, pointers, queue_core,
+    queue_limits, race_answers, race_calls, race_outcomes, race_search, race_world, races_text, ram_disk, run_queues,
+    script_meaning, streams, sync, thread, wait_queue,
+};

@@ -1,0 +1,12 @@
+// Erased from crates/trials_gate/src/tests/running.rt by tools/erase: edit that file.
+//! Worked rows by hand, limits, threads and the end.
+
+mod amounts;
+mod caller;
+mod ends;
+mod kills;
+mod revivals;
+mod rows;
+mod slots;
+mod threads;
+mod trial;

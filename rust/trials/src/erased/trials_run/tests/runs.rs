@@ -1,0 +1,249 @@
+// Erased from crates/trials_run/src/tests/runs.rt by tools/erase: edit that file.
+//! What no clause says of a run: that its threads work at the same time, and that it drains through the queue.
+
+use crate::erased::blk_script::{Checked, parse, render_disk, run_alone};
+use crate::erased::blk_workers::{Config, NoStall, Point, Ran, Stall, run_checked};
+use crate::erased::fallible::{Fail, TryText, TryVec};
+use crate::erased::thread;
+use std::fmt::Write;
+use std::hint;
+use std::sync::atomic::{AtomicBool, AtomicU32, Ordering};
+
+/// A script with a line of each kind.
+const MIXED: &[u8] =
+    b"blkq 1\ndisk 16 hw 8\nwrite 0 4 01\nread 8 4\nset max_sectors 3\nread 0 4\nfreeze\nfreeze\nread 0 1\nset chunk_sectors 2\nthaw\nthaw\nthaw\nwrite 4 9 0203\nread 0 2\nstat\nread 3 12\nwrite 15 2 ff\nmode atomic\nremove\nread 0 1\n";
+
+/// Two writes, a drain, and a read of both.
+const WRITTEN_THEN_READ: &[u8] = b"blkq 1\ndisk 4 hw 4\nwrite 0 1 01\nwrite 1 1 02\nfreeze\nthaw\nread 0 2\n";
+
+/// Two requests that overlap in nothing, and a drain.
+const TWO: &[u8] = b"blkq 1\ndisk 8 hw 8\nwrite 0 2 01\nwrite 4 2 02\nstat\nread 0 8\n";
+
+/// The last request overlaps the one before it, and waits for a drain.
+const ORDERED: &[u8] = b"blkq 2\ndisk 8 hw 8\nread 0 4\nread 2 4\nwrite 6 1 ff\nread 6 2\n";
+
+// Runs a script, and tells whether its text is the one of a single thread.
+fn agrees<S: Stall>(text: &[u8], workers: u32, tags: u32, stall: &S) -> Result<bool, Fail> {
+    let script = parse(text)?;
+    let checked = Checked::of(&script)?;
+    let config = Config::new(workers, 3, tags).ok_or("within the limits")?;
+    let Ran { mut replies, disk, drawn: _ } = run_checked(&checked, config, stall)?;
+    let line = render_disk(&disk)?;
+    replies.try_extend_from_slice(&line)?;
+    Ok(replies == run_alone(&script)?)
+}
+
+#[test]
+fn mixed_lines() -> Result<(), Fail> {
+    for (workers, tags) in [(1, 1), (2, 1), (4, 16), (32, 63)] {
+        assert!(agrees(MIXED, workers, tags, &NoStall)?, "{workers} {tags}");
+    }
+    Ok(())
+}
+
+/// Holds each of the first two requests, once drawn, until both are, for 10,000,000 turns at most, and notes one that
+/// was held so long.
+struct Meets {
+    drawn: AtomicU32,
+    alone: AtomicBool,
+}
+
+impl Stall for Meets {
+    fn at(&self, number: u32, point: Point) {
+        if point != Point::Drawn || number >= 2 {
+            return;
+        }
+        self.drawn.fetch_add(1, Ordering::SeqCst);
+        for _ in 0..10_000_000 {
+            if self.drawn.load(Ordering::SeqCst) == 2 {
+                return;
+            }
+            thread::yield_now();
+        }
+        self.alone.store(true, Ordering::SeqCst);
+    }
+}
+
+// Where one worker alone draws, it is held for all its turns.
+#[test]
+fn two_at_once() -> Result<(), Fail> {
+    let meets = Meets { drawn: AtomicU32::new(0), alone: AtomicBool::new(false) };
+    assert!(agrees(TWO, 2, 2, &meets)?);
+    assert!(!meets.alone.load(Ordering::SeqCst));
+    Ok(())
+}
+
+/// Holds a request at a point for 1,000,000 turns, yields at one of 1,000, and notes a drain that comes before.
+struct Holds {
+    number: u32,
+    point: Point,
+    passed: AtomicBool,
+    early: AtomicBool,
+}
+
+impl Stall for Holds {
+    fn at(&self, number: u32, point: Point) {
+        if point == self.point && number == self.number {
+            for turn in 0..1_000_000u32 {
+                if turn % 1_000 == 0 {
+                    thread::yield_now();
+                }
+                hint::spin_loop();
+            }
+            self.passed.store(true, Ordering::SeqCst);
+        }
+        if point == Point::Drained && !self.passed.load(Ordering::SeqCst) {
+            self.early.store(true, Ordering::SeqCst);
+        }
+    }
+}
+
+// Whether a run drains only once this request has passed this point.
+fn drains_after(text: &[u8], number: u32, point: Point) -> Result<bool, Fail> {
+    let holds = Holds { number, point, passed: AtomicBool::new(false), early: AtomicBool::new(false) };
+    let agrees = agrees(text, 2, 2, &holds)?;
+    Ok(agrees && !holds.early.load(Ordering::SeqCst))
+}
+
+#[test]
+fn freeze_waits() -> Result<(), Fail> {
+    assert!(drains_after(TWO, 0, Point::Drawn)?);
+    Ok(())
+}
+
+// Each drain, the end's too, goes through the queue: a completion that is queued isn't enough.
+#[test]
+fn every_drain_waits_for_the_tag() -> Result<(), Fail> {
+    for (version, last) in [
+        (1, "freeze\n"),
+        (1, "set max_sectors 1\n"),
+        (1, "set chunk_sectors 2\n"),
+        (2, "set physical_sectors 2\n"),
+        (1, "stat\n"),
+        (1, "remove\n"),
+        (1, ""),
+    ] {
+        let text = format!("blkq {version}\ndisk 8 hw 8\nwrite 0 2 01\nwrite 4 2 02\n{last}");
+        assert!(drains_after(text.as_bytes(), 0, Point::Answered)?, "{last}");
+    }
+    Ok(())
+}
+
+// An ordered request waits for the one that it overlaps.
+#[test]
+fn ordered_requests_wait() -> Result<(), Fail> {
+    for point in [Point::Entered, Point::Drawn, Point::Answered] {
+        assert!(drains_after(ORDERED, 2, point)?);
+    }
+    Ok(())
+}
+
+/// Notes after how many requests each drain came: a digit for each.
+struct Counts {
+    drains: AtomicU32,
+}
+
+impl Stall for Counts {
+    fn at(&self, number: u32, point: Point) {
+        if point == Point::Drained {
+            let before = self.drains.load(Ordering::SeqCst);
+            let after = before.wrapping_mul(10).wrapping_add(number);
+            self.drains.store(after, Ordering::SeqCst);
+        }
+    }
+}
+
+// Each ordered request drains the queue, and so does the end; of version 1 only the end does. Drained is passed also if a line
+// or the end finds the queue frozen, and not by a setting, which doesn't drain then.
+#[test]
+fn as_many_drains_as_are_ordered() -> Result<(), Fail> {
+    for (text, drains) in [
+        (b"blkq 2\ndisk 4 hw 4\nwrite 0 2 01\nwrite 1 2 02\nwrite 0 1 03\nread 1 1\n".as_slice(), 134),
+        (ORDERED, 34),
+        (b"blkq 1\ndisk 4 hw 4\nread 0 4\nread 0 4\n", 2),
+        (b"blkq 1\ndisk 4 hw 4\nread 0 4\nfreeze\nset max_sectors 2\nstat\n", 111),
+    ] {
+        let counts = Counts { drains: AtomicU32::new(0) };
+        assert!(agrees(text, 2, 2, &counts)?);
+        assert_eq!(counts.drains.load(Ordering::SeqCst), drains);
+    }
+    Ok(())
+}
+
+// A script of requests that overlap as they look random.
+fn overlapping(seed: &mut u32) -> Result<String, Fail> {
+    let mut text = String::try_from_text("blkq 2\ndisk 8 hw 3\n")?;
+    for line in 0..12u32 {
+        *seed = seed.wrapping_mul(1_664_525).wrapping_add(1_013_904_223);
+        let (start, count) = (*seed >> 29, (*seed >> 26) % 3 + 1);
+        if *seed >> 25 & 1 == 0 {
+            write!(text, "read {start} {count}\n")?;
+        } else {
+            write!(text, "write {start} {count} {:02x}\n", line + 1)?;
+        }
+    }
+    Ok(text)
+}
+
+#[test]
+fn whatever_overlaps() -> Result<(), Fail> {
+    let mut seed = 7;
+    for _ in 0..2_000 {
+        let text = overlapping(&mut seed)?;
+        assert!(agrees(text.as_bytes(), 4, 5, &NoStall)?, "{text}");
+    }
+    Ok(())
+}
+
+/// Holds one request at one point for 10,000 turns.
+struct HoldsOne {
+    number: u32,
+    point: Point,
+}
+
+impl Stall for HoldsOne {
+    fn at(&self, number: u32, point: Point) {
+        if (number, point) == (self.number, self.point) {
+            for _ in 0..10_000 {
+                thread::yield_now();
+            }
+        }
+    }
+}
+
+#[test]
+fn whoever_is_held() -> Result<(), Fail> {
+    for number in 0..3 {
+        for point in [Point::Entered, Point::Drawn, Point::Answered] {
+            let holds = HoldsOne { number, point };
+            assert!(agrees(WRITTEN_THEN_READ, 2, 3, &holds)?, "{number}");
+        }
+    }
+    Ok(())
+}
+
+/// Spins at points for turns that look random, and yields at one of eight.
+struct Dallies {
+    seed: AtomicU32,
+}
+
+impl Stall for Dallies {
+    fn at(&self, _number: u32, _point: Point) {
+        let seed = self.seed.fetch_add(2_654_435_769, Ordering::SeqCst);
+        for _ in 0..(seed >> 16) % 512 {
+            hint::spin_loop();
+        }
+        if seed >> 29 == 0 {
+            thread::yield_now();
+        }
+    }
+}
+
+#[test]
+fn whatever_the_schedule() -> Result<(), Fail> {
+    let dallies = Dallies { seed: AtomicU32::new(1) };
+    for _ in 0..2_000 {
+        assert!(agrees(MIXED, 4, 3, &dallies)?);
+    }
+    Ok(())
+}

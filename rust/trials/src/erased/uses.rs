@@ -1,0 +1,18 @@
+// Erased from crates/uses/src/lib.rt by tools/erase: edit that file.
+//! How a driver uses these crates: short functions, each proved from the public contracts of what it calls.
+//! Copy the one that is closest to yours.
+//!
+//! [`commands`] cuts a request into the commands that a device takes. [`serve`] runs a request on a device that
+//! may be removed at any moment, [`remove`] removes it, and [`race`] has the two race, on two threads. [`submit`]
+//! cuts a request in a queue whose limits another thread may change meanwhile, as [`change_limits`] does; [`enter_under`] is
+//! for a request that needs certain limits: it compares what it is told, and leaves and enters again where that differs.
+
+mod cutting;
+mod racing;
+mod removal;
+mod settings;
+
+pub use cutting::{Command, commands};
+pub use racing::{Raced, race};
+pub use removal::{Served, remove, serve};
+pub use settings::{change_limits, enter_under, submit};

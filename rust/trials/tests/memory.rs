@@ -1,0 +1,206 @@
+//! The stand-ins for calls that may be refused, and for pointers: what they do while memory lasts, and each refusal.
+//! (This program's allocator is its own, which refuses and counts on one thread, so it has `unsafe`.)
+#![allow(unsafe_code)]
+
+use blkq::erased::atomic_table::Table;
+use blkq::erased::crossbeam_queue::RuledArrayQueue;
+use blkq::erased::fallible::{AllocError, TryClone, TryCollect, TryRoom, TryText, TryToVec, TryVec};
+use blkq::erased::hex;
+use blkq::erased::maps::{HashMap, TryMap};
+use blkq::erased::pointers::{Arc, Rc, TryBox};
+use std::alloc::{GlobalAlloc, Layout, System};
+use std::cell::Cell;
+use std::collections::VecDeque;
+use std::thread;
+
+thread_local! {
+    /// How many allocations succeed before one is refused. `None`: none is refused.
+    static ALLOWED: Cell<Option<u64>> = const { Cell::new(None) };
+    /// Blocks that were allocated, less those that were freed.
+    static BLOCKS: Cell<i64> = const { Cell::new(0) };
+}
+
+/// The system's allocator, which refuses and counts.
+struct Refusing;
+
+fn is_refused() -> bool {
+    match ALLOWED.get() {
+        Some(0) => true,
+        Some(left) => {
+            ALLOWED.set(Some(left - 1));
+            false
+        }
+        None => false,
+    }
+}
+
+// SAFETY: each block is the system's, of the same layout; a refusal is null, as the trait has it.
+unsafe impl GlobalAlloc for Refusing {
+    unsafe fn alloc(&self, layout: Layout) -> *mut u8 {
+        if is_refused() {
+            return std::ptr::null_mut();
+        }
+        BLOCKS.set(BLOCKS.get() + 1);
+        // SAFETY: the caller meets the precondition, which is the same.
+        unsafe { System.alloc(layout) }
+    }
+
+    unsafe fn dealloc(&self, at: *mut u8, layout: Layout) {
+        BLOCKS.set(BLOCKS.get() - 1);
+        // SAFETY: the block is the system's, of this layout.
+        unsafe { System.dealloc(at, layout) }
+    }
+
+    unsafe fn realloc(&self, at: *mut u8, layout: Layout, size: usize) -> *mut u8 {
+        if is_refused() {
+            return std::ptr::null_mut();
+        }
+        // SAFETY: the block is the system's, of this layout.
+        unsafe { System.realloc(at, layout, size) }
+    }
+}
+
+#[global_allocator]
+static ALLOCATOR: Refusing = Refusing;
+
+/// Makes a call with its first allocation refused, then anew with the second, until none is: each refusal is an error, and frees
+/// what was taken. How many allocations the call makes.
+fn each_refused<T>(call: impl Fn() -> Result<T, AllocError>) -> u64 {
+    for allowed in 0.. {
+        let blocks = BLOCKS.get();
+        ALLOWED.set(Some(allowed));
+        let answer = call();
+        ALLOWED.set(None);
+        let ended = answer.is_ok();
+        drop(answer);
+        assert_eq!(BLOCKS.get(), blocks, "a block is left");
+        if ended {
+            return allowed;
+        }
+    }
+    unreachable!()
+}
+
+#[test]
+fn each_call_is_refused() {
+    assert_eq!(each_refused(|| Vec::<u64>::try_with_room(9)), 1);
+    assert_eq!(each_refused(|| Vec::<u64>::try_with_room(0)), 0);
+    assert_eq!(each_refused(|| Vec::try_from_elem(7u8, 1000)), 1);
+    assert_eq!(each_refused(|| Vec::try_from_array([1, 2, 3])), 1);
+    assert_eq!(each_refused(|| Vec::try_from_slice(&[1, 2, 3])), 1);
+    assert_eq!(each_refused(|| [1, 2, 3].try_to_vec()), 1);
+    assert_eq!(each_refused(|| (0..3).try_collected()), 1);
+    assert_eq!(each_refused(|| String::try_from_text("text")), 1);
+    assert_eq!(each_refused(|| Box::try_from_value([1u64; 9])), 1);
+    assert_eq!(each_refused(|| Box::try_from_value(())), 0);
+    assert_eq!(each_refused(|| Rc::try_new(1)), 1);
+    assert_eq!(each_refused(|| Arc::try_new(Arc::try_new(1)?)), 2);
+    assert_eq!(each_refused(|| Table::of_words(&[1, 2])), 1);
+    assert_eq!(each_refused(|| RuledArrayQueue::<u32>::ruled(3)), 1);
+    assert_eq!(each_refused(|| hex::decode(b"00ff").map_err(|_| AllocError)), 1);
+    assert_eq!(each_refused(|| HashMap::default().try_put(1, 2)), 1);
+}
+
+/// If a growth is refused, the value stays as it was.
+#[test]
+fn a_refused_growth_changes_nothing() {
+    let mut list = Vec::try_from_array([1, 2]).unwrap();
+    let mut queue = VecDeque::from([1, 2]);
+    let mut text = String::try_from_text("ab").unwrap();
+    let mut map = HashMap::default();
+    for key in 0..3 {
+        assert_eq!(map.try_put(key, key).unwrap(), None);
+    }
+    ALLOWED.set(Some(0));
+    let refusals = [
+        list.try_push(3),
+        list.try_resize(9, 3),
+        list.try_extend_from_slice(&[3; 9]),
+        list.try_make_room(9),
+        queue.try_make_room(9),
+        text.try_push_str("and so on, and so on"),
+    ];
+    let is_kept = (list == [1, 2], queue == [1, 2], text == "ab");
+    let mut put = Ok(None);
+    let mut key = 3;
+    while put.is_ok() {
+        put = map.try_put(key, key);
+        key += 1;
+    }
+    let kept = map.len() as i32 == key - 1 && (0..key - 1).all(|key| map.get(&key) == Some(&key));
+    ALLOWED.set(None);
+    assert_eq!(refusals, [Err(AllocError); 6]);
+    assert_eq!(is_kept, (true, true, true));
+    assert!(kept);
+}
+
+#[test]
+fn calls_by_hand() {
+    let mut list = Vec::try_with_room(4).unwrap();
+    assert!(list.capacity() >= 4);
+    list.try_push(1).unwrap();
+    list.try_extend_from_slice(&[2, 3]).unwrap();
+    list.try_resize(5, 9).unwrap();
+    assert_eq!(list, [1, 2, 3, 9, 9]);
+    list.try_resize(2, 9).unwrap();
+    assert_eq!(list, [1, 2]);
+    list.try_make_room(10).unwrap();
+    assert!(list.capacity() >= 12);
+    assert_eq!(Vec::try_from_elem('x', 3).unwrap(), ['x'; 3]);
+    assert_eq!(Vec::try_from_elem('x', 0).unwrap(), []);
+    assert_eq!((1..4).filter(|k| *k != 2).try_collected().unwrap(), [1, 3]);
+    assert_eq!([1, 2].try_to_vec().unwrap(), [1, 2]);
+    let mut text = String::try_from_text("a").unwrap();
+    text.try_push_str("bc").unwrap();
+    assert_eq!(text.try_clone().unwrap(), "abc");
+    let mut map = HashMap::default();
+    assert_eq!(map.try_put("key", 1).unwrap(), None);
+    assert_eq!(map.try_put("key", 2).unwrap(), Some(1));
+    assert_eq!(map.len(), 1);
+}
+
+struct Dropped<'a>(&'a Cell<u32>);
+
+impl Drop for Dropped<'_> {
+    fn drop(&mut self) {
+        self.0.set(self.0.get() + 1);
+    }
+}
+
+#[test]
+fn the_last_pointer_drops_the_value() {
+    let drops = Cell::new(0);
+    let blocks = BLOCKS.get();
+    let mut first = Rc::try_new(Dropped(&drops)).unwrap();
+    assert!(Rc::get_mut(&mut first).is_some());
+    let second = first.clone();
+    assert!(Rc::get_mut(&mut first).is_none());
+    drop(second);
+    assert!(Rc::get_mut(&mut first).is_some());
+    assert_eq!(drops.get(), 0);
+    drop(first);
+    assert_eq!(drops.get(), 1);
+    drop(Box::try_from_value(Dropped(&drops)).unwrap());
+    assert_eq!(drops.get(), 2);
+    assert_eq!(BLOCKS.get(), blocks);
+}
+
+/// Each thread clones, reads and drops; the last pointer alone may write.
+#[test]
+fn threads_share_a_value() {
+    let mut first = Arc::try_new([5u64; 4]).unwrap();
+    thread::scope(|scope| {
+        for _ in 0..4 {
+            let mut mine = first.clone();
+            scope.spawn(move || {
+                for _ in 0..10_000 {
+                    let other = mine.clone();
+                    assert_eq!(other[3], 5);
+                    mine = other;
+                }
+            });
+        }
+    });
+    Arc::get_mut(&mut first).unwrap()[0] = 6;
+    assert_eq!(*first, [6, 5, 5, 5]);
+}

@@ -1,0 +1,42 @@
+"""Forms that the sources have for the prover, and Rust says shorter."""
+
+
+def mend_taken_fields(s):
+    """`let Self { seat, held: _ } = self; seat` is `self.seat`: a value that is taken apart for one field, which is the result."""
+    for i in s.words("let"):
+        path = s.after(i)
+        brace = s.after(path)
+        if not s.is_word(path) or not s.at(brace, "{") or not s.at(s.after(s.partner[brace]), "="):
+            continue
+        value = s.after(s.after(s.partner[brace]))
+        end = s.after(value)
+        if not s.is_word(value) or not s.at(end, ";"):
+            continue
+        bound = bound_names(s, brace)
+        if len(bound) == 1 and (name := tail_name(s, end, bound[0][1])):
+            s.cut_lines(i, end)
+            s.write(name, f"{s.text[value]}.{bound[0][0]}", "a field that is taken")
+
+
+def bound_names(s, brace):
+    """The fields that a pattern names, each with the name that it gives; a mutable one has two."""
+    found = []
+    for first, last, _ in s.parts(brace, s.partner[brace]):
+        words = s.live_words(first, last)
+        if words[-1] != "_":
+            found.append((words[0], words[-1]) if len(words) <= 2 and words[0] != "mut" else (None, None))
+    return found
+
+
+def tail_name(s, end, name):
+    """The place of a name that the rest of the block begins with, if it is one expression that has the name once."""
+    first = s.after(end)
+    if not s.at(first, name or ""):
+        return None
+    k, count = first, 0
+    while not s.at(k, "}"):
+        count += s.at(k, name)
+        if s.at(k, ";"):
+            return None
+        k = s.after(s.partner[k]) if s.opens(k) else s.after(k)
+    return first if count == 1 else None

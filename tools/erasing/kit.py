@@ -1,0 +1,99 @@
+"""The lists of what the kit's library has and Rust's hasn't, and of what stands in its place."""
+
+# Of the prover.
+PROVER_ATTRIBUTES = {"tactic", "cycle"}
+RULE_TRAITS = {"Play", "Split", "Join", "TableRule", "Protocol", "Outcome", "Lesson"}  # types that have one are rules
+GHOST_TRAITS = RULE_TRAITS | {"Model"}
+# The parameters of these types that are there for rules alone, counted without lifetimes.
+RULE_PARAMETERS = {"Table": {0, 1, 2, 3, 4}, "Seat": {0, 1}, "Shared": {0, 1, 2, 3, 4}, "Pass": {1}, "RuledArrayQueue": {1, 2}}
+KIT_CRATES = {"atomic_table", "crossbeam_queue", "crossbeam_utils", "hex", "itoa", "memchr"}
+# Of the handle of the runtime: in Rust, waiting, threads and streams need none.
+HANDLE_TRAITS = {"Threads", "Wait", "Abort", "AllocGlobal", "Env", "Files", "Clock", "CpuClock", "Print", "Eprint"}
+HANDLE_TYPE = "HostRuntime"
+ALLOCATOR_TYPE = "Global"
+# Arguments of the kit's calls that only rules read, or that stand for what is borrowed: counted in the source.
+GHOST_ARGUMENTS = {("Table", "of_words"): {2}, ("thread", "scope"): {0}}
+# Calls that ask for memory and return its refusal, by their names and numbers of arguments, and what stands for them: each is of
+# a trait that no other type has, so a call of another type's doesn't compile.
+REFUSABLE = {
+    ("push", 1): "try_push",
+    ("resize", 2): "try_resize",
+    ("extend_from_slice", 1): "try_extend_from_slice",
+    ("push_str", 1): "try_push_str",
+    ("insert", 2): "try_put",
+    ("reserve", 1): "try_make_room",
+}
+# Calls that are handed the allocator, and those of associated functions by their types.
+REFUSABLE_WITH_ALLOCATOR = {
+    ("", "to_vec"): "try_to_vec",
+    ("", "collect"): "try_collected",
+    ("Vec", "with_capacity"): "try_with_room",
+    ("Vec", "from_slice"): "try_from_slice",
+    ("String", "from_str"): "try_from_text",
+    ("Box", "new"): "try_from_value",
+    ("Rc", "new"): "try_new",
+    ("Arc", "new"): "try_new",
+}
+# Calls that ask for no memory, by the names that Rust has for them.
+PLAIN = {"push_reserved": "push", "push_back_reserved": "push_back"}
+# The trait of each call that stands for one, or None where the type itself has it.
+TRAIT_OF = {
+    "try_push": ("fallible", "TryVec"),
+    "try_resize": ("fallible", "TryVec"),
+    "try_extend_from_slice": ("fallible", "TryVec"),
+    "try_with_room": ("fallible", "TryVec"),
+    "try_from_slice": ("fallible", "TryVec"),
+    "try_from_elem": ("fallible", "TryVec"),
+    "try_from_array": ("fallible", "TryVec"),
+    "try_make_room": ("fallible", "TryRoom"),
+    "try_to_vec": ("fallible", "TryToVec"),
+    "try_clone": ("fallible", "TryClone"),
+    "try_push_str": ("fallible", "TryText"),
+    "try_from_text": ("fallible", "TryText"),
+    "try_collected": ("fallible", "TryCollect"),
+    "try_put": ("maps", "TryMap"),
+    "try_from_value": ("pointers", "TryBox"),
+    "try_spawn": ("thread", "TrySpawn"),
+}
+# What the kit's standard library has otherwise, and the module that stands for it. None: what needs it is cut.
+STAND_INS = {
+    ("std", "alloc", "AllocError"): ("fallible", "AllocError"),
+    ("std", "alloc", "AllocFailed"): ("fallible", "AllocFailed"),
+    ("std", "test", "Fail"): ("fallible", "Fail"),
+    ("std", "sync", "Arc"): ("pointers", "Arc"),
+    ("std", "rc", "Rc"): ("pointers", "Rc"),
+    ("std", "sync", "Mutex"): ("sync", "Mutex"),
+    ("std", "sync", "MutexGuard"): ("sync", "MutexGuard"),
+    ("std", "thread"): ("thread",),
+    ("std", "thread", "JoinHandle"): ("thread", "JoinHandle"),
+    ("std", "thread", "Scope"): ("thread", "Scope"),
+    ("std", "env"): ("env",),
+    ("std", "collections", "HashMap"): ("maps", "HashMap"),
+    ("std", "hash", "FoldHasher"): ("maps", "FoldHasher"),
+    ("thiserror", "Error"): None,
+}
+# Traits that a file imports for their methods alone.
+FOR_METHODS = {"Hash", "Hasher", "Read", "Write"}
+ALLOC_MODULES = {"alloc", "boxed", "collections", "string", "vec"}
+# Names that the kit makes up for rules.
+BRANDS = {"Brand", "Free"}
+# What nothing stands for, wherever it is imported.
+NAMELESS = HANDLE_TRAITS | GHOST_TRAITS | BRANDS | {ALLOCATOR_TYPE, HANDLE_TYPE, "Allocator", "Forever"}
+# Files in which each call of this name is of a method of the project, so that no trait is imported for it.
+OF_THE_PROJECT = {
+    ("run_desk", "desk", "try_push"),
+    ("races_shown", "printing", "try_to_vec"),
+    ("trials_races", "answers", "try_to_vec"),
+}
+# Fields that only proofs read: (crate, type, field).
+READ_BY_PROOFS = {
+    ("queue_core", "Tag", "hardware"),
+    ("blk_workers", "FinishedWorker", "receipts"),
+    ("blk_workers", "FinishedWorker", "tags"),
+    ("race_search", "Placed", "number"),
+    ("run_queues", "Receipt", "seat"),
+    ("run_queues", "Receipt", "number"),
+    ("script_overlap", "Touched", "sectors"),
+}
+# Tests that measure their process, so that no other may run in it: (crate, test).
+ALONE = {("trials_program", "many_runs_leave_nothing")}

@@ -1,0 +1,68 @@
+"""The crates of a repository, as its crates.txt lists them."""
+
+import os
+import re
+import sys
+
+from sources.rattle import files_in
+
+PARTS = ("src", "specs", "proofs")
+
+
+class Crate:
+    """A crate: its folder, the repository's libraries that it names, and the kit's."""
+
+    def __init__(self, folder, name, kind, libraries, known):
+        self.folder, self.name, self.out = folder, name, None
+        self.is_program, self.is_static = os.path.isfile(f"{folder}/src/main.rt"), "staticlib" in kind
+        self.deps = [known[it] for it in libraries if it in known]
+        self.of_kit = ["std", *(it for it in libraries if it not in known)]
+        self.rlib = f"{folder}/out/rlib/{name}.rlib"
+
+    def makes_rlib(self):
+        return not self.is_program and not self.is_static
+
+    def below(self):
+        """The repository's libraries below this crate, each after those that it uses."""
+        found = []
+        for dep in self.deps:
+            found += [it for it in [*dep.below(), dep] if it not in found]
+        return found
+
+    def files(self):
+        """Each file of the crate's sources, specs and proofs, by name."""
+        return [path for part in PARTS for path in files_in(f"{self.folder}/{part}", "")]
+
+    def lines(self):
+        """How many lines of code the crate has."""
+        found = 0
+        for path in files_in(f"{self.folder}/src", ".rt"):
+            with open(path, "rb") as it:
+                found += it.read().count(b"\n")
+        return found
+
+
+def crates_of(root):
+    """The crates of a repository, each behind those that it stands on: by crates.txt, in which a crate may come before them."""
+    lines, found = {}, {}
+    with open(f"{root}/crates.txt", encoding="utf-8") as file:
+        for line in file:
+            head, colon, libraries = line.partition("#")[0].partition(":")
+            if colon and head.strip():
+                name, *kind = head.split()
+                lines[name] = (kind, libraries.split())
+
+    def add(name, above):
+        if name in above:
+            sys.exit(f"crates.txt has {name} depend on itself")
+        if name in lines and name not in found:
+            kind, libraries = lines[name]
+            for it in libraries:
+                add(it, (*above, name))
+            found[name] = Crate(f"{root}/crates/{name}", name, kind, libraries, found)
+
+    for name in lines:
+        if not re.fullmatch(r"\w+", name):
+            sys.exit(f"crates.txt: {name} is no name of a crate")
+        add(name, ())
+    return list(found.values())

@@ -1,0 +1,176 @@
+//! Times rounds of the gate and of the queue and changes of the queue's limits from Rust, beside other guards of the same
+//! limits. `speed THREADS ROUNDS CHANGES` prints the lines that tests/c/speed.c and tests/c/queue/speed.c print:
+//! `gate,FORM,THREADS,NANOSECONDS` and `queue,FORM,THREADS,NANOSECONDS` for a round by the clock, and
+//! `change,FORM,THREADS,MEDIAN,NINETY_NINTH,NANOSECONDS` for the microseconds of a change under load, with a pause of 100
+//! microseconds before each, and the nanoseconds of a round meanwhile.
+
+use freeze_queue::{Limits, Queue, Tag};
+use percpu_gate::{Gate, Pass, Start};
+use std::env;
+use std::error::Error;
+use std::hint::black_box;
+use std::process::ExitCode;
+use std::sync::atomic::{AtomicBool, AtomicU64, Ordering};
+use std::sync::{Arc, Barrier, RwLock};
+use std::thread;
+use std::time::{Duration, Instant};
+
+const LIMITS: Limits = Limits { hardware: 64, max: 32, chunk: 128, physical: 8 };
+const BATCH: u32 = 1_024;
+const PAUSE: Duration = Duration::from_micros(100);
+const USAGE: &str = "usage: speed THREADS ROUNDS CHANGES, up to 63 threads";
+
+/// The words of the program.
+#[derive(Clone, Copy)]
+struct Words {
+    threads: u32,
+    rounds: u32,
+    changes: u32,
+}
+
+impl Words {
+    fn of(mut given: impl Iterator<Item = String>) -> Option<Self> {
+        let mut next = |most: u32| given.next()?.parse().ok().filter(|number| (1..=most).contains(number));
+        let words = Words { threads: next(63)?, rounds: next(1_000_000_000)?, changes: next(1_000_000)? };
+        given.next().is_none().then_some(words)
+    }
+}
+
+/// Calls `run` on a thread for each of these, all at once, and `meanwhile` on this thread. Returns the nanoseconds from the
+/// first thread's begin to the last one's end.
+fn at_once<T: Send>(of: &mut [T], run: impl Fn(&mut T) + Sync, meanwhile: impl FnOnce()) -> f64 {
+    let start = Barrier::new(of.len() + 1);
+    let timed = |mine: &mut T| {
+        start.wait();
+        let began = Instant::now();
+        run(mine);
+        (began, Instant::now())
+    };
+    let timed = &timed;
+    let (began, ended): (Vec<Instant>, Vec<Instant>) = thread::scope(|scope| {
+        let all: Vec<_> = of.iter_mut().map(|mine| scope.spawn(move || timed(mine))).collect();
+        start.wait();
+        meanwhile();
+        all.into_iter().map(|thread| thread.join().expect("each round is done")).unzip()
+    });
+    let (first, last) = (began.into_iter().min(), ended.into_iter().max());
+    first.zip(last).map_or(0.0, |(first, last)| (last - first).as_secs_f64() * 1e9)
+}
+
+fn go_round<T>(mine: &mut T, count: u32, round: &impl Fn(&mut T) -> u32) {
+    black_box((0..count).fold(0_u32, |sum, _| sum.wrapping_add(round(mine))));
+}
+
+/// Times so many rounds on each thread, and prints the line.
+fn time_rounds<T: Send>(what: &str, form: &str, words: Words, of: &mut [T], round: impl Fn(&mut T) -> u32 + Sync) {
+    let took = at_once(of, |mine| go_round(mine, words.rounds, &round), || ());
+    println!("{what},{form},{},{:.2}", words.threads, took / f64::from(words.rounds));
+}
+
+/// Times rounds of the limits' readers and then changes during such rounds, and prints both lines.
+#[expect(clippy::cast_precision_loss, reason = "they are rounds and nanoseconds of a run")]
+fn time_changes<T: Send>(
+    form: &str,
+    words: Words,
+    of: &mut [T],
+    round: impl Fn(&mut T) -> u32 + Sync,
+    change: impl Fn(Limits),
+) {
+    time_rounds("queue", form, words, of, &round);
+    let (is_over, done) = (AtomicBool::new(false), AtomicU64::new(0));
+    let mut taken = Vec::new();
+    let go_on = |mine: &mut T| {
+        let mut count = 0;
+        while !is_over.load(Ordering::SeqCst) {
+            go_round(mine, BATCH, &round);
+            count += u64::from(BATCH);
+        }
+        done.fetch_add(count, Ordering::SeqCst);
+    };
+    let change_all = || {
+        for number in 0..words.changes {
+            thread::sleep(PAUSE);
+            let limits = Limits { max: 16 + number % 2 * 16, ..LIMITS };
+            let began = Instant::now();
+            change(limits);
+            taken.push(began.elapsed().as_secs_f64() * 1e6);
+        }
+        is_over.store(true, Ordering::SeqCst);
+    };
+    let took = at_once(of, go_on, change_all);
+    taken.sort_by(f64::total_cmp);
+    let (median, late) = (taken[taken.len() / 2], taken[taken.len() - 1 - taken.len() / 100]);
+    let round = took * f64::from(words.threads) / done.into_inner() as f64;
+    println!("change,{form},{},{median:.2},{late:.2},{round:.2}", words.threads);
+}
+
+fn sum_of(limits: &Limits) -> u32 {
+    limits.max + limits.chunk + limits.physical
+}
+
+fn time_gate(words: Words) -> Result<(), Box<dyn Error>> {
+    let mut control = Gate::new(words.threads, words.threads, Start::Slots, [0; 8], Arc::new(|| {}))?;
+    let mut passes: Vec<Pass> = (0..words.threads).map(|slot| control.next_pass(slot)).collect::<Result<_, _>>()?;
+    time_rounds("gate", "gate from Rust", words, &mut passes, |pass| {
+        drop(pass.try_get_live().expect("the gate is live"));
+        0
+    });
+    let shared = Arc::new(0_u32);
+    let mut clones = vec![shared; words.threads as usize];
+    time_rounds("gate", "an Arc cloned and dropped", words, &mut clones, |shared| *black_box(Arc::clone(shared)));
+    Ok(())
+}
+
+fn time_queue(words: Words) -> Result<(), Box<dyn Error>> {
+    let queue = Queue::new(LIMITS, words.threads, words.threads)?;
+    let mut tags: Vec<Tag> = (0..words.threads).map(|slot| queue.next_tag(slot)).collect::<Result<_, _>>()?;
+    time_changes(
+        "queue from Rust",
+        words,
+        &mut tags,
+        |tag| sum_of(queue.enter(tag).expect("the queue is there").limits()),
+        |limits| queue.freeze().expect("the queue is there").set(limits).expect("these limits are allowed"),
+    );
+    Ok(())
+}
+
+fn time_locks(words: Words) {
+    let lock = RwLock::new(LIMITS);
+    let mut readers = vec![&lock; words.threads as usize];
+    time_changes(
+        "RwLock of std",
+        words,
+        &mut readers,
+        |lock| sum_of(&lock.read().expect("nobody panics")),
+        |limits| *lock.write().expect("nobody panics") = limits,
+    );
+    #[cfg(feature = "crossbeam")]
+    {
+        let lock = crossbeam_utils::sync::ShardedLock::new(LIMITS);
+        let mut readers = vec![&lock; words.threads as usize];
+        time_changes(
+            "ShardedLock of crossbeam",
+            words,
+            &mut readers,
+            |lock| sum_of(&lock.read().expect("nobody panics")),
+            |limits| *lock.write().expect("nobody panics") = limits,
+        );
+    }
+    let shared = Arc::new(LIMITS);
+    let mut clones = vec![shared; words.threads as usize];
+    time_rounds("queue", "an Arc cloned and dropped", words, &mut clones, |shared| {
+        let mine = black_box(Arc::clone(shared));
+        sum_of(&mine)
+    });
+}
+
+fn main() -> Result<ExitCode, Box<dyn Error>> {
+    let Some(words) = Words::of(env::args().skip(1)) else {
+        eprintln!("{USAGE}");
+        return Ok(ExitCode::FAILURE);
+    };
+    time_gate(words)?;
+    time_queue(words)?;
+    time_locks(words);
+    Ok(ExitCode::SUCCESS)
+}

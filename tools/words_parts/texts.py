@@ -1,0 +1,143 @@
+"""The prose of a page, or of a source's comments, as paragraphs.
+
+Left out are code (between fences, or indented behind an empty line), pictures, and lines of HTML. A list item is a paragraph of its
+own, and so is a comment behind code. Headings and the cells of tables are no sentences, but their words count.
+"""
+
+import os
+import re
+
+FENCE = re.compile(r"\s*(```|~~~)")
+ITEM = re.compile(r"(\s*)([-*+]|\d+[.)])\s+")
+LEFT_OUT = re.compile(r"\s*(<|!\[|---+\s*$|\*\*\*+\s*$|===+\s*$|\[[^\]]*\]:\s)")
+FRAGMENT = re.compile(r"\s*(#{1,6}\s|\|)")
+
+
+class Paragraph:
+    """A paragraph: the number of its first line, its lines, and whether it is made of sentences."""
+
+    def __init__(self, line, text, is_prose=True):
+        self.line, self.text, self.is_prose = line, text, is_prose
+
+
+def paragraphs_of_page(text, first=1):
+    """The paragraphs of a page in Markdown, or of the text of a comment that begins on this line."""
+    found, lines, begun = [], [], 0
+    is_fenced, is_code, is_behind_gap, margin = False, False, True, 0
+
+    def end():
+        nonlocal lines
+        if lines:
+            found.append(Paragraph(begun, "\n".join(lines)))
+        lines = []
+
+    for number, line in enumerate(text.splitlines(), first):
+        if FENCE.match(line):
+            end()
+            is_fenced = not is_fenced
+            continue
+        if is_fenced:
+            continue
+        if not line.strip():
+            end()
+            is_behind_gap = True
+            continue
+        indent = len(line) - len(line.lstrip())
+        if indent == 0:
+            margin = 0
+        is_code = indent >= margin + 4 and (is_behind_gap or is_code) and not lines
+        is_behind_gap = False
+        if is_code:
+            continue
+        item = ITEM.match(line)
+        if item:
+            end()
+            margin = item.end()
+            line = line[item.end() :]
+        if LEFT_OUT.match(line) or FRAGMENT.match(line):
+            end()
+            if FRAGMENT.match(line):
+                found.append(Paragraph(number, re.sub(r"^\s*#+|\|", " ", line), False))
+            continue
+        if not lines:
+            begun = number
+        lines.append(line.strip())
+    end()
+    return found
+
+
+def is_in_text(code):
+    """Whether what follows this code stands within a string."""
+    return code.replace('\\"', "").replace("'\"'", "").count('"') % 2 == 1
+
+
+def paragraphs_of_source(text):
+    """The paragraphs of the comments of a source in Rattle or Rust."""
+    found, block, begun = [], [], 0
+    for number, line in enumerate(text.splitlines() + [""], 1):
+        if comment := re.match(r"\s*//[/!]? ?(.*)$", line):
+            if not block:
+                begun = number
+            block.append(comment[1])
+            continue
+        found += paragraphs_of_page("\n".join(block), begun)
+        block = []
+        if (behind := re.search(r"\s//[/!]? ?(.*)$", line)) and not is_in_text(line[: behind.start()]):
+            found.append(Paragraph(number, behind[1].strip()))
+    return found
+
+
+def paragraphs_of_header(text):
+    """The paragraphs of the comments of a header in C."""
+    found = []
+    for comment in re.finditer(r"/\*+(.*?)\*+/|//(.*)", text, re.S):
+        words = comment[1] if comment[1] is not None else comment[2].split("\n")[0]
+        first = text.count("\n", 0, comment.start()) + 1
+        found += paragraphs_of_page(re.sub(r"\n[ \t]*\*?[ ]?", "\n", words.strip(" ")), first)
+    return found
+
+
+def paragraphs_of(path, text):
+    """The paragraphs of a file, by its name's ending."""
+    if path.endswith((".rt", ".rs")):
+        return paragraphs_of_source(text)
+    if path.endswith(".h"):
+        return paragraphs_of_header(text)
+    return paragraphs_of_page(text)
+
+
+# Folders of what was built, or that git keeps.
+BUILT = {".git", "out", "target", "__pycache__"}
+# The first line of a source that was erased from one of crates/.
+ERASED = re.compile(r"//.*\bcrates/\S+\.rt\b")
+
+
+def paths_in(root):
+    """Each file of the tree, in order, by its path from the top."""
+    for folder, folders, files in os.walk(root):
+        folders[:] = sorted(set(folders) - BUILT)
+        for file in sorted(files):
+            yield os.path.relpath(os.path.join(folder, file), root)
+
+
+def text_of(path):
+    """The text that a file belongs to, or None where it is none: a page or a header by itself, a source with its crate."""
+    parts = path.split(os.sep)
+    if path.endswith(".md") or path.endswith(".h") and "include" in parts[:-1]:
+        return path
+    if path.endswith(".rt") and parts[0] == "crates" or path.endswith(".rs") and parts[0] == "rust":
+        return f"{parts[0]}/{parts[1]}"
+    return None
+
+
+def texts_of(root):
+    """The texts of the tree by their names; of each its files with their paragraphs."""
+    texts = {}
+    for path in paths_in(root):
+        if not (name := text_of(path)):
+            continue
+        with open(os.path.join(root, path), encoding="utf-8") as file:
+            text = file.read()
+        if not (path.endswith(".rs") and ERASED.match(text)):
+            texts.setdefault(name, []).append((path, paragraphs_of(path, text)))
+    return texts
