@@ -123,9 +123,35 @@ def code_of_call(tree):
     return f"{name}({', '.join(arguments)})"
 
 
+# What a reader of the Rust understands in place of a definition that is of proofs alone, by its name or that of its first argument;
+# {} is the last argument. A statement that says nothing there is None.
+IN_RUST = {
+    "hinders_pass": "the pass may take its step `{}` now: `PassStanding::refusal` has no reason against it",
+    "hinders_control": "the control may take its step `{}` now: `ControlStanding::refusal` has no reason against it",
+    "SitsAsPass": "`seat` was made for a pass",
+    "SitsAsControl": "`seat` was made for a control",
+    "IsAlwaysCallable": None,
+}
+
+
+def said_in_rust(tree):
+    """A statement of IN_RUST: whether it is one, and its words."""
+    if tree[0] != "call" or tree[1][0] != "name":
+        return False, None
+    name, arguments = tree[1][1].rpartition(".")[2], tree[2]
+    if name == "IsEnabled" and arguments[0][0] == "call":
+        name, arguments = code(arguments[0][1]), arguments[0][2]
+    if name not in IN_RUST:
+        return False, None
+    return True, IN_RUST[name] and IN_RUST[name].format(code(arguments[-1]) if arguments else "")
+
+
 def said(tree, meaning):
-    """A statement in words. `meaning` says what a definition means."""
+    """A statement in words, or None if it says nothing of Rust. `meaning` says what a definition means."""
     kind = tree[0]
+    is_there, words = said_in_rust(tree)
+    if is_there:
+        return words
     if kind == "some":
         return f"for some `{tree[1]}` {said(tree[2], meaning)}"
     if kind == "of" and tree[1] == "×":

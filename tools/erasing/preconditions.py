@@ -217,7 +217,8 @@ def tell(s, definitions, asserted):
         statement = Statement(asserted, s, parameters, owner and owner.name)
         trees = [logic.read(text) for text in required]
         parts = [statement.by_methods(part) for tree in trees for part in logic.conjuncts(tree, True)]
-        document(s, fn, [logic.said(part, meaning) for part in parts])
+        if statements := [words for part in parts if (words := logic.said(part, meaning))]:
+            document(s, fn, statements)
         if fn.body:
             insist(s, fn, [part for tree in trees for part in logic.conjuncts(tree)], statement)
 

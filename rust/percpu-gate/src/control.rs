@@ -128,7 +128,7 @@ impl Control {
             return Err(HandedBack { value: self, reason: ExitError::PassesOut });
         }
         let Control { erased, passes, shared } = self;
-        // Each pass that was given out is retired, which has dropped its share: this one is alone.
+        // Each pass that was given out is retired, which has dropped its share, so this share is alone. The other arm can't be reached.
         let gate = match Arc::try_unwrap(shared) {
             Ok(shared) => shared.gate,
             Err(shared) => {
@@ -166,7 +166,7 @@ impl Control {
     /// ```
     pub fn kill(&mut self) -> Result<Killed, KillError> {
         let killed = self.erased.get_mut().kill(&self.shared.gate);
-        killed.map(|put| self.ends_kill(put)).map_err(kill_refused)
+        killed.map(|put| self.ended_by(put)).map_err(kill_refused)
     }
 
     /// Kills the gate, and calls `confirm` in the middle of it, with the kill's odd front: when no pass is given a live
@@ -322,8 +322,8 @@ impl Control {
         }
     }
 
-    /// What a kill found that ended with this put.
-    fn ends_kill(&self, put: Put) -> Killed {
+    /// Runs `on_last` if this put was the kill's last, and says what the kill found.
+    fn ended_by(&self, put: Put) -> Killed {
         match put {
             Put::NotLast => Killed::WhileHeld,
             Put::Last => {

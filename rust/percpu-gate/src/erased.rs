@@ -1,5 +1,12 @@
 //! The gate of ../../../crates without its contracts. Nothing here is checked for a caller: it is for this crate and those
 //! above it. tools/erase writes the files that say so in their first line.
+//!
+//! `percpu_gate` is the running gate: a call of `Pass` or `Control` steps through a seat (`PassSeat`, `ControlSeat`), whose
+//! methods are one atomic step each. `percpu_words` spells its words, and `atomic_table` has the atomics. Of `percpu_core`, which
+//! replays a schedule of steps on a machine of plain numbers, the running gate takes the limits, `Start`, `Phase` and `Memory` alone.
+//!
+//! A precondition may name a `view`, as in `self.view.standing.held`: what the owner of a seat knows of the gate by its own steps
+//! (docs/GATE.md, "The running gate"). Proofs alone have it; it is no field.
 #![forbid(unsafe_code)]
 #![allow(missing_docs, missing_debug_implementations, clippy::all, clippy::pedantic, rustdoc::all)]
 

@@ -184,7 +184,7 @@ pub enum KillError {
 pub enum ReinitError {
     /// The gate is live.
     NotDead,
-    /// References are held still.
+    /// A reference is still held, or a refused try is in flight.
     NotZero,
 }
 
@@ -216,7 +216,7 @@ pub enum ResurrectError {
 pub enum StoreError {
     /// The gate is live.
     NotDead,
-    /// References are held still.
+    /// A reference is still held, or a refused try is in flight.
     NotZero,
 }
 

@@ -1,4 +1,4 @@
-//! What doesn't compile: each misuse that would break a precondition of the erased gate, or that its header for C forbids, and
+//! What doesn't compile: each misuse that would break a precondition of the erased gate, or that percpu_gate.h forbids to C, and
 //! that the types here exclude. Each stands behind the same lines without it, which do compile, and has the compiler's number.
 //!
 //! # A pass on two threads

@@ -36,7 +36,7 @@ pub enum Killed {
 pub enum Revived {
     /// The gate had reached zero: the release fell to an earlier call, whose `on_last` may still be under way.
     FromZero,
-    /// References are held still. Nobody is told of the last for the kill that ends here.
+    /// A reference was still held, or a refused try was in flight. The kill that ends here has no last reference.
     WhileHeld,
 }
 

@@ -31,7 +31,7 @@ pub struct OwnedReference {
 }
 
 impl OwnedReference {
-    /// Of a pass that holds one more than it has given out, or the pass, where it was given none.
+    /// The reference that a try took on the pass; or the pass back, if the try was refused.
     #[expect(clippy::result_large_err, reason = "a refusal hands the pass back")]
     pub(crate) fn of(
         pass: Pass,

@@ -64,7 +64,7 @@ impl Pass {
         self.erased.borrow().held()
     }
 
-    /// The pass of a share that ends.
+    /// The erased pass, of a pass that ends.
     pub(crate) fn into_erased(self) -> ErasedPass {
         self.erased.into_inner()
     }
@@ -248,8 +248,8 @@ impl Pass {
         self.erased.borrow_mut().is_zero(&self.shared.gate)
     }
 
-    /// The front: a number that only grows, odd from the confirmation of a kill to the next life. A pass that has seen the
-    /// front of [`kill_and_confirm`](crate::Control::kill_and_confirm) gets no live reference before the next life.
+    /// The front: a number that only grows, odd from the confirmation of a kill, or from a dead start, to the next life. A pass that
+    /// has seen the front of [`kill_and_confirm`](crate::Control::kill_and_confirm) gets no live reference before the next life.
     ///
     /// ```
     /// # use percpu_gate::{Gate, Start};
@@ -302,7 +302,7 @@ impl Pass {
         }
     }
 
-    /// One reference more, of a pass that holds one: of which the caller has it.
+    /// One reference more. The caller has a reference of this pass.
     pub(crate) fn get(&self) -> Result<(), GetError> {
         let mut pass = self.erased.borrow_mut();
         if pass.held() >= HELD_LIMIT {

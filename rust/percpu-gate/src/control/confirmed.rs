@@ -28,5 +28,5 @@ impl Drop for Confirmed<'_> {
 
 fn drop_base(control: &mut Control) -> Killed {
     let put = control.erased.get_mut().drop_base(&control.shared.gate);
-    control.ends_kill(put)
+    control.ended_by(put)
 }

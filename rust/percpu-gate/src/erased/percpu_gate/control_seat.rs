@@ -19,7 +19,7 @@ impl ControlSeat {
     ///
     /// # Preconditions
     ///
-    /// - `SitsAsControl(seat.me)`.
+    /// - `seat` was made for a control.
     pub(crate) fn of(seat: Seat) -> ControlSeat {
         ControlSeat { seat }
     }
@@ -56,8 +56,7 @@ impl ControlSeat {
     /// # Preconditions
     ///
     /// - `self` belongs to `gate`.
-    /// - `IsEnabled(hinders_control(sizes_at(gate.key), true, None, self.view.standing, MarkDead))`: no reason holds
-    ///   against a step of which this tells whether one does.
+    /// - The control may take its step `MarkDead` now: `ControlStanding::refusal` has no reason against it.
     /// - `is_live(self.view.standing.phase)` is `true`.
     /// - `self.view.standing` is `standing(self.view.standing.phase, self.view.standing.kills)`.
     #[inline]
@@ -72,8 +71,7 @@ impl ControlSeat {
     ///
     /// - `self` belongs to `gate`.
     /// - `front` is `self.view.front + 1`.
-    /// - `IsEnabled(hinders_control(sizes_at(gate.key), true, None, self.view.standing, Confirm))`: no reason holds
-    ///   against a step of which this tells whether one does.
+    /// - The control may take its step `Confirm` now: `ControlStanding::refusal` has no reason against it.
     #[inline]
     pub(crate) fn confirm(&mut self, gate: &GateTable, front: u64) {
         gate.table.shared.store(&mut self.seat, FRONT, front);
@@ -84,8 +82,7 @@ impl ControlSeat {
     /// # Preconditions
     ///
     /// - `self` belongs to `gate`.
-    /// - `IsEnabled(hinders_control(sizes_at(gate.key), true, None, self.view.standing, DropBase))`: no reason holds
-    ///   against a step of which this tells whether one does.
+    /// - The control may take its step `DropBase` now: `ControlStanding::refusal` has no reason against it.
     #[inline]
     pub(crate) fn drop_base(&mut self, gate: &GateTable) -> bool {
         let shared = &gate.table.shared;
@@ -98,8 +95,7 @@ impl ControlSeat {
     /// # Preconditions
     ///
     /// - `self` belongs to `gate`.
-    /// - `IsEnabled(hinders_control(sizes_at(gate.key), true, None, self.view.standing, Mark))`: no reason holds
-    ///   against a step of which this tells whether one does.
+    /// - The control may take its step `Mark` now: `ControlStanding::refusal` has no reason against it.
     #[inline]
     pub(crate) fn mark(&mut self, gate: &GateTable) -> Put {
         let shared = &gate.table.shared;
@@ -112,8 +108,7 @@ impl ControlSeat {
     /// # Preconditions
     ///
     /// - `self` belongs to `gate`.
-    /// - `IsEnabled(hinders_control(sizes_at(gate.key), true, None, self.view.standing, TakeBase))`: no reason holds
-    ///   against a step of which this tells whether one does.
+    /// - The control may take its step `TakeBase` now: `ControlStanding::refusal` has no reason against it.
     #[inline]
     pub(crate) fn take_base(&mut self, gate: &GateTable) -> u64 {
         let shared = &gate.table.shared;
@@ -126,8 +121,7 @@ impl ControlSeat {
     ///
     /// - `self` belongs to `gate`.
     /// - `front` is `self.view.front + 1`.
-    /// - `IsEnabled(hinders_control(sizes_at(gate.key), true, None, self.view.standing, NextFront))`: no reason holds
-    ///   against a step of which this tells whether one does.
+    /// - The control may take its step `NextFront` now: `ControlStanding::refusal` has no reason against it.
     #[inline]
     pub(crate) fn next_front(&mut self, gate: &GateTable, front: u64) {
         gate.table.shared.store(&mut self.seat, FRONT, front);
@@ -138,8 +132,7 @@ impl ControlSeat {
     /// # Preconditions
     ///
     /// - `self` belongs to `gate`.
-    /// - `IsEnabled(hinders_control(sizes_at(gate.key), true, None, self.view.standing, ClearDead))`: no reason holds
-    ///   against a step of which this tells whether one does.
+    /// - The control may take its step `ClearDead` now: `ControlStanding::refusal` has no reason against it.
     #[inline]
     pub(crate) fn clear_dead(&mut self, gate: &GateTable) {
         let shared = &gate.table.shared;
@@ -152,8 +145,7 @@ impl ControlSeat {
     ///
     /// - `self` belongs to `gate`.
     /// - `self.view.knows_zero` is `true`.
-    /// - `IsEnabled(hinders_control(sizes_at(gate.key), true, None, self.view.standing, StoreWord(k, v)))`: no reason
-    ///   holds against a step of which this tells whether one does.
+    /// - The control may take its step `StoreWord(k, v)` now: `ControlStanding::refusal` has no reason against it.
     #[inline]
     pub(crate) fn store_word(&mut self, gate: &GateTable, k: u32, v: u64) {
         let place = FIRST_WORD + k as usize;
@@ -165,8 +157,7 @@ impl ControlSeat {
     /// # Preconditions
     ///
     /// - `self` belongs to `gate`.
-    /// - `IsEnabled(hinders_control(sizes_at(gate.key), true, None, self.view.standing, LookShared))`: no reason holds
-    ///   against a step of which this tells whether one does.
+    /// - The control may take its step `LookShared` now: `ControlStanding::refusal` has no reason against it.
     #[inline]
     pub(crate) fn look(&mut self, gate: &GateTable) -> u64 {
         gate.table.shared.load(&mut self.seat, SHARED)

@@ -18,7 +18,7 @@ impl PassSeat {
     ///
     /// # Preconditions
     ///
-    /// - `SitsAsPass(seat.me)`: a seat of a pass holds no value of the table.
+    /// - `seat` was made for a pass.
     pub(crate) fn of(seat: Seat) -> PassSeat {
         PassSeat { seat }
     }
@@ -33,8 +33,7 @@ impl PassSeat {
     /// # Preconditions
     ///
     /// - `self` belongs to `gate`.
-    /// - `IsEnabled(hinders_pass(sizes_at(gate.key), self.view.standing, AddTry))`: no reason holds against a step of
-    ///   which this tells whether one does.
+    /// - The pass may take its step `AddTry` now: `PassStanding::refusal` has no reason against it.
     #[inline]
     pub(crate) fn add_try(&mut self, gate: &GateTable) -> bool {
         let shared = &gate.table.shared;
@@ -47,8 +46,7 @@ impl PassSeat {
     /// # Preconditions
     ///
     /// - `self` belongs to `gate`.
-    /// - `IsEnabled(hinders_pass(sizes_at(gate.key), self.view.standing, AddLive))`: no reason holds against a step of
-    ///   which this tells whether one does.
+    /// - The pass may take its step `AddLive` now: `PassStanding::refusal` has no reason against it.
     #[inline]
     pub(crate) fn add_live(&mut self, gate: &GateTable) -> bool {
         let shared = &gate.table.shared;
@@ -61,8 +59,7 @@ impl PassSeat {
     /// # Preconditions
     ///
     /// - `self` belongs to `gate`.
-    /// - `IsEnabled(hinders_pass(sizes_at(gate.key), self.view.standing, AddGet(n)))`: no reason holds against a step
-    ///   of which this tells whether one does.
+    /// - The pass may take its step `AddGet(n)` now: `PassStanding::refusal` has no reason against it.
     #[inline]
     pub(crate) fn add_get(&mut self, gate: &GateTable, n: u32) {
         let shared = &gate.table.shared;
@@ -74,8 +71,7 @@ impl PassSeat {
     /// # Preconditions
     ///
     /// - `self` belongs to `gate`.
-    /// - `IsEnabled(hinders_pass(sizes_at(gate.key), self.view.standing, Sub(n)))`: no reason holds against a step of
-    ///   which this tells whether one does.
+    /// - The pass may take its step `Sub(n)` now: `PassStanding::refusal` has no reason against it.
     #[inline]
     pub(crate) fn subtract(&mut self, gate: &GateTable, n: u32) -> bool {
         let n = u64::from(n);
@@ -89,8 +85,7 @@ impl PassSeat {
     /// # Preconditions
     ///
     /// - `self` belongs to `gate`.
-    /// - `IsEnabled(hinders_pass(sizes_at(gate.key), self.view.standing, Undo))`: no reason holds against a step of
-    ///   which this tells whether one does.
+    /// - The pass may take its step `Undo` now: `PassStanding::refusal` has no reason against it.
     #[inline]
     pub(crate) fn undo(&mut self, gate: &GateTable) -> bool {
         let shared = &gate.table.shared;
@@ -103,8 +98,7 @@ impl PassSeat {
     /// # Preconditions
     ///
     /// - `self` belongs to `gate`.
-    /// - `IsEnabled(hinders_pass(sizes_at(gate.key), self.view.standing, Mark))`: no reason holds against a step of
-    ///   which this tells whether one does.
+    /// - The pass may take its step `Mark` now: `PassStanding::refusal` has no reason against it.
     #[inline]
     pub(crate) fn mark(&mut self, gate: &GateTable) -> Put {
         let shared = &gate.table.shared;
@@ -117,8 +111,7 @@ impl PassSeat {
     /// # Preconditions
     ///
     /// - `self` belongs to `gate`.
-    /// - `IsEnabled(hinders_pass(sizes_at(gate.key), self.view.standing, LookShared))`: no reason holds against a step
-    ///   of which this tells whether one does.
+    /// - The pass may take its step `LookShared` now: `PassStanding::refusal` has no reason against it.
     #[inline]
     pub(crate) fn look(&mut self, gate: &GateTable) -> u64 {
         gate.table.shared.load(&mut self.seat, SHARED)
@@ -129,8 +122,7 @@ impl PassSeat {
     /// # Preconditions
     ///
     /// - `self` belongs to `gate`.
-    /// - `IsEnabled(hinders_pass(sizes_at(gate.key), self.view.standing, LoadFront))`: no reason holds against a step
-    ///   of which this tells whether one does.
+    /// - The pass may take its step `LoadFront` now: `PassStanding::refusal` has no reason against it.
     #[inline]
     pub(crate) fn load_front(&mut self, gate: &GateTable) -> u64 {
         gate.table.shared.load(&mut self.seat, FRONT)
@@ -141,8 +133,7 @@ impl PassSeat {
     /// # Preconditions
     ///
     /// - `self` belongs to `gate`.
-    /// - `IsEnabled(hinders_pass(sizes_at(gate.key), self.view.standing, LoadWord(k)))`: no reason holds against a step
-    ///   of which this tells whether one does.
+    /// - The pass may take its step `LoadWord(k)` now: `PassStanding::refusal` has no reason against it.
     #[inline]
     pub(crate) fn load_word(&mut self, gate: &GateTable, k: u32) -> u64 {
         let place = FIRST_WORD + k as usize;

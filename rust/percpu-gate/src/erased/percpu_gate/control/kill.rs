@@ -105,7 +105,6 @@ impl<const W: usize> Control<W> {
     /// # Preconditions
     ///
     /// - `self` belongs to `gate`.
-    /// - `confirm.IsAlwaysCallable()`.
     pub fn kill_and_confirm<R, F: FnOnce(u64) -> R>(
         &mut self,
         gate: &Gate<W>,

@@ -13,8 +13,7 @@ impl ControlSeat {
     /// - `self` belongs to `gate`.
     /// - `slot` is `next_slot(self.view.standing.phase)`.
     /// - `slot` is less than `gate.slots()`.
-    /// - `IsEnabled(hinders_control(sizes_at(gate.key), true, None, self.view.standing, Close))`: no reason holds
-    ///   against a step of which this tells whether one does.
+    /// - The control may take its step `Close` now: `ControlStanding::refusal` has no reason against it.
     pub(crate) fn close_slot(&mut self, gate: &GateTable, slot: u32) -> Option<i64> {
         debug_assert!(slot < gate.slots());
         let place = place_of(slot);
@@ -29,8 +28,7 @@ impl ControlSeat {
     ///
     /// - `self` belongs to `gate`.
     /// - `less` is `bias - self.view.standing.uncollected`.
-    /// - `IsEnabled(hinders_control(sizes_at(gate.key), true, None, self.view.standing, Collect))`: no reason holds
-    ///   against a step of which this tells whether one does.
+    /// - The control may take its step `Collect` now: `ControlStanding::refusal` has no reason against it.
     pub(crate) fn collect(&mut self, gate: &GateTable, less: u64) {
         let shared = &gate.table.shared;
         shared.fetch_sub(&mut self.seat, SHARED, less);
@@ -41,8 +39,7 @@ impl ControlSeat {
     /// # Preconditions
     ///
     /// - `self` belongs to `gate`.
-    /// - `IsEnabled(hinders_control(sizes_at(gate.key), true, None, self.view.standing, AddBias))`: no reason holds
-    ///   against a step of which this tells whether one does.
+    /// - The control may take its step `AddBias` now: `ControlStanding::refusal` has no reason against it.
     pub(crate) fn add_bias(&mut self, gate: &GateTable) {
         let shared = &gate.table.shared;
         shared.fetch_add(&mut self.seat, SHARED, BIAS);
@@ -55,8 +52,7 @@ impl ControlSeat {
     /// - `self` belongs to `gate`.
     /// - `slot` is `next_slot(self.view.standing.phase)`.
     /// - `slot` is less than `gate.slots()`.
-    /// - `IsEnabled(hinders_control(sizes_at(gate.key), true, None, self.view.standing, OpenNext))`: no reason holds
-    ///   against a step of which this tells whether one does.
+    /// - The control may take its step `OpenNext` now: `ControlStanding::refusal` has no reason against it.
     pub(crate) fn open_slot(&mut self, gate: &GateTable, slot: u32) {
         debug_assert!(slot < gate.slots());
         let place = place_of(slot);

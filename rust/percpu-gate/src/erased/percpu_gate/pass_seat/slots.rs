@@ -34,8 +34,7 @@ impl PassSeat {
     /// # Preconditions
     ///
     /// - `self` belongs to `gate`.
-    /// - `IsEnabled(hinders_pass(sizes_at(gate.key), self.view.standing, Look(slot)))`: no reason holds against a step
-    ///   of which this tells whether one does.
+    /// - The pass may take its step `Look(slot)` now: `PassStanding::refusal` has no reason against it.
     #[inline]
     pub(crate) fn look_at_slot(&mut self, gate: &GateTable, slot: u32) -> Option<i64> {
         let place = place_of(slot);
@@ -47,8 +46,7 @@ impl PassSeat {
     /// # Preconditions
     ///
     /// - `self` belongs to `gate`.
-    /// - `IsEnabled(hinders_pass(sizes_at(gate.key), self.view.standing, Take(slot, seen, n)))`: no reason holds
-    ///   against a step of which this tells whether one does.
+    /// - The pass may take its step `Take(slot, seen, n)` now: `PassStanding::refusal` has no reason against it.
     #[inline]
     pub(crate) fn take_on_slot(&mut self, gate: &GateTable, slot: u32, seen: i64, n: u32) -> bool {
         let place = place_of(slot);
@@ -64,8 +62,7 @@ impl PassSeat {
     /// # Preconditions
     ///
     /// - `self` belongs to `gate`.
-    /// - `IsEnabled(hinders_pass(sizes_at(gate.key), self.view.standing, Give(slot, seen, n)))`: no reason holds
-    ///   against a step of which this tells whether one does.
+    /// - The pass may take its step `Give(slot, seen, n)` now: `PassStanding::refusal` has no reason against it.
     #[inline]
     pub(crate) fn give_on_slot(&mut self, gate: &GateTable, slot: u32, seen: i64, n: u32) -> bool {
         let place = place_of(slot);
