@@ -1,13 +1,13 @@
 #!/usr/bin/env python3
 """Finds all moments of a race by exhaustive search, from docs/GATE.md and docs/FORMATS.md alone, and says how many there are.
 
-usage: tests/races/search.py [--outcomes] [NAME|FILE ..]
+usage: tests/races/search.py [--outcomes] FILE ..
 
-A line for each world that is named, or for each of WORLDS: its name, the number of its moments, and at how many of them
-nothing may come next; then the number of its outcomes, how many ends have them, and how many steps lead to them at least, all
-told. With --outcomes each outcome, as docs/FORMATS.md has it, without its schedule. A FILE is a race that is right. A moment is
+A line for each race: its file, the number of its moments, and at how many of them nothing may come next; then the number of its
+outcomes, how many ends have them, and how many steps lead to them at least, all told. With --outcomes each outcome, as
+docs/FORMATS.md has it, without its schedule. A FILE is a race that is right. A moment is
 the gate, and for each actor how far it is in its calls and what they have answered; an outcome is what the calls have answered
-at an end, with the figures that the end of a replay tells. The tests of trials_races have these numbers.
+at an end, with the figures that the end of a replay tells. tests/rows/races.rows has these numbers of some races.
 """
 
 import sys
@@ -16,18 +16,6 @@ from collections import deque
 sys.dont_write_bytecode = True
 
 from gate import Race, control_step, first_control, first_gate, first_pass, pass_step
-
-WORLDS = {
-    "nothing": "world 1 1 atomic 0",
-    "one_try": "world 1 1 atomic 0\n0 live 0",
-    "two_tries": "world 1 2 atomic 0\n0 live 0\n1 live 0",
-    "removal": "world 1 1 atomic 0\n0 live 0 / put 0 1\nc kill",
-    "removal_on_slots": "world 1 1 slots 0\n0 live 0 / put 0 1\nc kill",
-    "two_kills": "world 1 1 atomic 0\n0 try 0 / put 0 1\nc kill / resurrect / kill",
-    "another_slot": "world 2 2 slots 0\n0 live 0 / put 1 1\n1 try 1\nc kill",
-    "switch": "world 1 1 slots 0\n0 live 0 / get 0 2 / put 0 3\nc atomic / slots / kill / reinit",
-    "asks": "world 1 1 dead 0\n0 try 0 / front / zero / put 0 1\nc mark_dead / zero / reinit / kill",
-}
 
 
 def calls_of(words):
@@ -114,17 +102,10 @@ def show(race):
     print(f"outcomes {len(found)} states {seen}")
 
 
-def named(name):
-    if name in WORLDS:
-        return race_of(WORLDS[name])
-    with open(name, encoding="utf-8") as it:
-        return race_of(it.read())
-
-
 def main():
-    names = [word for word in sys.argv[1:] if word != "--outcomes"]
-    for name in names or WORLDS:
-        race = named(name)
+    for name in (word for word in sys.argv[1:] if word != "--outcomes"):
+        with open(name, encoding="utf-8") as it:
+            race = race_of(it.read())
         if "--outcomes" in sys.argv:
             show(race)
         else:

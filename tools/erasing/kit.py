@@ -83,7 +83,6 @@ NAMELESS = HANDLE_TRAITS | GHOST_TRAITS | BRANDS | {ALLOCATOR_TYPE, HANDLE_TYPE,
 OF_THE_PROJECT = {
     ("run_desk", "desk", "try_push"),
     ("races_shown", "printing", "try_to_vec"),
-    ("trials_races", "answers", "try_to_vec"),
 }
 # Fields that only proofs read: (crate, type, field).
 READ_BY_PROOFS = {

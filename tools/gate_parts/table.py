@@ -65,6 +65,7 @@ def of_programs(programs):
         what = {"proved": programs}
         found += [
             Step(f"examples{build}", ("tests/built", "tests/examples", *both), 0.5, **what),
+            Step(f"rows{build}", ("tests/built", "tests/rows/run", *both), 0.5, **what),
             Step(f"sizes{build}", ("tests/built", "tools/sizes", *both), 2, **what),
             Step(f"devices{build}", ("tests/built", "tools/sweep_devices", *both), 2, **what),
         ]

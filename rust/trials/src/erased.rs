@@ -6,7 +6,6 @@
 pub mod trials_gate;
 pub mod trials_program;
 pub mod trials_queue;
-pub mod trials_races;
 pub mod trials_run;
 pub mod trials_script;
 pub mod uses;
@@ -14,6 +13,5 @@ pub mod uses;
 pub use ::blkq::erased::{
     atomic_table, blk_script, blk_workers, blkq_run, counted_io, crossbeam_queue, crossbeam_utils, env, fallible,
     freeze_queue, gate_replay, line_text, maps, percpu_core, percpu_gate, percpu_words, pointers, queue_core,
-    queue_limits, race_answers, race_calls, race_outcomes, race_search, race_world, races_text, ram_disk, run_queues,
-    script_meaning, streams, sync, thread, wait_queue,
+    queue_limits, ram_disk, run_queues, script_meaning, streams, sync, thread, wait_queue,
 };
