@@ -20,7 +20,8 @@
 //!   machine and not by the code.
 //! - `queue`: tags enter, read the limits twice, leave and look in, beside nested freezes, new limits, thaws and the removal. The
 //!   limits hold still under a tag, each drain has one last release, and each call is answered as its contract says.
-//! - `waits`: tags that wait to enter, beside threads that freeze by one shared freezer. No wake is lost.
+//! - `waits`: tags that wait to enter, beside threads that freeze by one shared freezer; and several threads that wait for one
+//!   drain. No wake is lost, and a wait changes nothing.
 //!
 //! `tests/rust/orders_wrong` plants mistakes in a copy, each of which they find.
 //!
@@ -31,6 +32,7 @@
 extern crate alloc;
 
 mod actor;
+mod drain_race;
 #[doc(hidden)]
 pub mod erased;
 mod gate_race;
@@ -42,6 +44,7 @@ mod queue_race;
 mod wait_race;
 
 pub use actor::{at_once, join};
+pub use drain_race::{DrainRace, Drained, Finish, LookRace};
 pub use gate_race::{Call, GateRace};
 pub use orders::{Ending, Fault, Found, Orders, Race};
 pub use queue_race::{FIRST_MOST, Freezing, QueueRace, Told, Visit};

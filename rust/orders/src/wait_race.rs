@@ -1,7 +1,7 @@
 //! Races of the queue that waits.
 
 use crate::actor::{at_once, join};
-use crate::erased::freeze_queue::{BlockQueue, FreezeFault, Limits, NewQueue, SharedFreezer, Tag};
+use crate::erased::freeze_queue::{BlockQueue, FreezeFault, Freezer, Limits, NewQueue, SharedFreezer, Tag};
 use crate::erased::wait_queue::WaitQueue;
 use crate::orders::Race;
 
@@ -37,12 +37,21 @@ fn use_once(waits: &WaitQueue) {
     waits.wake_all();
 }
 
-fn queue_of(tags: usize) -> NewQueue {
+pub(crate) fn queue_of(tags: usize) -> NewQueue {
     let tags = u32::try_from(tags).expect("few tags");
     let made = BlockQueue::new(Limits::start(FIRST).expect("limits"), 1, tags).expect("memory");
     use_once(&made.0.drained);
     use_once(&made.0.thawed);
     made
+}
+
+/// A shared freezer, whose lock is named.
+pub(crate) fn share(freezer: Freezer, queue: &BlockQueue) -> SharedFreezer<'_> {
+    at_once(|| {
+        let shared = SharedFreezer::new(freezer, queue);
+        drop(shared.lock());
+        shared
+    })
 }
 
 fn enters(queue: &BlockQueue, mut tag: Tag, rounds: usize) -> Waited {
@@ -78,11 +87,7 @@ impl Race for WaitRace {
 
     fn act(&self, actor: usize) -> Waited {
         let (queue, freezer, mut tags) = at_once(|| queue_of(self.tags));
-        let shared = at_once(|| {
-            let shared = SharedFreezer::new(freezer, &queue);
-            drop(shared.lock());
-            shared
-        });
+        let shared = share(freezer, &queue);
         if actor < self.tags {
             return enters(&queue, tags.swap_remove(actor), self.rounds);
         }

@@ -3,7 +3,7 @@
 
 use orders::erased::atomic_table::Table;
 use orders::erased::wait_queue::WaitQueue;
-use orders::{FIRST, Fault, Found, Orders, Race, WaitRace, Waited, at_once};
+use orders::{DrainRace, Drained, FIRST, Fault, Finish, Found, LookRace, Orders, Race, WaitRace, Waited, at_once};
 
 /// Goes through the orders of a race, in which no thread may wait for ever.
 fn found<R: Race>(orders: &mut Orders<'_, R>) -> Found<R::Answer> {
@@ -28,6 +28,8 @@ fn check_outcome(answers: &[Waited]) {
             Waited::End(depth, kills, of_freezer) => {
                 assert!(*depth == 0 || answers.contains(&Waited::Froze(Vec::new(), true)), "depth {depth}");
                 assert_eq!(releases + of_freezer, *kills, "one release for each drain");
+                let freezers = answers.iter().filter(|it| matches!(it, Waited::Froze(..))).count() as u64;
+                assert!(*kills <= freezers, "{kills} kills by {freezers} freezes");
             }
         }
     }
@@ -61,6 +63,69 @@ fn two_enter_and_one_freezes() {
 #[test]
 fn one_enters_and_two_freeze() {
     check(WaitRace { tags: 1, freezers: 2, rounds: 1 }, 2);
+}
+
+/// Goes through the orders of a race for a drain: the answers of the threads that wait, in each outcome.
+fn drained(race: DrainRace, switches: u8) -> Vec<Vec<Drained>> {
+    let found = found(&mut Orders::of(&race).switches(switches));
+    println!("orders of {race:?}, {switches} switches: {} states, {} interleavings", found.states, found.interleavings);
+    let mut all = Vec::new();
+    for mut answers in found.outcomes.into_keys() {
+        let kills = 1 + u64::from(race.finish == Finish::Refreeze);
+        let left = Drained::Left { depth: final_depth(race), kills, on_slots: true, most: FIRST };
+        assert_eq!(answers.split_off(race.waiting + race.freezing), [Drained::Finished, left]);
+        all.push(answers);
+    }
+    all
+}
+
+/// Each freeze is one more; a thaw is one less.
+fn final_depth(race: DrainRace) -> u32 {
+    let freezing = u32::try_from(race.freezing).expect("few threads");
+    race.depth + freezing - u32::from(race.finish == Finish::Thaw)
+}
+
+/// Each of several waits for one drain ends, and leaves the queue frozen as it was.
+#[test]
+fn a_leave_ends_both_waits_for_the_drain() {
+    let race = DrainRace { depth: 2, waiting: 2, freezing: 0, finish: Finish::Leave };
+    assert_eq!(drained(race, 2), [[Drained::Waited(Ok(2)), Drained::Waited(Ok(2))]]);
+}
+
+/// A nested freeze waits for the same drain: it is one freeze more, the gate is killed once, and its mode and limits stay.
+#[test]
+fn a_nested_freeze_waits_for_the_same_drain() {
+    let race = DrainRace { depth: 2, waiting: 1, freezing: 1, finish: Finish::Leave };
+    for answers in drained(race, 2) {
+        assert!(matches!(answers[0], Drained::Waited(Ok(2 | 3))), "{answers:?}");
+        assert_eq!(answers[1], Drained::Waited(Ok(3)));
+    }
+}
+
+/// Each of several waits for the drain of a freeze that is thawed ends.
+#[test]
+fn a_thaw_ends_both_waits_for_the_drain() {
+    let race = DrainRace { depth: 1, waiting: 2, freezing: 0, finish: Finish::Thaw };
+    assert_eq!(drained(race, 2), [[Drained::Waited(Err(2)), Drained::Waited(Err(2))]]);
+}
+
+/// A freeze that finds a thawed queue empty needs no wake: each thread that waits was woken by the thaw.
+#[test]
+fn a_freeze_of_an_empty_queue_ends_both_waits_for_the_drain() {
+    let race = DrainRace { depth: 1, waiting: 2, freezing: 0, finish: Finish::Refreeze };
+    let outcomes = drained(race, 2);
+    assert!(outcomes.iter().flatten().all(|it| matches!(it, Drained::Waited(Ok(1) | Err(2)))), "{outcomes:?}");
+}
+
+/// A look in that found the queue drained may drop the last count of a later freeze.
+#[test]
+fn one_looks_in_beside_two_freezes() {
+    let found = found(&mut Orders::of(&LookRace { freezes: 2 }).switches(4));
+    println!(
+        "orders of a look in beside two freezes, 4 switches: {} states, {} interleavings",
+        found.states, found.interleavings
+    );
+    assert_eq!(found.outcomes.into_keys().collect::<Vec<_>>(), [[false, true], [true, true]]);
 }
 
 /// Threads that wait for a token each, and one that puts tokens down and wakes one thread after each.
