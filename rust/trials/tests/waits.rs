@@ -1,0 +1,101 @@
+//! Threads that wait: they sleep, they outlast wakes, and a shared wait changes nothing.
+
+use blkq::erased::freeze_queue::{BlockQueue, Enter, Freezer, Limits, Put, SharedFreezer, Tag};
+use blkq::erased::wait_queue::WaitQueue;
+use std::sync::atomic::{AtomicBool, AtomicU64, Ordering::SeqCst};
+use std::thread;
+use std::time::Duration;
+use trials::erased::uses::commands;
+
+/// The most turns that a thread takes before it sleeps: some with no wait announced, and one with it.
+const MOST_TURNS: u64 = 32;
+
+/// The turns that a thread takes while nobody wakes it. In 50 milliseconds one that spins takes thousands.
+fn turns_taken(announced: bool) -> u64 {
+    let (queue, taken, over) = (WaitQueue::new(), AtomicU64::new(0), AtomicBool::new(false));
+    thread::scope(|scope| {
+        scope.spawn(|| {
+            let mut tries = if announced { queue.announced_tries() } else { queue.tries() };
+            while tries.next().is_some() {
+                taken.fetch_add(1, SeqCst);
+                if over.load(SeqCst) {
+                    break;
+                }
+            }
+        });
+        while taken.load(SeqCst) == 0 {
+            thread::yield_now();
+        }
+        thread::sleep(Duration::from_millis(50));
+        let before = taken.load(SeqCst);
+        over.store(true, SeqCst);
+        queue.wake_all();
+        before
+    })
+}
+
+#[test]
+fn a_thread_that_waits_sleeps() {
+    let taken = turns_taken(false);
+    assert!(taken <= MOST_TURNS, "{taken} turns");
+}
+
+#[test]
+fn a_thread_that_announces_its_wait_sleeps_at_once() {
+    assert_eq!(turns_taken(true), 1);
+}
+
+/// The widest limits of 8 sectors, and narrower ones.
+fn limits(max: u32) -> Limits {
+    Limits::new(8, max, 0).expect("limits")
+}
+
+fn with_one_tag() -> (BlockQueue, Freezer, Tag) {
+    let (queue, freezer, mut tags) = BlockQueue::new(limits(8), 1, 1).expect("memory");
+    (queue, freezer, tags.swap_remove(0))
+}
+
+/// A shared freeze nests in another: the depth is one more. It leaves the limits, and a wait leaves both.
+#[test]
+fn a_shared_freeze_nests() {
+    let (queue, mut freezer, _tag) = with_one_tag();
+    assert_eq!(freezer.start_freeze(&queue), Ok(1));
+    assert_eq!(freezer.set(&queue, limits(4)), Ok(()));
+    let shared = SharedFreezer::new(freezer, &queue);
+    let shown = |freezer: &Freezer| (freezer.depth(), freezer.limits());
+    assert_eq!(shared.freeze().map(|guard| shown(&guard.freezer)), Ok((2, limits(4))));
+    assert_eq!(shared.wait_drained().map(|guard| shown(&guard.freezer)), Ok((2, limits(4))));
+    assert_eq!(shown(&shared.lock().freezer), (2, limits(4)));
+}
+
+/// Wakes the threads that wait for the drain: a thaw wakes them, and they find the queue frozen again.
+fn wake(shared: &SharedFreezer<'_>, queue: &BlockQueue) {
+    let mut guard = shared.lock();
+    assert_eq!(guard.freezer.thaw(queue), Ok(0));
+    assert_eq!(guard.freezer.start_freeze(queue), Ok(1));
+}
+
+/// A wait ends with the drain, and not after so many looks.
+#[test]
+fn a_wait_outlasts_many_wakes() {
+    let (queue, mut freezer, mut tag) = with_one_tag();
+    assert_eq!(queue.try_enter(&mut tag, 0), Enter::Entered);
+    assert_eq!(freezer.start_freeze(&queue), Ok(1));
+    let shared = SharedFreezer::new(freezer, &queue);
+    thread::scope(|scope| {
+        let waits = scope.spawn(|| shared.wait_drained().map(|guard| guard.freezer.depth()));
+        for _ in 0..200 {
+            wake(&shared, &queue);
+            thread::sleep(Duration::from_millis(1));
+        }
+        assert_eq!(queue.leave(&mut tag, 0), Put::Last);
+        assert_eq!(waits.join().expect("a wait that ends"), Ok(1));
+    });
+}
+
+/// There is memory for many commands of one request.
+#[test]
+fn a_very_long_range_is_cut() {
+    let made = commands(&limits(1), 1, 2_000_000).expect("memory");
+    assert_eq!(made.len(), 2_000_000);
+}
