@@ -1,0 +1,15 @@
+//! Each call that the crates below offer to anybody, made once with the types that it is promised to have.
+//!
+//! A function here has the name of the call that it makes. Its signature spells the types out, its `requires` are the
+//! conditions of that call, and a `match` without a wildcard names each answer. If a name, a type, a condition or an answer
+//! changes, this crate doesn't compile, or isn't proved.
+#![tactic(auto)]
+
+pub mod cutting;
+pub mod gate_control;
+pub mod gate_passes;
+pub mod machine;
+pub mod queue;
+pub mod scripts;
+pub mod sectors;
+pub mod spellings;
