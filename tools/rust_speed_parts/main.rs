@@ -4,6 +4,8 @@
 //! `change,FORM,THREADS,MEDIAN,NINETY_NINTH,NANOSECONDS` for the microseconds of a change under load, with a pause of 100
 //! microseconds before each, and the nanoseconds of a round meanwhile.
 
+mod timing;
+
 use freeze_queue::{Limits, Queue, Tag};
 use percpu_gate::{Gate, Pass, Start};
 use std::env;
@@ -11,9 +13,10 @@ use std::error::Error;
 use std::hint::black_box;
 use std::process::ExitCode;
 use std::sync::atomic::{AtomicBool, AtomicU64, Ordering};
-use std::sync::{Arc, Barrier, RwLock};
+use std::sync::{Arc, RwLock};
 use std::thread;
 use std::time::{Duration, Instant};
+use timing::{at_once, go_round};
 
 const LIMITS: Limits = Limits { hardware: 64, max: 32, chunk: 128, physical: 8 };
 const BATCH: u32 = 1_024;
@@ -34,31 +37,6 @@ impl Words {
         let words = Words { threads: next(63)?, rounds: next(1_000_000_000)?, changes: next(1_000_000)? };
         given.next().is_none().then_some(words)
     }
-}
-
-/// Calls `run` on a thread for each of these, all at once, and `meanwhile` on this thread. Returns the nanoseconds from the
-/// first thread's begin to the last one's end.
-fn at_once<T: Send>(of: &mut [T], run: impl Fn(&mut T) + Sync, meanwhile: impl FnOnce()) -> f64 {
-    let start = Barrier::new(of.len() + 1);
-    let timed = |mine: &mut T| {
-        start.wait();
-        let began = Instant::now();
-        run(mine);
-        (began, Instant::now())
-    };
-    let timed = &timed;
-    let (began, ended): (Vec<Instant>, Vec<Instant>) = thread::scope(|scope| {
-        let all: Vec<_> = of.iter_mut().map(|mine| scope.spawn(move || timed(mine))).collect();
-        start.wait();
-        meanwhile();
-        all.into_iter().map(|thread| thread.join().expect("each round is done")).unzip()
-    });
-    let (first, last) = (began.into_iter().min(), ended.into_iter().max());
-    first.zip(last).map_or(0.0, |(first, last)| (last - first).as_secs_f64() * 1e9)
-}
-
-fn go_round<T>(mine: &mut T, count: u32, round: &impl Fn(&mut T) -> u32) {
-    black_box((0..count).fold(0_u32, |sum, _| sum.wrapping_add(round(mine))));
 }
 
 /// Times so many rounds on each thread, and prints the line.

@@ -14,6 +14,8 @@ pub struct WaitRace {
     pub freezers: usize,
     /// How often each tag enters.
     pub rounds: usize,
+    /// Whether each tag's thread reads the depth before it leaves, and so takes the freezer's lock.
+    pub reads_depth: bool,
 }
 
 /// An answer.
@@ -54,11 +56,15 @@ pub(crate) fn share(freezer: Freezer, queue: &BlockQueue) -> SharedFreezer<'_> {
     })
 }
 
-fn enters(queue: &BlockQueue, mut tag: Tag, rounds: usize) -> Waited {
+fn enters(race: &WaitRace, queue: &BlockQueue, shared: &SharedFreezer<'_>, mut tag: Tag) -> Waited {
     let mut seen = Vec::new();
-    for _ in 0..rounds {
+    for _ in 0..race.rounds {
         queue.enter(&mut tag, 0);
-        seen.push((queue.limits(&mut tag).max(), queue.limits(&mut tag).max()));
+        let first = queue.limits(&mut tag).max();
+        if race.reads_depth {
+            shared.lock().freezer.depth();
+        }
+        seen.push((first, queue.limits(&mut tag).max()));
         let _put = queue.leave(&mut tag, 0);
     }
     Waited::Entered(seen, tag.into_pass().into_parts().1)
@@ -89,7 +95,7 @@ impl Race for WaitRace {
         let (queue, freezer, mut tags) = at_once(|| queue_of(self.tags));
         let shared = share(freezer, &queue);
         if actor < self.tags {
-            return enters(&queue, tags.swap_remove(actor), self.rounds);
+            return enters(self, &queue, &shared, tags.swap_remove(actor));
         }
         if actor < self.tags + self.freezers {
             return freezes(&shared, FIRST - 1 - u32::try_from(actor - self.tags).expect("few freezers"));

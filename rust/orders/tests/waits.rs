@@ -39,9 +39,10 @@ fn check(race: WaitRace, switches: u8) {
     let mut orders = Orders::of(&race).switches(switches);
     let found = found(&mut orders);
     let (outcomes, states, ways) = (found.outcomes.len(), found.states, found.interleavings);
-    let WaitRace { tags, freezers, rounds } = race;
+    let WaitRace { tags, freezers, rounds, reads_depth } = race;
+    let reads = if reads_depth { " and read the depth" } else { "" };
     println!(
-        "orders of {tags} tags that wait to enter, {rounds} times, beside {freezers} threads that freeze, {switches} switches: \
+        "orders of {tags} tags that wait to enter{reads}, {rounds} times, beside {freezers} threads that freeze, {switches} switches: \
          {outcomes} outcomes, {states} states, {ways} interleavings"
     );
     for (answers, ending) in &found.outcomes {
@@ -52,17 +53,23 @@ fn check(race: WaitRace, switches: u8) {
 
 #[test]
 fn one_enters_and_one_freezes() {
-    check(WaitRace { tags: 1, freezers: 1, rounds: 1 }, 4);
+    check(WaitRace { tags: 1, freezers: 1, rounds: 1, reads_depth: false }, 4);
 }
 
 #[test]
 fn two_enter_and_one_freezes() {
-    check(WaitRace { tags: 2, freezers: 1, rounds: 1 }, 2);
+    check(WaitRace { tags: 2, freezers: 1, rounds: 1, reads_depth: false }, 2);
 }
 
 #[test]
 fn one_enters_and_two_freeze() {
-    check(WaitRace { tags: 1, freezers: 2, rounds: 1 }, 2);
+    check(WaitRace { tags: 1, freezers: 2, rounds: 1, reads_depth: false }, 2);
+}
+
+/// A thread that waits for the drain has let the freezer's lock go: the tag that holds the drain off takes it before it leaves.
+#[test]
+fn one_enters_and_reads_the_depth_beside_a_freeze() {
+    check(WaitRace { tags: 1, freezers: 1, rounds: 1, reads_depth: true }, 4);
 }
 
 /// Goes through the orders of a race for a drain: the answers of the threads that wait, in each outcome.

@@ -25,8 +25,8 @@ static LEFT: AtomicI64 = AtomicI64::new(i64::MAX);
 static BLOCKS: AtomicI64 = AtomicI64::new(0);
 /// Threads of a run.
 const WORKERS: u32 = 2;
-/// The most bytes that std asks for at once for a thread.
-const MOST_OF_STD: usize = 100;
+/// The most bytes that std asks for at once for a thread: 104 in Rust 1.85.
+const MOST_OF_STD: usize = 104;
 
 /// The system's allocator, which refuses one allocation and counts.
 struct Refusing;
@@ -174,8 +174,8 @@ fn main() {
         let is_short = read(example).is_ok_and(|text| text.len() < 1_500);
         if matches!(kind, "blkq" | "gate" | "races") && is_short {
             let aborts = each_refused(example);
-            // For a thread std allocates a handle, a packet and a closure; for all of them a scope.
-            assert!(aborts <= if kind == "blkq" { 4 * WORKERS } else { 0 }, "{example:?}: {aborts}");
+            // For a thread std allocates up to 4 blocks (a handle, a packet, a closure and its box), for all of them a scope.
+            assert!(aborts <= if kind == "blkq" { 4 * WORKERS + 1 } else { 0 }, "{example:?}: {aborts}");
         }
     }
 }

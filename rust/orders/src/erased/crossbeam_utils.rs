@@ -2,7 +2,6 @@
 
 use std::cell::Cell;
 
-#[path = "../../../freeze-queue/src/erased/crossbeam_utils/sync.rs"]
 pub mod sync;
 
 /// One try comes before the wait is announced.

@@ -1,0 +1,1 @@
+../../../../freeze-queue/src/erased/crossbeam_utils/sync.rs
