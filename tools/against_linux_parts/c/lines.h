@@ -1,0 +1,34 @@
+/* Reads a script line by line, as words; what the drivers have in common. */
+#ifndef LINES_H
+#define LINES_H
+#include <inttypes.h>
+#include <stdbool.h>
+#include <stdint.h>
+#include <stdio.h>
+#include <stdlib.h>
+#include <string.h>
+
+static char line_text[256], *line_words[12];
+static unsigned line_count;
+
+/* Whether there is a further line with words. */
+static bool next_line(void)
+{
+    while (fgets(line_text, sizeof line_text, stdin)) {
+        line_count = 0;
+        for (char *it = strtok(line_text, " \n"); it && line_count < 12; it = strtok(NULL, " \n"))
+            line_words[line_count++] = it;
+        if (line_count)
+            return true;
+    }
+    return false;
+}
+
+static bool is(const char *word) { return line_count && !strcmp(line_words[0], word); }
+static bool has_word(unsigned at, const char *word) { return line_count > at && !strcmp(line_words[at], word); }
+
+/* The number at a place, 0 if there is none. */
+static uint64_t number(unsigned at) { return at < line_count ? strtoull(line_words[at], NULL, 10) : 0; }
+
+static const char *yes_no(bool is_so) { return is_so ? "yes" : "no"; }
+#endif
