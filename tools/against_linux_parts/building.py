@@ -68,6 +68,25 @@ class Builder:
         run([self.compiler, *objects, "-o", out])
         return out
 
+    def orders(self):
+        """The explorer of all orders. The compiler makes a step of each access of the kernel's code to memory."""
+        steps = ("-fsanitize=thread", "-fno-omit-frame-pointer", "-DSHIM_MOST_CPUS=2")
+        objects = [self.percpu_ref(*steps), self.compiled("ref_calls.o", os.path.join(C, "orders_calls.c"), *OF_KERNEL, *steps)]
+        for name in ("orders", "orders_actors", "orders_shims"):
+            objects.append(self.compiled(f"{name}.o", os.path.join(C, f"{name}.c"), *OF_OURS, *steps[1:], "-U_FORTIFY_SOURCE"))
+        out = self.path("orders")
+        run([self.compiler, *objects, "-o", out])
+        return out
+
+    def threads(self, *sanitizer):
+        """The kernel's percpu_ref on threads, with these flags of a sanitizer or none."""
+        flags = (*sanitizer, "-DSHIM_MOST_CPUS=32", "-DSHIM_DEPENDENT=__ATOMIC_ACQUIRE")
+        objects = [self.percpu_ref(*flags), self.compiled("ref_calls.o", os.path.join(C, "ref_calls.c"), *OF_KERNEL, *flags)]
+        objects.append(self.compiled("threads.o", os.path.join(C, "threads.c"), *OF_OURS, *flags))
+        out = self.path("threads")
+        run([self.compiler, *objects, *sanitizer, "-pthread", "-o", out])
+        return out
+
     def ours(self, kind):
         """Our driver of a kind, over the library that is installed at the prefix, or built in the repository."""
         library, out = LIBRARIES[kind], self.path(f"{kind}-ours")

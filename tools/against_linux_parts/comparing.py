@@ -42,7 +42,7 @@ class Driver:
     def __init__(self, path):
         self.path = path
 
-    def answers(self, lines, seconds=60):
+    def answers(self, lines, seconds=20):
         try:
             done = subprocess.run([self.path], input="\n".join(lines) + "\n", capture_output=True, text=True, timeout=seconds, check=False)
             ended = [] if done.returncode == 0 else [f"the program ends with status {done.returncode}"]

@@ -14,7 +14,9 @@ void *shim_alloc(size_t size) { return calloc(1, size); }
 void shim_free(void *at) { free(at); }
 long shim_load(const long *at) { return *at; }
 void shim_store(long *at, long n) { *at = n; }
-long shim_add(long *at, long n) { return *at += n; }
+void shim_add(long *at, long n) { *at += n; }
+long shim_add_return(long *at, long n) { return *at += n; }
+bool shim_add_and_test(long *at, long n) { return !(*at += n); }
 bool shim_add_unless(long *at, long n, long unless) { return *at != unless && (*at += n, true); }
 void shim_cpu_add(unsigned long *at, unsigned long n) { *at += n; }
 bool shim_is_held(const spinlock_t *lock) { return lock->holder; }

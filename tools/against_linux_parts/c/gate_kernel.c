@@ -179,6 +179,7 @@ static void ended(void)
 
 int main(void)
 {
+    setvbuf(stdout, NULL, _IOLBF, 0);
     alone_now = &sleeper;
     while (next_line()) {
         uint64_t before = releases;

@@ -12,7 +12,7 @@ static char line_text[256], *line_words[12];
 static unsigned line_count;
 
 /* Whether there is a further line with words. */
-static bool next_line(void)
+static inline bool next_line(void)
 {
     while (fgets(line_text, sizeof line_text, stdin)) {
         line_count = 0;
@@ -24,11 +24,11 @@ static bool next_line(void)
     return false;
 }
 
-static bool is(const char *word) { return line_count && !strcmp(line_words[0], word); }
-static bool has_word(unsigned at, const char *word) { return line_count > at && !strcmp(line_words[at], word); }
+static inline bool is(const char *word) { return line_count && !strcmp(line_words[0], word); }
+static inline bool has_word(unsigned at, const char *word) { return line_count > at && !strcmp(line_words[at], word); }
 
 /* The number at a place, 0 if there is none. */
-static uint64_t number(unsigned at) { return at < line_count ? strtoull(line_words[at], NULL, 10) : 0; }
+static inline uint64_t number(unsigned at) { return at < line_count ? strtoull(line_words[at], NULL, 10) : 0; }
 
-static const char *yes_no(bool is_so) { return is_so ? "yes" : "no"; }
+static inline const char *yes_no(bool is_so) { return is_so ? "yes" : "no"; }
 #endif

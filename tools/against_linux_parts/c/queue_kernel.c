@@ -21,7 +21,7 @@ static struct request_queue q;
 static ucontext_t driver;
 static unsigned now, tags, inside;
 static bool is_there, is_in[TAGS];
-static uint64_t releases, kills;
+static uint64_t releases, kills, hardware;
 
 static struct alone_sleeper of_driver;
 
@@ -125,9 +125,23 @@ static struct queue_limits limits_at(unsigned at)
         .physical_block_size = number(at + 2) * SECTOR_SIZE, .logical_block_size = SECTOR_SIZE};
 }
 
+/* Whether these limits are within what both libraries take. */
+static bool are_limits(uint64_t hardware, unsigned at)
+{
+    uint64_t most = number(at), chunk = number(at + 1), block = number(at + 2);
+    return hardware >= 1 && hardware <= 65535 && most >= 1 && most <= hardware && chunk <= 65535 && block <= 32768 &&
+           block && !(block & (block - 1));
+}
+
 /* As blk_alloc_queue makes it, and blk_register_queue switches it. */
 static void begin(void)
 {
+    is_there = number(1) >= 1 && number(1) <= 64 && number(2) >= 1 && number(2) <= TAGS && are_limits(number(3), 4);
+    if (!is_there) {
+        printf("-");
+        return;
+    }
+    hardware = number(3);
     shim_cpus = number(1);
     tags = number(2);
     memset(&q, 0, sizeof q);
@@ -141,7 +155,6 @@ static void begin(void)
     if (percpu_ref_init(&q.q_usage_counter, on_release, PERCPU_REF_INIT_ATOMIC, GFP_KERNEL))
         exit(4);
     percpu_ref_switch_to_percpu(&q.q_usage_counter);
-    is_there = true;
     printf("queue");
 }
 
@@ -222,9 +235,9 @@ static void of_freezer(void)
     } else if (is("depth")) {
         printf("%d", q.mq_freeze_depth);
     } else if (is("set")) {
-        if (is_zero)
+        if (is_zero && are_limits(hardware, 1))
             q.limits = limits_at(1);
-        printf(is_zero ? "ok" : "not drained");
+        printf(!are_limits(hardware, 1) ? "-" : is_zero ? "ok" : "not drained");
     } else if (is("mode")) {
         (has_word(1, "slots") ? percpu_ref_switch_to_percpu : percpu_ref_switch_to_atomic_sync)(&q.q_usage_counter);
         printf("ok");
@@ -241,6 +254,10 @@ static void split(void)
 {
     struct queue_limits limits = limits_at(4);
     uint64_t start = number(1), count = number(2);
+    if (!are_limits(number(3), 4) || start >= 1ull << 33 || count < 1 || count > UINT32_MAX) {
+        printf("-");
+        return;
+    }
     unsigned aligned = queue_io_size(start, limits);
     limits.physical_block_size = SECTOR_SIZE;
     printf("%" PRIu64 " reach %u", count < aligned ? count : aligned, queue_io_size(start, limits));
@@ -248,6 +265,7 @@ static void split(void)
 
 int main(void)
 {
+    setvbuf(stdout, NULL, _IOLBF, 0);
     while (next_line()) {
         uint64_t before = releases;
         const char *warning;

@@ -32,12 +32,16 @@ static bool begin(void)
     memset(is_waiting, 0, sizeof is_waiting);
     memset(has_waiter, 0, sizeof has_waiter);
     freeze_queue_limits limits = limits_at(hardware, 4);
-    if (freeze_queue_new(&freezer, &limits, slots, tags))
-        return false;
+    uint32_t answer = number(1) > 64 || number(2) > TAGS ? FREEZE_QUEUE_SIZE : freeze_queue_new(&freezer, &limits, slots, tags);
+    is_there = !answer && limits.max; /* a maximum of 0 asks for the hardware's here */
+    if (!is_there) {
+        tags = 0;
+        refused(answer);
+        return true;
+    }
     for (uint32_t it = 0; it < tags; it++)
         if (freeze_queue_next_tag(&freezer, &handles[it]))
             return false;
-    is_there = true;
     drains = 0;
     printf("queue");
     return true;
@@ -136,7 +140,7 @@ static void wait_drained(void)
 static void set(void)
 {
     freeze_queue_limits limits = limits_at(hardware, 1);
-    uint32_t answer = freeze_queue_set(&freezer, &limits);
+    uint32_t answer = limits.max ? freeze_queue_set(&freezer, &limits) : FREEZE_QUEUE_HARDWARE_RANGE;
     if (answer == FREEZE_QUEUE_NOT_DRAINED || answer == FREEZE_QUEUE_NOT_FROZEN)
         printf("not drained");
     else if (answer)
@@ -211,7 +215,9 @@ static void split(void)
 {
     uint32_t piece, answer;
     freeze_queue_limits limits = limits_at(number(3), 4);
-    if ((answer = freeze_queue_first_piece(&limits, number(1), number(2), &piece)))
+    if (!limits.max || number(2) > UINT32_MAX)
+        printf("refused: no maximum, or too many sectors");
+    else if ((answer = freeze_queue_first_piece(&limits, number(1), number(2), &piece)))
         refused(answer);
     else
         printf("%u", piece);

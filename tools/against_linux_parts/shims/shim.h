@@ -5,7 +5,12 @@
 #include <stdbool.h>
 #include <stddef.h>
 
-enum { SHIM_CPUS = 64, SHIM_LINE = 64 };
+#ifndef SHIM_MOST_CPUS
+#define SHIM_MOST_CPUS 64
+#endif
+enum { SHIM_CPUS = SHIM_MOST_CPUS, SHIM_LINE = 64 };
+/* What is static and shared stands in a section of its own, for orders.c to copy. */
+#define SHIM_SHARED __attribute__((section("shim_shared")))
 
 struct rcu_head { struct rcu_head *next; void (*then)(struct rcu_head *); };
 typedef struct { int holder; } spinlock_t;
@@ -21,8 +26,10 @@ void shim_free(void *at);
 /* Atomic operations: one step each, with a full barrier. */
 long shim_load(const long *at);
 void shim_store(long *at, long n);
-long shim_add(long *at, long n);                      /* the sum */
-bool shim_add_unless(long *at, long n, long unless);  /* whether it added */
+void shim_add(long *at, long n);
+long shim_add_return(long *at, long n);              /* the sum */
+bool shim_add_and_test(long *at, long n);            /* whether the sum is 0 */
+bool shim_add_unless(long *at, long n, long unless); /* whether it added */
 void shim_cpu_add(unsigned long *at, unsigned long n); /* on the caller's processor; one step beside its interrupts */
 
 void shim_lock(spinlock_t *lock);

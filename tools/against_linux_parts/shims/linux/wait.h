@@ -2,7 +2,7 @@
 #ifndef SHIM_WAIT
 #define SHIM_WAIT
 #include <linux/sched.h>
-#define DECLARE_WAIT_QUEUE_HEAD(q) wait_queue_head_t q
+#define DECLARE_WAIT_QUEUE_HEAD(q) wait_queue_head_t q SHIM_SHARED
 #define wait_event(q, is_so)                                                                                               \
     do {                                                                                                                   \
         for (shim_prepare(&(q)); !(is_so); shim_prepare(&(q)))                                                             \

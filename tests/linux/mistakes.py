@@ -1,0 +1,58 @@
+"""Mistakes that are planted in a copy of the kernel's files: each names the function, and what is written for what there. No line
+of the kernel stands here: what is replaced is a few words of one."""
+
+from dataclasses import dataclass
+
+
+@dataclass(frozen=True)
+class Mistake:
+    name: str
+    kind: str
+    file: str
+    function: str
+    old: str
+    new: str
+
+
+REF, REF_H = "lib/percpu-refcount.c", "include/linux/percpu-refcount.h"
+CORE, MQ, MERGE, BLKDEV = "block/blk-core.c", "block/blk-mq.c", "block/blk-merge.c", "include/linux/blkdev.h"
+
+MISTAKES = (
+    Mistake("the bias is dropped before the counts are collected", "gate", REF, "__percpu_ref_switch_to_atomic",
+            r"percpu_ref_get\(ref\);", "percpu_ref_get(ref); ref->data->count.counter -= PERCPU_COUNT_BIAS;"),
+    Mistake("a put looks at DEAD first", "gate", REF_H, "percpu_ref_put_many",
+            r"atomic_long_sub_and_test\(nr, &ref->data->count\)",
+            "atomic_long_sub_and_test(nr, &ref->data->count) && !(ref->percpu_count_ptr & __PERCPU_REF_DEAD)"),
+    Mistake("the sticky flag of atomic mode is forgotten", "gate", REF, "percpu_ref_switch_to_atomic",
+            r"force_atomic = true", "force_atomic = false"),
+    Mistake("release runs twice", "gate", REF_H, "percpu_ref_put_many",
+            r"ref->data->release\(ref\)", "ref->data->release(ref), ref->data->release(ref)"),
+    Mistake("resurrect without the initial reference", "gate", REF, "percpu_ref_resurrect",
+            r"percpu_ref_get\(ref\);", ""),
+    Mistake("a try takes a reference of a count of zero", "gate", REF_H, "percpu_ref_tryget_many",
+            r"atomic_long_add_unless\(&ref->data->count, nr, 0\)", "(atomic_long_add(nr, &ref->data->count), true)"),
+    Mistake("a live try doesn't look at DEAD", "gate", REF_H, "percpu_ref_tryget_live_rcu",
+            r"ref->percpu_count_ptr & __PERCPU_REF_DEAD", "ref->percpu_count_ptr & 0"),
+    Mistake("the counts of a life before stay on the processors", "gate", REF, "__percpu_ref_switch_to_percpu",
+            r"\*per_cpu_ptr\(percpu_count, cpu\) = 0", "(void)cpu"),
+    Mistake("one processor's count is collected", "gate", REF, "percpu_ref_switch_to_atomic_rcu",
+            r"count \+= ", "count = "),
+    Mistake("a switch doesn't drop its own reference", "gate", REF, "percpu_ref_call_confirm_rcu",
+            r"percpu_ref_put\(ref\);", ""),
+    Mistake("a freeze's depth isn't counted down", "queue", MQ, "__blk_mq_unfreeze_queue",
+            r"q->mq_freeze_depth--", "q->mq_freeze_depth = 0"),
+    Mistake("each freeze kills", "queue", MQ, "blk_freeze_queue_start",
+            r"if \(\+\+q->mq_freeze_depth == 1\)", "if (++q->mq_freeze_depth)"),
+    Mistake("the thaw wakes nobody", "queue", MQ, "__blk_mq_unfreeze_queue",
+            r"wake_up_all\(&q->mq_freeze_wq\);", ""),
+    Mistake("the last leave wakes nobody", "queue", CORE, "blk_queue_usage_counter_release",
+            r"wake_up_all\(&q->mq_freeze_wq\);", ""),
+    Mistake("an entry that mustn't wait enters a frozen queue", "queue", CORE, "blk_queue_enter",
+            r"return -EAGAIN", "return 0"),
+    Mistake("a chunk is measured from the request's start", "split", BLKDEV, "(?:blk_chunk|blk_boundary)_sectors_left",
+            r"- \(offset & \((\w+) - 1\)\)", r"- (offset & 0)"),
+    Mistake("a chunk that isn't a power of two is taken for one", "split", BLKDEV, "(?:blk_chunk|blk_boundary)_sectors_left",
+            r"!is_power_of_2\((\w+)\)", r"0"),
+    Mistake("the physical block is measured from the request's start", "split", MERGE, "get_max_io_size",
+            r"start = bio->bi_iter\.bi_sector & \(pbs - 1\)", "start = 0"),
+)
