@@ -41,7 +41,7 @@ MISTAKES = (
             r"percpu_ref_put\(ref\);", ""),
     Mistake("a freeze's depth isn't counted down", "queue", MQ, "__blk_mq_unfreeze_queue",
             r"q->mq_freeze_depth--", "q->mq_freeze_depth = 0"),
-    Mistake("each freeze kills", "queue", MQ, "blk_freeze_queue_start",
+    Mistake("each freeze kills", "queue", MQ, "(?:__)?blk_freeze_queue_start",
             r"if \(\+\+q->mq_freeze_depth == 1\)", "if (++q->mq_freeze_depth)"),
     Mistake("the thaw wakes nobody", "queue", MQ, "__blk_mq_unfreeze_queue",
             r"wake_up_all\(&q->mq_freeze_wq\);", ""),

@@ -59,9 +59,7 @@ class Difference:
         self.lines, self.kernel, self.ours = lines, kernel, ours
 
     def told(self):
-        width = max(len(it) for it in self.lines[-1:] + ["the call"]) + 2
-        rows = [f"    {it}" for it in self.lines[:-1]]
-        rows.append(f"    {self.lines[-1]:{width}}")
+        rows = [f"    {it}" for it in self.lines]
         return "\n".join([*rows, f"  the kernel  {self.kernel}", f"  blkq        {self.ours}"])
 
 
@@ -98,15 +96,21 @@ class Kind:
         return self.first_difference(data.decode().split("\n"))
 
 
-def kinds_of(builder, names):
-    """The kinds that are asked for, their drivers built."""
-    made = {}
+MAKERS = {
+    "gate": gate_lines.script,
+    "queue": queue_lines.script,
+    "split": lambda pick: [queue_lines.split(pick) for _ in range(200)],
+}
+
+
+def kinds_of(builder, names, made=None):
+    """The kinds that are asked for; their drivers are built, if they aren't made yet."""
+    made = dict(made or {})
     for name in names:
         driver = "queue" if name == "split" else name
         if driver not in made:
             made[driver] = builder.kernel(driver), builder.ours(driver)
-    makers = {"gate": gate_lines.script, "queue": queue_lines.script, "split": lambda pick: [queue_lines.split(pick) for _ in range(200)]}
-    return [Kind(name, makers[name], *made["queue" if name == "split" else name]) for name in names]
+    return [Kind(name, MAKERS[name], *made["queue" if name == "split" else name]) for name in names]
 
 
 def compare(kind, calls, seed, say):

@@ -36,7 +36,7 @@ static void begin(void)
     unsigned flags = PERCPU_REF_ALLOW_REINIT;
     shim_cpus = number(1);
     passes = number(2);
-    is_there = shim_cpus >= 1 && shim_cpus <= MOST && passes >= 1 && passes <= MOST;
+    is_there = shim_cpus >= 1 && shim_cpus <= MOST && passes >= 1 && passes <= MOST && is_start(3);
     flags |= has_word(3, "atomic") ? PERCPU_REF_INIT_ATOMIC : has_word(3, "dead") ? PERCPU_REF_INIT_DEAD : 0;
     memset(held, 0, sizeof held);
     releases = kills = 0;

@@ -21,7 +21,8 @@ static bool begin(void)
 {
     uint64_t words[8] = {0};
     uint32_t start = has_word(3, "atomic") ? PERCPU_GATE_ATOMIC : has_word(3, "dead") ? PERCPU_GATE_DEAD : PERCPU_GATE_SLOTS;
-    uint32_t answer = percpu_gate_new(&control, number(1), number(2), start, words);
+    bool is_small = is_start(3) && number(1) <= MOST && number(2) <= MOST;
+    uint32_t answer = is_small ? percpu_gate_new(&control, number(1), number(2), start, words) : PERCPU_GATE_SIZE;
     slots = number(1);
     passes = answer ? 0 : number(2);
     memset(held, 0, sizeof held);

@@ -27,6 +27,8 @@ static inline bool next_line(void)
 static inline bool is(const char *word) { return line_count && !strcmp(line_words[0], word); }
 static inline bool has_word(unsigned at, const char *word) { return line_count > at && !strcmp(line_words[at], word); }
 
+static inline bool is_start(unsigned at) { return has_word(at, "slots") || has_word(at, "atomic") || has_word(at, "dead"); }
+
 /* The number at a place, 0 if there is none. */
 static inline uint64_t number(unsigned at) { return at < line_count ? strtoull(line_words[at], NULL, 10) : 0; }
 
