@@ -56,3 +56,13 @@ MISTAKES = (
     Mistake("the physical block is measured from the request's start", "split", MERGE, "get_max_io_size",
             r"start = bio->bi_iter\.bi_sector & \(pbs - 1\)", "start = 0"),
 )
+
+# Mistakes that only other orders of the steps show.
+OF_ORDERS = (
+    Mistake("the bias is removed before the counts are added", "races", REF, "percpu_ref_switch_to_atomic_rcu",
+            r"atomic_long_add\([^;]*BIAS[^;]*\)", "(atomic_long_sub(PERCPU_COUNT_BIAS, &data->count), atomic_long_add(count, &data->count))"),
+    Mistake("a switch doesn't wait for the grace period", "races", REF, "__percpu_ref_switch_to_atomic",
+            r"call_rcu\w*\(([^,]*),\s*(\w+)\)", r"\2(\1)"),
+    Mistake("a revival doesn't wait for the switch before", "races", REF, "__percpu_ref_switch_mode",
+            r"wait_event_lock_irq\([^;]*\)", "(void)0"),
+)

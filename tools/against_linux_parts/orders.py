@@ -13,7 +13,8 @@ from against_linux_parts.races import Race, races
 # The same words for what both have: of ours a refused try that is last is refused, and a revival says what it found.
 WORDS = {"refused last": "refused", "at zero": "ok", "held": "ok", "last": "put", "not last": "put"}
 SAME = "the same outcomes"
-MORE = "more of ours, each with a refused try"
+MORE = "more of ours, each with a refused try that counts for a moment"
+OPEN = "more of ours, one with a live try that is given on a slot which is still open, behind one that was refused"
 EARLY = "more of Linux's, each ours with one reference more until a grace period ends"
 GIVEN_UP = "given up"
 KEPT_EACH = 5
@@ -76,6 +77,19 @@ def without(outcomes, first, more):
     return found
 
 
+def is_given_later(race, outcome):
+    """Whether a live try of a pass is given behind one that was refused, though nothing was revived."""
+    of = {it[0]: it[1:] for it in outcome[:-1]}
+    if any(call in ("reinit", "resurrect") and answer == "ok" for call, answer in zip(race.control, of.get("c", ()))):
+        return False
+    for at, calls in enumerate(race.passes):
+        answers = of[str(at)]
+        live = [(it, answer) for it, (call, answer) in enumerate(zip(calls, answers)) if call.startswith("live")]
+        if any(one < other for one, said in live if said == "refused" for other, then in live if then == "given"):
+            return True
+    return False
+
+
 class Orders:
     """Both explorers: the kernel's, which goes on from race to race, and gate_races, which runs for each."""
 
@@ -118,7 +132,7 @@ class Orders:
         if not all("refused" in str(it) for it in ours - kernel):
             return "a difference", moments, alone
         if kernel < ours:
-            return MORE, moments, alone
+            return OPEN if any(is_given_later(race, it) for it in ours - kernel) else MORE, moments, alone
         longer, more = held_longer(race)
         is_longer = kernel - ours <= without(self.ours(longer), len(race.passes), more)
         return EARLY if is_longer else "a difference", moments, alone
@@ -136,7 +150,7 @@ class Part:
                 self.kept = json.load(it)
 
     def add(self, race, how, moments, alone):
-        tally, shown_ones = self.kept["tally"], self.kept["shown"].setdefault(how, [])
+        tally, shown_ones = self.kept["tally"], self.kept["shown"].setdefault(how, []) if how != SAME else []
         key = f"{race.slots} slots, {how}" if race.slots > 1 else f"1 slot, {how}"
         tally[key] = tally.get(key, 0) + 1
         self.kept["moments"] += moments
@@ -187,6 +201,6 @@ def told(folder):
             examples.setdefault(how, []).extend(found[: KEPT_EACH - len(examples.get(how, []))])
     lines = [f"Linux {', '.join(sorted(versions))}: {sum(tally.values()):,} races, {moments:,} moments, {seconds:,.0f} seconds"]
     lines += [f"  {how}: {count:,}" for how, count in sorted(tally.items())]
-    for how, found in examples.items():
+    for how, found in ((how, found) for how, found in examples.items() if found):
         lines += [f"{how}, for example:"] + ["    " + "\n        ".join(it) for it in found]
     return "\n".join(lines), any("a difference" in how for how in tally)

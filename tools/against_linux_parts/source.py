@@ -105,7 +105,10 @@ def installed(version):
     if not found() and os.environ.get("CI") == "true":
         package = f"linux-source-{version or '6.1'}"
         for words in (("update", "-q"), ("install", "-q", "-y", "--no-install-recommends", package)):
-            subprocess.run(("apt-get", *words), stdin=subprocess.DEVNULL, capture_output=True, check=False)
+            try:
+                subprocess.run(("apt-get", *words), stdin=subprocess.DEVNULL, capture_output=True, check=False, timeout=900)
+            except (OSError, subprocess.TimeoutExpired):
+                break
     if not found():
         raise NoSource(f"there is no Linux source: give TREE, or {HELP.replace('6.1', version or '6.1')}")
     return found()[0]
