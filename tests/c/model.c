@@ -28,6 +28,13 @@ static uint32_t any_below(uint32_t n)
     return (uint32_t)(seed >> 33) % n;
 }
 
+/* Any word of 64 bits, and often one at an end. */
+static uint64_t any_word(void)
+{
+    uint64_t most = UINT64_MAX, half = (uint64_t)any_below(UINT32_MAX) << 32;
+    return any_below(4) == 0 ? most * any_below(2) : half | any_below(UINT32_MAX);
+}
+
 static void is(uint64_t answer, uint64_t want, const char *what)
 {
     if (answer == want)
@@ -72,7 +79,7 @@ static void make(uint32_t c)
     bool fits = slots >= 1 && slots <= 64 && out >= 1 && out <= 64 && start <= 2, dead = start == PERCPU_GATE_DEAD;
     uint64_t words[8];
     for (int k = 0; k < 8; k++)
-        words[k] = any_below(1000);
+        words[k] = any_word();
     uint32_t want = controls[c].gate ? PERCPU_GATE_OPEN : fits ? PERCPU_GATE_OK : PERCPU_GATE_SIZE;
     IS(percpu_gate_new(&controls[c].handle, slots, out, start, words), want);
     if (want)
@@ -321,7 +328,8 @@ static void change_mode(uint32_t c, bool atomic)
 static void store(uint32_t c)
 {
     struct gate *g = controls[c].gate;
-    uint32_t k = any_below(10), want = dead_refusal(g), v = any_below(1000000);
+    uint32_t k = any_below(10), want = dead_refusal(g);
+    uint64_t v = any_word();
     want = g && k >= 8 ? PERCPU_GATE_WORD : want ? want : g->zero ? PERCPU_GATE_OK : PERCPU_GATE_NOT_ZERO;
     IS(percpu_gate_store_word(&controls[c].handle, k, v), want);
     if (!want)

@@ -1,5 +1,7 @@
 /* Each allocation of a whole life is refused in turn: a number is answered, nothing is lost and nothing leaks. Then
- * the misuses that take two gates; and gates of every size, to which none is refused. (Linked with --wrap=malloc and free, so that this malloc refuses and both count.) */
+ * the misuses that take two gates; and gates of every size, to which none is refused. No call but new and next_pass allocates at
+ * all, and free_pass and free_control give back every block, wherever the gate stands. (Linked with --wrap=malloc and free, so
+ * that this malloc refuses and both count.) */
 #include "percpu_gate.h"
 
 #include <stdio.h>
@@ -64,14 +66,14 @@ static long life(long allow)
 }
 
 /* Gates of every size and start, with all their passes, are made and end where no allocation is refused: none is too large. */
-static int every_size(void)
+static int every_size(uint32_t start)
 {
     for (uint32_t slots = 1; slots <= PERCPU_GATE_MOST_SLOTS; slots++)
         for (uint32_t most = 1; most <= PERCPU_GATE_MOST_PASSES; most++) {
             percpu_gate_control control = {0};
             percpu_gate_pass passes[PERCPU_GATE_MOST_PASSES] = {{0}};
             percpu_gate_final last;
-            if (percpu_gate_new(&control, slots, most, (slots + most) % 3, words))
+            if (percpu_gate_new(&control, slots, most, start, words))
                 return 1;
             for (uint32_t i = 0; i < most; i++)
                 if (percpu_gate_next_pass(&control, &passes[i]))
@@ -119,6 +121,66 @@ static int ends_without_memory(void)
     uint32_t given = percpu_gate_next_pass(&control, &pass), ended = percpu_gate_exit(&control, &last);
     allowed = -1;
     return given != PERCPU_GATE_NO_MEMORY || ended || control.is_open || pass.is_open;
+}
+
+/* A whole life with no memory left: malloc isn't even called, and each call is answered as ever. */
+static int no_call_allocates(void)
+{
+    percpu_gate_control control = {0};
+    percpu_gate_pass pass = {0}, freed = {0};
+    percpu_gate_final last;
+    uint32_t slots;
+    uint64_t told, all[8];
+    if (percpu_gate_new(&control, 2, 2, PERCPU_GATE_SLOTS, words) || percpu_gate_next_pass(&control, &pass) ||
+        percpu_gate_next_pass(&control, &freed))
+        return 1;
+    refusals = allowed = 0;
+    for (int life = 0; life < 3; life++) {
+        if (percpu_gate_switch_to_atomic(&control) || percpu_gate_switch_to_slots(&control) ||
+            percpu_gate_try_get(&pass, 0) || percpu_gate_try_get_live(&pass, 1) || percpu_gate_get(&pass, 1, 2) ||
+            percpu_gate_word(&pass, 0, &told) || percpu_gate_front(&pass, &told) || percpu_gate_is_dying(&pass) ||
+            percpu_gate_kill(&control) || percpu_gate_try_get_live(&pass, 0) != PERCPU_GATE_NOT_GIVEN ||
+            percpu_gate_resurrect(&control) || percpu_gate_mark_dead(&control, &slots) || slots != 2)
+            return 2;
+        if (percpu_gate_close_next(&control) || percpu_gate_close_next(&control) || percpu_gate_collect(&control) ||
+            percpu_gate_confirm(&control, &told) || percpu_gate_phase(&control) != PERCPU_GATE_PHASE_CONFIRMED ||
+            percpu_gate_drop_base(&control) || percpu_gate_put(&pass, 0, 4) != PERCPU_GATE_LAST)
+            return 3;
+        if (!percpu_gate_is_zero(&pass) || !percpu_gate_control_is_zero(&control) ||
+            percpu_gate_store_word(&control, 0, 3) || percpu_gate_words(&control, all) ||
+            percpu_gate_kills(&control, &told) || percpu_gate_releases(&control, &told) || percpu_gate_reinit(&control) ||
+            percpu_gate_pass_number(&pass) != percpu_gate_control_number(&control))
+            return 4;
+    }
+    if (percpu_gate_retire(&control, &pass) || percpu_gate_exit(&control, &last) != PERCPU_GATE_PASSES_OUT)
+        return 5;
+    percpu_gate_free_pass(&freed);
+    percpu_gate_free_control(&control);
+    allowed = -1;
+    return refusals != 0;
+}
+
+/* A control that is freed after so many steps of a kill, and a pass that holds, give back all that they have. */
+static int freed_in_each_phase(void)
+{
+    for (int steps = 0; steps <= 6; steps++) {
+        percpu_gate_control control = {0};
+        percpu_gate_pass pass = {0};
+        uint32_t slots;
+        uint64_t front;
+        if (percpu_gate_new(&control, 2, 2, PERCPU_GATE_SLOTS, words) || percpu_gate_next_pass(&control, &pass) ||
+            percpu_gate_try_get(&pass, 1))
+            return 1;
+        if ((steps > 0 && percpu_gate_mark_dead(&control, &slots)) || (steps > 1 && percpu_gate_close_next(&control)) ||
+            (steps > 2 && percpu_gate_close_next(&control)) || (steps > 3 && percpu_gate_collect(&control)) ||
+            (steps > 4 && percpu_gate_confirm(&control, &front)) || (steps > 5 && percpu_gate_drop_base(&control)))
+            return 2;
+        percpu_gate_free_control(&control);
+        percpu_gate_free_pass(&pass);
+        if (blocks != 0)
+            return 3;
+    }
+    return 0;
 }
 
 static int two_gates(void)
@@ -182,5 +244,8 @@ int main(void)
             return 1;
     if (refused < 3)
         return 2;
-    return every_size() || each_pass_refused() || ends_without_memory() || two_gates() || one_place_twice() || blocks != 0;
+    for (uint32_t start = 0; start < 3; start++)
+        if (every_size(start))
+            return 4;
+    return no_call_allocates() || freed_in_each_phase() || each_pass_refused() || ends_without_memory() || two_gates() || one_place_twice() || blocks != 0;
 }

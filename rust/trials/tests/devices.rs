@@ -1,0 +1,193 @@
+//! Readers and writers that fail in one call and do well in the next, or are interrupted before each piece; and faults far down an
+//! input. A call has its own answer, though an earlier one failed. No contract says so, since each may return want of memory.
+
+use blkq::erased::blk_workers::{Config, NoStall};
+use blkq::erased::blkq_run::{Fault, command, run_bytes};
+use blkq::erased::counted_io::{Counted, InputFault, TRIES, WriteFault, read_whole, write_whole};
+use std::collections::VecDeque;
+use std::io::{self, Error, ErrorKind, Read, Write};
+
+const SCRIPT: &[u8] = b"blkq 1\ndisk 4 hw 8\n";
+const ANSWER: &[u8] = b"disk 00*2048\n";
+const SCHEDULE: &[u8] = b"gate 1\nworld 1 1 atomic 0\n0 add try\n";
+const SHOWN: &[u8] = b"given\nend live 2 front 0 kills 0 releases 0 held 1\n";
+const TEXT: &[u8] = b"0123456789";
+const TIMED_OUT: Does = Does::Fails(ErrorKind::TimedOut);
+const INTERRUPTED: Does = Does::Fails(ErrorKind::Interrupted);
+
+/// One call of a device: it fails so, or moves up to so many bytes.
+#[derive(Clone, Copy)]
+enum Does {
+    Fails(ErrorKind),
+    Moves(usize),
+}
+
+/// A device that does these in turn, and from then on all that it is asked for.
+#[derive(Default)]
+struct Device {
+    does: VecDeque<Does>,
+    input: VecDeque<u8>,
+    output: Vec<u8>,
+    calls: usize,
+    flushes: usize,
+}
+
+impl Device {
+    fn with_input(input: &[u8], does: impl IntoIterator<Item = Does>) -> Device {
+        Device { does: does.into_iter().collect(), input: input.iter().copied().collect(), ..Device::default() }
+    }
+
+    fn moved(&mut self, asked: usize) -> io::Result<usize> {
+        self.calls += 1;
+        match self.does.pop_front() {
+            Some(Does::Fails(kind)) => Err(Error::from(kind)),
+            Some(Does::Moves(most)) => Ok(asked.min(most)),
+            None => Ok(asked),
+        }
+    }
+}
+
+impl Read for Device {
+    fn read(&mut self, buf: &mut [u8]) -> io::Result<usize> {
+        let count = self.moved(buf.len())?.min(self.input.len());
+        for (byte, given) in buf.iter_mut().zip(self.input.drain(..count)) {
+            *byte = given;
+        }
+        Ok(count)
+    }
+}
+
+impl Write for Device {
+    fn write(&mut self, buf: &[u8]) -> io::Result<usize> {
+        let count = self.moved(buf.len())?;
+        self.output.extend_from_slice(&buf[..count]);
+        Ok(count)
+    }
+
+    fn flush(&mut self) -> io::Result<()> {
+        self.flushes += 1;
+        Ok(())
+    }
+}
+
+/// A reader that failed in earlier calls is read, and a failure ends the call, as ever.
+#[test]
+fn a_reader_that_failed_before() {
+    let mut device = Device::with_input(TEXT, [TIMED_OUT, TIMED_OUT, Does::Moves(3), TIMED_OUT, INTERRUPTED]);
+    let mut reader = Counted::new(&mut device);
+    for failures in 1..=3 {
+        assert_eq!(read_whole(&mut reader, 11), Err(InputFault::Read));
+        assert_eq!(reader.failures(), failures);
+    }
+    assert_eq!(read_whole(&mut reader, 11).as_deref(), Ok(&TEXT[3..]));
+    assert_eq!(reader.failures(), 4);
+    assert_eq!(device.calls, 7);
+}
+
+/// A writer that failed in earlier calls is written to, and a failure ends the call, as ever.
+#[test]
+fn a_writer_that_failed_before() {
+    let mut device = Device::with_input(b"", [TIMED_OUT, Does::Moves(0), Does::Moves(3), TIMED_OUT, INTERRUPTED]);
+    let mut writer = Counted::new(&mut device);
+    for (failures, written) in [(1, 0), (2, 0), (3, 3)] {
+        assert_eq!(write_whole(&mut writer, TEXT), Err(WriteFault { written }));
+        assert_eq!(writer.failures(), failures);
+    }
+    assert_eq!(write_whole(&mut writer, &TEXT[3..]), Ok(()));
+    assert_eq!(writer.failures(), 4);
+    assert_eq!((device.output.as_slice(), device.calls), (TEXT, 6));
+}
+
+/// As many interruptions as are borne come before each byte, and many have come before.
+#[test]
+fn interrupted_before_each_byte() {
+    let borne = TRIES as usize - 1;
+    let before_each = || TEXT.iter().flat_map(|_| vec![INTERRUPTED; borne].into_iter().chain([Does::Moves(1)]));
+    let mut device = Device::with_input(TEXT, before_each());
+    let mut reader = Counted::new(&mut device);
+    assert_eq!(read_whole(&mut reader, TEXT.len()).as_deref(), Ok(TEXT));
+    assert_eq!(reader.failures(), (borne * TEXT.len()) as u64);
+    let mut device = Device::with_input(b"", before_each().chain(before_each()));
+    let mut writer = Counted::new(&mut device);
+    for _ in 0..2 {
+        assert_eq!(write_whole(&mut writer, TEXT), Ok(()));
+    }
+    assert_eq!(writer.failures(), 2 * (borne * TEXT.len()) as u64);
+    assert_eq!(device.output, [TEXT, TEXT].concat());
+}
+
+/// A writer that keeps bytes back is its owner's to flush, also where it fails.
+#[test]
+fn nothing_is_flushed() {
+    let mut device = Device::with_input(b"", [Does::Moves(1), INTERRUPTED, Does::Moves(4)]);
+    let mut writer = Counted::new(&mut device);
+    assert_eq!(run_bytes(&mut Counted::new(SCRIPT), &mut writer, Config::default(), &NoStall), Ok(()));
+    assert_eq!((device.output.as_slice(), device.flushes), (ANSWER, 0));
+    let mut device = Device::with_input(b"", [Does::Moves(1), TIMED_OUT]);
+    let mut writer = Counted::new(&mut device);
+    assert_eq!(
+        run_bytes(&mut Counted::new(SCRIPT), &mut writer, Config::default(), &NoStall),
+        Err(Fault::Write { written: 1 })
+    );
+    assert_eq!(device.flushes, 0);
+}
+
+/// The status of a program of this word, and its line of errors.
+fn status(word: &str, reader: &mut Counted<&mut Device>, writer: &mut Counted<&mut Device>) -> (u8, String) {
+    let mut errors = Vec::new();
+    let status = command(&[word.into()], reader, writer, &mut errors);
+    (status, String::from_utf8(errors).expect("a line is a text"))
+}
+
+/// A program whose reader or writer failed before does its work; if one fails again, the program says so.
+#[test]
+fn a_program_whose_devices_failed_before() {
+    for (word, input, answer) in [("run", SCRIPT, ANSWER), ("replay", SCHEDULE, SHOWN)] {
+        let thrice = [input; 3].concat();
+        let reads = [TIMED_OUT, TIMED_OUT].into_iter().chain([Does::Moves(input.len()), Does::Moves(0)].repeat(3));
+        let mut from = Device::with_input(&thrice, reads);
+        let mut to = Device::with_input(b"", [TIMED_OUT, Does::Moves(2), TIMED_OUT]);
+        let mut reader = Counted::new(&mut from);
+        let mut writer = Counted::new(&mut to);
+        for line in ["read\n", "read\n", "write\n", "write\n"] {
+            assert_eq!(status(word, &mut reader, &mut writer), (4, line.into()));
+        }
+        assert_eq!(status(word, &mut reader, &mut writer), (0, String::new()));
+        assert_eq!((reader.failures(), writer.failures()), (2, 2));
+        assert_eq!(to.output, [&answer[..2], answer].concat());
+    }
+}
+
+/// An input that ends at once is at its end, whatever comes later.
+#[test]
+fn an_empty_input_is_not_read_again() {
+    for word in ["run", "replay"] {
+        let mut from = Device::with_input(SCRIPT, [Does::Moves(0)]);
+        let mut to = Device::default();
+        let answered = status(word, &mut Counted::new(&mut from), &mut Counted::new(&mut to));
+        assert_eq!(answered, (2, "line 1: no version\n".into()));
+        assert_eq!((from.calls, to.calls), (1, 0));
+    }
+}
+
+/// The status and the line of an input that is refused for a line far down.
+fn refused(word: &str, input: &[u8]) -> (u8, String) {
+    let (mut from, mut to) = (Device::with_input(input, []), Device::default());
+    let answered = status(word, &mut Counted::new(&mut from), &mut Counted::new(&mut to));
+    assert_eq!(to.calls, 0);
+    answered
+}
+
+/// The fault of the last line is the answer, however many lines there are before it.
+#[test]
+fn faults_far_down() {
+    for lines in [10usize, 65_534, 65_535, 65_536, 1_000_000] {
+        let blank = vec![b'\n'; lines];
+        let script = [SCRIPT, &blank, b"trim"].concat();
+        assert_eq!(refused("run", &script), (2, format!("line {}: unknown word\n", lines + 3)));
+        let overlap = [SCRIPT, b"write 0 1 61\n", &blank, b"read 0 1"].concat();
+        assert_eq!(refused("run", &overlap), (3, format!("line {}: overlaps line 3\n", lines + 4)));
+        let schedule = [SCHEDULE, &blank, b"0 pop"].concat();
+        assert_eq!(refused("replay", &schedule), (2, format!("line {}: unknown word\n", lines + 4)));
+    }
+}

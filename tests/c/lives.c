@@ -1,0 +1,129 @@
+/* What a gate keeps in its later lives too, as its own memory shows, which no program may read: the slot that a call names is
+ * the one that counts; a pass that is freed holds on; a control that is freed leaves the slots open; no pass runs out by kills.
+ * (Linked with --wrap=malloc and free.) */
+#include "percpu_gate.h"
+
+#include "inside.h"
+
+enum { SLOTS = PERCPU_GATE_MOST_SLOTS, LIVES = 1200 };
+
+#define IS(call, want) is(#call, call, PERCPU_GATE_##want, __LINE__)
+#define TELLS(value, want) is(#value, (uint64_t)(value), want, __LINE__)
+
+/* A slot's word is this where it is open and nothing is counted on it. */
+static const uint64_t EMPTY = (uint64_t)1 << 32;
+
+static const uint64_t words[8] = {3};
+static percpu_gate_control control;
+static percpu_gate_pass passes[2];
+static percpu_gate_final last;
+
+static void make(void)
+{
+    IS(percpu_gate_new(&control, SLOTS, 2, PERCPU_GATE_SLOTS, words), OK);
+    IS(percpu_gate_next_pass(&control, &passes[0]), OK);
+}
+
+/* The word of a slot, by what a pass counts on it and takes back. */
+static uint64_t *slot_word(uint32_t slot)
+{
+    IS(percpu_gate_try_get(&passes[0], slot), OK);
+    first_look(EMPTY + 1);
+    IS(percpu_gate_get(&passes[0], slot, 4), OK);
+    look_again(EMPTY + 5);
+    IS(percpu_gate_put(&passes[0], slot, 5), OK);
+    look_again(EMPTY);
+    return the_word("a slot");
+}
+
+/* A life more, of which the pass sees the odd front and the even one. */
+static void live_again(uint64_t life)
+{
+    uint64_t front = 0;
+    IS(percpu_gate_kill(&control), LAST);
+    IS(percpu_gate_front(&passes[0], &front), OK);
+    TELLS(front, 2 * life + 1);
+    IS(percpu_gate_reinit(&control), OK);
+    IS(percpu_gate_front(&passes[0], &front), OK);
+    TELLS(front, 2 * life + 2);
+}
+
+static void counts_on(uint32_t slot, const uint64_t *word)
+{
+    IS(percpu_gate_try_get(&passes[0], slot), OK);
+    TELLS(*word, EMPTY + 1);
+    IS(percpu_gate_try_get_live(&passes[0], slot), OK);
+    TELLS(*word, EMPTY + 2);
+    IS(percpu_gate_get(&passes[0], slot, 3), OK);
+    TELLS(*word, EMPTY + 5);
+    IS(percpu_gate_put(&passes[0], slot, 1), OK);
+    TELLS(*word, EMPTY + 4);
+    IS(percpu_gate_put(&passes[0], slot, 4), OK);
+    TELLS(*word, EMPTY);
+}
+
+/* In each life each call counts on the slot that it names; and a pass that is asked for in the last life is there. */
+static void slots_in_each_life(void)
+{
+    uint64_t *slots[SLOTS];
+    make();
+    for (uint32_t slot = 0; slot < SLOTS; slot++)
+        slots[slot] = slot_word(slot);
+    for (uint64_t life = 0; life < LIVES; life++) {
+        for (uint32_t slot = 0; slot < SLOTS; slot++)
+            counts_on(slot, slots[slot]);
+        live_again(life);
+    }
+    IS(percpu_gate_next_pass(&control, &passes[1]), OK);
+    IS(percpu_gate_try_get_live(&passes[1], SLOTS - 1), OK);
+    TELLS(*slots[SLOTS - 1], EMPTY + 1);
+    IS(percpu_gate_put(&passes[1], SLOTS - 1, 1), OK);
+    IS(percpu_gate_retire(&control, &passes[0]), OK);
+    IS(percpu_gate_retire(&control, &passes[1]), OK);
+    IS(percpu_gate_exit(&control, &last), OK);
+    TELLS(last.kills, LIVES);
+    TELLS(blocks_now(), 0);
+}
+
+/* What a freed pass holds, on its slot, it holds for ever, in whichever life. */
+static void a_freed_pass(uint64_t lives)
+{
+    make();
+    uint64_t *word = slot_word(SLOTS - 1);
+    for (uint64_t life = 0; life < lives; life++)
+        live_again(life);
+    IS(percpu_gate_try_get_live(&passes[0], SLOTS - 1), OK);
+    IS(percpu_gate_get(&passes[0], SLOTS - 1, 6), OK);
+    percpu_gate_free_pass(&passes[0]);
+    TELLS(*word, EMPTY + 7);
+    TELLS(percpu_gate_kill(&control), PERCPU_GATE_OK);
+    TELLS(percpu_gate_control_is_zero(&control), false);
+    percpu_gate_free_control(&control);
+    TELLS(blocks_now(), 0);
+}
+
+/* A control that is freed closes no slot, in whichever life: its passes count on. */
+static void a_freed_control(uint64_t lives)
+{
+    make();
+    uint64_t *word = slot_word(SLOTS - 1);
+    for (uint64_t life = 0; life < lives; life++)
+        live_again(life);
+    percpu_gate_free_control(&control);
+    counts_on(SLOTS - 1, word);
+    percpu_gate_free_pass(&passes[0]);
+    TELLS(blocks_now(), 0);
+}
+
+int main(void)
+{
+    slots_in_each_life();
+    for (uint64_t lives = 0; lives < 3; lives++) {
+        a_freed_pass(lives);
+        a_freed_control(lives);
+    }
+    a_freed_pass(LIVES);
+    a_freed_control(LIVES);
+    printf("%s\n", failures ? "FAILED" : "kept");
+    return failures != 0;
+}
