@@ -1,5 +1,5 @@
 """Mistakes that are planted in a copy of the kernel's files: each names the function, and what is written for what there. No line
-of the kernel stands here: what is replaced is a few words of one."""
+of the kernel is here: a pattern of a few words says where the mistake goes."""
 
 from dataclasses import dataclass
 

@@ -68,12 +68,13 @@ class Builder:
         run([self.compiler, *objects, "-o", out])
         return out
 
-    def orders(self):
+    def orders(self, *more):
         """The explorer of all orders. The compiler makes a step of each access of the kernel's code to memory."""
-        steps = ("-fsanitize=thread", "-fno-omit-frame-pointer", "-DSHIM_MOST_CPUS=2")
+        of_ours = (*more, "-fno-omit-frame-pointer", "-DSHIM_MOST_CPUS=2")
+        steps = (*of_ours, "-fsanitize=thread")
         objects = [self.percpu_ref(*steps), self.compiled("ref_calls.o", os.path.join(C, "ref_calls.c"), *OF_KERNEL, *steps)]
         for name in ("orders", "orders_actors", "orders_shims"):
-            objects.append(self.compiled(f"{name}.o", os.path.join(C, f"{name}.c"), *OF_OURS, *steps[1:], "-U_FORTIFY_SOURCE"))
+            objects.append(self.compiled(f"{name}.o", os.path.join(C, f"{name}.c"), *OF_OURS, *of_ours, "-U_FORTIFY_SOURCE"))
         out = self.path("orders")
         run([self.compiler, *objects, "-o", out])
         return out

@@ -58,7 +58,7 @@ class Difference:
     def __init__(self, lines, kernel, ours):
         self.lines, self.kernel, self.ours = lines, kernel, ours
 
-    def told(self):
+    def shown(self):
         rows = [f"    {it}" for it in self.lines]
         return "\n".join([*rows, f"  the kernel  {self.kernel}", f"  blkq        {self.ours}"])
 

@@ -186,7 +186,7 @@ def run_slice(orders, part, number, of, most_calls, say):
         part.save()
 
 
-def told(folder):
+def summary(folder):
     """What all parts in a folder have shown."""
     tally, moments, seconds, examples, versions = collections.Counter(), 0, 0, {}, set()
     for name in sorted(os.listdir(folder)):

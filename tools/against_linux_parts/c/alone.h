@@ -15,7 +15,7 @@ void alone_grace(void);      /* ends the grace period: its callbacks run */
 /* What the kernel warned of since the last question, or NULL. */
 const char *alone_warning(void);
 
-/* Of the driver: each sleeper there is, and what a call does that can't go on. It returns once alone_now was woken. */
+/* Of the driver: its sleepers, by number; and the place where a call waits that can't go on, until alone_now is woken. */
 struct alone_sleeper *alone_sleeper(unsigned at);
 void alone_block(void);
 #endif

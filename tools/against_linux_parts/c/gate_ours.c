@@ -1,5 +1,5 @@
-/* Answers the gate's lines by the library percpu_gate: all that is used of it stands in this file. A refusal that the kernel
- * has no word for is told by its name. */
+/* Answers the gate's lines by the library percpu_gate: all uses of it are in this file. If the kernel has no word for a
+ * refusal, the answer has its text. */
 #include "lines.h"
 #include <percpu_gate.h>
 

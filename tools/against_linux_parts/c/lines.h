@@ -1,4 +1,4 @@
-/* Reads a script line by line, as words; what the drivers have in common. */
+/* Reads a script line by line, as words. All drivers use it. */
 #ifndef LINES_H
 #define LINES_H
 #include <inttypes.h>

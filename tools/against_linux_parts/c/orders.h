@@ -1,5 +1,5 @@
-/* All orders of a race on the kernel's own code: what the explorer (orders.c), the actors (orders_actors.c) and the shims
- * (orders_shims.c) have in common. */
+/* All orders of a race on the kernel's own code: shared by the explorer (orders.c), the actors (orders_actors.c) and the shims
+ * (orders_shims.c). */
 #ifndef ORDERS_H
 #define ORDERS_H
 #include "../shims/shim.h"
@@ -9,13 +9,13 @@
 enum { PASSES = 4, GRACES = 6, ACTORS = PASSES + 1 + GRACES, CALLS = 6, HEAP = 512, STACK = 1 << 14 };
 enum { CONTROL = PASSES, FIRST_GRACE = PASSES + 1 };
 
-/* What an actor may do next: go on; go on once a lock is free; go on once it was woken; nothing. */
+/* How an actor may go on: at once; when a lock is free; when it was woken; not at all. */
 enum status { READY, LOCKED, ASLEEP, DONE };
 
-/* What a call has answered. */
+/* The answer of a call. */
 enum answer { NEVER, GIVEN, REFUSED, NOT_LAST, LAST, OK, PASSED_OVER, YES, NO, ALREADY_DEAD, NOT_DEAD, NOT_ZERO };
 
-/* What is known of an actor. How it goes on hangs on that, its stack, its registers, and the memory that all share. */
+/* An actor. How it goes on depends on this, its stack, its registers, and the memory that all share. */
 struct actor {
     spinlock_t *lock;
     wait_queue_head_t *on;
@@ -41,7 +41,7 @@ extern int now; /* the actor that runs, or -1 */
 struct place { jmp_buf at; char *low; };
 extern struct place places[ACTORS];
 extern char stacks[ACTORS][STACK];
-/* What is static and shared in the kernel's code: locks and wait queues, all zero at first. */
+/* The static locks and wait queues of the kernel's code, all zero at first. */
 extern char __start_shim_shared[], __stop_shim_shared[];
 
 struct call { char what[12]; unsigned slot, n; };

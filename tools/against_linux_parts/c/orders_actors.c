@@ -16,7 +16,7 @@ static const char *const WORDS[] = {"never", "given", "refused", "not last", "la
 
 static bool is(const struct call *call, const char *what) { return !strcmp(call->what, what); }
 
-/* The release: told to the call whose put it is, or to the kill whose grace period it is. That of a switch may be it too. */
+/* The release: it belongs to the call that puts, or to the kill that began the grace period. A switch's may be it too. */
 static void on_release(struct percpu_ref *of)
 {
     (void)of;
@@ -81,7 +81,7 @@ static void run_calls(void)
     step();
     while (me->now < race.counts[at]) {
         enum answer answer = (at == CONTROL ? control_call : pass_call)(me, &race.calls[at][me->now]);
-        if (!me->answers[me->now]) /* a grace period may have told of the release before */
+        if (!me->answers[me->now]) /* else the release came in a grace period */
             me->answers[me->now] = answer;
         me->now++;
         me->is_told = false;

@@ -3,6 +3,11 @@
 #include "orders.h"
 #include <string.h>
 
+/* Set to 1, accesses that commute with all that others do are steps too: more moments, and the same outcomes. */
+#ifndef EACH_ACCESS_IS_A_STEP
+#define EACH_ACCESS_IS_A_STEP 0
+#endif
+
 unsigned shim_cpus;
 bool is_new_place;
 const char *warned;
@@ -40,7 +45,7 @@ static bool is_step(const void *at, bool is_write)
     uint32_t others = (is_write ? readers[place] | writers[place] : writers[place]) & ~me;
     is_new_place |= others && !(*mine & me);
     *mine |= me;
-    return others;
+    return others || EACH_ACCESS_IS_A_STEP;
 }
 
 static void reads(const void *at)
@@ -209,7 +214,7 @@ bool shim_warn(bool is_so, const char *what)
     return is_so;
 }
 
-/* What the compiler calls before an access of the kernel's code. */
+/* The functions that the compiler calls before an access of the kernel's code. */
 #define PLAIN(size)                                                                                                        \
     void __tsan_read##size(void *at) { reads(at); }                                                                  \
     void __tsan_write##size(void *at) { writes(at); }                                                                \

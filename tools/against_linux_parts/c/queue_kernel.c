@@ -1,5 +1,5 @@
-/* Answers the queue's lines by the kernel's freeze, entering and limits. `-` stands where the kernel's rules don't allow a
- * call, or where it is beyond a limit of the other library. Each call that may sleep runs on a stack of its own. */
+/* Answers the queue's lines by the kernel's freeze, entering and limits. The answer is `-` if the kernel's rules don't
+ * allow a call, or if it is beyond a limit of the other library. Each call that may sleep runs on a stack of its own. */
 #include "alone.h"
 #include "lines.h"
 #include "queue_taken.h"
@@ -78,8 +78,8 @@ static void begin_call(unsigned it, unsigned slot)
     go_on(it);
 }
 
-/* Prints the actors whose call was done, by what became of it, and makes them idle. */
-static void told(const char *what, unsigned from, unsigned to, int answer)
+/* Prints the actors that ended their call with an answer, and makes them idle. */
+static void print_done(const char *what, unsigned from, unsigned to, int answer)
 {
     for (unsigned it = from; it < to; it++) {
         if (actors[it].state != DONE || actors[it].answer != answer)
@@ -107,9 +107,9 @@ static void settle(void)
             }
         alone_grace();
     }
-    told("; entered", 0, TAGS, 0);
-    told("; gone", 0, TAGS, -ENODEV);
-    told("; drained", TAGS, ACTORS, 0);
+    print_done("; entered", 0, TAGS, 0);
+    print_done("; gone", 0, TAGS, -ENODEV);
+    print_done("; drained", TAGS, ACTORS, 0);
 }
 
 /* The kernel's own release wakes the freezers. That it ran is counted. */
@@ -125,7 +125,7 @@ static struct queue_limits limits_at(unsigned at)
         .physical_block_size = number(at + 2) * SECTOR_SIZE, .logical_block_size = SECTOR_SIZE};
 }
 
-/* Whether these limits are within what both libraries take. */
+/* Whether both sides take these limits. */
 static bool are_limits(uint64_t hardware, unsigned at)
 {
     uint64_t most = number(at), chunk = number(at + 1), block = number(at + 2);

@@ -1,5 +1,5 @@
-/* Answers the queue's lines by the library freeze_queue: all that is used of it stands in this file. Tags and freezers that
- * have to wait are kept in lists, and tried again where the library says that they are to be woken. */
+/* Answers the queue's lines by the library freeze_queue: all uses of it are in this file. Tags and freezers that
+ * have to wait are kept in lists, and tried again when an answer of the library asks to wake them. */
 #include "lines.h"
 #include <freeze_queue.h>
 

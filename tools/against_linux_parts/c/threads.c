@@ -1,5 +1,5 @@
 /* The kernel's percpu_ref on threads: some get and put, and read plain memory meanwhile, while one kills and revives, and writes
- * it when the release was told. Each thread is a processor. The shims are atomics, a lock, and RCU by a counter of each thread.
+ * it after the release. Each thread is a processor. The shims are atomics, a lock, and RCU by a counter of each thread.
  *
  * usage: threads THREADS ROUNDS    prints kills and releases, and how many references were given and refused */
 #include "../shims/shim.h"
@@ -177,7 +177,7 @@ static void kill_and_set(unsigned long round)
     ref_reinit(ref);
 }
 
-/* A kill that is taken back at once, or when nothing is held. The release of one that is taken back may be told late. */
+/* A kill that is taken back at once, or when nothing is held. The release of one that is taken back may come late. */
 static void kill_and_take_back(unsigned long round)
 {
     ref_kill(ref);

@@ -1,5 +1,5 @@
-/* What the shims need of a runtime: alone.c (one thread), orders.c (all orders) or threads.c. Each runtime gives these
- * calls the meaning that the kernel's documentation gives to theirs. */
+/* The calls that the shims make of a runtime: alone.c (one thread), orders_shims.c (all orders) or threads.c. Each runtime gives
+ * them the meaning that the kernel's documentation has. */
 #ifndef SHIM_H
 #define SHIM_H
 #include <stdbool.h>
@@ -9,7 +9,7 @@
 #define SHIM_MOST_CPUS 64
 #endif
 enum { SHIM_CPUS = SHIM_MOST_CPUS, SHIM_LINE = 64 };
-/* What is static and shared stands in a section of its own, for orders.c to copy. */
+/* Static locks and wait queues are in a section of their own, for orders.c to copy. */
 #define SHIM_SHARED __attribute__((section("shim_shared")))
 
 struct rcu_head { struct rcu_head *next; void (*then)(struct rcu_head *); };

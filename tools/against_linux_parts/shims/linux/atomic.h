@@ -1,4 +1,4 @@
-/* Documentation/atomic_t.txt: what returns a value is one step with a full barrier; the rest is one step. */
+/* Documentation/atomic_t.txt: an operation that returns a value is one step with a full barrier, another is one step. */
 #ifndef SHIM_ATOMIC
 #define SHIM_ATOMIC
 #include <linux/types.h>

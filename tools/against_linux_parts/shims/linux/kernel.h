@@ -1,4 +1,4 @@
-/* Warnings are told each time, and not only once; pr_debug is silent, as in a kernel that is built without DEBUG. */
+/* Warnings come each time, and not only once; pr_debug is silent, as in a kernel that is built without DEBUG. */
 #ifndef SHIM_KERNEL
 #define SHIM_KERNEL
 #include <errno.h>
