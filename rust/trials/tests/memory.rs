@@ -204,3 +204,28 @@ fn threads_share_a_value() {
     Arc::get_mut(&mut first).unwrap()[0] = 6;
     assert_eq!(*first, [6, 5, 5, 5]);
 }
+
+/// A value that its drop writes to.
+struct Written(u64);
+
+impl Drop for Written {
+    fn drop(&mut self) {
+        self.0 += 1;
+    }
+}
+
+/// Each thread reads the values and drops its pointers. The last pointer drops the value, after each read; under the thread
+/// sanitizer this fails if a drop doesn't release, or the last one doesn't acquire.
+#[test]
+fn the_last_thread_drops_the_value() {
+    let mut all: Vec<Vec<Arc<Written>>> = (0..4).map(|_| Vec::new()).collect();
+    for _ in 0..10_000 {
+        let first = Arc::try_new(Written(5)).unwrap();
+        all.iter_mut().for_each(|mine| mine.push(first.clone()));
+    }
+    thread::scope(|scope| {
+        for mine in all {
+            scope.spawn(move || mine.into_iter().for_each(|it| assert_eq!(it.0, 5)));
+        }
+    });
+}

@@ -19,7 +19,7 @@ use std::mem::ManuallyDrop;
 use std::ops::Deref;
 use std::os::fd::FromRawFd;
 use std::ptr::NonNull;
-use std::sync::atomic::{AtomicUsize, Ordering, fence};
+use std::sync::atomic::{AtomicUsize, Ordering};
 
 /// A `Box` of a value; `AllocError` if its memory is refused.
 fn made<T>(value: T) -> Result<Box<T>, AllocError> {
@@ -74,11 +74,12 @@ impl Count for AtomicUsize {
 
     #[inline]
     fn remove(&self) -> bool {
-        if self.fetch_sub(1, Ordering::Release) > 1 {
-            return false;
+        let is_last = self.fetch_sub(1, Ordering::Release) == 1;
+        if is_last {
+            // Not a fence, which the thread sanitizer doesn't see.
+            self.load(Ordering::Acquire);
         }
-        fence(Ordering::Acquire);
-        true
+        is_last
     }
 
     #[inline]
