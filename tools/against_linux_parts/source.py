@@ -3,7 +3,9 @@
 import glob
 import os
 import re
+import shutil
 import subprocess
+import tempfile
 from dataclasses import dataclass
 
 # What is read of a source. Of an archive nothing else is unpacked.
@@ -121,10 +123,13 @@ def unpacked(archive):
     name = os.path.basename(archive).split(".tar")[0]
     folder = os.path.join(kept, "blkq", f"{name}-{stat.st_size}-{int(stat.st_mtime)}")
     if not os.path.isfile(os.path.join(folder, FILES[-1])):
-        os.makedirs(folder, exist_ok=True)
-        words = ["tar", "-C", folder, "--strip-components=1", "-xf", archive, *(f"{name}/{it}" for it in FILES)]
-        if subprocess.run(words, capture_output=True, check=False).returncode:
-            raise NoSource(f"{archive} can't be unpacked, or lacks one of {' '.join(FILES)}")
+        os.makedirs(os.path.dirname(folder), exist_ok=True)
+        with tempfile.TemporaryDirectory(dir=os.path.dirname(folder)) as room:
+            words = ["tar", "-C", room, "--strip-components=1", "-xf", archive, *(f"{name}/{it}" for it in FILES)]
+            if subprocess.run(words, capture_output=True, check=False).returncode:
+                raise NoSource(f"{archive} can't be unpacked, or lacks one of {' '.join(FILES)}")
+            # Another run may have been quicker.
+            shutil.copytree(room, folder, dirs_exist_ok=True)
     return folder
 
 

@@ -36,7 +36,7 @@ def steps_of(crates, copy, log, processors, tries_all):
         Step("c", ("tests/c/run",), 6, **c),
         Step("nbd", ("tests/nbd/run",), 5, **c),
         # Linux's own code beside these libraries and beside gate_races, where a source is.
-        Step("linux", ("tests/linux/run",), 3, **c),
+        Step("linux", ("tests/linux/run",), 4, **c),
         # The commands, programs and links of the pages.
         Step("pages", ("tests/pages/run",), 3, **c, folders=("rust/target",)),
         # The plain Rust of rust/, which needs no kit: README's first commands in a copy with no kit on the PATH, of which `make check`

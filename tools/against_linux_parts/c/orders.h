@@ -2,6 +2,9 @@
  * (orders_shims.c). */
 #ifndef ORDERS_H
 #define ORDERS_H
+#ifdef __clang__
+#error "all orders need gcc: clang leaves out calls before accesses"
+#endif
 #include "../shims/shim.h"
 #include <setjmp.h>
 #include <stdint.h>
