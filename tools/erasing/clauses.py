@@ -146,13 +146,17 @@ def cut_calls_of_laws(s, gone):
 
 
 def cut_reads(s):
-    """`let _ = &self.field;` does nothing but name the field to the prover. The comment above it says so, and goes too."""
+    """`let _ = &self.field;` does nothing but name the field to the prover. The comment above it says so, and goes too. A name that is
+    bound to what an accessor reads goes by a list."""
     for i in s.words("let"):
         name = s.after(i)
-        if not (s.at(name, "_") and s.at(s.after(name), "=")):
+        if not s.at(s.after(name), "="):
+            continue
+        is_listed = (s.crate, s.name, s.text[name]) in kit.READ_FOR_PROOFS
+        if not is_listed and not s.at(name, "_"):
             continue
         end = semicolon(s, i)
-        if re.fullmatch(r"let_=&?\w+(\.\w+)*;", s.code(i, end)):
+        if re.fullmatch(r"&?\w+(\.\w+)*" + r"\(\)" * is_listed, s.code(s.after(name) + 1, end - 1)):
             s.cut_lines(item_start(s, i), end)
 
 

@@ -15,6 +15,12 @@ impl<T> Counted<T> {
         self.count
     }
 
+    pub fn count_again(&self) -> u32 {
+        // A call stays: it may do something, and no list says that it is for proofs alone.
+        let _count = self.count();
+        self.count
+    }
+
     /// # Preconditions
     ///
     /// - `unread` is 0.

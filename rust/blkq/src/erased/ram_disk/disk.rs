@@ -77,8 +77,6 @@ impl Disk {
 fn replace(kept: &mut Vec<Sector>, start: usize, sectors: Vec<Sector>) {
     let mut place = start;
     for sector in sectors {
-        // Reading the bytes shows that there are 512 of them.
-        let _whole = sector.bytes();
         kept[place] = sector;
         place += 1;
     }

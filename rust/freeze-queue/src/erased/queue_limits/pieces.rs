@@ -18,8 +18,6 @@ impl Pieces {
     /// - `start` is less than `2^32`.
     pub(crate) fn new(limits: Limits, start: u64, left: u32) -> Self {
         debug_assert!(start < 1 << 32);
-        // Bound so that the proof learns what the type keeps of its numbers.
-        let _max = limits.max();
         Pieces { limits, start, left }
     }
 }
