@@ -55,9 +55,8 @@ impl Freezer {
         ensures unchanged { OnErr result (self.new ≡ self.old) }
         ensures frozen { IfOk result (λ depth. (depth ≡ self.old.depth + 1) × (r : Put) × (self.new ≡ after_freeze r self.old)) }
     {
+        // Where this drained the queue, no thread sleeps for it: the last thaw woke each that waited for a drain.
         let frozen = self.core.start_freeze(&queue.core)?;
-        // Others may wait still for the drain of a freeze that was thawed before it was drained.
-        let _put = queue.tell(frozen.put);
         Ok(frozen.depth)
     }
 

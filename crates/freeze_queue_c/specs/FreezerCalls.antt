@@ -8,7 +8,7 @@ use Rattle.queue_limits.specs.Bounds.{Bounds}
 use Rattle.queue_limits.specs.declared.fault.LimitFault.{LimitFault}
 use Rattle.queue_core.specs.declared.fault.FreezeFault.{FreezeFault}
 use Rattle.queue_core.specs.declared.freezer.Thawed.{Thawed}
-use Rattle.queue_core.specs.Queue.{FreezerFacts, after_freeze, after_look, after_mode, after_thaw, after_set, freeze_refusal, thaw_refusal, fault_of}
+use Rattle.queue_core.specs.Queue.{FreezerFacts, IsFreezer, after_freeze, after_look, after_mode, after_thaw, after_set, freeze_refusal, thaw_refusal, fault_of}
 use Rattle.queue_core.specs.Sets.{LooksForDrained}
 use Rattle.freeze_queue_c.specs.declared.begun.Begun.{Begun}
 use Rattle.freeze_queue_c.specs.declared.misuse.Misuse.{Misuse}
@@ -104,11 +104,13 @@ pub record HasMode (mode : ℕ) (old new : FreezerOpened) (r : Unit {0}) : Type 
 pub record ToldDepth (old new : FreezerOpened) (told : ℕ) : Type 0 where
   pub same : new ≡ old
   pub value : told ≡ old.freezer.depth
+  pub kept : IsFreezer old.freezer
 
 -- the limits in force that the freezer tells
 pub record ToldInForce (old new : FreezerOpened) (told : PlainLimits) : Type 0 where
   pub same : new ≡ old
   pub value : as_bounds told ≡ old.freezer.limits
+  pub kept : IsFreezer old.freezer
 
 -- a freeze that has begun is answered 0, or 4 where the queue is drained; a thaw 0, or 5 where it is live again
 abbrev pub begun_number : Begun → ℕ

@@ -1,6 +1,7 @@
 //! A life through the exports, and each misuse. What the program does with C's threads, sanitizers and a failing
 //! `malloc` is tested by tests/c.
 mod ends;
+mod freed;
 mod limits;
 
 use crate::freezer_calls::{

@@ -205,3 +205,26 @@ fn queues_in_turn(rt: HostRuntime) {
         assert!(rt; ended == 0, "{drawn}");
     }
 }
+
+/// A queue that is frozen ends, however often it was frozen: its gate was killed once.
+#[test]
+fn a_frozen_queue_ends(rt: HostRuntime) {
+    let number = QueueNumber {
+        counter: 5,
+        drawn: u64::MAX,
+    };
+    for freezes in [1u32, 2, 3, 4, 5, 6, 7, 8, 1_000] {
+        let mut freezer = FreezerHandle::new(rt.alloc());
+        let mut last = NOT_YET;
+        let mut depth = 0;
+        let made = freeze_queue_new_numbered(&mut freezer, &number, &LIMITS, 1, 1);
+        assert!(rt; made == 0);
+        for _ in 0..freezes {
+            freeze_queue_start_freeze(&mut freezer, &mut depth);
+        }
+        assert!(rt; depth == freezes);
+        let ended = freeze_queue_remove(&mut freezer, &mut last);
+        assert!(rt; ended == 0, "{freezes}");
+        assert!(rt; (last.dead, last.kills, last.releases) == (true, 1, 1));
+    }
+}

@@ -32,9 +32,8 @@ impl Freezer {
     ///
     /// - `self` belongs to `queue`.
     pub fn start_freeze(&mut self, queue: &BlockQueue) -> Result<u32, FreezeFault> {
+        // Where this drained the queue, no thread sleeps for it: the last thaw woke each that waited for a drain.
         let frozen = self.core.start_freeze(&queue.core)?;
-        // Others may wait still for the drain of a freeze that was thawed before it was drained.
-        let _put = queue.tell(frozen.put);
         Ok(frozen.depth)
     }
 
