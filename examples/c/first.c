@@ -15,7 +15,7 @@ int main(void)
     TRY(freeze_queue_next_tag(&freezer, &tag));
     limits.max = 8;
     TRY(freeze_queue_waits_change(&waits, &limits, NULL)); /* freezes, drains, sets, thaws */
-    TRY(freeze_queue_waits_enter(&waits, &tag, 0, NULL));  /* waits while the queue is frozen */
+    TRY(freeze_queue_waits_enter(&waits, &tag, 0, NULL));  /* slot 0, no deadline: waits while frozen */
     TRY(freeze_queue_limits_of(&tag, &limits));            /* hold still until the tag leaves */
     printf("at most %u sectors\n", limits.max);
     return (int)freeze_queue_waits_leave(&waits, &tag, 0);

@@ -51,7 +51,7 @@
 #include <unistd.h>
 #endif
 
-#ifndef CLOCK_MONOTONIC
+#if !defined(CLOCK_MONOTONIC) || (defined(__GLIBC__) && _POSIX_C_SOURCE < 200112L)
 #error "freeze_queue_wait.h needs -D_POSIX_C_SOURCE=200809L or -std=gnu11"
 #endif
 
