@@ -1,5 +1,5 @@
 -- How a count of failures grows, and when it is taken as grown.
-use Rattle.std.specs.Prelude.{◌≡◌, ◌==◌, ℕ, ◌+◌, ◌-◌, ◌^◌, ◌<◌, ◌⊎◌, if◌then◌else◌, Bool, true, false, ◌&&◌, List, length, nat_lt, Result, Ok, Err}
+use Rattle.std.specs.Prelude.{◌≡◌, ◌==◌, ℕ, ◌+◌, ◌-◌, ◌^◌, ◌<◌, ◌≤◌, ◌⊎◌, if◌then◌else◌, Bool, true, false, ◌&&◌, List, length, nat_lt, Result, Ok, Err}
 use Rattle.std.specs.IoError.{error_kind}
 use Rattle.std.specs.declared.io.Error.{Error}
 use Rattle.std.specs.declared.io.ErrorKind.{ErrorKind}
@@ -13,6 +13,10 @@ greatest = 2 ^ 64 - 1
 -- the count after one more failure
 abbrev pub one_more : ℕ → ℕ
 one_more n = if n == greatest then n else n + 1
+
+-- the same, if there was one
+abbrev pub one_more_if : Bool → ℕ → ℕ
+one_more_if failed n = if failed then one_more n else n
 
 -- the count grew, or stands where it can't grow and is taken as grown
 abbrev pub HasGrown : ℕ → ℕ → Type 0
@@ -44,9 +48,17 @@ abbrev pub breaks_write : Result ℕ Error → List ℕ → Bool
 breaks_write (Ok taken) bytes = (taken == 0) && nat_lt 0 (length bytes)
 breaks_write (Err e) bytes = is_lasting e
 
--- the reader or writer broke in between
+-- the reader or writer broke in between, whether or not it had broken before
 abbrev pub Breaks : {T : Type 0} → Tally T → Tally T → Type 0
-Breaks old new = (old.broken ≡ false) × (new.broken ≡ true)
+Breaks old new = old.breaks < new.breaks
+
+-- the reader or writer failed this often in between, if the count doesn't stand at the greatest number
+abbrev pub FailedTimes : {T : Type 0} → ℕ → Tally T → Tally T → Type 0
+FailedTimes n old new = new.failures < greatest → old.failures + n ≤ new.failures
+
+-- there was a reason to give up: it broke, or it failed as often as an interrupted call is tried
+abbrev pub GivesUp : {T : Type 0} → ℕ → Tally T → Tally T → Type 0
+GivesUp tries old new = HasGrown old.breaks new.breaks ⊎ FailedTimes tries old new
 
 -- what is asked of a status: it is 4 where the reader or the writer broke
 abbrev pub IsFourIfBroken : {R W : Type 0} → Tally R → Tally R → Tally W → Tally W → ℕ → Type 0

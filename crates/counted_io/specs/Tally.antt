@@ -1,8 +1,8 @@
 -- What contracts see of a `Counted`.
-use Rattle.std.specs.Prelude.{ℕ, Bool}
+use Rattle.std.specs.Prelude.{ℕ}
 
--- the reader or writer inside, how often it has failed, and whether it broke: it failed by more than an interruption
+-- the reader or writer inside, how often it has failed, and how often it broke: failed by more than an interruption
 pub record Tally (T : Type 0) : Type 0 where
   pub inner : T
   pub failures : ℕ
-  pub broken : Bool
+  pub breaks : ℕ

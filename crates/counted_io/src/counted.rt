@@ -1,13 +1,13 @@
 //! A reader or writer whose failures are counted.
-ghost use Rattle.std.specs.Prelude.{◌≡◌, ◌||◌, false, if◌then◌else◌, is_err};
+ghost use Rattle.std.specs.Prelude.{◌≡◌, if◌then◌else◌, is_err};
 ghost use Rattle.std.specs.Io.{ReadsAtMost, WritesAtMost};
 ghost use Rattle.std.specs.Io.KnownBytes.{Keeps, ReadConsumes, WriteAppends};
-ghost use Rattle.counted_io.specs.Failures.{breaks_read, breaks_write, is_failed_write, is_lasting, one_more};
+ghost use Rattle.counted_io.specs.Failures.{breaks_read, breaks_write, is_failed_write, is_lasting, one_more, one_more_if};
 
 use std::io::{Error, ErrorKind, Read, Result, Write};
 use std::marker::Model;
 
-/// A reader or a writer, how often it has failed, and whether it broke. Contracts see these as `inner`, `failures` and `broken`.
+/// A reader or a writer, how often it has failed, and how often it broke. Contracts see these as `inner`, `failures` and `breaks`.
 ///
 /// A failure is an error of `read` or `write`, of any kind (an interruption too), and a `write` that takes
 /// nothing of one byte or more. By any failure but an interruption it breaks, and to try again is no answer to that. Clauses tie the count to what this type's own `read` and `write` answer; that
@@ -16,7 +16,7 @@ use std::marker::Model;
 pub struct Counted<T> {
     inner: T,
     failures: u64,
-    broken: bool,
+    breaks: u64,
 }
 
 /// Whether an error is more than an interruption.
@@ -31,20 +31,20 @@ impl<T> Model for Counted<T> {
 
     ghost Value = { Tally T };
 
-    ghost view = { λ c. record { inner = c.inner; failures = c.failures; broken = c.broken } };
+    ghost view = { λ c. record { inner = c.inner; failures = c.failures; breaks = c.breaks } };
 }
 
 impl<T> Counted<T> {
-    /// `inner`, with no failure so far, and not broken.
+    /// `inner`, which has not failed so far.
     pub fn new(inner: T) -> Self
         ensures inner { result.inner ≡ inner }
         ensures none { result.failures ≡ 0 }
-        ensures whole { result.broken ≡ false }
+        ensures whole { result.breaks ≡ 0 }
     {
         Counted {
             inner,
             failures: 0,
-            broken: false,
+            breaks: 0,
         }
     }
 
@@ -55,19 +55,21 @@ impl<T> Counted<T> {
         self.failures
     }
 
-    /// Whether it has failed by more than an interruption.
-    pub fn is_broken(&self) -> bool
-        ensures { result ≡ self.now.broken }
+    /// The failures so far that were more than interruptions. At `u64`'s greatest value the count stays.
+    pub fn breaks(&self) -> u64
+        ensures { result ≡ self.now.breaks }
     {
-        self.broken
+        self.breaks
     }
 
     fn count_one(&mut self, lasts: bool)
         ensures inner { self.new.inner ≡ self.old.inner }
         ensures count { self.new.failures ≡ one_more self.old.failures }
-        ensures broken { self.new.broken ≡ (self.old.broken || lasts) }
+        ensures breaks { self.new.breaks ≡ one_more_if lasts self.old.breaks }
     {
-        self.broken = self.broken || lasts;
+        if lasts && self.breaks < u64::MAX {
+            self.breaks += 1;
+        }
         if self.failures < u64::MAX {
             self.failures += 1;
         }
@@ -81,7 +83,7 @@ impl<R: Read> Read for Counted<R> {
         ensures bound { ReadsAtMost result buf.new }
         ensures bytes { ReadConsumes (R.remaining self.old.inner) (R.remaining self.new.inner) result buf.new }
         ensures count { self.new.failures ≡ (if is_err result then one_more self.old.failures else self.old.failures) }
-        ensures broken { self.new.broken ≡ (self.old.broken || breaks_read result) }
+        ensures breaks { self.new.breaks ≡ one_more_if (breaks_read result) self.old.breaks }
     {
         let answer = self.inner.read(buf);
         if let Err(e) = &answer {
@@ -99,7 +101,7 @@ impl<W: Write> Write for Counted<W> {
         ensures bytes { WriteAppends (W.contents self.old.inner) (W.contents self.new.inner) result buf.now }
         ensures count { self.new.failures
             ≡ (if is_failed_write result buf.now then one_more self.old.failures else self.old.failures) }
-        ensures broken { self.new.broken ≡ (self.old.broken || breaks_write result buf.now) }
+        ensures breaks { self.new.breaks ≡ one_more_if (breaks_write result buf.now) self.old.breaks }
     {
         let answer = self.inner.write(buf);
         match &answer {
@@ -117,7 +119,7 @@ impl<W: Write> Write for Counted<W> {
     fn flush(&mut self) -> Result<()>
         ensures bytes { Keeps (W.contents self.old.inner) (W.contents self.new.inner) }
         ensures count { self.new.failures ≡ self.old.failures }
-        ensures broken { self.new.broken ≡ self.old.broken }
+        ensures breaks { self.new.breaks ≡ self.old.breaks }
     {
         self.inner.flush()
     }

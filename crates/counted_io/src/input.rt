@@ -2,7 +2,7 @@
 ghost use Rattle.std.specs.Prelude.{◌≡◌, ℕ, ◌+◌, ◌<◌, ◌≤◌, ◌++◌, [], length, take, vec_len, IfErr, IfOk, IfSome, IsErrOf, OnErr, OnOk};
 ghost use Rattle.std.specs.Io.{ReadsAtMost};
 ghost use Rattle.std.specs.Io.KnownBytes.{Consumes, IsAtEnd, Keeps};
-ghost use Rattle.counted_io.specs.Failures.{Breaks, HasFailed};
+ghost use Rattle.counted_io.specs.Failures.{Breaks, GivesUp, HasFailed};
 ghost use Rattle.counted_io.specs.InputFault.{input_number};
 ghost use Rattle.counted_io.specs.Reading.{IfKnown, TakesUpTo};
 
@@ -46,8 +46,9 @@ fn read_piece<R: Read>(reader: &mut Counted<R>, room: &mut [u8]) -> Result<usize
     ensures end { IfOk result (λ n. n ≡ 0 → 0 < length room.old → IsAtEnd (R.remaining reader.new.inner)) }
     ensures none { OnErr result (Keeps (R.remaining reader.old.inner) (R.remaining reader.new.inner)) }
     ensures grown { OnErr result (HasFailed reader.old reader.new) }
+    ensures patient { OnErr result (GivesUp TRIES reader.old reader.new) }
     ensures counts { reader.old.failures ≤ reader.new.failures }
-    ensures whole { OnOk result (reader.new.broken ≡ reader.old.broken) }
+    ensures whole { OnOk result (reader.new.breaks ≡ reader.old.breaks) }
     ensures only_read { IfErr result (λ fault. fault ≡ InputFault.Read) }
 {
     for _ in 0..TRIES {
@@ -76,8 +77,9 @@ fn read_more<R: Read>(
     ensures end { IfOk result (λ n. n ≡ 0 → 0 < length room.old → IsAtEnd (R.remaining reader.new.inner)) }
     ensures taken { TakesUpTo R.remaining reader.old reader.new (length room.old) }
     ensures read { IsErrOf result InputFault.Read → HasFailed reader.old reader.new }
+    ensures patient { IsErrOf result InputFault.Read → GivesUp TRIES reader.old reader.new }
     ensures first { Breaks reader.old reader.new → IsErrOf result InputFault.Read }
-    ensures whole { OnOk result (reader.new.broken ≡ reader.old.broken) }
+    ensures whole { OnOk result (reader.new.breaks ≡ reader.old.breaks) }
     ensures counts { reader.old.failures ≤ reader.new.failures }
 {
     let count = read_piece(reader, room)?;
@@ -98,6 +100,7 @@ fn read_all<R: Read>(
     ensures bounded { OnOk result (vec_len input.new ≤ most) }
     ensures taken { TakesUpTo R.remaining reader.old reader.new most }
     ensures read { IsErrOf result InputFault.Read → HasFailed reader.old reader.new }
+    ensures patient { IsErrOf result InputFault.Read → GivesUp TRIES reader.old reader.new }
     ensures first { Breaks reader.old reader.new → IsErrOf result InputFault.Read }
 {
     while input.len() < most {
@@ -131,6 +134,7 @@ pub fn read_whole<R: Read>(
     ensures bounded { IfOk result (λ input. vec_len input ≤ most) }
     ensures taken { TakesUpTo R.remaining reader.old reader.new most }
     ensures read { IsErrOf result InputFault.Read → HasFailed reader.old reader.new }
+    ensures patient { IsErrOf result InputFault.Read → GivesUp TRIES reader.old reader.new }
     ensures first { Breaks reader.old reader.new → IsErrOf result InputFault.Read }
 {
     let mut room = room_for(alloc, PIECE)?;

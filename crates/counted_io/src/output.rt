@@ -1,6 +1,6 @@
 //! A text, written whole or as far as the writer takes it.
 ghost use Rattle.std.specs.Prelude.{◌≡◌, ◌<◌, ◌≤◌, length, take, true, is_err, IfErr, IfOk, OnErr, OnOk};
-ghost use Rattle.counted_io.specs.Failures.{Breaks, HasFailed};
+ghost use Rattle.counted_io.specs.Failures.{Breaks, GivesUp, HasFailed};
 ghost use Rattle.counted_io.specs.Writing.{Takes, TakesNothing};
 
 use crate::TRIES;
@@ -29,8 +29,9 @@ fn write_piece<W: Write>(writer: &mut Counted<W>, text: &[u8]) -> Result<usize, 
     ensures appended { IfOk result (λ n. Takes W.contents writer.old writer.new (take n text.now)) }
     ensures none { OnErr result (TakesNothing W.contents writer.old writer.new) }
     ensures grown { OnErr result (HasFailed writer.old writer.new) }
+    ensures patient { OnErr result (GivesUp TRIES writer.old writer.new) }
     ensures counts { writer.old.failures ≤ writer.new.failures }
-    ensures whole { OnOk result (writer.new.broken ≡ writer.old.broken) }
+    ensures whole { OnOk result (writer.new.breaks ≡ writer.old.breaks) }
 {
     for _ in 0..TRIES {
         match writer.write(text) {
@@ -56,6 +57,7 @@ pub fn write_whole<W: Write>(writer: &mut Counted<W>, text: &[u8]) -> Result<(),
     ensures part { IfErr result (λ fault. Takes W.contents writer.old writer.new (take fault.written text.now)) }
     ensures short { IfErr result (λ fault. fault.written < length text.now) }
     ensures grown { OnErr result (HasFailed writer.old writer.new) }
+    ensures patient { OnErr result (GivesUp TRIES writer.old writer.new) }
     ensures first { Breaks writer.old writer.new → is_err result ≡ true }
 {
     let mut written = 0;

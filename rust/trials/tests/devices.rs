@@ -77,10 +77,10 @@ fn a_reader_that_failed_before() {
     let mut reader = Counted::new(&mut device);
     for failures in 1..=3 {
         assert_eq!(read_whole(&mut reader, 11), Err(InputFault::Read));
-        assert_eq!(reader.failures(), failures);
+        assert_eq!((reader.failures(), reader.breaks()), (failures, failures));
     }
     assert_eq!(read_whole(&mut reader, 11).as_deref(), Ok(&TEXT[3..]));
-    assert_eq!(reader.failures(), 4);
+    assert_eq!((reader.failures(), reader.breaks()), (4, 3));
     assert_eq!(device.calls, 7);
 }
 
@@ -91,10 +91,10 @@ fn a_writer_that_failed_before() {
     let mut writer = Counted::new(&mut device);
     for (failures, written) in [(1, 0), (2, 0), (3, 3)] {
         assert_eq!(write_whole(&mut writer, TEXT), Err(WriteFault { written }));
-        assert_eq!(writer.failures(), failures);
+        assert_eq!((writer.failures(), writer.breaks()), (failures, failures));
     }
     assert_eq!(write_whole(&mut writer, &TEXT[3..]), Ok(()));
-    assert_eq!(writer.failures(), 4);
+    assert_eq!((writer.failures(), writer.breaks()), (4, 3));
     assert_eq!((device.output.as_slice(), device.calls), (TEXT, 6));
 }
 
@@ -106,13 +106,13 @@ fn interrupted_before_each_byte() {
     let mut device = Device::with_input(TEXT, before_each());
     let mut reader = Counted::new(&mut device);
     assert_eq!(read_whole(&mut reader, TEXT.len()).as_deref(), Ok(TEXT));
-    assert_eq!(reader.failures(), (borne * TEXT.len()) as u64);
+    assert_eq!((reader.failures(), reader.breaks()), ((borne * TEXT.len()) as u64, 0));
     let mut device = Device::with_input(b"", before_each().chain(before_each()));
     let mut writer = Counted::new(&mut device);
     for _ in 0..2 {
         assert_eq!(write_whole(&mut writer, TEXT), Ok(()));
     }
-    assert_eq!(writer.failures(), 2 * (borne * TEXT.len()) as u64);
+    assert_eq!((writer.failures(), writer.breaks()), (2 * (borne * TEXT.len()) as u64, 0));
     assert_eq!(device.output, [TEXT, TEXT].concat());
 }
 
@@ -153,7 +153,7 @@ fn a_program_whose_devices_failed_before() {
             assert_eq!(status(word, &mut reader, &mut writer), (4, line.into()));
         }
         assert_eq!(status(word, &mut reader, &mut writer), (0, String::new()));
-        assert_eq!((reader.failures(), writer.failures()), (2, 2));
+        assert_eq!((reader.breaks(), writer.breaks()), (2, 2));
         assert_eq!(to.output, [&answer[..2], answer].concat());
     }
 }

@@ -8,7 +8,7 @@ invariant-loop-input g l =
     Consumes (g.R.Read.remaining l.initial.reader.inner) (g.R.Read.remaining l.reader.inner) l.input.items
     × (vec_len l.input ≤ l.most)
     × (l.initial.reader.failures ≤ l.reader.failures)
-    × (l.reader.broken ≡ l.initial.reader.broken)
+    × (l.reader.breaks ≡ l.initial.reader.breaks)
 
 abbrev pub decreases-loop-input : goal.decreases-loop-input
 decreases-loop-input g l = l.most - vec_len l.input

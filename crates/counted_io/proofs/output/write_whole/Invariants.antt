@@ -8,7 +8,7 @@ invariant-loop-written g l =
     Appends (g.W.Write.contents l.initial.writer.inner) (g.W.Write.contents l.writer.inner) (take l.written l.text)
     × (l.written ≤ length l.text)
     × (l.initial.writer.failures ≤ l.writer.failures)
-    × (l.writer.broken ≡ l.initial.writer.broken)
+    × (l.writer.breaks ≡ l.initial.writer.breaks)
 
 abbrev pub decreases-loop-written : goal.decreases-loop-written
 decreases-loop-written g l = length l.text - l.written

@@ -3,7 +3,7 @@
 
 use std::io::{Error, ErrorKind, Read, Result, Write};
 
-/// A reader or a writer, how often it has failed, and whether it broke.
+/// A reader or a writer, how often it has failed, and how often it broke.
 ///
 /// A failure is an error of `read` or `write`, of any kind (an interruption too), and a `write` that takes
 /// nothing of one byte or more. By any failure but an interruption it breaks, and to try again is no answer to that. Clauses tie the count to what this type's own `read` and `write` answer; that
@@ -12,7 +12,7 @@ use std::io::{Error, ErrorKind, Read, Result, Write};
 pub struct Counted<T> {
     inner: T,
     failures: u64,
-    broken: bool,
+    breaks: u64,
 }
 
 /// Whether an error is more than an interruption.
@@ -21,9 +21,9 @@ pub(crate) fn lasts(e: &Error) -> bool {
 }
 
 impl<T> Counted<T> {
-    /// `inner`, with no failure so far, and not broken.
+    /// `inner`, which has not failed so far.
     pub fn new(inner: T) -> Self {
-        Counted { inner, failures: 0, broken: false }
+        Counted { inner, failures: 0, breaks: 0 }
     }
 
     /// The failures so far. At `u64`'s greatest value the count stays, and is taken as grown.
@@ -31,13 +31,15 @@ impl<T> Counted<T> {
         self.failures
     }
 
-    /// Whether it has failed by more than an interruption.
-    pub fn is_broken(&self) -> bool {
-        self.broken
+    /// The failures so far that were more than interruptions. At `u64`'s greatest value the count stays.
+    pub fn breaks(&self) -> u64 {
+        self.breaks
     }
 
     fn count_one(&mut self, lasts: bool) {
-        self.broken = self.broken || lasts;
+        if lasts && self.breaks < u64::MAX {
+            self.breaks += 1;
+        }
         if self.failures < u64::MAX {
             self.failures += 1;
         }
