@@ -163,6 +163,14 @@ static void *get_and_put(void *it)
     return NULL;
 }
 
+/* Waits until some thread was given a reference in this life: each may still count one of the life before. */
+static void wait_for_use(unsigned long threads)
+{
+    unsigned long before = atomic_load_explicit(&given, memory_order_relaxed);
+    while (atomic_load_explicit(&given, memory_order_relaxed) <= before + threads)
+        sched_yield();
+}
+
 /* A kill whose release is waited for, and a setting. */
 static void kill_and_set(unsigned long round)
 {
@@ -197,8 +205,10 @@ int main(int count, char **words)
     pthread_create(&of_graces, NULL, end_graces, (void *)(uintptr_t)(MOST + 1));
     for (unsigned long it = 0; it < threads; it++)
         pthread_create(&of_users[it], NULL, get_and_put, (void *)it);
-    for (unsigned long round = 0; round < rounds; round++)
+    for (unsigned long round = 0; round < rounds; round++) {
+        wait_for_use(threads);
         kill_and_set(round);
+    }
     unsigned long of_settings = atomic_load(&releases);
     for (unsigned long round = 0; round < rounds; round++)
         kill_and_take_back(round);
