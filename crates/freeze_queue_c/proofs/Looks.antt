@@ -1,9 +1,9 @@
--- What a look into a queue tells of an open tag, and the look of a freeze of an open freezer.
+-- What a try to enter and a look into a queue tell of an open tag, and the look of a freeze of an open freezer.
 use Rattle.std.proofs.Common.{◌≡◌, ℕ, ◌+◌, Bool, true, None, List, refl, ap, sym, subst, ◌∙◌}
 use Rattle.std.specs.Prelude.{Ok}
 use Rattle.percpu_core.specs.Views.{count}
 use Rattle.percpu_gate.specs.declared.tried.Put.{Put}
-use Rattle.percpu_gate.specs.Calls.{is_refused, has_zero, TryFinds, TryMeets}
+use Rattle.percpu_gate.specs.Calls.{is_refused, taken, has_dead, has_zero, LiveTryFinds, TryFinds, TryMeets}
 use Rattle.percpu_gate.specs.Seats.{FindsZero}
 use Rattle.queue_core.specs.declared.tag.Entry.{Entry}
 use Rattle.queue_core.specs.AtTheGate.{HoldsOff}
@@ -12,7 +12,25 @@ use Rattle.queue_core.specs.Queue.{QueueFacts, TagFacts, FreezerFacts, after_fre
 use Rattle.freeze_queue_c.specs.declared.queue_number.QueueNumber.{QueueNumber}
 use Rattle.freeze_queue_c.specs.FreezerCalls.{StartedFreeze}
 use Rattle.freeze_queue_c.specs.Opened.{TagOpened, FreezerOpened}
-use Rattle.freeze_queue_c.specs.TagCalls.{TriedToLookIn}
+use Rattle.freeze_queue_c.specs.TagCalls.{TriedToEnter, TriedToLookIn}
+
+pub tried_to_enter : {queue : QueueFacts} {number : QueueNumber} {slot : ℕ} {old new : TagFacts} {before : TagOpened} {r : Entry}
+    → before ≡ record { number = number; tag = old } → queue ≡ old.queue
+    → new ≡ after_try r new.seat old → (is_refused (tried r) ≡ true → new.seat.found_dead ≡ true)
+    → LiveTryFinds queue.gate slot old.seat (tried r) → new.seat.live_given ≡ old.seat.live_given + taken (tried r)
+    → TryMeets queue.gate has_dead old.seat new.seat (is_refused (tried r))
+    → new.seat.found_dead_times ≡ old.seat.found_dead_times + count (is_refused (tried r))
+    → TriedToEnter slot before (record { number = number; tag = new }) r
+tried_to_enter {number = number} {slot = slot} {old = old} {new = new} {r = r} was own leaves frozen finds counted meets times =
+    subst (λ (b : TagOpened). TriedToEnter slot b (record { number = number; tag = new }) r) (sym was) (record {
+      number = refl;
+      leaves = leaves;
+      frozen = frozen;
+      finds = subst (λ (q : QueueFacts). LiveTryFinds q.gate slot old.seat (tried r)) own finds;
+      counted = counted;
+      meets = subst (λ (q : QueueFacts). TryMeets q.gate has_dead old.seat new.seat (is_refused (tried r))) own meets;
+      times = times;
+    })
 
 pub looked_in : {queue : QueueFacts} {number : QueueNumber} {old new : TagFacts} {before : TagOpened} {r : Entry}
     → before ≡ record { number = number; tag = old } → queue ≡ old.queue

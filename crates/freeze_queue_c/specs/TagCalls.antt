@@ -3,7 +3,7 @@ use Rattle.std.specs.Prelude.{◌≡◌, ℕ, ◌+◌, true, nat_le, if◌then�
 use Rattle.std.specs.Option.{IfSome}
 use Rattle.percpu_core.specs.Views.{count}
 use Rattle.percpu_gate.specs.declared.tried.Put.{Put}
-use Rattle.percpu_gate.specs.Calls.{is_refused, taken, has_zero, LiveTryFinds, TryFinds, TryMeets}
+use Rattle.percpu_gate.specs.Calls.{is_refused, taken, has_dead, has_zero, LiveTryFinds, TryFinds, TryMeets}
 use Rattle.queue_core.specs.declared.tag.Entry.{Entry}
 use Rattle.queue_core.specs.Queue.{after_asking, after_leaving}
 use Rattle.queue_core.specs.Entering.{tried, after_try}
@@ -35,10 +35,11 @@ leave_misuse slot t = slot_misuse slot t (limits_misuse t)
 pub record TriedToEnter (slot : ℕ) (old new : TagOpened) (r : Entry) : Type 0 where
   pub number : new.number ≡ old.number
   pub leaves : new.tag ≡ after_try r new.tag.seat old.tag
-  -- a refusal found the queue frozen, and who entered found it live, at a step of this call
+  -- a refusal found the queue frozen, at the one addition of this call, and a tag that entered found it live
   pub frozen : is_refused (tried r) ≡ true → new.tag.seat.found_dead ≡ true
   pub finds : LiveTryFinds old.tag.queue.gate slot old.tag.seat (tried r)
   pub counted : new.tag.seat.live_given ≡ old.tag.seat.live_given + taken (tried r)
+  pub meets : TryMeets old.tag.queue.gate has_dead old.tag.seat new.tag.seat (is_refused (tried r))
   pub times : new.tag.seat.found_dead_times ≡ old.tag.seat.found_dead_times + count (is_refused (tried r))
 
 -- what `try_enter_frozen` leaves

@@ -4,7 +4,7 @@ ghost use Rattle.percpu_core.specs.declared.limits.TheConstants.{SLOT_LIMIT};
 ghost use Rattle.percpu_gate.specs.Seats.{fresh_pass};
 ghost use Rattle.queue_core.specs.Queue.{IsQueue, first_tag, first_freezer, after_asking, after_leaving};
 ghost use Rattle.percpu_core.specs.Views.{count};
-ghost use Rattle.percpu_gate.specs.Calls.{is_refused, taken, has_zero, LiveTryFinds, TryFinds, TryMeets};
+ghost use Rattle.percpu_gate.specs.Calls.{is_refused, taken, has_dead, has_zero, LiveTryFinds, TryFinds, TryMeets};
 ghost use Rattle.queue_core.specs.AtTheGate.{AreInForce, HoldsOff};
 ghost use Rattle.queue_core.specs.Readings.{IsTag};
 ghost use Rattle.queue_core.specs.Entering.{tried, after_try};
@@ -103,7 +103,8 @@ impl BlockQueue {
         ensures finds { LiveTryFinds self.now.gate slot tag.old.seat (tried result) }
         // What Entered found is of the very step that took the reference: the gate, while it was live, gave it.
         ensures counted { tag.new.seat.live_given ≡ tag.old.seat.live_given + taken (tried result) }
-        // What a refusal found is of a step of this very call, also where the tag was refused before.
+        // A refusal found DEAD at the one addition of this very call, also where the tag was refused before.
+        ensures meets { TryMeets self.now.gate has_dead tag.old.seat tag.new.seat (is_refused (tried result)) }
         ensures times { tag.new.seat.found_dead_times ≡ tag.old.seat.found_dead_times + count (is_refused (tried result)) }
     {
         tag.take_live(&self.gate, slot)

@@ -5,7 +5,7 @@ ghost use Rattle.queue_limits.specs.Bounds.{Bounds};
 ghost use Rattle.queue_limits.specs.Words.{from_words};
 ghost use Rattle.queue_core.specs.Queue.{first_tag, after_asking, after_leaving};
 ghost use Rattle.percpu_core.specs.Views.{count};
-ghost use Rattle.percpu_gate.specs.Calls.{is_refused, taken, has_zero, LiveTryFinds, TryFinds, TryMeets};
+ghost use Rattle.percpu_gate.specs.Calls.{is_refused, taken, has_dead, has_zero, LiveTryFinds, TryFinds, TryMeets};
 ghost use Rattle.queue_core.specs.AtTheGate.{AreInForce, HoldsOff};
 ghost use Rattle.queue_core.specs.Readings.{IsTag};
 ghost use Rattle.queue_core.specs.Entering.{tried, after_try};
@@ -76,6 +76,7 @@ impl Tag {
         ensures dead { is_refused (tried result) ≡ true → self.new.seat.found_dead ≡ true }
         ensures finds { LiveTryFinds gate.now slot self.old.seat (tried result) }
         ensures counted { self.new.seat.live_given ≡ self.old.seat.live_given + taken (tried result) }
+        ensures meets { TryMeets gate.now has_dead self.old.seat self.new.seat (is_refused (tried result)) }
         ensures times { self.new.seat.found_dead_times ≡ self.old.seat.found_dead_times + count (is_refused (tried result)) }
     {
         match self.pass.try_get_live(gate, slot) {
