@@ -70,6 +70,8 @@ extern crate alloc;
 #[doc = include_str!("../README.md")]
 mod readme {}
 
+#[cfg(test)]
+mod counted;
 mod enter_async;
 mod entered;
 #[doc(hidden)]

@@ -50,15 +50,15 @@ fn limits(max: u32) -> Limits {
     Limits::new(8, max, 0).expect("limits")
 }
 
-fn with_one_tag() -> (BlockQueue, Freezer, Tag) {
-    let (queue, freezer, mut tags) = BlockQueue::new(limits(8), 1, 1).expect("memory");
+fn with_one_tag(slots: u32) -> (BlockQueue, Freezer, Tag) {
+    let (queue, freezer, mut tags) = BlockQueue::new(limits(8), slots, 1).expect("memory");
     (queue, freezer, tags.swap_remove(0))
 }
 
 /// A shared freeze nests in another: the depth is one more. It leaves the limits, and a wait leaves both.
 #[test]
 fn a_shared_freeze_nests() {
-    let (queue, mut freezer, _tag) = with_one_tag();
+    let (queue, mut freezer, _tag) = with_one_tag(1);
     assert_eq!(freezer.start_freeze(&queue), Ok(1));
     assert_eq!(freezer.set(&queue, limits(4)), Ok(()));
     let shared = SharedFreezer::new(freezer, &queue);
@@ -75,11 +75,10 @@ fn wake(shared: &SharedFreezer<'_>, queue: &BlockQueue) {
     assert_eq!(guard.freezer.start_freeze(queue), Ok(1));
 }
 
-/// A wait ends with the drain, and not after so many looks.
-#[test]
-fn a_wait_outlasts_many_wakes() {
-    let (queue, mut freezer, mut tag) = with_one_tag();
-    assert_eq!(queue.try_enter(&mut tag, 0), Enter::Entered);
+/// Waits for the drain of a queue with so many slots, is woken again and again meanwhile, and sees the drain.
+fn outlast_wakes(slots: u32) {
+    let (queue, mut freezer, mut tag) = with_one_tag(slots);
+    assert_eq!(queue.try_enter(&mut tag, slots - 1), Enter::Entered);
     assert_eq!(freezer.start_freeze(&queue), Ok(1));
     let shared = SharedFreezer::new(freezer, &queue);
     thread::scope(|scope| {
@@ -91,6 +90,14 @@ fn a_wait_outlasts_many_wakes() {
         assert_eq!(queue.leave(&mut tag, 0), Put::Last);
         assert_eq!(waits.join().expect("a wait that ends"), Ok(1));
     });
+}
+
+/// A wait ends with the drain, and not after so many looks, however many slots the queue has.
+#[test]
+fn a_wait_outlasts_many_wakes() {
+    for slots in [1, 2, 33, 64] {
+        outlast_wakes(slots);
+    }
 }
 
 /// There is memory for many commands of one request.

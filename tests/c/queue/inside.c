@@ -214,9 +214,62 @@ static void counts_on_the_slot_asked_for(void)
     IS(freeze_queue_remove(&freezer, &last), OK);
 }
 
+/* ---- Freed handles ---- */
+
+static struct { uint64_t *at; uint64_t words[4096]; } kept[BLOCKS];
+
+/* Notes the words of all blocks. */
+static void keep_all(void)
+{
+    for (int i = 0; i < BLOCKS; i++) {
+        kept[i].at = blocks[i].words <= 4096 ? blocks[i].at : NULL;
+        if (kept[i].at)
+            memcpy(kept[i].words, kept[i].at, blocks[i].words * 8);
+    }
+}
+
+/* How many words aren't as they were, of the blocks that are there still. */
+static long words_changed(void)
+{
+    long changed = 0;
+    for (int i = 0; i < BLOCKS; i++)
+        for (size_t w = 0; kept[i].at && kept[i].at == blocks[i].at && w < blocks[i].words; w++)
+            changed += kept[i].words[w] != blocks[i].at[w];
+    return changed;
+}
+
+/* A handle that is freed changes one word of what is left, which counts the queue's shares. So it neither enters nor leaves, and
+ * no freeze, limit or mode of the queue is another. */
+static void freed_handles(uint32_t mode, bool is_in, uint32_t freezes)
+{
+    IS(freeze_queue_new(&freezer, &limits, SLOTS, 3), OK);
+    for (int t = 0; t < 3; t++)
+        IS(freeze_queue_next_tag(&freezer, &tags[t]), OK);
+    IS(freeze_queue_mode(&freezer, mode), OK);
+    IS(freeze_queue_try_enter(&tags[2], 1), OK);
+    if (is_in)
+        IS(freeze_queue_try_enter(&tags[0], 2), OK);
+    for (uint32_t i = 0; i < freezes; i++)
+        IS(freeze_queue_start_freeze(&freezer, &depth), OK);
+    keep_all();
+    freeze_queue_free_tag(&tags[0]);
+    TELLS(words_changed(), 1);
+    keep_all();
+    freeze_queue_free_freezer(&freezer);
+    TELLS(words_changed(), 1);
+    freeze_queue_free_tag(&tags[1]);
+    freeze_queue_free_tag(&tags[2]);
+    TELLS(blocks_now(), 0);
+}
+
 int main(void)
 {
     counts_on_the_slot_asked_for();
+    for (uint32_t mode = 0; mode < 2; mode++)
+        for (uint32_t freezes = 0; freezes < 3; freezes++) {
+            freed_handles(mode, false, freezes);
+            freed_handles(mode, true, freezes);
+        }
     worn_out();
     worn_out_without_memory();
     in_use();
