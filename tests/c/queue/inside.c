@@ -262,11 +262,28 @@ static void freed_handles(uint32_t mode, bool is_in, uint32_t freezes)
     TELLS(blocks_now(), 0);
 }
 
+/* A switch to the mode that the queue has changes no word: no slot is closed, and no count moves. */
+static void the_same_mode_again(uint32_t mode, uint32_t freezes)
+{
+    IS(freeze_queue_new(&freezer, &limits, SLOTS, 1), OK);
+    IS(freeze_queue_next_tag(&freezer, &tags[0]), OK);
+    IS(freeze_queue_mode(&freezer, mode), OK);
+    IS(freeze_queue_try_enter(&tags[0], 1), OK);
+    for (uint32_t i = 0; i < freezes; i++)
+        IS(freeze_queue_start_freeze(&freezer, &depth), OK);
+    keep_all();
+    IS(freeze_queue_mode(&freezer, mode), OK);
+    TELLS(words_changed(), 0);
+    freeze_queue_free_tag(&tags[0]);
+    freeze_queue_free_freezer(&freezer);
+}
+
 int main(void)
 {
     counts_on_the_slot_asked_for();
     for (uint32_t mode = 0; mode < 2; mode++)
         for (uint32_t freezes = 0; freezes < 3; freezes++) {
+            the_same_mode_again(mode, freezes);
             freed_handles(mode, false, freezes);
             freed_handles(mode, true, freezes);
         }
