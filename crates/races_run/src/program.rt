@@ -1,5 +1,6 @@
 //! The program, over any reader and writers.
 ghost use Rattle.std.specs.Prelude.{◌≡◌, ◌≢◌, [], ◌∷◌, Contains};
+ghost use Rattle.counted_io.specs.Failures.{IsFourIfBroken};
 ghost use Rattle.counted_io.specs.Reading.{TakesUpTo};
 ghost use Rattle.races_run.specs.Statuses.{TellsOutcomes};
 
@@ -24,6 +25,7 @@ fn outcomes_reported<R: Read, W: Write, E: Write>(
     errors: &mut E,
 ) -> u8
     ensures told { TellsOutcomes R.remaining W.contents reader.old writer.old writer.new result }
+    ensures broken { IsFourIfBroken reader.old reader.new writer.old writer.new result }
     ensures taken { TakesUpTo R.remaining reader.old reader.new MOST_READ }
 {
     match outcomes_bytes(alloc, reader, writer) {
@@ -54,6 +56,8 @@ pub fn command<R: Read, W: Write, E: Write>(
     ensures unread { args.now ≢ [] → reader.new ≡ reader.old }
     ensures unwritten { args.now ≢ [] → writer.new ≡ writer.old }
 
+    // If the reader or the writer broke, the status says so before all else.
+    ensures broken { IsFourIfBroken reader.old reader.new writer.old writer.new result }
     ensures taken { TakesUpTo R.remaining reader.old reader.new MOST_READ }
 {
     if args.is_empty() {
