@@ -1,0 +1,122 @@
+//! A run behind thousands of requests: how many are in flight, if a held one holds up others, and when it passes `Drained`. No
+//! contract says this.
+
+use blkq::erased::blk_script::{Checked, Script, parse, push_disk, run_alone};
+use blkq::erased::blk_workers::{Config, NoStall, Point, Stall, run, run_checked};
+use std::sync::atomic::{AtomicBool, AtomicU32, Ordering::SeqCst};
+use std::thread::yield_now;
+
+/// The accepted requests before the `stat`, all of which are counted from 0.
+const FIRST: u32 = 3_000;
+const TAGS: u32 = 8;
+/// How often a test that waits for another thread yields before it gives up.
+const TURNS: u32 = 1_000_000;
+
+fn script(text: &str) -> Script {
+    parse(text.as_bytes()).unwrap()
+}
+
+/// Holds each request behind the `stat` at `Drawn` until all tags have entered, and request 2,999 for a while at `Answered`.
+#[derive(Default)]
+struct Late {
+    entered: AtomicU32,
+    drains: AtomicU32,
+    is_short_of_tags: AtomicBool,
+    is_drained_early: AtomicBool,
+    has_answered_all: AtomicBool,
+}
+
+impl Late {
+    fn wait_for_all_tags(&self) {
+        for turn in 0..TURNS {
+            if self.entered.load(SeqCst) >= TAGS {
+                return;
+            }
+            if turn % 8 == 0 {
+                yield_now();
+            }
+        }
+        self.is_short_of_tags.store(true, SeqCst);
+    }
+}
+
+impl Stall for Late {
+    fn at(&self, number: u32, point: Point) {
+        match point {
+            Point::Entered if number >= FIRST => {
+                self.entered.fetch_add(1, SeqCst);
+            }
+            Point::Drawn if number >= FIRST => self.wait_for_all_tags(),
+            Point::Answered if number == FIRST - 1 => {
+                for _ in 0..10_000 {
+                    yield_now();
+                }
+                self.has_answered_all.store(true, SeqCst);
+            }
+            Point::Drained => {
+                self.drains.fetch_add(1, SeqCst);
+                if !self.has_answered_all.load(SeqCst) {
+                    self.is_drained_early.store(true, SeqCst);
+                }
+            }
+            _ => {}
+        }
+    }
+}
+
+/// A run of 3,000 reads, a `stat` and 16 reads drains twice: for the `stat`, once its requests have left, and at the end. All
+/// tags are in use behind it.
+#[test]
+fn all_tags_serve_behind_thousands_of_requests() {
+    let reads = |count: u32| "read 0 1\n".repeat(count as usize);
+    let script = script(&format!("blkq 1\ndisk 1 hw 1\n{}stat\n{}", reads(FIRST), reads(16)));
+    let late = Late::default();
+    run_checked(&Checked::of(&script).unwrap(), Config::new(4, 3, TAGS).unwrap(), &late).unwrap();
+    assert!(!late.is_short_of_tags.into_inner(), "fewer tags than {TAGS} enter");
+    assert_eq!(late.drains.into_inner(), 2);
+    assert!(!late.is_drained_early.into_inner(), "Drained is told before a tag left");
+}
+
+/// Holds request 1 at `Drawn` until request 2 is drawn.
+#[derive(Default)]
+struct Beside {
+    is_second_drawn: AtomicBool,
+    is_alone: AtomicBool,
+}
+
+impl Stall for Beside {
+    fn at(&self, number: u32, point: Point) {
+        match (number, point) {
+            (2, Point::Drawn) => self.is_second_drawn.store(true, SeqCst),
+            (1, Point::Drawn) => {
+                for _ in 0..TURNS {
+                    if self.is_second_drawn.load(SeqCst) {
+                        return;
+                    }
+                    yield_now();
+                }
+                self.is_alone.store(true, SeqCst);
+            }
+            _ => {}
+        }
+    }
+}
+
+/// With two tags the third request is submitted once the first completes, though the second is held.
+#[test]
+fn a_held_request_holds_no_other_up() {
+    let script = script("blkq 1\ndisk 1 hw 1\nread 0 1\nread 0 1\nread 0 1\n");
+    let beside = Beside::default();
+    run_checked(&Checked::of(&script).unwrap(), Config::new(2, 3, 2).unwrap(), &beside).unwrap();
+    assert!(!beside.is_alone.into_inner());
+}
+
+/// `run` checks the script itself, and replies as one thread does.
+#[test]
+fn a_run_of_a_script_replies_as_one_thread() {
+    let script = script("blkq 1\ndisk 8 hw 4\nwrite 0 6 61\nset max_sectors 2\nread 0 8\nfreeze\nthaw\nstat\n");
+    let ran = run(&script, Config::new(3, 2, 5).unwrap(), &NoStall).unwrap();
+    let mut out = ran.replies;
+    push_disk(&mut out, &ran.disk).unwrap();
+    assert_eq!(out, run_alone(&script).unwrap());
+}
