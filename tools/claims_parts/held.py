@@ -9,7 +9,7 @@ WORD = re.compile(r"[\w-]+")
 
 # Where names that no proof knows may come from: tests, tools, scripts, the library for C.
 ELSEWHERE = ("tools", "tests", "examples", "rust", "library", "include", "docs/FORMATS.md", "Makefile", "blkq", "gate_races", "crates.txt")
-FINISHED = (".rt", ".antt", ".c", ".h", ".py", ".rs", ".toml", ".edit", ".txt", ".md", ".gate", ".blkq", ".races", "")
+FINISHED = (".rt", ".antt", ".c", ".h", ".py", ".rs", ".toml", ".edit", ".txt", ".md", ".gate", ".blkq", ".races", ".rows", ".calls", "")
 
 # How the names of a crate's exports begin, which its page leaves out.
 PREFIXES = {"percpu_gate_c": "percpu_gate_", "freeze_queue_c": "freeze_queue_"}

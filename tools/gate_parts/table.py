@@ -16,7 +16,6 @@ fi"""
 
 def steps_of(crates, copy, log, processors, tries_all):
     """Every step, for the crates of the repository, of which rt ci proves a copy and writes a log."""
-    programs = frozenset(it.name for it in crates if it.is_program)
     archives = frozenset(below.name for it in crates if it.name in ARCHIVES for below in [it, *it.below()])
     most = max(1, processors - 1)
     changed = () if tries_all else ("--changed",)
@@ -43,7 +42,7 @@ def steps_of(crates, copy, log, processors, tries_all):
         # has cargo's tests; and what else is tried of the crates, as lints, packages and sanitizers.
         Step("plain", ("tests/fresh",), 4),
         Step("rust", ("tests/rust/run", "rest"), 4, folders=("rust/target",)),
-        *of_programs(programs),
+        *of_programs(),
         # The pages of claims, the clauses, and the English of pages, headers and comments, each with the tool that measures it.
         Step("claims", ("tests/claims/run",), 1),
         Step("clauses", ("tests/clauses/run",), 1),
@@ -59,9 +58,9 @@ def steps_of(crates, copy, log, processors, tries_all):
     ]
 
 
-def of_programs(programs):
+def of_programs():
     """The steps over the built programs."""
-    found = []
+    found, programs = [], frozenset(["blkq", "gate_races"])
     for build in ("", ".by-rattle"):
         both = (f"crates/blkq/out/blkq{build}", f"crates/gate_races/out/gate_races{build}")
         what = {"proved": programs}

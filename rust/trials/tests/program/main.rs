@@ -1,0 +1,10 @@
+//! The program from inside: readers, writers and stalls of every kind. tests/rows has its worked rows.
+
+mod arguments;
+mod driver;
+mod each_byte;
+#[path = "../streams/fakes.rs"]
+mod fakes;
+mod stalling;
+mod texts;
+mod ways;

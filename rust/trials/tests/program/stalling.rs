@@ -1,0 +1,138 @@
+//! A run that is held passes its points, once, and has as many workers and tags as its words say.
+
+use crate::driver::{WILLING, call_held};
+use crate::fakes::{Feed, Sink};
+use blkq::erased::blk_workers::{Config, Point, Stall};
+use blkq::erased::blkq_run::run_bytes;
+use blkq::erased::counted_io::Counted;
+use std::sync::atomic::{AtomicU32, Ordering};
+use std::thread;
+
+/// The row ordered_twice: four requests, of which the second and the fourth are ordered.
+const SCRIPT: &[u8] = b"blkq 2\ndisk 4 hw 4\nwrite 0 2 01\nwrite 1 2 02\nwrite 0 1 03\nread 1 1\n";
+
+/// How often each of the first four requests was at a point, a hexadecimal digit for each, the first in the last place;
+/// and after how many requests each drain came, a decimal digit for each.
+struct Counts {
+    entered: AtomicU32,
+    drawn: AtomicU32,
+    answered: AtomicU32,
+    drained: AtomicU32,
+}
+
+impl Stall for Counts {
+    fn at(&self, number: u32, point: Point) {
+        let place = 1u32.wrapping_shl(number.wrapping_mul(4));
+        match point {
+            Point::Entered => self.entered.fetch_add(place, Ordering::SeqCst),
+            Point::Drawn => self.drawn.fetch_add(place, Ordering::SeqCst),
+            Point::Answered => self.answered.fetch_add(place, Ordering::SeqCst),
+            Point::Drained => {
+                let before = self.drained.load(Ordering::SeqCst);
+                let after = before.wrapping_mul(10).wrapping_add(number);
+                self.drained.swap(after, Ordering::SeqCst)
+            }
+        };
+    }
+}
+
+impl Counts {
+    fn new() -> Self {
+        Counts {
+            entered: AtomicU32::new(0),
+            drawn: AtomicU32::new(0),
+            answered: AtomicU32::new(0),
+            drained: AtomicU32::new(0),
+        }
+    }
+
+    /// How often each request was entered, drawn and answered.
+    fn of_requests(&self) -> [u32; 3] {
+        [&self.entered, &self.drawn, &self.answered].map(|at| at.load(Ordering::SeqCst))
+    }
+}
+
+// Each accepted request is entered, drawn and answered once. Drained comes before each ordered request, and at the end.
+#[test]
+fn each_point_is_passed() {
+    let counts = Counts::new();
+    let config = Config::new(2, 2, 2).unwrap();
+    let mut reader = Counted::new(Feed::new(SCRIPT));
+    let mut writer = Counted::new(Sink::new());
+    let found = run_bytes(&mut reader, &mut writer, config, &counts);
+    assert!(found.is_ok(), "{found:?}");
+    assert_eq!(counts.of_requests(), [0x1111; 3]);
+    assert_eq!(counts.drained.load(Ordering::SeqCst), 134);
+}
+
+/// Holds each request that is drawn until so many are entered and so many drawn, for 10,000,000 turns at most, and then for
+/// 10,000 turns more, and from then on none.
+struct Gathers {
+    workers: u32,
+    tags: u32,
+    entered: AtomicU32,
+    drawn: AtomicU32,
+    /// How many were entered, times 100, and drawn, while all of them were held; 0 as long as they are.
+    found: AtomicU32,
+}
+
+impl Gathers {
+    fn new(workers: u32, tags: u32) -> Self {
+        Gathers { workers, tags, entered: AtomicU32::new(0), drawn: AtomicU32::new(0), found: AtomicU32::new(0) }
+    }
+
+    /// How many are entered and drawn.
+    fn at_once(&self) -> (u32, u32) {
+        (self.entered.load(Ordering::SeqCst), self.drawn.load(Ordering::SeqCst))
+    }
+
+    fn hold(&self) {
+        let mut more = 10_000u32;
+        for _ in 0..10_000_000 {
+            if self.found.load(Ordering::SeqCst) > 0 || more == 0 {
+                break;
+            }
+            let (entered, drawn) = self.at_once();
+            if entered >= self.tags && drawn >= self.workers {
+                more -= 1;
+            }
+            thread::yield_now();
+        }
+        let (entered, drawn) = self.at_once();
+        let found = entered.wrapping_mul(100).wrapping_add(drawn);
+        let _ = self.found.compare_exchange(0, found, Ordering::SeqCst, Ordering::SeqCst);
+    }
+}
+
+impl Stall for Gathers {
+    fn at(&self, _number: u32, point: Point) {
+        match point {
+            Point::Entered => {
+                self.entered.fetch_add(1, Ordering::SeqCst);
+            }
+            Point::Drawn => {
+                self.drawn.fetch_add(1, Ordering::SeqCst);
+                self.hold();
+            }
+            Point::Answered | Point::Drained => {}
+        }
+    }
+}
+
+// While no request that is drawn goes on, each worker holds one, and each tag has entered.
+#[test]
+fn as_many_as_the_words_say() {
+    let mut script = String::from("blkq 1\ndisk 1 hw 1\n");
+    for _ in 0..70 {
+        script.push_str("read 0 1\n");
+    }
+    for (words, workers, tags) in
+        [("run", 4, 16), ("run 1 1 1", 1, 1), ("run 3 2 7", 3, 7), ("run 5 8 5", 5, 5), ("run 32 64 63", 32, 63)]
+    {
+        let gathers = Gathers::new(workers, tags);
+        let answer = call_held(words, script.as_bytes(), WILLING, &gathers);
+        assert_eq!(answer.status, 0);
+        let found = gathers.found.load(Ordering::SeqCst);
+        assert_eq!((found / 100, found % 100), (tags, workers), "{words}");
+    }
+}

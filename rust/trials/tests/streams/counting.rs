@@ -1,0 +1,161 @@
+//! Which calls are counted as failures, and that the inner reader's and writer's answers are passed on.
+
+use crate::fakes::{Feed, KINDS, Sink};
+use blkq::erased::counted_io::{Counted, read_whole, write_whole};
+use std::io::{self, Error, ErrorKind, Read, Write};
+
+#[test]
+fn errors_of_reading() {
+    let mut reader = Counted::new(Feed {
+        rest: b"ab",
+        most: usize::MAX,
+        interruptions: 2,
+        failure: Some(ErrorKind::Other),
+        reads: 0,
+    });
+    let mut buf = [0u8; 8];
+    assert_eq!(reader.failures(), 0);
+    for (answer, failures) in [(None, 1), (None, 2), (Some(2), 2), (None, 3), (None, 4)] {
+        assert_eq!(reader.read(&mut buf).ok(), answer);
+        assert_eq!(reader.failures(), failures);
+    }
+}
+
+#[test]
+fn the_end_is_no_failure() {
+    let mut reader = Counted::new(b"".as_slice());
+    assert_eq!(reader.read(&mut [0u8; 8]).ok(), Some(0));
+    assert_eq!(reader.read(&mut []).ok(), Some(0));
+    assert_eq!(reader.failures(), 0);
+}
+
+#[test]
+fn errors_of_writing() {
+    for (failure, last) in [(Some(ErrorKind::Other), None), (None, Some(0))] {
+        let mut writer =
+            Counted::new(Sink { taken: Vec::new(), most: usize::MAX, room: 1, interruptions: 1, failure, writes: 0 });
+        assert_eq!(writer.write(b"").ok(), None);
+        assert_eq!(writer.write(b"").ok(), Some(0));
+        assert_eq!(writer.failures(), 1);
+        assert_eq!(writer.write(b"ab").ok(), Some(1));
+        assert_eq!(writer.failures(), 1);
+        assert_eq!(writer.write(b"b").ok(), last);
+        assert_eq!(writer.failures(), 2);
+        writer.flush().unwrap();
+        assert_eq!(writer.failures(), 2);
+    }
+}
+
+/// More calls than a body that miscounts them would bear.
+const CALLS: usize = 20_000;
+
+/// Its calls fail and go well by turns, for ever: a call of an odd number fails, with the kinds in turn.
+#[derive(Clone, Copy)]
+struct ByTurns {
+    calls: usize,
+    flushes: usize,
+}
+
+/// The failure of the call of this number.
+fn failure(call: usize) -> Option<ErrorKind> {
+    (call % 2 == 1).then_some(KINDS[call / 2 % KINDS.len()])
+}
+
+impl ByTurns {
+    fn turn(&mut self) -> io::Result<usize> {
+        let call = self.calls;
+        self.calls = call.wrapping_add(1);
+        match failure(call) {
+            Some(kind) => Err(Error::from(kind)),
+            None => Ok(call),
+        }
+    }
+}
+
+/// A call that goes well gives one byte, which gives its number.
+impl Read for ByTurns {
+    fn read(&mut self, buf: &mut [u8]) -> io::Result<usize> {
+        let call = self.turn()?;
+        match buf.first_mut() {
+            Some(byte) => {
+                *byte = (call % 251) as u8;
+                Ok(1)
+            }
+            None => Ok(0),
+        }
+    }
+}
+
+/// A write that goes well takes one byte or, each other time, none; a flush fails as a write does.
+impl Write for ByTurns {
+    fn write(&mut self, buf: &[u8]) -> io::Result<usize> {
+        let call = self.turn()?;
+        Ok(buf.len().min(call / 2 % 2))
+    }
+
+    fn flush(&mut self) -> io::Result<()> {
+        self.flushes = self.flushes.wrapping_add(1);
+        self.turn().map(|_| ())
+    }
+}
+
+const FIRST: ByTurns = ByTurns { calls: 0, flushes: 0 };
+
+// However often a reader failed, it is asked again, and its answer is passed on.
+#[test]
+fn failures_of_reading_end() {
+    let mut inner = FIRST;
+    let mut reader = Counted::new(&mut inner);
+    for call in 0..CALLS {
+        let mut buf = [255u8; 2];
+        let found = reader.read(&mut buf).map_err(|e| e.kind());
+        let (answer, byte) = match failure(call) {
+            Some(kind) => (Err(kind), 255),
+            None => (Ok(1), (call % 251) as u8),
+        };
+        assert_eq!((found, buf), (answer, [byte, 255]), "{call}");
+    }
+    assert_eq!(reader.failures(), (CALLS / 2) as u64);
+    assert_eq!(inner.calls, CALLS);
+}
+
+#[test]
+fn failures_of_writing_end() {
+    let mut inner = FIRST;
+    let mut writer = Counted::new(&mut inner);
+    for call in 0..CALLS {
+        let found = writer.write(b"ab").map_err(|e| e.kind());
+        let answer = failure(call).map_or(Ok(call / 2 % 2), Err);
+        assert_eq!(found, answer, "{call}");
+    }
+    // Half of the calls fail, and half of the others take nothing.
+    assert_eq!(writer.failures(), (CALLS / 2 + CALLS / 4) as u64);
+    assert_eq!(inner.calls, CALLS);
+}
+
+// Each flush reaches the writer, whose answer is passed on and not counted.
+#[test]
+fn each_flush_is_passed_on() {
+    let mut inner = FIRST;
+    let mut writer = Counted::new(&mut inner);
+    for call in 0..CALLS {
+        let found = writer.flush().map_err(|e| e.kind());
+        assert_eq!(found, failure(call).map_or(Ok(()), Err), "{call}");
+    }
+    assert_eq!(writer.failures(), 0);
+    assert_eq!(inner.flushes, CALLS);
+}
+
+// As many reads and writes as there are bytes, behind as many interruptions in a row as are borne.
+#[test]
+fn very_many_pieces() {
+    let text = vec![b'#'; CALLS];
+    let mut feed = Feed::new(&text);
+    (feed.most, feed.interruptions) = (1, 999);
+    let input = read_whole(&mut Counted::new(feed), 1_048_577).unwrap();
+    assert!(input == text);
+    let mut sink = Sink::new();
+    (sink.most, sink.interruptions) = (1, 999);
+    assert_eq!(write_whole(&mut Counted::new(&mut sink), &text), Ok(()));
+    assert!(sink.taken == text);
+}
