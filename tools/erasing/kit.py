@@ -96,5 +96,3 @@ READ_BY_PROOFS = {
 }
 # Names that are bound to what an accessor reads, for proofs alone: (crate, file, name).
 READ_FOR_PROOFS = {("ram_disk", "disk", "_whole"), ("queue_limits", "pieces", "_max")}
-# Tests that measure their process, so that no other may run in it: (crate, test).
-ALONE = {("trials_program", "many_runs_leave_nothing")}

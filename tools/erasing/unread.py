@@ -1,15 +1,13 @@
-"""What only proofs read: parameters that no code names any more, and fields by a list. And tests that need a process alone."""
+"""What only proofs read: parameters that no code names any more, and fields by a list."""
 
 from erasing import kit
-from erasing.shape import functions, item_start, types
+from erasing.shape import functions, types
 
 
 def mend_unread(s):
     for fn in functions(s):
         if fn.body:
             name_unread_parameters(s, fn)
-            if (s.crate, fn.name) in kit.ALONE:
-                ahead(s, item_start(s, fn.keyword), '#[ignore = "it measures its process, so it runs alone: --ignored"]', fn.name)
     for it in types(s, ("struct",)):
         opening = it.fields_at(s)
         for first, last, _ in s.parts(opening, s.partner[opening]) if opening and s.at(opening, "{") else ():

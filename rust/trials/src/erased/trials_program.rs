@@ -1,9 +1,9 @@
 // Erased from crates/trials_program/src/lib.rt by tools/erase: edit that file.
-//! The program tried out on worked inputs, and with words, readers and writers of every kind; before that the readers
-//! and writers whose failures are counted.
+//! The program's run with readers, writers and memory that fail, a row of each. tests/rows and
+//! rust/trials/tests have the other rows.
 //!
-//! There are tests here and nothing else. They use what the crates below give to anybody, so they stand above these: a
-//! crate with tests is proved twice.
+//! This crate has tests alone. They use the public calls of the crates below. A crate with tests is proved twice, so none of those
+//! has any.
 
 #[cfg(test)]
 mod tests;

@@ -1,8 +1,9 @@
 // Erased from crates/trials_script/src/lib.rt by tools/erase: edit that file.
-//! A script and what it stands on tried out: examples by hand, and calls compared with plain loops over bytes.
+//! A row of the limits, the disk, the texts and the scripts each, and calls that may be refused memory. tests/rows and
+//! rust/trials/tests have the other rows.
 //!
-//! There are tests here and nothing else. They use what the crates below give to anybody, so they stand above these: a
-//! crate with tests is proved twice.
+//! This crate has tests alone. They use the public calls of the crates below. A crate with tests is proved twice, so none of those
+//! has any.
 
 #[cfg(test)]
 mod tests;

@@ -1,9 +1,7 @@
 // Erased from crates/trials_script/src/tests.rt by tools/erase: edit that file.
-//! The pieces of a range, the sectors of a disk, the words of a text, what scripts say, and which of their requests overlap.
+//! A row of each crate below, what a caller proves from a contract, and calls that may be refused memory.
 
 mod disk;
 mod limits;
 mod overlaps;
 mod script;
-mod sizes;
-mod text;
