@@ -14,7 +14,7 @@ PACKAGES = {
         "gate_replay", "race_calls", "race_answers", "race_world", "race_search", "race_outcomes", "races_text", "races_shown",
         "counted_io", "blkq_run", "blkq", "races_run", "gate_races",
     ],
-    "trials": ["uses", "trials_gate", "trials_queue", "trials_script", "trials_run", "trials_program"],
+    "trials": ["uses", "trials_gate", "trials_queue", "trials_script", "trials_run", "trials_program", "gate_calls"],
 }  # fmt: skip
 # The first lines of the files among them.
 ERASED_LINE = "// Erased from"

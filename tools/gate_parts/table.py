@@ -63,10 +63,11 @@ def of_programs():
     found, programs = [], frozenset(["blkq", "gate_races"])
     for build in ("", ".by-rattle"):
         both = (f"crates/blkq/out/blkq{build}", f"crates/gate_races/out/gate_races{build}")
-        what = {"proved": programs}
+        gate, what = f"crates/gate_calls/out/gate_calls{build}", {"proved": programs}
         found += [
             Step(f"examples{build}", ("tests/built", "tests/examples", *both), 0.5, **what),
             Step(f"rows{build}", ("tests/built", "tests/rows/run", *both), 0.5, **what),
+            Step(f"calls{build}", ("tests/built", "tests/rows/calls", gate), 0.5, proved=frozenset(["gate_calls"])),
             Step(f"sizes{build}", ("tests/built", "tools/sizes", *both), 2, **what),
             Step(f"devices{build}", ("tests/built", "tools/sweep_devices", *both), 2, **what),
         ]

@@ -1,4 +1,4 @@
-//! The pure machine, the replay of schedules and the running gate, tried out.
-mod machine;
-mod replays;
-mod running;
+//! A proof of a caller from the contracts, and a row of each crate below.
+mod caller;
+mod memory;
+mod schedules;

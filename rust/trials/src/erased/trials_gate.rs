@@ -1,9 +1,17 @@
 // Erased from crates/trials_gate/src/lib.rt by tools/erase: edit that file.
-//! The gate tried out: worked rows of steps of the pure machine, schedules and their replays, worked rows of calls of the
-//! running gate, and threads that count on one while it is killed, switched and revived.
+//! Rows of calls of the running gate: a text of calls is played on a gate of its own, and each call has a line of the answer.
+//! docs/AGAINST.md has the format, tests/rows the rows, and `gate_calls` is the program.
 //!
-//! There are tests here and nothing else. They use what the gate's crates give to anybody, so they stand above these: a
-//! crate with tests is proved twice, and the gate's crates are long to prove.
+//! Its tests are those that a proof adds to: a caller that reasons from the contracts, calls that may be refused memory, and
+//! a schedule. They use public calls alone.
 
+mod answers;
+mod asked;
+mod player;
+mod program;
+mod rows;
 #[cfg(test)]
 mod tests;
+mod trial;
+
+pub use program::command;

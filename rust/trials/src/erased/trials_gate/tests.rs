@@ -1,6 +1,6 @@
 // Erased from crates/trials_gate/src/tests.rt by tools/erase: edit that file.
-//! The pure machine, the replay of schedules and the running gate, tried out.
+//! A proof of a caller from the contracts, and a row of each crate below.
 
-mod machine;
-mod replays;
-mod running;
+mod caller;
+mod memory;
+mod schedules;

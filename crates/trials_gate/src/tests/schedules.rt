@@ -1,0 +1,27 @@
+//! A schedule of a gate that starts dead, and a row of calls.
+use crate::rows::answered;
+use gate_replay::{Replayed, replay_text};
+use std::test::Fail;
+
+const DEAD_START: &[u8] =
+    b"gate 1\nworld 1 1 dead 0\n0 add try\nc take\nc front\nc clear\nc dead\nc confirm\nc base\n0 undo\n0 mark\n";
+
+const ITS_REPLIES: &[u8] =
+    b"refused\nok\nok\nok\nok\nok\nnot last\nto mark\nlast\nend zero 0 front 3 kills 1 releases 1 held 0\n";
+
+#[test]
+fn replay_dead_start(rt: HostRuntime) -> Result<(), Fail> {
+    let replay = replay_text(rt.alloc(), DEAD_START)?;
+    assert!(rt; replay.text() == ITS_REPLIES);
+    assert!(rt; replay.ended() == Replayed::Whole);
+    Ok(())
+}
+
+/// A kill whose closure is handed the odd front.
+#[test]
+fn kill_with_confirm(rt: HostRuntime) -> Result<(), Fail> {
+    let text = b"calls 1\nworld 3 1 slots 0\nc kill_and_confirm\nc kill_and_confirm\nc releases\n";
+    let answers = answered(rt.alloc(), text)?;
+    assert!(rt; answers.as_slice() == b"last confirmed 1\nalready dead\n1\n".as_slice());
+    Ok(())
+}
