@@ -18,9 +18,8 @@
 //!   marks.
 //!
 //! A [`World`] is a gate as a value: `step` takes one atomic step of one seat, or says why it can't be
-//! taken; `replay` takes a list of them. What holds of every world, whatever its seats do and in
-//! whatever order, stands in the contracts of `interleavings`. docs/GATE.md tells the life of a gate step
-//! by step, and why each order is as it is.
+//! taken; `replay` takes a list of them. The laws of docs/GATE.md hold of every world, whatever its seats do
+//! and in whatever order. That page has the life of a gate step by step, and why each order is as it is.
 #![tactic(auto)]
 
 mod control_event;

@@ -121,8 +121,8 @@ impl<const W: usize> Control<W> {
         self.passes
     }
 
-    /// Ends a pass that holds nothing, and adds its releases to the control's. (A control that has no pass out
-    /// takes none in: by the laws there is none then.)
+    /// Ends a pass that holds nothing, and adds its releases to the control's. A control that has no pass
+    /// out changes nothing; no caller has a pass then.
     pub fn retire(&mut self, gate: &Gate<W>, pass: Pass<W>)
         requires own { (self.old.gate ≡ gate.now) × (pass.gate ≡ gate.now) }
         requires none { pass.view.standing.held ≡ 0 }

@@ -12,7 +12,7 @@ pub enum ExitWhy {
     /// A kill begun by `mark_dead` has not reached `drop_base`.
     #[error("mid switch")]
     MidSwitch,
-    /// So many passes aren't retired.
+    /// This many passes aren't retired.
     #[error("{0} passes out")]
     PassesOut(u32),
 }

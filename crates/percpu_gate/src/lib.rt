@@ -3,27 +3,26 @@
 //! A driver's device can be removed while requests run on it. So each request counts itself in before it touches
 //! the device, and out afterwards: `try_get_live` gives it a reference, or refuses since the device is going, and
 //! `put` drops it. Whoever removes the device kills the gate. Once a request's pass has seen the odd front of the
-//! kill it is given no reference of that life any more; those that run are left to end, and the last put of all is
-//! answered `Last`: nobody is at the device any more, and whoever was told so frees what it has. Nothing of this
-//! waits, and a request that is let in and isn't the last pays two atomic additions.
+//! kill, `try_get_live` gives it no reference of that life any more. Requests in flight go on, and exactly one call
+//! returns `Last`: the last put, or a refused try, or the kill itself if nothing was held. Its caller frees what the device has.
+//! No call waits. On a slot of its own a request pays a load and an exchange to enter, and the same to leave.
 //! A device that comes back, or whose settings change while nothing runs, is the same gate revived: its settings
 //! are the guarded words, which are stored at zero and hold still for as long as anybody holds a reference.
 //!
 //! A [`Gate`] is what Linux's `percpu_ref` is (lib/percpu-refcount.c). Threads share it by reference. Each counts
 //! with a [`Pass`] of its own: `try_get` and `try_get_live` take a reference where the gate still gives one, `get`
 //! takes more of what is held, `put` drops. The one [`Control`] kills the gate, stores its guarded words once
-//! everything was put, and brings it back; `retire` and [`Gate::exit`] end it, and tell that no release was lost.
+//! everything was put, and brings it back. `retire` and [`Gate::exit`] end it: [`Final`] counts its kills and releases.
 //!
-//! Every call is a few atomic steps, in a fixed order: no lock, no loop, no step taken again, no allocation. Each
-//! step is one event of the machine in `percpu_core`, and the rule of the words is that machine's laws, so
-//! they hold between any two steps, whichever threads make the calls. A call's contract speaks of what its
-//! seat knows: `view.standing.held` of a pass is what it holds, `view.standing.phase` of the control where it
-//! stands. docs/GATE.md tells the gate's life, the crate `trials_gate` has rows of calls
-//! and their answers, `uses` how a caller reasons.
+//! Every call is a few atomic steps, in a fixed order, with no lock, no wait and no allocation; no step is tried again. Only a
+//! kill, a switch and a revival loop, once over the slots. Each step is one event of the machine in `percpu_core`, and the rule
+//! of the words is that machine's laws, so they hold between any two steps, whichever threads make the calls. docs/GATE.md has
+//! the gate's life and its laws.
 //!
-//! A gate that counts on slots has one for each processor, or for each thread: a count that finds its slot open costs
-//! a look at it and one exchange, on a line that no other thread touches where each keeps to a slot of its own. A kill closes the slots and collects their
-//! sum, and a revival opens them again; `switch_to_atomic` and `switch_to_slots` do so while the gate lives on.
+//! A gate that counts on slots has one for each processor, or for each thread. A count that finds its slot open costs
+//! a load and an exchange, on a line that no other thread touches if each keeps to a slot of its own. A kill closes
+//! the slots and collects their sum, and a revival opens them again. `switch_to_atomic` and `switch_to_slots` do so
+//! while the gate lives on.
 #![tactic(auto)]
 
 mod control;

@@ -4,7 +4,7 @@ ghost use Rattle.std.specs.Prelude.{◌≡◌, ◌≤◌, length, take};
 use atomic_table::TableRule;
 use percpu_core::{Start, View, WORD_LIMIT};
 
-/// What a table of a gate is told once, when it is made.
+/// What a gate is made with, which never changes.
 #[derive(Drop)]
 pub(crate) struct GateKey {
     pub slots: u32,

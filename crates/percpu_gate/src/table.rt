@@ -106,7 +106,7 @@ impl GateTable {
         Ok((GateTable { table, slots }, ControlSeat::of(seat)))
     }
 
-    /// Ends the table, with the control's seat. There was a last moment, of which the laws hold.
+    /// Ends the table, with the control's seat.
     pub(crate) fn close(self, control: ControlSeat)
         requires own { control.gate ≡ facts_of self }
         ensures { Moment (facts_of self) (OfControl control.view) }

@@ -19,7 +19,7 @@ use crate::table::{GateTable, SHARED, place_of};
 use percpu_words::{BIAS, CLOSED, slot_delta, slot_word};
 
 impl ControlSeat {
-    /// Closes the next slot. Its delta.
+    /// The step `Close`: closes the next slot. Its delta, or none if it was closed, which the laws exclude.
     pub(crate) fn close_slot(&mut self, gate: &GateTable, slot: u32) -> Option<i64>
         requires own { self.old.gate ≡ facts_of gate.now }
         requires next { slot ≡ next_slot self.old.view.standing.phase }
@@ -76,7 +76,7 @@ impl ControlSeat {
             .store::<OpensSlot>(&mut self.seat, place, word);
     }
 
-    /// Closes the next slot, which is open. Its delta.
+    /// Closes the next slot, which the laws say is open. Its delta.
     pub(crate) fn close_next(&mut self, gate: &GateTable, slot: u32) -> i64
         requires own { self.old.gate ≡ facts_of gate.now }
         requires next { slot ≡ next_slot self.old.view.standing.phase }

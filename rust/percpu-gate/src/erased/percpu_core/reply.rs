@@ -8,7 +8,7 @@ pub enum Reply {
     Given,
     /// The try came too late; what it added is to be undone.
     Refused,
-    /// The count isn't at zero.
+    /// The step didn't leave DEAD alone: a count is left, or ZERO is set already.
     NotLast,
     /// The step left DEAD alone, so this seat is to mark zero.
     ToMark,

@@ -83,8 +83,8 @@ impl<const W: usize> Control<W> {
         self.passes
     }
 
-    /// Ends a pass that holds nothing, and adds its releases to the control's. (A control that has no pass out
-    /// takes none in: by the laws there is none then.)
+    /// Ends a pass that holds nothing, and adds its releases to the control's. A control that has no pass
+    /// out changes nothing; no caller has a pass then.
     ///
     /// # Preconditions
     ///

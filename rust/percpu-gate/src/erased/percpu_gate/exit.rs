@@ -11,7 +11,7 @@ use core::fmt;
 pub enum ExitWhy {
     /// A kill begun by `mark_dead` has not reached `drop_base`.
     MidSwitch,
-    /// So many passes aren't retired.
+    /// This many passes aren't retired.
     PassesOut(u32),
 }
 

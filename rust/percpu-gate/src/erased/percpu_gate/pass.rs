@@ -49,7 +49,7 @@ impl<const W: usize> Pass<W> {
         self.held
     }
 
-    /// The greatest front that this pass has seen, 0 before it has seen one. Its floor is no less.
+    /// The greatest front that this pass has seen, 0 before it has seen one.
     #[inline]
     pub fn seen_front(&self) -> u64 {
         self.seen_front

@@ -6,6 +6,6 @@
 pub enum Revived {
     /// ZERO was set when the initial reference was taken back.
     AtZero,
-    /// References were held still, or their release was under way.
+    /// A reference was still held, a refused try was in flight, or the mark was under way.
     Held,
 }

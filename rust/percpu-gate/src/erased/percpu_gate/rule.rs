@@ -3,7 +3,7 @@
 
 use crate::erased::percpu_core::{Start, WORD_LIMIT};
 
-/// What a table of a gate is told once, when it is made.
+/// What a gate is made with, which never changes.
 pub(crate) struct GateKey {
     pub slots: u32,
     pub start: Start,

@@ -83,7 +83,7 @@ impl GateTable {
         Ok((GateTable { table, slots }, ControlSeat::of(seat)))
     }
 
-    /// Ends the table, with the control's seat. There was a last moment, of which the laws hold.
+    /// Ends the table, with the control's seat.
     ///
     /// # Preconditions
     ///

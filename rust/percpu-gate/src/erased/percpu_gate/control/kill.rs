@@ -41,7 +41,7 @@ impl<const W: usize> Control<W> {
         }
     }
 
-    /// Begins a kill, and closes and collects what slots are open.
+    /// Begins a kill, and closes and collects the open slots: `mark_dead`, each `close_next` and `collect` in one call.
     ///
     /// # Preconditions
     ///
@@ -86,8 +86,9 @@ impl<const W: usize> Control<W> {
         answer
     }
 
-    /// Kills the gate: `mark_dead`, `close_next` once for each open slot and `collect`, `confirm` and `drop_base`. The put of the initial reference. Refuses
-    /// MidSwitch, AlreadyDead, WornOut. Linux: `percpu_ref_kill` (include/linux/percpu-refcount.h).
+    /// Kills the gate: `mark_dead`, `close_next` once for each open slot and `collect`, `confirm` and
+    /// `drop_base`. The put of the initial reference. Refuses MidSwitch, AlreadyDead, WornOut. Linux:
+    /// `percpu_ref_kill` (include/linux/percpu-refcount.h).
     ///
     /// # Preconditions
     ///

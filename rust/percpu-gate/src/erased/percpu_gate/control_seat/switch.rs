@@ -6,7 +6,7 @@ use crate::erased::percpu_gate::table::{GateTable, SHARED, place_of};
 use crate::erased::percpu_words::{BIAS, CLOSED, slot_delta, slot_word};
 
 impl ControlSeat {
-    /// Closes the next slot. Its delta.
+    /// The step `Close`: closes the next slot. Its delta, or none if it was closed, which the laws exclude.
     ///
     /// # Preconditions
     ///
@@ -60,7 +60,7 @@ impl ControlSeat {
         gate.table.shared.store(&mut self.seat, place, word);
     }
 
-    /// Closes the next slot, which is open. Its delta.
+    /// Closes the next slot, which the laws say is open. Its delta.
     ///
     /// # Preconditions
     ///
