@@ -46,7 +46,7 @@ abbrev pub TagsReadWhatIsSet : Type 0
 TagsReadWhatIsSet = (f : FreezerFacts) (t : TagFacts) (told : Bounds) → IsFreezer f → IsTag t → t.queue ≡ f.queue → t.limits ≡ Some told
     → (m : Moment t.queue.gate (OfPass t.seat)) → Stood f m.views → told ≡ f.limits
 
--- at every moment of such a gate that a seat which was told these limits sees, the guarded words spell them
+-- at each moment that a pass may meet after it read these limits, the guarded words still are these limits
 abbrev pub LimitsHoldStill : Type 0
 LimitsHoldStill = (gate : GateFacts) (hardware : ℕ) (limits : Bounds) (p : PassView) → limits_told hardware p ≡ Some limits
     → (m : Moment gate (OfPass p)) → from_words hardware m.cells.words ≡ limits
