@@ -6,7 +6,9 @@
 #   make prove                         proves the crates, and builds the programs from them: needs the kit, and some minutes
 #   make install PREFIX=/usr/local     puts the programs and the pages there; DESTDIR goes before it
 #   make install-c PREFIX=/usr/local   proves, builds and puts there both libraries for C, the queue's and the gate's
+#   make install-nbd PREFIX=/usr/local   proves the queue's library, and puts there nbdkit-blkq-filter and blkqctl
 PREFIX ?= /usr/local
+override PREFIX := $(abspath $(PREFIX))
 AWK ?= awk
 AT = $(DESTDIR)$(PREFIX)
 
@@ -29,7 +31,10 @@ install: all
 	@echo "installed: $$(tools/run_program --path blkq), $$(tools/run_program --path gate_races)"
 
 install-c:
-	$(MAKE) -C crates/percpu_gate_c install
-	$(MAKE) -C crates/freeze_queue_c install
+	$(MAKE) -C crates/percpu_gate_c install PREFIX=$(PREFIX)
+	$(MAKE) -C crates/freeze_queue_c install PREFIX=$(PREFIX)
 
-.PHONY: all check prove install install-c
+install-nbd:
+	$(MAKE) -C services/nbd install
+
+.PHONY: all check prove install install-c install-nbd

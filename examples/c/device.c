@@ -41,7 +41,7 @@ int main(void)
     const uint64_t settings[8] = {512};
     pthread_t threads[2];
     percpu_gate_final last;
-    if (!(device = calloc(1, sizeof *device)) || percpu_gate_new(&control, 2, 2, PERCPU_GATE_SLOTS, settings))
+    if (!(device = calloc(1, sizeof *device)) || percpu_gate_new(&control, 2, 2, PERCPU_GATE_START_SLOTS, settings))
         return 1;
     for (int i = 0; i < 2; i++) {
         if (percpu_gate_next_pass(&control, &workers[i].pass) || pthread_create(&threads[i], NULL, submit, &workers[i]))

@@ -1,5 +1,5 @@
 /* The program of README.md: limits that change before a request enters. */
-#include <freeze_queue_wait.h>
+#include <freeze_queue_waits.h>
 #include <stdio.h>
 #define TRY(call) if ((call) != FREEZE_QUEUE_OK) return 1
 

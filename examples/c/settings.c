@@ -1,7 +1,7 @@
 /* Limits that change while two threads submit: each request is cut by the limits of one setting, which hold still from its
  * entering to its leaving. A third thread freezes the queue, sets them and thaws it, a thousand times. */
 #define _POSIX_C_SOURCE 200809L
-#include "freeze_queue_wait.h"
+#include "freeze_queue_waits.h"
 #include <stdio.h>
 
 enum { REQUESTS = 200000, CHANGES = 1000, SECTORS = 100 };

@@ -14,7 +14,7 @@ int main(void)
     freeze_queue_tag tag = {0};
     freeze_queue_final last;
     uint32_t depth;
-    if (percpu_gate_new(&control, 1, 1, PERCPU_GATE_SLOTS, words) || percpu_gate_next_pass(&control, &pass) ||
+    if (percpu_gate_new(&control, 1, 1, PERCPU_GATE_START_SLOTS, words) || percpu_gate_next_pass(&control, &pass) ||
         freeze_queue_new(&freezer, &(freeze_queue_limits){8, 0, 0, 1}, 1, 1) || freeze_queue_next_tag(&freezer, &tag))
         return 1;
     if (percpu_gate_try_get_live(&pass, 0) || freeze_queue_try_enter(&tag, 0) || percpu_gate_kill(&control) ||

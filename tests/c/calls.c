@@ -26,8 +26,8 @@ static const char *text_of(uint32_t answer, const char *if_ok, const char *if_la
         return "refused last";
     if (answer == PERCPU_GATE_WAS_AT_ZERO)
         return "at zero";
-    if (answer >= PERCPU_GATE_ALREADY_DEAD && answer <= PERCPU_GATE_WORN_OUT)
-        return refusals[answer - PERCPU_GATE_ALREADY_DEAD];
+    if (answer >= PERCPU_GATE_ERR_ALREADY_DEAD && answer <= PERCPU_GATE_ERR_WORN_OUT)
+        return refusals[answer - PERCPU_GATE_ERR_ALREADY_DEAD];
     return percpu_gate_is_misuse(answer) ? "passed over" : "?";
 }
 
@@ -58,7 +58,7 @@ static void ask_pass(percpu_gate_pass *pass, const char *call, uint32_t first, u
     } else if (!strcmp(call, "put")) {
         tell(percpu_gate_put(pass, first, second), "not last");
     } else if (!strcmp(call, "word")) {
-        uint32_t answer = first < word_count ? percpu_gate_word(pass, first, &number) : (uint32_t)PERCPU_GATE_WORD;
+        uint32_t answer = first < word_count ? percpu_gate_word(pass, first, &number) : (uint32_t)PERCPU_GATE_ERR_BAD_WORD;
         tell_number(answer, number);
     } else if (!strcmp(call, "front")) {
         uint32_t answer = percpu_gate_front(pass, &number);
@@ -158,9 +158,9 @@ static void ask_control(const char *call, uint32_t first, uint64_t second)
     } else if (!strcmp(call, "resurrect")) {
         tell(percpu_gate_resurrect(&control), "held");
     } else if (!strcmp(call, "store")) {
-        tell(first < word_count ? percpu_gate_store_word(&control, first, second) : (uint32_t)PERCPU_GATE_WORD, "ok");
+        tell(first < word_count ? percpu_gate_store_word(&control, first, second) : (uint32_t)PERCPU_GATE_ERR_BAD_WORD, "ok");
     } else if (!strcmp(call, "word")) {
-        uint32_t answer = first < word_count ? percpu_gate_words(&control, words) : (uint32_t)PERCPU_GATE_WORD;
+        uint32_t answer = first < word_count ? percpu_gate_all_words(&control, words) : (uint32_t)PERCPU_GATE_ERR_BAD_WORD;
         tell_number(answer, first < word_count ? words[first] : 0);
     } else if (!strcmp(call, "atomic")) {
         tell(percpu_gate_switch_to_atomic(&control), "ok");
@@ -171,10 +171,10 @@ static void ask_control(const char *call, uint32_t first, uint64_t second)
     } else if (!strcmp(call, "phase")) {
         ask_phase();
     } else if (!strcmp(call, "kills")) {
-        uint32_t answer = percpu_gate_kills(&control, &number);
+        uint32_t answer = percpu_gate_kill_count(&control, &number);
         tell_number(answer, number);
     } else if (!strcmp(call, "releases")) {
-        uint32_t answer = percpu_gate_releases(&control, &number);
+        uint32_t answer = percpu_gate_release_count(&control, &number);
         tell_number(answer, number);
     } else if (!strcmp(call, "exit")) {
         ask_exit();
@@ -199,7 +199,7 @@ static bool make_gate(char *line)
             break;
         rest = end;
     }
-    kind = !strcmp(start, "slots") ? PERCPU_GATE_SLOTS : !strcmp(start, "atomic") ? PERCPU_GATE_ATOMIC : PERCPU_GATE_DEAD;
+    kind = !strcmp(start, "slots") ? PERCPU_GATE_START_SLOTS : !strcmp(start, "atomic") ? PERCPU_GATE_START_ATOMIC : PERCPU_GATE_START_DEAD;
     if (percpu_gate_new(&control, slots, count, kind, words) != PERCPU_GATE_OK)
         return false;
     for (uint32_t at = 0; at < count; at++)

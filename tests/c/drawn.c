@@ -1,29 +1,14 @@
 /* Gates that several threads make, use and end at once, more than a million in all: no number is drawn twice, and each is
- * what the pass of its gate tells. Where there is memory no call is refused, so never by NO_MEMORY or IN_USE. Words: gates
+ * what the pass of its gate tells. Where there is memory no call is refused, so never by ERR_NO_MEMORY or ERR_IN_USE. Words: gates
  * of each thread. */
+#include "drawing.h"
 #include "percpu_gate.h"
 
-#include <pthread.h>
 #include <sched.h>
 #include <stdatomic.h>
-#include <stdio.h>
-#include <stdlib.h>
-
-enum { THREADS = 4 };
 
 static const uint64_t words[8] = {0};
-static long turns;
-static uint64_t *drawn; /* of each thread in turn */
-static pthread_t threads[THREADS];
 static atomic_long arrived;
-
-static void need(bool holds, const char *what)
-{
-    if (holds)
-        return;
-    fprintf(stderr, "drawn: %s\n", what);
-    exit(1);
-}
 
 /* Waits until every thread has come as far, so that they make gates at once even if the machine is busy. */
 static void meet(void)
@@ -43,7 +28,7 @@ static void *make(void *of)
         percpu_gate_control control = {0};
         percpu_gate_pass pass = {0};
         percpu_gate_final last;
-        uint32_t start = (uint32_t)(i % 3), held = start == PERCPU_GATE_DEAD ? PERCPU_GATE_NOT_GIVEN : PERCPU_GATE_OK;
+        uint32_t start = (uint32_t)(i % 3), held = start == PERCPU_GATE_START_DEAD ? PERCPU_GATE_NOT_GIVEN : PERCPU_GATE_OK;
         need(percpu_gate_new(&control, 1, 1, start, words) == PERCPU_GATE_OK, "no gate");
         need(percpu_gate_next_pass(&control, &pass) == PERCPU_GATE_OK, "no pass");
         mine[i] = percpu_gate_control_number(&control);
@@ -57,23 +42,4 @@ static void *make(void *of)
     return NULL;
 }
 
-int main(int argc, char **argv)
-{
-    turns = argc > 1 ? atol(argv[1]) : 10000;
-    size_t all = (size_t)turns * THREADS;
-    drawn = calloc(all, sizeof *drawn);
-    char *seen = calloc(all + 1, 1);
-    need(drawn != NULL && seen != NULL, "no memory");
-    for (long i = 0; i < THREADS; i++)
-        need(pthread_create(&threads[i], NULL, make, drawn + i * turns) == 0, "no thread");
-    for (int i = 0; i < THREADS; i++)
-        pthread_join(threads[i], NULL);
-    for (size_t i = 0; i < all; i++) { /* they are 1 and so on, each once */
-        need(drawn[i] >= 1 && drawn[i] <= all && !seen[drawn[i]], "a number is drawn twice");
-        seen[drawn[i]] = 1;
-    }
-    free(seen);
-    free(drawn);
-    printf("each once\n");
-    return 0;
-}
+int main(int argc, char **argv) { return draws_each_once(argc, argv, make); }

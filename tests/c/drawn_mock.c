@@ -31,18 +31,18 @@ uint64_t percpu_gate_pass_number(percpu_gate_pass *pass) { return (uintptr_t)pas
 
 uint32_t percpu_gate_try_get(percpu_gate_pass *pass, uint32_t slot)
 {
-    return slot == 0 && (uintptr_t)pass->at % 4 == PERCPU_GATE_DEAD ? PERCPU_GATE_NOT_GIVEN : PERCPU_GATE_OK;
+    return slot == 0 && (uintptr_t)pass->at % 4 == PERCPU_GATE_START_DEAD ? PERCPU_GATE_NOT_GIVEN : PERCPU_GATE_OK;
 }
 
 uint32_t percpu_gate_put(percpu_gate_pass *pass, uint32_t slot, uint32_t n)
 {
-    return pass->is_open && slot == 0 && n == 1 ? PERCPU_GATE_OK : PERCPU_GATE_NOT_HELD;
+    return pass->is_open && slot == 0 && n == 1 ? PERCPU_GATE_OK : PERCPU_GATE_ERR_NOT_HELD;
 }
 
 uint32_t percpu_gate_retire(percpu_gate_control *control, percpu_gate_pass *pass)
 {
     pass->is_open = false;
-    return control->is_open ? PERCPU_GATE_OK : PERCPU_GATE_CLOSED;
+    return control->is_open ? PERCPU_GATE_OK : PERCPU_GATE_ERR_CLOSED;
 }
 
 uint32_t percpu_gate_exit(percpu_gate_control *control, percpu_gate_final *last)

@@ -113,7 +113,7 @@ int main(int argc, char **argv)
     percpu_gate_final last;
     threads = argc > 2 ? atol(argv[2]) : 4;
     make_device(0);
-    if (threads > MOST || percpu_gate_new(&control, (uint32_t)threads, (uint32_t)threads + 1, PERCPU_GATE_SLOTS, words) ||
+    if (threads > MOST || percpu_gate_new(&control, (uint32_t)threads, (uint32_t)threads + 1, PERCPU_GATE_START_SLOTS, words) ||
         percpu_gate_next_pass(&control, &mine))
         return 1;
     for (long i = 0; i < threads; i++)

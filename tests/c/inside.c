@@ -1,4 +1,4 @@
-/* By the gate's own memory, which no program may read or write. WORN_OUT, after 2^40 kills, and IN_USE, where somebody else
+/* By the gate's own memory, which no program may read or write. ERR_WORN_OUT, after 2^40 kills, and ERR_IN_USE, where somebody else
  * has a share of the gate: no use of handles leads there, or none in a day, so the counts are written here. */
 #include "percpu_gate.h"
 
@@ -7,7 +7,6 @@
 enum { ROUNDS = 12345 };
 
 #define IS(call, want) is(#call, call, PERCPU_GATE_##want, __LINE__)
-#define TELLS(value, want) is(#value, (uint64_t)(value), want, __LINE__)
 
 static const uint64_t words[8] = {3};
 static percpu_gate_control control;
@@ -32,7 +31,7 @@ static void kill_so_often(int times)
 /* A gate that may not be killed any more works on, and stays live; it may be ended. */
 static void worn_out(void)
 {
-    IS(percpu_gate_new(&control, 1, 3, PERCPU_GATE_SLOTS, words), OK);
+    IS(percpu_gate_new(&control, 1, 3, PERCPU_GATE_START_SLOTS, words), OK);
     IS(percpu_gate_next_pass(&control, &passes[0]), OK);
     kill_so_often(ROUNDS);
     first_look(ROUNDS);
@@ -40,13 +39,13 @@ static void worn_out(void)
     look_again(ROUNDS + 10);
     *the_word("kills") = ((uint64_t)1 << 40) - 1;
     IS(percpu_gate_kill(&control), LAST); /* the last */
-    IS(percpu_gate_kill(&control), ALREADY_DEAD);
+    IS(percpu_gate_kill(&control), ERR_ALREADY_DEAD);
     IS(percpu_gate_reinit(&control), OK);
-    IS(percpu_gate_kill(&control), WORN_OUT);
+    IS(percpu_gate_kill(&control), ERR_WORN_OUT);
     uint32_t slots = 7;
-    IS(percpu_gate_mark_dead(&control, &slots), WORN_OUT);
+    IS(percpu_gate_mark_dead(&control, &slots), ERR_WORN_OUT);
     TELLS(slots, 7);
-    IS(percpu_gate_kills(&control, &kills), OK);
+    IS(percpu_gate_kill_count(&control, &kills), OK);
     TELLS(kills, (uint64_t)1 << 40);
     TELLS(percpu_gate_control_is_zero(&control), false);
     IS(percpu_gate_try_get_live(&passes[0], 0), OK);
@@ -61,7 +60,7 @@ static void worn_out(void)
 /* A gate whose passes are all back, and the word that counts its shares. */
 static uint64_t *a_shared_gate(void)
 {
-    IS(percpu_gate_new(&control, 1, 3, PERCPU_GATE_SLOTS, words), OK);
+    IS(percpu_gate_new(&control, 1, 3, PERCPU_GATE_START_SLOTS, words), OK);
     first_look(1);
     for (uint64_t i = 0; i < 3; i++) {
         IS(percpu_gate_next_pass(&control, &passes[i]), OK);
@@ -79,11 +78,11 @@ static void in_use(void)
     uint64_t *shares = a_shared_gate();
     last.words[0] = 7;
     *shares = 2;
-    IS(percpu_gate_exit(&control, &last), IN_USE);
+    IS(percpu_gate_exit(&control, &last), ERR_IN_USE);
     TELLS(last.words[0], 7); /* nothing is written */
     TELLS(control.is_open && control.at != NULL && *shares == 2, true);
     IS(percpu_gate_kill(&control), LAST); /* it was live */
-    IS(percpu_gate_exit(&control, &last), IN_USE);
+    IS(percpu_gate_exit(&control, &last), ERR_IN_USE);
     IS(percpu_gate_reinit(&control), OK);
     *shares = 1;
     IS(percpu_gate_exit(&control, &last), OK);
@@ -94,7 +93,7 @@ static void in_use(void)
     *shares = 2;
     last.words[0] = 7;
     allowed = 0;
-    IS(percpu_gate_exit(&control, &last), NO_MEMORY);
+    IS(percpu_gate_exit(&control, &last), ERR_NO_MEMORY);
     allowed = -1;
     TELLS(last.words[0], 7);
     TELLS(control.is_open || control.at != NULL, false);

@@ -3,6 +3,8 @@
  * blocks that follows what is counted. */
 #ifndef INSIDE_H
 #define INSIDE_H
+#include "is.h"
+
 #include <stdbool.h>
 #include <stdint.h>
 #include <stdio.h>
@@ -39,16 +41,6 @@ void __wrap_free(void *at)
         if (blocks[i].at == at)
             blocks[i].at = NULL;
     __real_free(at);
-}
-
-static int failures;
-
-static void is(const char *what, uint64_t value, uint64_t want, int line)
-{
-    if (value == want)
-        return;
-    fprintf(stderr, "line %d: %s is %lu, not %lu\n", line, what, (unsigned long)value, (unsigned long)want);
-    failures++;
 }
 
 /* The words that were as told at each look so far. */

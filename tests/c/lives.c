@@ -8,7 +8,6 @@
 enum { SLOTS = PERCPU_GATE_MOST_SLOTS, LIVES = 1200 };
 
 #define IS(call, want) is(#call, call, PERCPU_GATE_##want, __LINE__)
-#define TELLS(value, want) is(#value, (uint64_t)(value), want, __LINE__)
 
 /* A slot's word is this where it is open and nothing is counted on it. */
 static const uint64_t EMPTY = (uint64_t)1 << 32;
@@ -20,7 +19,7 @@ static percpu_gate_final last;
 
 static void make(void)
 {
-    IS(percpu_gate_new(&control, SLOTS, 2, PERCPU_GATE_SLOTS, words), OK);
+    IS(percpu_gate_new(&control, SLOTS, 2, PERCPU_GATE_START_SLOTS, words), OK);
     IS(percpu_gate_next_pass(&control, &passes[0]), OK);
 }
 

@@ -76,17 +76,17 @@ static void make(uint32_t c)
     uint32_t slots = any_below(6) ? 1 + any_below(4) : any_below(70);
     uint32_t out = any_below(6) ? 1 + any_below(4) : any_below(70);
     uint32_t start = any_below(8) ? any_below(3) : 3;
-    bool fits = slots >= 1 && slots <= 64 && out >= 1 && out <= 64 && start <= 2, dead = start == PERCPU_GATE_DEAD;
+    bool fits = slots >= 1 && slots <= 64 && out >= 1 && out <= 64 && start <= 2, dead = start == PERCPU_GATE_START_DEAD;
     uint64_t words[8];
     for (int k = 0; k < 8; k++)
         words[k] = any_word();
-    uint32_t want = controls[c].gate ? PERCPU_GATE_OPEN : fits ? PERCPU_GATE_OK : PERCPU_GATE_SIZE;
+    uint32_t want = controls[c].gate ? PERCPU_GATE_ERR_OPEN : fits ? PERCPU_GATE_OK : PERCPU_GATE_ERR_BAD_SIZE;
     IS(percpu_gate_new(&controls[c].handle, slots, out, start, words), want);
     if (want)
         return;
     *next_gate = (struct gate){.slots = slots, .waiting = out, .out = out, .dead = dead, .zero = dead, .front = dead};
     next_gate->phase = dead ? PERCPU_GATE_PHASE_DEAD : start;
-    next_gate->wants = start == PERCPU_GATE_ATOMIC ? PERCPU_GATE_PHASE_LIVE_ATOMIC : PERCPU_GATE_PHASE_LIVE_ON_SLOTS;
+    next_gate->wants = start == PERCPU_GATE_START_ATOMIC ? PERCPU_GATE_PHASE_LIVE_ATOMIC : PERCPU_GATE_PHASE_LIVE_ON_SLOTS;
     memcpy(next_gate->words, words, sizeof words);
     next_gate->number = percpu_gate_control_number(&controls[c].handle);
     IS(next_gate->number > (next_gate == gates ? 0 : next_gate[-1].number), true); /* no other gate has it */
@@ -96,10 +96,10 @@ static void make(uint32_t c)
 static void give(uint32_t c, uint32_t p)
 {
     struct gate *g = controls[c].gate;
-    uint32_t want = !g               ? PERCPU_GATE_CLOSED
-                    : passes[p].gate ? PERCPU_GATE_OPEN
+    uint32_t want = !g               ? PERCPU_GATE_ERR_CLOSED
+                    : passes[p].gate ? PERCPU_GATE_ERR_OPEN
                     : g->waiting     ? PERCPU_GATE_OK
-                                     : PERCPU_GATE_NO_PASS;
+                                     : PERCPU_GATE_ERR_NO_PASS;
     IS(percpu_gate_next_pass(&controls[c].handle, &passes[p].handle), want);
     if (want)
         return;
@@ -112,9 +112,9 @@ static void give(uint32_t c, uint32_t p)
 static void retire(uint32_t c, uint32_t p)
 {
     struct gate *g = controls[c].gate;
-    uint32_t want = !g || !passes[p].gate ? PERCPU_GATE_CLOSED
-                    : passes[p].gate != g ? PERCPU_GATE_OTHER_GATE
-                    : passes[p].held      ? PERCPU_GATE_STILL_HELD
+    uint32_t want = !g || !passes[p].gate ? PERCPU_GATE_ERR_CLOSED
+                    : passes[p].gate != g ? PERCPU_GATE_ERR_OTHER_GATE
+                    : passes[p].held      ? PERCPU_GATE_ERR_STILL_HELD
                                           : PERCPU_GATE_OK;
     IS(percpu_gate_retire(&controls[c].handle, &passes[p].handle), want);
     if (want)
@@ -128,9 +128,9 @@ static void end(uint32_t c)
 {
     struct gate *g = controls[c].gate;
     percpu_gate_final last = {.kills = UNWRITTEN};
-    uint32_t want = !g             ? PERCPU_GATE_CLOSED
-                    : in_a_kill(g) ? PERCPU_GATE_MID_SWITCH
-                    : g->out > g->waiting ? PERCPU_GATE_PASSES_OUT
+    uint32_t want = !g             ? PERCPU_GATE_ERR_CLOSED
+                    : in_a_kill(g) ? PERCPU_GATE_ERR_MID_SWITCH
+                    : g->out > g->waiting ? PERCPU_GATE_ERR_PASSES_OUT
                                    : PERCPU_GATE_OK;
     IS(percpu_gate_exit(&controls[c].handle, &last), want);
     IS(last.kills, want ? UNWRITTEN : g->kills);
@@ -146,11 +146,11 @@ static void take(uint32_t p, bool live)
 {
     struct gate *g = passes[p].gate;
     uint32_t slot = some_slot(g);
-    uint32_t want = PERCPU_GATE_CLOSED;
+    uint32_t want = PERCPU_GATE_ERR_CLOSED;
     if (g && slot >= g->slots)
-        want = PERCPU_GATE_SLOT;
+        want = PERCPU_GATE_ERR_BAD_SLOT;
     else if (g && passes[p].held == HELD_MOST)
-        want = PERCPU_GATE_HELD_FULL;
+        want = PERCPU_GATE_ERR_HELD_FULL;
     else if (g && live && g->phase == PERCPU_GATE_PHASE_CLOSING) /* a slot that isn't closed yet gives still */
         want = slot < g->closed ? PERCPU_GATE_NOT_GIVEN : PERCPU_GATE_OK;
     else if (g)
@@ -166,11 +166,11 @@ static void get(uint32_t p)
 {
     struct gate *g = passes[p].gate;
     uint32_t slot = some_slot(g), n = some_amount();
-    uint32_t want = !g                                         ? PERCPU_GATE_CLOSED
-                    : slot >= g->slots                         ? PERCPU_GATE_SLOT
-                    : !passes[p].held                          ? PERCPU_GATE_NOT_HELD
-                    : !n                                       ? PERCPU_GATE_AMOUNT
-                    : (uint64_t)passes[p].held + n > HELD_MOST ? PERCPU_GATE_HELD_FULL
+    uint32_t want = !g                                         ? PERCPU_GATE_ERR_CLOSED
+                    : slot >= g->slots                         ? PERCPU_GATE_ERR_BAD_SLOT
+                    : !passes[p].held                          ? PERCPU_GATE_ERR_NOT_HELD
+                    : !n                                       ? PERCPU_GATE_ERR_BAD_AMOUNT
+                    : (uint64_t)passes[p].held + n > HELD_MOST ? PERCPU_GATE_ERR_HELD_FULL
                                                                : PERCPU_GATE_OK;
     IS(percpu_gate_get(&passes[p].handle, slot, n), want);
     if (want)
@@ -183,10 +183,10 @@ static void put(uint32_t p)
 {
     struct gate *g = passes[p].gate;
     uint32_t slot = some_slot(g), n = any_below(2) ? passes[p].held : some_amount();
-    uint32_t want = !g                   ? PERCPU_GATE_CLOSED
-                    : slot >= g->slots   ? PERCPU_GATE_SLOT
-                    : !n                 ? PERCPU_GATE_AMOUNT
-                    : n > passes[p].held ? PERCPU_GATE_NOT_HELD
+    uint32_t want = !g                   ? PERCPU_GATE_ERR_CLOSED
+                    : slot >= g->slots   ? PERCPU_GATE_ERR_BAD_SLOT
+                    : !n                 ? PERCPU_GATE_ERR_BAD_AMOUNT
+                    : n > passes[p].held ? PERCPU_GATE_ERR_NOT_HELD
                                          : PERCPU_GATE_OK;
     if (!want) {
         passes[p].held -= n;
@@ -202,14 +202,14 @@ static void look(uint32_t p)
     struct gate *g = passes[p].gate;
     uint64_t front = UNWRITTEN, word = UNWRITTEN;
     uint32_t k = any_below(10);
-    uint32_t want = !g                ? PERCPU_GATE_CLOSED
-                    : !passes[p].held ? PERCPU_GATE_NOT_HELD
-                    : k >= 8          ? PERCPU_GATE_WORD
+    uint32_t want = !g                ? PERCPU_GATE_ERR_CLOSED
+                    : !passes[p].held ? PERCPU_GATE_ERR_NOT_HELD
+                    : k >= 8          ? PERCPU_GATE_ERR_BAD_WORD
                                       : PERCPU_GATE_OK;
     IS(percpu_gate_is_dying(&passes[p].handle), g && g->dead);
     IS(percpu_gate_is_zero(&passes[p].handle), g && g->zero);
     IS(percpu_gate_pass_number(&passes[p].handle), g ? g->number : 0);
-    IS(percpu_gate_front(&passes[p].handle, &front), g ? PERCPU_GATE_OK : PERCPU_GATE_CLOSED);
+    IS(percpu_gate_front(&passes[p].handle, &front), g ? PERCPU_GATE_OK : PERCPU_GATE_ERR_CLOSED);
     IS(front, g ? g->front : UNWRITTEN);
     IS(percpu_gate_word(&passes[p].handle, k, &word), want);
     IS(word, want ? UNWRITTEN : g->words[k]);
@@ -218,10 +218,10 @@ static void look(uint32_t p)
 static uint32_t kill_refusal(const struct gate *g)
 {
     if (!g)
-        return PERCPU_GATE_CLOSED;
+        return PERCPU_GATE_ERR_CLOSED;
     if (in_a_kill(g))
-        return PERCPU_GATE_MID_SWITCH;
-    return g->phase == PERCPU_GATE_PHASE_DEAD ? PERCPU_GATE_ALREADY_DEAD : PERCPU_GATE_OK;
+        return PERCPU_GATE_ERR_MID_SWITCH;
+    return g->phase == PERCPU_GATE_PHASE_DEAD ? PERCPU_GATE_ERR_ALREADY_DEAD : PERCPU_GATE_OK;
 }
 
 static void kill(uint32_t c)
@@ -265,7 +265,7 @@ static void step(uint32_t c)
         g && g->phase == PERCPU_GATE_PHASE_CONFIRMED,
     };
     uint64_t front = UNWRITTEN;
-    uint32_t k = any_below(4), want = due[k] ? PERCPU_GATE_OK : g ? PERCPU_GATE_STEP : PERCPU_GATE_CLOSED;
+    uint32_t k = any_below(4), want = due[k] ? PERCPU_GATE_OK : g ? PERCPU_GATE_ERR_BAD_STEP : PERCPU_GATE_ERR_CLOSED;
     if (k == 0) {
         IS(percpu_gate_close_next(&controls[c].handle), want);
         if (due[k])
@@ -292,10 +292,10 @@ static void step(uint32_t c)
 static uint32_t dead_refusal(const struct gate *g)
 {
     if (!g)
-        return PERCPU_GATE_CLOSED;
+        return PERCPU_GATE_ERR_CLOSED;
     if (in_a_kill(g))
-        return PERCPU_GATE_MID_SWITCH;
-    return g->phase == PERCPU_GATE_PHASE_DEAD ? PERCPU_GATE_OK : PERCPU_GATE_NOT_DEAD;
+        return PERCPU_GATE_ERR_MID_SWITCH;
+    return g->phase == PERCPU_GATE_PHASE_DEAD ? PERCPU_GATE_OK : PERCPU_GATE_ERR_NOT_DEAD;
 }
 
 static void revive(uint32_t c, bool from_zero)
@@ -303,7 +303,7 @@ static void revive(uint32_t c, bool from_zero)
     struct gate *g = controls[c].gate;
     uint32_t want = dead_refusal(g);
     if (from_zero)
-        IS(percpu_gate_reinit(&controls[c].handle), want ? want : g->zero ? PERCPU_GATE_OK : PERCPU_GATE_NOT_ZERO);
+        IS(percpu_gate_reinit(&controls[c].handle), want ? want : g->zero ? PERCPU_GATE_OK : PERCPU_GATE_ERR_NOT_ZERO);
     else
         IS(percpu_gate_resurrect(&controls[c].handle), want ? want : g->zero ? PERCPU_GATE_WAS_AT_ZERO : PERCPU_GATE_OK);
     if (want || (from_zero && !g->zero))
@@ -316,7 +316,7 @@ static void revive(uint32_t c, bool from_zero)
 static void change_mode(uint32_t c, bool atomic)
 {
     struct gate *g = controls[c].gate;
-    uint32_t want = !g ? PERCPU_GATE_CLOSED : in_a_kill(g) ? PERCPU_GATE_MID_SWITCH : PERCPU_GATE_OK;
+    uint32_t want = !g ? PERCPU_GATE_ERR_CLOSED : in_a_kill(g) ? PERCPU_GATE_ERR_MID_SWITCH : PERCPU_GATE_OK;
     IS((atomic ? percpu_gate_switch_to_atomic : percpu_gate_switch_to_slots)(&controls[c].handle), want);
     if (want)
         return;
@@ -330,7 +330,7 @@ static void store(uint32_t c)
     struct gate *g = controls[c].gate;
     uint32_t k = any_below(10), want = dead_refusal(g);
     uint64_t v = any_word();
-    want = g && k >= 8 ? PERCPU_GATE_WORD : want ? want : g->zero ? PERCPU_GATE_OK : PERCPU_GATE_NOT_ZERO;
+    want = g && k >= 8 ? PERCPU_GATE_ERR_BAD_WORD : want ? want : g->zero ? PERCPU_GATE_OK : PERCPU_GATE_ERR_NOT_ZERO;
     IS(percpu_gate_store_word(&controls[c].handle, k, v), want);
     if (!want)
         g->words[k] = v;
@@ -339,14 +339,14 @@ static void store(uint32_t c)
 static void ask(uint32_t c)
 {
     struct gate *g = controls[c].gate;
-    uint32_t want = g ? PERCPU_GATE_OK : PERCPU_GATE_CLOSED;
+    uint32_t want = g ? PERCPU_GATE_OK : PERCPU_GATE_ERR_CLOSED;
     uint64_t kills = UNWRITTEN, releases = UNWRITTEN, words[8] = {UNWRITTEN};
-    IS(percpu_gate_phase(&controls[c].handle), g ? g->phase : PERCPU_GATE_CLOSED);
+    IS(percpu_gate_phase(&controls[c].handle), g ? g->phase : PERCPU_GATE_ERR_CLOSED);
     IS(percpu_gate_control_is_zero(&controls[c].handle), g && g->zero);
     IS(percpu_gate_control_number(&controls[c].handle), g ? g->number : 0);
-    IS(percpu_gate_kills(&controls[c].handle, &kills), want);
-    IS(percpu_gate_releases(&controls[c].handle, &releases), want);
-    IS(percpu_gate_words(&controls[c].handle, words), want);
+    IS(percpu_gate_kill_count(&controls[c].handle, &kills), want);
+    IS(percpu_gate_release_count(&controls[c].handle, &releases), want);
+    IS(percpu_gate_all_words(&controls[c].handle, words), want);
     IS(kills, g ? g->kills : UNWRITTEN);
     IS(releases, g ? g->releases : UNWRITTEN);
     IS(words[0], g ? g->words[0] : UNWRITTEN);

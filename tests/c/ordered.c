@@ -121,7 +121,7 @@ static void perform(const struct play *play)
     pthread_t threads[ACTORS];
     plain = 0;
     atomic_store(&turn, 0);
-    need("new", percpu_gate_new(&control, 1, 2, PERCPU_GATE_SLOTS, words), PERCPU_GATE_OK);
+    need("new", percpu_gate_new(&control, 1, 2, PERCPU_GATE_START_SLOTS, words), PERCPU_GATE_OK);
     for (int i = FIRST; i < ACTORS; i++)
         need("next_pass", percpu_gate_next_pass(&control, &passes[i]), PERCPU_GATE_OK);
     for (int i = 0; i < ACTORS; i++) {

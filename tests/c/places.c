@@ -1,20 +1,11 @@
 /* Sizes and offsets of the structs, and the order of arguments: each call that takes several numbers is given another in
  * each place, and each field that is written is read. No contract of the library has these. */
 #include "percpu_gate.h"
+#include "is.h"
 
 #include <stddef.h>
 #include <stdio.h>
 #include <string.h>
-
-static int failures;
-
-static void is(const char *what, uint64_t value, uint64_t want, int line)
-{
-    if (value == want)
-        return;
-    fprintf(stderr, "line %d: %s is %lu, not %lu\n", line, what, (unsigned long)value, (unsigned long)want);
-    failures++;
-}
 
 #define IS(value, want) is(#value, value, want, __LINE__)
 
@@ -45,16 +36,16 @@ static void kills(percpu_gate_control *control, percpu_gate_pass *pass)
     IS(percpu_gate_reinit(control), PERCPU_GATE_OK);
     IS(percpu_gate_kill(control), PERCPU_GATE_LAST);
     IS(percpu_gate_store_word(control, 3, 5), PERCPU_GATE_OK);
-    IS(percpu_gate_kills(control, &told), PERCPU_GATE_OK);
+    IS(percpu_gate_kill_count(control, &told), PERCPU_GATE_OK);
     IS(told, 3);
-    IS(percpu_gate_releases(control, &told), PERCPU_GATE_OK);
+    IS(percpu_gate_release_count(control, &told), PERCPU_GATE_OK);
     IS(told, 2);
 }
 
 static void words_and_values(percpu_gate_control *control)
 {
     uint64_t all[10] = {7, 0, 0, 0, 0, 0, 0, 0, 0, 7};
-    IS(percpu_gate_words(control, all + 1), PERCPU_GATE_OK);
+    IS(percpu_gate_all_words(control, all + 1), PERCPU_GATE_OK);
     for (int k = 0; k < 8; k++)
         IS(all[k + 1], k == 3 ? 5 : words[k]);
     IS(all[0], 7);
@@ -66,29 +57,31 @@ int main(void)
 {
     percpu_gate_control control = {0};
     percpu_gate_pass pass[3] = {{0}, {0}, {0}};
-    IS(sizeof(percpu_gate_control), 16);
+    IS(sizeof(percpu_gate_control), 32);
     IS(offsetof(percpu_gate_control, is_open), 0);
     IS(offsetof(percpu_gate_control, at), 8);
-    IS(sizeof(percpu_gate_pass), 16);
+    IS(offsetof(percpu_gate_control, reserved), 16);
+    IS(sizeof(percpu_gate_pass), 32);
     IS(offsetof(percpu_gate_pass, is_open), 0);
     IS(offsetof(percpu_gate_pass, at), 8);
+    IS(offsetof(percpu_gate_pass, reserved), 16);
     IS(sizeof(percpu_gate_final), 88);
     IS(offsetof(percpu_gate_final, dead), 0);
     IS(offsetof(percpu_gate_final, kills), 8);
     IS(offsetof(percpu_gate_final, releases), 16);
     IS(offsetof(percpu_gate_final, words), 24);
     /* three slots, two passes, on the shared word alone */
-    IS(percpu_gate_new(&control, 3, 2, PERCPU_GATE_ATOMIC, words), PERCPU_GATE_OK);
+    IS(percpu_gate_new(&control, 3, 2, PERCPU_GATE_START_ATOMIC, words), PERCPU_GATE_OK);
     IS(control.is_open, 1);
     IS(control.at != NULL, 1);
     IS(percpu_gate_phase(&control), PERCPU_GATE_PHASE_LIVE_ATOMIC);
     IS(percpu_gate_next_pass(&control, &pass[0]), PERCPU_GATE_OK);
     IS(percpu_gate_next_pass(&control, &pass[1]), PERCPU_GATE_OK);
-    IS(percpu_gate_next_pass(&control, &pass[2]), PERCPU_GATE_NO_PASS);
+    IS(percpu_gate_next_pass(&control, &pass[2]), PERCPU_GATE_ERR_NO_PASS);
     IS(pass[0].is_open, 1);
     IS(pass[0].at != NULL, 1);
     IS(pass[2].is_open, 0);
-    IS(percpu_gate_try_get_live(&pass[1], 3), PERCPU_GATE_SLOT);
+    IS(percpu_gate_try_get_live(&pass[1], 3), PERCPU_GATE_ERR_BAD_SLOT);
     IS(percpu_gate_try_get(&pass[0], 2), PERCPU_GATE_OK);
     IS(percpu_gate_get(&pass[0], 1, 3), PERCPU_GATE_OK);
     for (uint32_t k = 0; k < 8; k++) {

@@ -3,34 +3,10 @@
  * all, and free_pass and free_control give back every block, wherever the gate stands. (Linked with --wrap=malloc and free, so
  * that this malloc refuses and both count.) */
 #include "percpu_gate.h"
+#include "refusing.h"
 
 #include <stdio.h>
 #include <stdlib.h>
-
-void *__real_malloc(size_t size);
-void __real_free(void *at);
-static long allowed = -1; /* none refused */
-static long blocks;       /* that were had and not given back */
-static long refusals;     /* that malloc refused */
-
-void *__wrap_malloc(size_t size)
-{
-    if (allowed == 0) {
-        refusals++;
-        return NULL;
-    }
-    if (allowed > 0)
-        allowed--;
-    void *at = __real_malloc(size);
-    blocks += at != NULL;
-    return at;
-}
-
-void __wrap_free(void *at)
-{
-    blocks -= at != NULL;
-    __real_free(at);
-}
 
 static const uint64_t words[8] = {3};
 
@@ -41,23 +17,23 @@ static long life(long allow)
     percpu_gate_pass pass[2] = {{0}, {0}};
     percpu_gate_final last;
     allowed = allow;
-    uint32_t answer = percpu_gate_new(&control, 64, 2, PERCPU_GATE_SLOTS, words);
-    if (answer == PERCPU_GATE_NO_MEMORY) {
+    uint32_t answer = percpu_gate_new(&control, 64, 2, PERCPU_GATE_START_SLOTS, words);
+    if (answer == PERCPU_GATE_ERR_NO_MEMORY) {
         allowed = -1;
         return control.is_open ? -2 : allow;
     }
     long refused = -1;
     for (int i = 0; i < 2; i++)
-        if (percpu_gate_next_pass(&control, &pass[i]) == PERCPU_GATE_NO_MEMORY) {
+        if (percpu_gate_next_pass(&control, &pass[i]) == PERCPU_GATE_ERR_NO_MEMORY) {
             refused = allow;
-            if (i == 1 && percpu_gate_exit(&control, &last) != PERCPU_GATE_PASSES_OUT)
+            if (i == 1 && percpu_gate_exit(&control, &last) != PERCPU_GATE_ERR_PASSES_OUT)
                 return -2;
             allowed = -1; /* the pass waits still */
             if (percpu_gate_next_pass(&control, &pass[i]))
                 return -2;
         }
     allowed = -1;
-    if (percpu_gate_next_pass(&control, &(percpu_gate_pass){0}) != PERCPU_GATE_NO_PASS)
+    if (percpu_gate_next_pass(&control, &(percpu_gate_pass){0}) != PERCPU_GATE_ERR_NO_PASS)
         return -2;
     for (int i = 0; i < 2; i++)
         if (percpu_gate_retire(&control, &pass[i]))
@@ -78,7 +54,7 @@ static int every_size(uint32_t start)
             for (uint32_t i = 0; i < most; i++)
                 if (percpu_gate_next_pass(&control, &passes[i]))
                     return 1;
-            if (percpu_gate_next_pass(&control, &(percpu_gate_pass){0}) != PERCPU_GATE_NO_PASS)
+            if (percpu_gate_next_pass(&control, &(percpu_gate_pass){0}) != PERCPU_GATE_ERR_NO_PASS)
                 return 1;
             for (uint32_t i = 0; i < most; i++)
                 if (percpu_gate_retire(&control, &passes[i]))
@@ -89,19 +65,19 @@ static int every_size(uint32_t start)
     return 0;
 }
 
-/* Each of a gate's passes in turn gets no memory once, and then it does: NO_MEMORY comes where an allocation was refused, and
+/* Each of a gate's passes in turn gets no memory once, and then it does: ERR_NO_MEMORY comes where an allocation was refused, and
  * nowhere else. */
 static int each_pass_refused(void)
 {
     percpu_gate_control control = {0};
     percpu_gate_pass passes[PERCPU_GATE_MOST_PASSES] = {{0}};
-    if (percpu_gate_new(&control, 1, PERCPU_GATE_MOST_PASSES, PERCPU_GATE_SLOTS, words))
+    if (percpu_gate_new(&control, 1, PERCPU_GATE_MOST_PASSES, PERCPU_GATE_START_SLOTS, words))
         return 1;
     for (int i = 0; i < PERCPU_GATE_MOST_PASSES; i++) {
         refusals = allowed = 0;
         uint32_t first = percpu_gate_next_pass(&control, &passes[i]);
         allowed = -1;
-        if (first != PERCPU_GATE_NO_MEMORY || refusals == 0 || percpu_gate_next_pass(&control, &passes[i]))
+        if (first != PERCPU_GATE_ERR_NO_MEMORY || refusals == 0 || percpu_gate_next_pass(&control, &passes[i]))
             return 1;
         percpu_gate_free_pass(&passes[i]);
     }
@@ -115,12 +91,12 @@ static int ends_without_memory(void)
     percpu_gate_control control = {0};
     percpu_gate_pass pass = {0};
     percpu_gate_final last;
-    if (percpu_gate_new(&control, 2, 2, PERCPU_GATE_SLOTS, words))
+    if (percpu_gate_new(&control, 2, 2, PERCPU_GATE_START_SLOTS, words))
         return 1;
     allowed = 0;
     uint32_t given = percpu_gate_next_pass(&control, &pass), ended = percpu_gate_exit(&control, &last);
     allowed = -1;
-    return given != PERCPU_GATE_NO_MEMORY || ended || control.is_open || pass.is_open;
+    return given != PERCPU_GATE_ERR_NO_MEMORY || ended || control.is_open || pass.is_open;
 }
 
 /* A whole life with no memory left: malloc isn't even called, and each call is answered as ever. */
@@ -131,7 +107,7 @@ static int no_call_allocates(void)
     percpu_gate_final last;
     uint32_t slots;
     uint64_t told, all[8];
-    if (percpu_gate_new(&control, 2, 2, PERCPU_GATE_SLOTS, words) || percpu_gate_next_pass(&control, &pass) ||
+    if (percpu_gate_new(&control, 2, 2, PERCPU_GATE_START_SLOTS, words) || percpu_gate_next_pass(&control, &pass) ||
         percpu_gate_next_pass(&control, &freed))
         return 1;
     refusals = allowed = 0;
@@ -147,12 +123,12 @@ static int no_call_allocates(void)
             percpu_gate_drop_base(&control) || percpu_gate_put(&pass, 0, 4) != PERCPU_GATE_LAST)
             return 3;
         if (!percpu_gate_is_zero(&pass) || !percpu_gate_control_is_zero(&control) ||
-            percpu_gate_store_word(&control, 0, 3) || percpu_gate_words(&control, all) ||
-            percpu_gate_kills(&control, &told) || percpu_gate_releases(&control, &told) || percpu_gate_reinit(&control) ||
+            percpu_gate_store_word(&control, 0, 3) || percpu_gate_all_words(&control, all) ||
+            percpu_gate_kill_count(&control, &told) || percpu_gate_release_count(&control, &told) || percpu_gate_reinit(&control) ||
             percpu_gate_pass_number(&pass) != percpu_gate_control_number(&control))
             return 4;
     }
-    if (percpu_gate_retire(&control, &pass) || percpu_gate_exit(&control, &last) != PERCPU_GATE_PASSES_OUT)
+    if (percpu_gate_retire(&control, &pass) || percpu_gate_exit(&control, &last) != PERCPU_GATE_ERR_PASSES_OUT)
         return 5;
     percpu_gate_free_pass(&freed);
     percpu_gate_free_control(&control);
@@ -168,7 +144,7 @@ static int freed_in_each_phase(void)
         percpu_gate_pass pass = {0};
         uint32_t slots;
         uint64_t front;
-        if (percpu_gate_new(&control, 2, 2, PERCPU_GATE_SLOTS, words) || percpu_gate_next_pass(&control, &pass) ||
+        if (percpu_gate_new(&control, 2, 2, PERCPU_GATE_START_SLOTS, words) || percpu_gate_next_pass(&control, &pass) ||
             percpu_gate_try_get(&pass, 1))
             return 1;
         if ((steps > 0 && percpu_gate_mark_dead(&control, &slots)) || (steps > 1 && percpu_gate_close_next(&control)) ||
@@ -188,20 +164,20 @@ static int two_gates(void)
     percpu_gate_control a = {0}, b = {0};
     percpu_gate_pass pass = {0};
     percpu_gate_final last;
-    if (percpu_gate_new(&a, 1, 1, PERCPU_GATE_ATOMIC, words) || percpu_gate_new(&b, 1, 1, PERCPU_GATE_DEAD, words) ||
+    if (percpu_gate_new(&a, 1, 1, PERCPU_GATE_START_ATOMIC, words) || percpu_gate_new(&b, 1, 1, PERCPU_GATE_START_DEAD, words) ||
         percpu_gate_next_pass(&a, &pass) || percpu_gate_try_get(&pass, 0))
         return 1;
-    if (percpu_gate_retire(&b, &pass) != PERCPU_GATE_OTHER_GATE || percpu_gate_retire(&a, &pass) != PERCPU_GATE_STILL_HELD)
+    if (percpu_gate_retire(&b, &pass) != PERCPU_GATE_ERR_OTHER_GATE || percpu_gate_retire(&a, &pass) != PERCPU_GATE_ERR_STILL_HELD)
         return 2;
-    if (percpu_gate_put(&pass, 0, 1) || percpu_gate_retire(&a, &pass) || percpu_gate_retire(&a, &pass) != PERCPU_GATE_CLOSED)
+    if (percpu_gate_put(&pass, 0, 1) || percpu_gate_retire(&a, &pass) || percpu_gate_retire(&a, &pass) != PERCPU_GATE_ERR_CLOSED)
         return 3;
     if (percpu_gate_exit(&a, &last) || percpu_gate_next_pass(&b, &pass))
         return 4;
     percpu_gate_free_pass(&pass);
-    if (percpu_gate_exit(&b, &last) != PERCPU_GATE_PASSES_OUT || !b.is_open)
+    if (percpu_gate_exit(&b, &last) != PERCPU_GATE_ERR_PASSES_OUT || !b.is_open)
         return 5;
     percpu_gate_free_control(&b);
-    return percpu_gate_exit(&b, &last) != PERCPU_GATE_CLOSED;
+    return percpu_gate_exit(&b, &last) != PERCPU_GATE_ERR_CLOSED;
 }
 
 /* A handle that is freed and used again leads to another gate, though it lies where it lay. */
@@ -210,12 +186,12 @@ static int one_place_twice(void)
     percpu_gate_control control = {0};
     percpu_gate_pass old = {0}, pass = {0};
     percpu_gate_final last;
-    if (percpu_gate_new(&control, 1, 1, PERCPU_GATE_SLOTS, words) || percpu_gate_next_pass(&control, &old))
+    if (percpu_gate_new(&control, 1, 1, PERCPU_GATE_START_SLOTS, words) || percpu_gate_next_pass(&control, &old))
         return 1;
     percpu_gate_free_control(&control);
-    if (percpu_gate_new(&control, 1, 1, PERCPU_GATE_SLOTS, words) || percpu_gate_next_pass(&control, &pass))
+    if (percpu_gate_new(&control, 1, 1, PERCPU_GATE_START_SLOTS, words) || percpu_gate_next_pass(&control, &pass))
         return 2;
-    if (percpu_gate_retire(&control, &old) != PERCPU_GATE_OTHER_GATE || percpu_gate_try_get(&old, 0))
+    if (percpu_gate_retire(&control, &old) != PERCPU_GATE_ERR_OTHER_GATE || percpu_gate_try_get(&old, 0))
         return 3;
     percpu_gate_free_pass(&old);
     return percpu_gate_retire(&control, &pass) || percpu_gate_exit(&control, &last);
@@ -227,9 +203,9 @@ static int two_alike(void)
     percpu_gate_control here = {0}, there = {0};
     percpu_gate_pass pass = {0};
     percpu_gate_final last;
-    if (percpu_gate_new(&here, 1, 1, PERCPU_GATE_SLOTS, words) || percpu_gate_new(&there, 1, 1, PERCPU_GATE_SLOTS, words))
+    if (percpu_gate_new(&here, 1, 1, PERCPU_GATE_START_SLOTS, words) || percpu_gate_new(&there, 1, 1, PERCPU_GATE_START_SLOTS, words))
         return 1;
-    if (percpu_gate_next_pass(&there, &pass) || percpu_gate_retire(&here, &pass) != PERCPU_GATE_OTHER_GATE)
+    if (percpu_gate_next_pass(&there, &pass) || percpu_gate_retire(&here, &pass) != PERCPU_GATE_ERR_OTHER_GATE)
         return 2;
     return percpu_gate_exit(&here, &last) || percpu_gate_retire(&there, &pass) || percpu_gate_exit(&there, &last);
 }

@@ -65,9 +65,9 @@ int main(int count, char **given)
     need(count == 3, "usage: speed THREADS ROUNDS");
     threads = (uint32_t)number_of(given[1], MOST_THREADS);
     rounds = number_of(given[2], 1000000000);
-    make(&on_slots, threads, PERCPU_GATE_SLOTS);
-    make(&on_one_slot, 1, PERCPU_GATE_SLOTS);
-    make(&on_word, threads, PERCPU_GATE_ATOMIC);
+    make(&on_slots, threads, PERCPU_GATE_START_SLOTS);
+    make(&on_one_slot, 1, PERCPU_GATE_START_SLOTS);
+    make(&on_word, threads, PERCPU_GATE_START_ATOMIC);
     for (size_t i = 0; i < sizeof forms / sizeof *forms; i++)
         printf("gate,%s,%u,%.2f\n", forms[i].name, threads, at_once(forms[i].run, NULL) / (double)rounds);
     return 0;

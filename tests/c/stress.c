@@ -43,14 +43,14 @@ static uint32_t kill_by_steps(void)
 {
     uint32_t slots;
     uint64_t front = 0;
-    if (percpu_gate_mark_dead(&control, &slots) || percpu_gate_kill(&control) != PERCPU_GATE_MID_SWITCH)
+    if (percpu_gate_mark_dead(&control, &slots) || percpu_gate_kill(&control) != PERCPU_GATE_ERR_MID_SWITCH)
         abort();
     for (uint32_t i = 0; i < slots; i++)
-        if (percpu_gate_collect(&control) != PERCPU_GATE_STEP || percpu_gate_close_next(&control))
+        if (percpu_gate_collect(&control) != PERCPU_GATE_ERR_BAD_STEP || percpu_gate_close_next(&control))
             abort();
-    if (percpu_gate_close_next(&control) != PERCPU_GATE_STEP || (slots > 0 && percpu_gate_collect(&control)))
+    if (percpu_gate_close_next(&control) != PERCPU_GATE_ERR_BAD_STEP || (slots > 0 && percpu_gate_collect(&control)))
         abort();
-    if (percpu_gate_drop_base(&control) != PERCPU_GATE_STEP || percpu_gate_confirm(&control, &front) || front % 2 == 0)
+    if (percpu_gate_drop_base(&control) != PERCPU_GATE_ERR_BAD_STEP || percpu_gate_confirm(&control, &front) || front % 2 == 0)
         abort();
     if (percpu_gate_phase(&control) != PERCPU_GATE_PHASE_CONFIRMED || percpu_gate_control_is_zero(&control))
         abort();
@@ -64,7 +64,7 @@ int main(int argc, char **argv)
     uint64_t word = 0, releases = 0, killed = 0, stored[8] = {1};
     pthread_t threads[THREADS];
 
-    if (percpu_gate_new(&control, THREADS, THREADS, PERCPU_GATE_SLOTS, words))
+    if (percpu_gate_new(&control, THREADS, THREADS, PERCPU_GATE_START_SLOTS, words))
         return 1;
     for (uint32_t i = 0; i < THREADS; i++) {
         counters[i].slot = i;
@@ -93,9 +93,9 @@ int main(int argc, char **argv)
         if (percpu_gate_retire(&control, &counters[i].pass))
             return 6;
     }
-    if (percpu_gate_words(&control, stored) || stored[0] != word || stored[7])
+    if (percpu_gate_all_words(&control, stored) || stored[0] != word || stored[7])
         return 9;
-    if (percpu_gate_releases(&control, &releases) || percpu_gate_kills(&control, &killed) || releases > killed)
+    if (percpu_gate_release_count(&control, &releases) || percpu_gate_kill_count(&control, &killed) || releases > killed)
         return 7;
     percpu_gate_final last;
     if (percpu_gate_exit(&control, &last) || last.dead || last.releases != releases)

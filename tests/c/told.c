@@ -1,11 +1,8 @@
-/* What the header tells the thread sanitizer: for each call and each answer whether it tells of a release before the call,
- * and of an acquire after it, as "Order" promises. Too little would be a false report, and too much would hide a race. The
- * calls and the sanitizer are stand-ins here, which note what is called, so the test is the same with every compiler. */
+/* What the header tells the thread sanitizer of each call: telling.h says how it is tried. */
 #define PERCPU_GATE_TELLS_TSAN 1
 #include "percpu_gate.h"
 
-#include <stdio.h>
-#include <string.h>
+#include "telling.h"
 
 /* The calls by the names that a program uses. */
 static uint32_t (*const try_get)(percpu_gate_pass *, uint32_t) = percpu_gate_try_get;
@@ -27,34 +24,6 @@ static uint32_t (*const resurrect)(percpu_gate_control *) = percpu_gate_resurrec
 #undef percpu_gate_reinit
 #undef percpu_gate_resurrect
 
-static uint64_t number;   /* of the gate */
-static uint32_t answers;  /* what the next call answers */
-static char steps[8];     /* r a release, c the call, a an acquire */
-static void *places[2];   /* that were released and acquired */
-
-static void step(char what)
-{
-    size_t length = strlen(steps);
-    if (length + 1 < sizeof steps)
-        steps[length] = what;
-}
-
-static uint32_t called(bool rightly)
-{
-    step('c');
-    return rightly ? answers : 99;
-}
-
-void __tsan_release(void *at)
-{
-    places[0] = at;
-    step('r');
-}
-void __tsan_acquire(void *at)
-{
-    places[1] = at;
-    step('a');
-}
 uint64_t percpu_gate_pass_number(percpu_gate_pass *pass) { return pass ? number : 0; }
 uint64_t percpu_gate_control_number(percpu_gate_control *control) { return control ? number : 0; }
 uint32_t percpu_gate_try_get(percpu_gate_pass *pass, uint32_t slot) { return called(pass && slot == 2); }
@@ -80,14 +49,7 @@ static uint32_t control_sees_zero(void) { return control_is_zero(&control); }
 static uint32_t reinits(void) { return reinit(&control); }
 static uint32_t resurrects(void) { return resurrect(&control); }
 
-/* Each call, the steps of an answer that tells of nothing, and those of its answers that order memory. */
-static const struct {
-    const char *name;
-    uint32_t (*call)(void);
-    bool is_question;
-    const char *plain, *ordering;
-    uint32_t orders[2];
-} calls[] = {
+static const struct call calls[] = {
     {"try_get", tries, false, "c", "ca", {PERCPU_GATE_OK, PERCPU_GATE_NOT_GIVEN_LAST}},
     {"try_get_live", tries_live, false, "c", "ca", {PERCPU_GATE_OK, PERCPU_GATE_NOT_GIVEN_LAST}},
     {"put", puts_three, false, "rc", "rca", {PERCPU_GATE_LAST, PERCPU_GATE_LAST}},
@@ -99,30 +61,4 @@ static const struct {
     {"resurrect", resurrects, false, "rc", "rca", {PERCPU_GATE_WAS_AT_ZERO, PERCPU_GATE_WAS_AT_ZERO}},
 };
 
-static int failures;
-
-static void tell(size_t call, uint32_t answer, void *order)
-{
-    bool orders = answer == calls[call].orders[0] || answer == calls[call].orders[1];
-    const char *want = orders ? calls[call].ordering : calls[call].plain;
-    memset(steps, 0, sizeof steps);
-    memset(places, 0, sizeof places);
-    answers = answer;
-    uint32_t told = calls[call].call();
-    bool there = (strchr(want, 'r') == NULL || places[0] == order) && (strchr(want, 'a') == NULL || places[1] == order);
-    if (told == answer && strcmp(steps, want) == 0 && there)
-        return;
-    fprintf(stderr, "%s, which is to answer %u by the steps %s: %u, %s%s\n", calls[call].name, answer, want, told, steps,
-            there ? "" : ", at another place");
-    failures++;
-}
-
-int main(void)
-{
-    for (number = 1; number <= 257; number += 64)
-        for (size_t call = 0; call < sizeof calls / sizeof *calls; call++)
-            for (uint32_t answer = 0; answer <= (calls[call].is_question ? 1 : 45); answer++)
-                tell(call, answer, &percpu_gate_orders[number % 256]);
-    printf("%s\n", failures ? "FAILED" : "as ordered");
-    return failures != 0;
-}
+int main(void) { return told_as_promised(calls, sizeof calls / sizeof *calls, percpu_gate_orders); }

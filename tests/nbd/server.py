@@ -1,4 +1,4 @@
-"""nbdkit with the plugin, in a folder of its own, and its control."""
+"""nbdkit with the plugin, or with the filter before a backend, in a folder of its own; and its control."""
 
 import os
 import signal
@@ -9,7 +9,10 @@ import time
 
 import nbd
 
-STARTS_WITHIN = 20.0  # seconds; under a sanitizer too
+STARTS_WITHIN = 30.0  # seconds; under a sanitizer and valgrind too
+
+# Words before nbdkit, as valgrind and its options.
+CHECKED = os.environ.get("CHECKED", "").split()
 
 
 # A sanitizer's report leaves the status to nbdkit: the report is looked at.
@@ -49,35 +52,56 @@ class Control:
 
 
 class Server:
-    """Serves until its end; what is left then is told by its status and what it wrote to standard error."""
+    """Serves until its end; what is left then is seen by its status and what it wrote to standard error. A path of the filter is
+    served before the file plugin on `size` bytes (64M), or before other words of nbdkit's, filters and a plugin, where {folder} is
+    the server's; and behind `outer` filters."""
 
-    def __init__(self, plugin, *parameters):
-        self.plugin = os.path.basename(plugin)
+    def __init__(self, served, *parameters, backend=None, outer=(), wait=True):
+        self.served, self.plugin = served, os.path.basename(served)
         self.folder = tempfile.TemporaryDirectory()
-        self.socket = os.path.join(self.folder.name, "nbd")
-        self.control_path = os.path.join(self.folder.name, "control")
-        self.watched = os.path.join(self.folder.name, "watched")
+        self.socket, self.control_path = self.path("nbd"), self.path("control")
+        self.watched, self.disk = self.path("watched"), self.path("disk")
         self.uri = f"nbd+unix:///?socket={self.socket}"
-        self.errors = open(os.path.join(self.folder.name, "errors"), "w+b")
-        command = ["nbdkit", "-f", "-U", self.socket, plugin, f"control={self.control_path}", *parameters]
+        self.errors = open(self.path("errors"), "w+b")
         sanitizer = {"LD_PRELOAD": os.environ["PRELOAD"], **QUIET} if os.environ.get("PRELOAD") else {}
         given = {**os.environ, **sanitizer, "WATCHED": self.watched}
+        words = self.words(parameters, backend, outer)
+        command = [*CHECKED, "nbdkit", "-f", "-U", self.socket, *words]
         self.process = subprocess.Popen(command, stderr=self.errors, env=given)
         self.clients = []
-        self.wait_for_control()
+        if wait:
+            self.wait_for_control()
+
+    def path(self, name):
+        return os.path.join(self.folder.name, name)
+
+    def words(self, parameters, backend, outer):
+        """The words of nbdkit's command line behind its own options."""
+        given = {"control": self.control_path}
+        given.update(parameter.split("=", 1) for parameter in parameters)
+        if "filter" not in self.plugin:
+            return [self.served, *(f"{key}={value}" for key, value in given.items())]
+        subprocess.run(["truncate", "-s", given.pop("size", "64M"), self.disk], check=True)
+        backend = backend or ["file", "{folder}/disk"]
+        ours = [f"blkq-{key.replace('_', '-')}={value}" for key, value in given.items()]
+        backend = [word.replace("{folder}", self.folder.name) for word in backend]
+        return [*(f"--filter={name}" for name in outer), f"--filter={self.served}", *backend, *ours]
 
     def wait_for_control(self):
-        """Until the control listens, as nbdkit did before it."""
+        """Until the control answers, as nbdkit did before it."""
         late = time.monotonic() + STARTS_WITHIN
         while True:
-            assert self.process.poll() is None, self.told()
+            assert self.process.poll() is None, self.said()
             assert time.monotonic() < late, "the server doesn't start"
             try:
-                return self.control().close()
+                control = self.control()
             except OSError:
                 time.sleep(0.01)
+                continue
+            control.ask("stat")
+            return control.close()
 
-    def told(self):
+    def said(self):
         self.errors.flush()
         with open(self.errors.name, encoding="utf-8", errors="replace") as file:
             return file.read()
@@ -93,7 +117,7 @@ class Server:
         return client
 
     def drop(self, client):
-        """Cuts a client's connection, in the middle of what it does."""
+        """Cuts a client's connection, in the middle of a request."""
         self.clients.remove(client)
         with socket.socket(fileno=os.dup(client.aio_get_fd())) as connection:
             connection.shutdown(socket.SHUT_RDWR)
@@ -117,7 +141,7 @@ class Server:
             self.process.wait()
             raise AssertionError(f"the server doesn't end within {within} seconds") from None
         took = time.monotonic() - began
-        told = self.told()
+        told = self.said()
         self.errors.close()
         assert status == 0, f"the server ended with status {status}: {told}"
         assert not faults(told, self.plugin), told

@@ -37,17 +37,18 @@ static inline void write_down(const freeze_queue_limits *last)
 }
 
 static inline void watch_piece(freeze_queue_tag *tag, const request *wanted, const freeze_queue_limits *limits,
-                               uint64_t start, uint32_t piece)
+                               uint64_t from, uint64_t to)
 {
-    if (start == wanted->start) {
+    const unsigned piece = (unsigned)((to - from) / SECTOR);
+    if (from == wanted->offset) {
         watched.first = *limits;
         watched.line = open_memstream(&watched.text, &watched.length);
         need(watched.line != NULL);
-        fprintf(watched.line, "%" PRIu64 " %u %u", wanted->start, wanted->count, piece);
+        fprintf(watched.line, "%" PRIu64 " %u %u", from / SECTOR, wanted->count / SECTOR, piece);
     } else {
         fprintf(watched.line, "+%u", piece);
     }
-    if (start + piece < wanted->start + wanted->count)
+    if (to < wanted->offset + wanted->count)
         return;
     freeze_queue_limits last = {0};
     need(freeze_queue_limits_of(tag, &last) == FREEZE_QUEUE_OK);

@@ -1,4 +1,4 @@
-"""Rows of calls that loops make: each is a name, the words of its world and its calls with their answers."""
+"""Rows of calls that loops make: each is a name, the line of its gate or queue, and its calls with their answers."""
 
 MOST = 65_534
 
@@ -142,8 +142,8 @@ def every_amount_on_its_slot():
         yield f"every_amount_on_its_slot, from {begin + 1}", "4 1 atomic 0", calls
 
 
-def rows():
-    """All of them."""
+def gate_rows():
+    """All rows of a gate."""
     for of_loop in (
         to_the_limit_and_past_it,
         all_slots_count,
@@ -154,4 +154,57 @@ def rows():
         amounts_on_every_slot,
         every_amount_on_its_slot,
     ):
+        for name, world, calls in of_loop():
+            yield name, f"world {world}", calls
+
+
+def most_freezes():
+    """As many freezes as may be, and one more. Each has its thaw, and a tag enters behind the last."""
+    calls = [("0 try 0", "entered"), *[("f freeze", str(depth + 1)) for depth in range(1_000)], ("f freeze", "depth full")]
+    calls += [("f depth", "1000"), ("0 leave 1", "last"), ("f set 5 0 1", "ok")]
+    calls += [*[("f thaw", str(depth)) for depth in reversed(range(1, 1_000))], ("1 try 0", "again"), ("f thaw", "0")]
+    yield "most_freezes", "queue 2 2 8", [*calls, ("f thaw", "not frozen"), ("1 try 0", "entered"), ("1 limits", MAX.format(5))]
+
+
+# The limits with this max, no chunk and physical blocks of one sector.
+MAX = "max {} chunk 0 physical 1"
+
+
+def a_change(life, is_held):
+    """A change of the limits. Before it the tag of this life enters on one slot, and it leaves on another while the queue is
+    frozen or, if it is held, behind the thaw, when no change was possible."""
+    old, new = 1 + life % 8, 1 + (life + (not is_held)) % 8
+    tag, up, down = life % 3, life % 4, (life + 1) % 4
+    calls = [(f"{tag} try {up}", "entered"), (f"{tag} limits", MAX.format(old)), ("f freeze", "1")]
+    if is_held:
+        return [*calls, ("f set 3 0 1", "not drained"), ("f thaw", "0"), (f"{tag} limits", MAX.format(old)), (f"{tag} leave {down}", "not last")]
+    return [*calls, (f"{tag} leave {down}", "last"), (f"f set {new} 0 1", "ok"), ("f thaw", "0")]
+
+
+def many_changes():
+    """Eighty changes in each mode, each of which the next tag reads. No zero is lost: each drain has its release."""
+    for mode in ("slots", "atomic"):
+        calls = [(f"f {mode}", "ok"), ("f freeze", "1"), ("f set 1 0 1", "ok"), ("f thaw", "0")]
+        for life in range(80):
+            calls += [*a_change(life, is_held=True), *a_change(life, is_held=False)]
+        calls += [*[(f"{tag} give_back", "ok") for tag in range(3)], ("f remove", "ended dead kills 162 releases 82 words 1 0 1")]
+        yield f"many_changes, {mode}", "queue 4 3 8", calls
+
+
+def each_tag_on_each_slot():
+    """Sixteen tags enter, each on a slot of its own, and leave on the slot beside it: the last one to leave drains the queue."""
+    for first in range(0, 64, 16):
+        calls = [(f"{tag} try {first + tag}", "entered") for tag in range(16)] + [("f freeze", "1")]
+        for tag in range(16):
+            calls += [(f"{tag} leave {(first + tag + 1) % 64}", "last" if tag == 15 else "not last")]
+            calls += [("f drained", "yes" if tag == 15 else "no"), (f"{tag} try {first}", "again")]
+        yield f"each_tag_on_each_slot, from {first}", "queue 64 16 8", calls
+
+
+def queue_rows():
+    """All rows of a queue."""
+    for of_loop in (most_freezes, many_changes, each_tag_on_each_slot):
         yield from of_loop()
+
+
+ROWS = {"gate": gate_rows, "queue": queue_rows}

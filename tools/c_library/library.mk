@@ -5,14 +5,20 @@
 #   NAME      the library's, as in libNAME.a; CRATE, the crate's that is built
 #   HEADERS   the headers in include/, without .h; of each a man page is made, in section 3
 #   HIDDEN    the symbols of NAME_* that library/NAME.c alone calls
+#   BESIDE    further files of library/, without .c, each an object of its own in both
 #   SAYS      what pkg-config says of it
 #
 #   make                             builds both, in out/c
-#   make install PREFIX=/usr/local   puts there the headers, both, NAME.pc and the pages; DESTDIR goes before it
+#   make install PREFIX=/usr/local   puts there the headers, both, NAME.pc and the pages, with a link from each call to its
+#                                    page; DESTDIR goes before it. A PREFIX that doesn't begin with / is in the folder of make
 PREFIX ?= /usr/local
+override PREFIX := $(abspath $(PREFIX))
 OBJCOPY ?= objcopy
 AWK ?= awk
 AT = $(DESTDIR)$(PREFIX)
+# The libraries' version, and the number in their soname, which changes where a program has to be built again.
+VERSION = 1.0.0
+SONAME = 2
 COMMON = ../../tools/c_library
 
 # The kit is the folder above the one that has rt.
@@ -22,10 +28,11 @@ PROVED = out/lib$(CRATE).a
 CRATES := $(shell ../../tools/crates_below $(CRATE) | sed 's/:.*//')
 # With their folders, which are newer where a file was removed.
 SOURCES = $(shell find $(foreach it,$(CRATES),$(addprefix ../$(it)/,src specs proofs)) 2>/dev/null)
-INCLUDED = $(HEADERS:%=include/%.h)
+INCLUDED = $(HEADERS:%=include/%.h) $(wildcard include/*.hpp)
 PAGES = $(HEADERS:%=out/c/%.3)
+OBJECTS = out/c/$(NAME).o $(BESIDE:%=out/c/%.o)
 
-all: out/c/lib$(NAME).a out/c/lib$(NAME).so.1 $(PAGES)
+all: out/c/lib$(NAME).a out/c/lib$(NAME).so.$(SONAME) $(PAGES)
 
 $(PROVED): ../../crates.txt $(SOURCES)
 	../../tools/prove_below --with $(CRATE)
@@ -37,12 +44,16 @@ out/c/$(NAME).o: $(PROVED) library/$(NAME).c $(INCLUDED)
 	$(OBJCOPY) --wildcard --keep-global-symbol='$(NAME)_*' $@
 	$(OBJCOPY) $(HIDDEN:%=--localize-symbol=%) $@
 
-out/c/lib$(NAME).a: out/c/$(NAME).o
-	rm -f $@
-	$(AR) rcs $@ $<
+$(BESIDE:%=out/c/%.o): out/c/%.o: library/%.c $(INCLUDED)
+	mkdir -p out/c
+	$(CC) -std=c11 -O2 -fPIC -Wall -Wextra -Werror -Iinclude -c $< -o $@
 
-out/c/lib$(NAME).so.1: out/c/$(NAME).o
-	$(CC) -shared -Wl,-soname,lib$(NAME).so.1 -Wl,-z,defs -o $@ $<
+out/c/lib$(NAME).a: $(OBJECTS)
+	rm -f $@
+	$(AR) rcs $@ $^
+
+out/c/lib$(NAME).so.$(SONAME): $(OBJECTS)
+	$(CC) -shared -Wl,-soname,lib$(NAME).so.$(SONAME) -Wl,-z,defs -o $@ $^ -pthread
 
 out/c/%.3: include/%.h $(COMMON)/man_page
 	mkdir -p out/c
@@ -52,11 +63,15 @@ install: all
 	install -d $(AT)/include $(AT)/lib/pkgconfig $(AT)/share/man/man3
 	install -m 644 $(INCLUDED) $(AT)/include
 	install -m 644 out/c/lib$(NAME).a $(AT)/lib
-	install -m 755 out/c/lib$(NAME).so.1 $(AT)/lib
-	ln -sf lib$(NAME).so.1 $(AT)/lib/lib$(NAME).so
-	sed 's|@PREFIX@|$(PREFIX)|; s|@NAME@|$(NAME)|; s|@SAYS@|$(SAYS)|' $(COMMON)/library.pc.in \
+	install -m 755 out/c/lib$(NAME).so.$(SONAME) $(AT)/lib
+	ln -sf lib$(NAME).so.$(SONAME) $(AT)/lib/lib$(NAME).so
+	sed 's|@PREFIX@|$(PREFIX)|; s|@NAME@|$(NAME)|; s|@SAYS@|$(SAYS)|; s|@VERSION@|$(VERSION)|' $(COMMON)/library.pc.in \
 		>$(AT)/lib/pkgconfig/$(NAME).pc
 	install -m 644 $(PAGES) $(AT)/share/man/man3
+	for page in $(HEADERS); do \
+		grep -oE '^([a-z][a-z0-9_ ]*[ *])?$(NAME)_[a-z_]+\(' out/c/$$page.3 | grep -oE '$(NAME)_[a-z_]+\(' | tr -d '(' | \
+			while read -r call; do echo ".so man3/$$page.3" >$(AT)/share/man/man3/$$call.3; done; \
+	done
 
 .DELETE_ON_ERROR:
 .PHONY: all install

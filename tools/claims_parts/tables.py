@@ -3,6 +3,8 @@
 import os
 import re
 
+from sources.crates import lines_of
+
 ROW = re.compile(r"\| \[?`(\w+)`.*\| ([^|]*)\|$")
 
 # Of what crates.txt names, the kit's crates for numbers and faults are left out.
@@ -11,13 +13,7 @@ UNNAMED = {"thiserror", "memchr", "hex", "itoa"}
 
 def crates_of(root):
     """The crates of crates.txt in their order, with what each stands on."""
-    crates = {}
-    with open(os.path.join(root, "crates.txt"), encoding="utf-8") as file:
-        for line in file:
-            head, colon, below = line.split("#")[0].partition(":")
-            if colon:
-                crates[head.split()[0]] = set(below.split()) - UNNAMED
-    return crates
+    return {line.name: set(line.libraries) - UNNAMED for line in lines_of(root)}
 
 
 def rows_of(text):

@@ -6,12 +6,12 @@ from erasing import by_hand, clauses, comments, errors, forms, handles, kit, mem
 from erasing import parameters, paths, preconditions, runtime, unread
 from erasing.layout import LEFT_OUT, PACKAGES, WITHOUT_STD, finished, place
 from erasing.source import CannotErase, Source
+from sources.crates import lines_of
 
 
 def crates_of(root):
     """The crates of crates.txt, each of which is erased or left out."""
-    with open(os.path.join(root, "crates.txt"), encoding="utf-8") as file:
-        names = [line.split(":")[0].split()[0] for line in file if ":" in line and not line.startswith("#")]
+    names = [line.name for line in lines_of(root)]
     known = {crate for crates in PACKAGES.values() for crate in crates} | LEFT_OUT
     for name in names:
         if name not in known:

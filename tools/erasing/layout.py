@@ -14,7 +14,7 @@ PACKAGES = {
         "gate_replay", "race_calls", "race_answers", "race_world", "race_search", "race_outcomes", "races_text", "races_shown",
         "counted_io", "blkq_run", "blkq", "races_run", "gate_races",
     ],
-    "trials": ["uses", "trials_gate", "trials_queue", "trials_script", "trials_run", "trials_program", "gate_calls"],
+    "trials": ["uses", "trials_rows", "play_calls"],
 }  # fmt: skip
 # The first lines of the files among them.
 ERASED_LINE = "// Erased from"
@@ -22,7 +22,7 @@ STAND_IN_LINE = "// A stand-in for"
 # These need `core` and `alloc` alone.
 WITHOUT_STD = {"percpu_words", "percpu_core", "percpu_gate", "queue_limits", "queue_core"}
 # Crates of crates.txt that aren't erased: rust/ has no use for them.
-LEFT_OUT = {"percpu_gate_c", "freeze_queue_c", "trials_calls"}
+LEFT_OUT = {"browser", "percpu_gate_c", "freeze_queue_c", "trials_calls"}
 
 
 def place(package, crate, name):

@@ -54,7 +54,7 @@ def steps_of(crates, copy, log, processors, tries_all):
         # The gate's own schedule.
         Step("gate", ("tests/gate/run",), 0.5),
         # The tests of waking, pinned to a processor that has nothing else to do.
-        Step("wakes", ("tools/wakes",), 3, after=("proofs",), is_alone=True),
+        Step("wakes", ("tools/wakes",), 3, after=("proofs",), is_alone=True, folders=("rust/target",)),
     ]
 
 
@@ -63,11 +63,11 @@ def of_programs():
     found, programs = [], frozenset(["blkq", "gate_races"])
     for build in ("", ".by-rattle"):
         both = (f"crates/blkq/out/blkq{build}", f"crates/gate_races/out/gate_races{build}")
-        gate, what = f"crates/gate_calls/out/gate_calls{build}", {"proved": programs}
+        player, what = f"crates/play_calls/out/play_calls{build}", {"proved": programs}
         found += [
             Step(f"examples{build}", ("tests/built", "tests/examples", *both), 0.5, **what),
             Step(f"rows{build}", ("tests/built", "tests/rows/run", *both), 0.5, **what),
-            Step(f"calls{build}", ("tests/built", "tests/rows/calls", gate), 0.5, proved=frozenset(["gate_calls"])),
+            Step(f"calls{build}", ("tests/built", "tests/rows/calls", player), 0.5, proved=frozenset(["play_calls"])),
             Step(f"sizes{build}", ("tests/built", "tools/sizes", *both), 2, **what),
             Step(f"devices{build}", ("tests/built", "tools/sweep_devices", *both), 2, **what),
         ]
@@ -80,6 +80,8 @@ def of_programs():
         # The races that gate_races prints, replayed; and its outcomes of random ones, compared with those of another program.
         Step("races", ("tests/races/program",), 2, proved=programs),
         Step("random races", ("tests/races/random_races", "crates/gate_races/out/gate_races"), 2, proved=programs),
+        # The page that runs the programs in a browser.
+        Step("page", ("tests/page/run", "crates/blkq/out/blkq", "crates/gate_races/out/gate_races"), 2, proved=programs),
         # The pictures of the documents, made anew.
         Step("pictures", ("tests/pictures/run",), 1, proved=programs),
         Step("install", ("tests/install",), 0.5, proved=programs),

@@ -3,7 +3,7 @@ of the crates or by plain words; a function that the sources don't have any more
 
 import os
 
-from pictures.svg import Page, Wrong, width_of
+from pictures.svg import Page, Wrong, take_lines, width_of
 from sources.rattle import Crate
 
 SIZE, SMALL, LEADING = 13, 12, 16
@@ -54,13 +54,7 @@ class Table:
 
     def __init__(self, text):
         self.title, self.lanes, self.boxes, self.arrows = "", {}, {}, []
-        for line in text.splitlines():
-            if line.startswith("#") or not line.strip():
-                continue
-            try:
-                self.take([word.strip() for word in line.split("|")])
-            except (ValueError, KeyError):
-                raise Wrong(f"the table of a flow has a line '{line}'") from None
+        take_lines(text, "a flow", self.take)
         if not self.title or not self.boxes:
             raise Wrong("the table of a flow lacks its title, or its boxes")
 

@@ -1,7 +1,7 @@
 """A freeze in time: requests on their lanes under the old limits and under the new, and what the freezer does below them. The table
 says when each request enters and leaves; when the queue is drained follows from these, and a picture of what can't be is refused."""
 
-from pictures.svg import Page, Wrong, width_of
+from pictures.svg import Page, Wrong, take_lines, width_of
 
 SIZE, SMALL = 13, 12
 EDGE, NAMES, WIDE, RIGHT = 16, 92, 660, 20
@@ -22,13 +22,7 @@ class Table:
 
     def __init__(self, text):
         self.title, self.limits, self.lanes, self.requests, self.at = "", {}, [], [], {}
-        for line in text.splitlines():
-            if line.startswith("#") or not line.strip():
-                continue
-            try:
-                self.take([word.strip() for word in line.split("|")])
-            except ValueError:
-                raise Wrong(f"the table of a freeze has a line '{line}'") from None
+        take_lines(text, "a freeze", self.take)
         if not self.title or not self.requests or set(self.at) != set(TIMES) or set(self.limits) != {"old", "new"}:
             raise Wrong("the table of a freeze lacks its title, its limits, a request or a time")
         self.hold()

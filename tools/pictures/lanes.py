@@ -1,6 +1,8 @@
 """A schedule as lanes: one for each actor, its steps in order with their replies; what each holds and owes shaded; beside
 them the words of the gate, with what they hold between the steps. The release is marked."""
 
+import re
+
 from pictures.gate import BIAS
 from pictures.svg import Page, width_of
 
@@ -23,6 +25,15 @@ def count_told(state):
         return str(state.value)
     rest = state.value - BIAS
     return "bias" if rest == 0 else f"bias{rest:+}"
+
+
+def with_bias(text):
+    """A reply or an end with the bias of the shared word by its name."""
+    found = re.match(r"(end )?(zero|dead|live) ([0-9]{15,})\b", text)
+    if not found:
+        return text
+    rest = int(found[3]) - BIAS
+    return text[: found.start(3)] + (f"bias{rest:+}" if rest else "bias") + text[found.end() :]
 
 
 def marks_of(state):
@@ -119,7 +130,7 @@ class Lanes:
             self.draw_step(index, row)
         for actor in self.actors:
             self.draw_standing(actor)
-        self.page.text(EDGE, last + 14, self.schedule.last, "ink", SIZE, bold=True)
+        self.page.text(EDGE, last + 14, with_bias(self.schedule.last), "ink", SIZE, bold=True)
         self.draw_legend(last + 34)
         return self.page.made(self.wide, last + 58)
 
@@ -197,7 +208,7 @@ class Lanes:
         before = None
         for index, state in enumerate(self.states):
             now = self.held_by(key, state)
-            if now != before:
+            if not index or now != before:
                 y = self.y_of(index - 1) + ROW / 2 if index else TOP + ROW / 2 - 6
                 self.draw_chip(key, column, state, y)
             before = now

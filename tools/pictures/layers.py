@@ -3,6 +3,7 @@ crate before those below it. A line leads down to what a crate stands on; it is 
 leads there already."""
 
 from pictures.svg import Page, Wrong, width_of
+from sources.crates import lines_in
 
 SIZE, SMALL = 13, 11
 HIGH, DOWN, EDGE, TOP, BETWEEN, BEND = 30, 40, 16, 56, 18, 10
@@ -12,14 +13,10 @@ class Crates:
     """The lines of crates.txt."""
 
     def __init__(self, text):
-        self.below, self.static = {}, set()
-        for line in text.splitlines():
-            head, colon, below = line.split("#")[0].partition(":")
-            if colon:
-                name, *kind = head.split()
-                self.below[name] = below.split()
-                self.static |= {name} if kind else set()
-        self.below = {name: [crate for crate in below if crate in self.below] for name, below in self.below.items()}
+        lines = list(lines_in(text))
+        names = {line.name for line in lines}
+        self.below = {line.name: [crate for crate in line.libraries if crate in names] for line in lines}
+        self.static = {line.name for line in lines if line.kind}
         self.all_below = {}
         for name in self.below:
             self.find_below(name, ())

@@ -41,6 +41,17 @@ class Wrong(Exception):
     """What keeps a picture from being drawn."""
 
 
+def take_lines(text, table, take):
+    """Hands each line of a table that says something to a function, as its words between bars."""
+    for line in text.splitlines():
+        if line.startswith("#") or not line.strip():
+            continue
+        try:
+            take([word.strip() for word in line.split("|")])
+        except (ValueError, KeyError):
+            raise Wrong(f"the table of {table} has a line '{line}'") from None
+
+
 def number(value):
     """A number of points, with one decimal where it has any."""
     return f"{value:.1f}".removesuffix(".0")

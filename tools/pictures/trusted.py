@@ -4,7 +4,7 @@ a file or a folder which is gone is refused, and a text that leaves its box."""
 import os
 import re
 
-from pictures.svg import Page, Wrong, width_of
+from pictures.svg import Page, Wrong, take_lines, width_of
 
 SIZE, SMALL, LEADING = 14, 13, 18
 EDGE, TOP, PAD, GAP, COLUMN = 16, 66, 12, 14, 384
@@ -35,13 +35,7 @@ class Table:
 
     def __init__(self, text, root):
         self.title, self.columns, self.rows = "", [], []
-        for line in text.splitlines():
-            if line.startswith("#") or not line.strip():
-                continue
-            try:
-                self.take([word.strip() for word in line.split("|")])
-            except ValueError:
-                raise Wrong(f"the table of what is trusted has a line '{line}'") from None
+        take_lines(text, "what is trusted", self.take)
         if not self.title or not self.columns or not self.rows:
             raise Wrong("the table of what is trusted lacks its title, a column or a box")
         self.hold(root)

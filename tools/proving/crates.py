@@ -4,6 +4,7 @@ import os
 import re
 import sys
 
+from sources.crates import lines_of
 from sources.rattle import files_in
 
 PARTS = ("src", "specs", "proofs")
@@ -44,19 +45,13 @@ class Crate:
 
 def crates_of(root):
     """The crates of a repository, each behind those that it stands on: by crates.txt, in which a crate may come before them."""
-    lines, found = {}, {}
-    with open(f"{root}/crates.txt", encoding="utf-8") as file:
-        for line in file:
-            head, colon, libraries = line.partition("#")[0].partition(":")
-            if colon and head.strip():
-                name, *kind = head.split()
-                lines[name] = (kind, libraries.split())
+    lines, found = {line.name: line for line in lines_of(root)}, {}
 
     def add(name, above):
         if name in above:
             sys.exit(f"crates.txt has {name} depend on itself")
         if name in lines and name not in found:
-            kind, libraries = lines[name]
+            _, kind, libraries = lines[name]
             for it in libraries:
                 add(it, (*above, name))
             found[name] = Crate(f"{root}/crates/{name}", name, kind, libraries, found)

@@ -18,7 +18,7 @@ use std::thread;
 use std::time::{Duration, Instant};
 use timing::{at_once, go_round};
 
-const LIMITS: Limits = Limits { hardware: 64, max: 32, chunk: 128, physical: 8 };
+const LIMITS: Limits = Limits::of_hardware(64).with_max(32).with_chunk(128).with_physical(8);
 const BATCH: u32 = 1_024;
 const PAUSE: Duration = Duration::from_micros(100);
 const USAGE: &str = "usage: speed THREADS ROUNDS CHANGES, up to 63 threads";
@@ -40,8 +40,8 @@ impl Words {
 }
 
 /// Times so many rounds on each thread, and prints the line.
-fn time_rounds<T: Send>(what: &str, form: &str, words: Words, of: &mut [T], round: impl Fn(&mut T) -> u32 + Sync) {
-    let took = at_once(of, |mine| go_round(mine, words.rounds, &round), || ());
+fn time_rounds<T: Send>(what: &str, form: &str, words: Words, of: &mut [T], go: impl Fn(&mut T, u32) + Sync) {
+    let took = at_once(of, |mine| go(mine, words.rounds), || ());
     println!("{what},{form},{},{:.2}", words.threads, took / f64::from(words.rounds));
 }
 
@@ -51,16 +51,16 @@ fn time_changes<T: Send>(
     form: &str,
     words: Words,
     of: &mut [T],
-    round: impl Fn(&mut T) -> u32 + Sync,
+    go: impl Fn(&mut T, u32) + Sync,
     change: impl Fn(Limits),
 ) {
-    time_rounds("queue", form, words, of, &round);
+    time_rounds("queue", form, words, of, &go);
     let (is_over, done) = (AtomicBool::new(false), AtomicU64::new(0));
     let mut taken = Vec::new();
     let go_on = |mine: &mut T| {
         let mut count = 0;
         while !is_over.load(Ordering::SeqCst) {
-            go_round(mine, BATCH, &round);
+            go(mine, BATCH);
             count += u64::from(BATCH);
         }
         done.fetch_add(count, Ordering::SeqCst);
@@ -68,7 +68,7 @@ fn time_changes<T: Send>(
     let change_all = || {
         for number in 0..words.changes {
             thread::sleep(PAUSE);
-            let limits = Limits { max: 16 + number % 2 * 16, ..LIMITS };
+            let limits = LIMITS.with_max(16 + number % 2 * 16);
             let began = Instant::now();
             change(limits);
             taken.push(began.elapsed().as_secs_f64() * 1e6);
@@ -82,6 +82,11 @@ fn time_changes<T: Send>(
     println!("change,{form},{},{median:.2},{late:.2},{round:.2}", words.threads);
 }
 
+/// Such rounds, one after another.
+fn each<T>(round: impl Fn(&mut T) -> u32) -> impl Fn(&mut T, u32) {
+    move |mine, count| go_round(mine, count, &round)
+}
+
 fn sum_of(limits: &Limits) -> u32 {
     limits.max + limits.chunk + limits.physical
 }
@@ -89,57 +94,66 @@ fn sum_of(limits: &Limits) -> u32 {
 fn time_gate(words: Words) -> Result<(), Box<dyn Error>> {
     let mut control = Gate::new(words.threads, words.threads, Start::Slots, [0; 8], Arc::new(|| {}))?;
     let mut passes: Vec<Pass> = (0..words.threads).map(|slot| control.next_pass(slot)).collect::<Result<_, _>>()?;
-    time_rounds("gate", "gate from Rust", words, &mut passes, |pass| {
+    let tries = |pass: &mut Pass| {
         drop(pass.try_get_live().expect("the gate is live"));
         0
-    });
+    };
+    time_rounds("gate", "gate from Rust", words, &mut passes, each(tries));
     let shared = Arc::new(0_u32);
     let mut clones = vec![shared; words.threads as usize];
-    time_rounds("gate", "an Arc cloned and dropped", words, &mut clones, |shared| *black_box(Arc::clone(shared)));
+    let copies = |shared: &mut Arc<u32>| *black_box(Arc::clone(shared));
+    time_rounds("gate", "an Arc cloned and dropped", words, &mut clones, each(copies));
     Ok(())
 }
 
 fn time_queue(words: Words) -> Result<(), Box<dyn Error>> {
     let queue = Queue::new(LIMITS, words.threads, words.threads)?;
     let mut tags: Vec<Tag> = (0..words.threads).map(|slot| queue.next_tag(slot)).collect::<Result<_, _>>()?;
-    time_changes(
-        "queue from Rust",
-        words,
-        &mut tags,
-        |tag| sum_of(queue.enter(tag).expect("the queue is there").limits()),
-        |limits| queue.freeze().expect("the queue is there").set(limits).expect("these limits are allowed"),
-    );
+    let change = |limits| queue.freeze().expect("the queue is there").set(limits).expect("these limits are allowed");
+    let enters = |tag: &mut Tag| sum_of(queue.enter(tag).expect("the queue is there").limits());
+    time_changes("queue from Rust", words, &mut tags, each(enters), change);
+    time_changes("queue from Rust that stays", words, &mut tags, |tag, count| stay(&queue, tag, count), change);
     Ok(())
+}
+
+/// So many requests of a tag that stays entered between them, with the limits that are known.
+fn stay(queue: &Queue, tag: &mut Tag, count: u32) {
+    let (mut left, mut sum) = (count, 0_u32);
+    while left > 0 {
+        let mut request = queue.enter(tag).expect("the queue is there");
+        let known = sum_of(request.limits());
+        while left > 0 {
+            left -= 1;
+            sum = sum.wrapping_add(black_box(known));
+            let Ok(same) = request.stay() else { break };
+            request = same;
+        }
+    }
+    black_box(sum);
 }
 
 fn time_locks(words: Words) {
     let lock = RwLock::new(LIMITS);
     let mut readers = vec![&lock; words.threads as usize];
-    time_changes(
-        "RwLock of std",
-        words,
-        &mut readers,
-        |lock| sum_of(&lock.read().expect("nobody panics")),
-        |limits| *lock.write().expect("nobody panics") = limits,
-    );
+    let reads = |lock: &mut &RwLock<Limits>| sum_of(&lock.read().expect("nobody panics"));
+    let change = |limits| *lock.write().expect("nobody panics") = limits;
+    time_changes("RwLock of std", words, &mut readers, each(reads), change);
     #[cfg(feature = "crossbeam")]
     {
-        let lock = crossbeam_utils::sync::ShardedLock::new(LIMITS);
+        use crossbeam_utils::sync::ShardedLock;
+        let lock = ShardedLock::new(LIMITS);
         let mut readers = vec![&lock; words.threads as usize];
-        time_changes(
-            "ShardedLock of crossbeam",
-            words,
-            &mut readers,
-            |lock| sum_of(&lock.read().expect("nobody panics")),
-            |limits| *lock.write().expect("nobody panics") = limits,
-        );
+        let reads = |lock: &mut &ShardedLock<Limits>| sum_of(&lock.read().expect("nobody panics"));
+        let change = |limits| *lock.write().expect("nobody panics") = limits;
+        time_changes("ShardedLock of crossbeam", words, &mut readers, each(reads), change);
     }
     let shared = Arc::new(LIMITS);
     let mut clones = vec![shared; words.threads as usize];
-    time_rounds("queue", "an Arc cloned and dropped", words, &mut clones, |shared| {
+    let copies = |shared: &mut Arc<Limits>| {
         let mine = black_box(Arc::clone(shared));
         sum_of(&mine)
-    });
+    };
+    time_rounds("queue", "an Arc cloned and dropped", words, &mut clones, each(copies));
 }
 
 fn main() -> Result<ExitCode, Box<dyn Error>> {

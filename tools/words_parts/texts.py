@@ -117,7 +117,10 @@ def paths_in(root):
     for folder, folders, files in os.walk(root):
         folders[:] = sorted(set(folders) - BUILT)
         for file in sorted(files):
-            yield os.path.relpath(os.path.join(folder, file), root)
+            path = os.path.join(folder, file)
+            # A link to a source is read where the source is.
+            if not (file.endswith(".rs") and os.path.islink(path)):
+                yield os.path.relpath(path, root)
 
 
 def text_of(path):

@@ -4,13 +4,16 @@ use Rattle.atomic_table.specs.Seated.{TableId}
 use Rattle.freeze_queue.specs.Queue.{QueueFacts}
 use Rattle.script_meaning.specs.Script.{Meant}
 
--- these are the script, the queue that requests enter, and the queues of requests and completions of a run of that script, in which the queue has the script's hardware and a slot, and the
--- lines are few enough to be numbered
-pub record IsHall (script : Meant) (queue : QueueFacts) (requests completions : TableId) (this_script : Meant) (this_queue : QueueFacts) (these_requests these_completions : TableId) : Type 0 where
+-- these are the script and the queue of a run of that script, in which the queue has the script's hardware and a slot, and the lines are few enough to be numbered
+pub record IsHall (script : Meant) (queue : QueueFacts) (this_script : Meant) (this_queue : QueueFacts) : Type 0 where
   pub its_script : this_script ≡ script
   pub its_queue : this_queue ≡ queue
-  pub its_requests : these_requests ≡ requests
-  pub its_completions : these_completions ≡ completions
   pub hardware : queue.hardware ≡ script.hardware
   pub a_slot : 0 < queue.gate.slots
   pub few_lines : length script.lines < 2 ^ 32
+
+-- these are the run's queues of requests, completions and free tags
+pub record HasQueues (requests completions free_tags : TableId) (these_requests these_completions these_free_tags : TableId) : Type 0 where
+  pub its_requests : these_requests ≡ requests
+  pub its_completions : these_completions ≡ completions
+  pub its_free_tags : these_free_tags ≡ free_tags

@@ -1,16 +1,17 @@
 -- How far the thread that submits and collects has come.
-use Rattle.std.specs.Prelude.{◌≡◌, ℕ, ◌+◌, ◌<◌, ◌≤◌, ◌^◌, ◌==◌, if◌then◌else◌, true, false, All, List, [], ◌∷◌, ◌++◌, length, map, Option, Some, None}
+use Rattle.std.specs.Prelude.{◌≡◌, ℕ, ◌+◌, ◌<◌, ◌≤◌, ◌^◌, ◌==◌, ◌⊎◌, if◌then◌else◌, true, false, All, List, [], ◌∷◌, ◌++◌, length, map, Option, Some, None}
 use Rattle.atomic_table.specs.Seated.{TableId}
 use Rattle.run_queues.specs.Numbers.{Draws, times}
-use Rattle.run_queues.specs.Parts.{CollectorFacts, DrawerFacts, SourceFacts}
+use Rattle.run_queues.specs.Parts.{CollectorFacts, CountFacts, DrawerFacts, SourceFacts}
 use Rattle.run_queues.specs.Requests.{all_parts}
 use Rattle.freeze_queue.specs.Queue.{QueueFacts, FreezerFacts, TagFacts}
 use Rattle.script_meaning.specs.Meaning.{after_lines, start_of}
 use Rattle.script_meaning.specs.Queue.{Queue, start_queue}
-use Rattle.script_meaning.specs.Requests.{accepted_at, accepted_before, accepted_in_all, queue_at}
+use Rattle.script_meaning.specs.Requests.{accepted_at, accepted_before, accepted_in_all, drains_at, queue_at}
 use Rattle.script_meaning.specs.Script.{Meant}
 use Rattle.script_meaning.specs.declared.reply.Reply.{Reply}
 use Rattle.script_meaning.specs.declared.request.Request.{Request}
+use Rattle.script_overlap.specs.Ordered.{IsOrdered}
 use Rattle.blk_script.specs.Texts.{reply_line}
 use Rattle.run_desk.specs.Requests.{IsAcceptedAt, IsQueueAt, IsReplyLine}
 use Rattle.run_desk.specs.Desk.{AreJoined, is_owed, MayTakeRequest, owed_count, Stands}
@@ -119,6 +120,10 @@ pub record IsReplyNext (script : Meant) (replies : List (Option (List ℕ))) (li
   pub reply : IsReplyLine script (length replies) (reply_line (line_number, told))
   pub queue : IsQueueAt script (length replies + 1) next
 
+-- the gate was killed no more, unless the line at this position drains the queue: by its meaning, or since an ordered request stands there
+abbrev pub KillsToDrain : Meant → ℕ → ℕ → ℕ → Type 0
+KillsToDrain script position before after = (after ≡ before) ⊎ (drains_at script position ≡ true) ⊎ IsOrdered script position
+
 -- the next line is taken with its reply, and what was awaited still is
 pub record HasReplied (script : Meant) (old new : Desk) : Type 0 where
   pub stands : Stands script new.replies new.disk
@@ -164,6 +169,10 @@ pub record AreNewEnds (requests completions : TableId) (out : ℕ) (source : Sou
   pub new_source : IsNewSource requests out source
   pub collects : collector.queue ≡ completions
   pub none_given : collector.given ≡ 0
+
+-- as many spares of this queue were taken, or put back
+abbrev pub HasCounted : TableId → ℕ → CountFacts → Type 0
+HasCounted queue count c = c ≡ record { queue = queue; count = count }
 
 -- the right to draw, before the first request, with room for so many
 pub record IsNewDrawer (requests : TableId) (room : ℕ) (drawer : DrawerFacts) : Type 0 where
@@ -217,12 +226,13 @@ abbrev pub AreAtStart : Meant → QueueFacts → TableId → TableId → ℕ →
 AreAtStart script queue requests completions workers s source collector drawers =
     IsAt script queue 0 s × AreNewEnds requests completions workers source collector × AreDrawers script requests workers drawers
 
--- so many workers are to come back, each of which has a part of the right to push, and there is room for their lists
+-- so many workers are to come back, each of which has a part of the right to push and an end mark to take, and there is room for their lists
 pub record AreOut (requests : TableId) (workers : ℕ) (source : SourceFacts) : Type 0 where
   pub own : source.queue ≡ requests
   pub out : source.parts + workers ≡ all_parts
   pub parts : 0 < source.parts
   pub some : 0 < workers
+  pub ended : source.marks ≡ workers
   pub no_lists : source.lists ≡ []
   pub room : workers ≤ source.room
 

@@ -6,7 +6,7 @@ ghost use Rattle.run_desk.specs.Desk.{Stands, is_owed, owed_count};
 use crate::fault::RunFault;
 use crate::hall::Hall;
 use crate::job::Completion;
-use crate::naming::{QueueName, Run};
+use crate::naming::{QueueName, QueueNames, Run};
 use run_desk::Desk;
 use run_queues::Collector;
 use std::sync::Wait;
@@ -14,7 +14,7 @@ use std::sync::Wait;
 // Takes a completion. Where it brought an answer, the reply to its request was owed until now, and one less is owed afterwards.
 // `Memory` where the worker was refused it; then the reply stays owed, with no completion to come, and every caller ends the run.
 // `taken` holds then too, so that those who collect have one clause for both ends; nobody reads it once the run fails.
-fn take_completion<J: Run, C: QueueName, L: QueueName, R, S>(
+fn take_completion<J: Run, C: QueueName, L: QueueNames, R, S>(
     hall: &Hall<'_, J, C, L, R, S>,
     desk: &mut Desk,
     completion: Completion<J>,
@@ -34,7 +34,7 @@ fn take_completion<J: Run, C: QueueName, L: QueueName, R, S>(
 /// Collects the completions that are there now, as many as are owed at most, once so many are owed as there are tags. A
 /// look for each request would take the queue's cache lines from the workers each time. `collector`: what was given
 /// stays as it was, by which the next duty is numbered.
-pub(crate) fn collect_some<J: Run, C: QueueName, L: QueueName, R: Wait, S>(
+pub(crate) fn collect_some<J: Run, C: QueueName, L: QueueNames, R: Wait, S>(
     hall: &Hall<'_, J, C, L, R, S>,
     collector: &mut Collector<Completion<J>>,
     desk: &mut Desk,
@@ -58,7 +58,7 @@ pub(crate) fn collect_some<J: Run, C: QueueName, L: QueueName, R: Wait, S>(
 }
 
 /// Collects completions until none is owed, and waits for them. `collector` is as at `collect_some`.
-pub(crate) fn collect_all<J: Run, C: QueueName, L: QueueName, R: Wait, S>(
+pub(crate) fn collect_all<J: Run, C: QueueName, L: QueueNames, R: Wait, S>(
     hall: &Hall<'_, J, C, L, R, S>,
     collector: &mut Collector<Completion<J>>,
     desk: &mut Desk,

@@ -29,6 +29,7 @@ fn set_limits(freezer: &mut Freezer, queue: &BlockQueue, limits: Limits)
     requires own { (freezer.old.queue ≡ queue.now) × (limits.hardware ≡ queue.now.hardware) }
     requires drained { (0 < freezer.old.depth) × (freezer.old.drained ≡ true) }
     ensures follows { (kills : ℕ) → IsFollowing queue.now kills freezer.old → IsFollowing queue.now kills freezer.new }
+    ensures kills { freezer.new.kills ≡ freezer.old.kills }
     ensures limits { freezer.new.limits ≡ limits }
     ensures others { (freezer.new.depth ≡ freezer.old.depth) × (freezer.new.mode ≡ freezer.old.mode) }
 {
@@ -45,6 +46,7 @@ fn step_to(freezer: &mut Freezer, queue: &BlockQueue, depth: u32)
     requires own { (freezer.old.queue ≡ queue.now) × (0 < freezer.old.depth) }
     requires shallow { depth ≤ 1000 }
     ensures follows { (kills : ℕ) → IsFollowing queue.now kills freezer.old → IsFollowing queue.now kills freezer.new }
+    ensures kills { freezer.new.kills ≡ freezer.old.kills }
     ensures depth { freezer.new.depth ≡ one_nearer freezer.old.depth depth }
     ensures others { (freezer.new.limits ≡ freezer.old.limits) × (freezer.new.mode ≡ freezer.old.mode) }
 {
@@ -66,6 +68,7 @@ pub(crate) fn follow(freezer: &mut Freezer, queue: &BlockQueue, state: &QueueSta
     requires hardware { state.now.limits.hardware ≡ queue.now.hardware }
     requires near { IsNear state.now freezer.old }
     ensures follows { IsFollowing queue.now _kills freezer.new }
+    ensures kills { freezer.new.kills ≡ freezer.old.kills }
     ensures in_step { IsInStep state.now freezer.new }
 {
     freezer.mode(queue, state.mode());

@@ -1,12 +1,12 @@
 //! What the threads of a run stand on.
 ghost use Rattle.std.specs.Prelude.{◌≡◌, IfOk, OnOk, length};
-ghost use Rattle.run_queues.specs.Parts.{new_source};
-ghost use Rattle.blk_workers.specs.Halls.{IsHall};
+ghost use Rattle.run_queues.specs.Parts.{new_source, none_counted};
+ghost use Rattle.blk_workers.specs.Halls.{HasQueues, IsHall};
 ghost use Rattle.blk_workers.specs.Progress.{AreFreeTags};
 
 use crate::fault::RunFault;
 use crate::job::{Completion, FreeTag, Job};
-use crate::naming::{QueueName, Run};
+use crate::naming::{QueueName, QueueNames, Run};
 use freeze_queue::{BlockQueue, Tag};
 use run_queues::{CompletionQueue, PutCount, RequestQueue, Source, SpareQueue, Taker};
 use script_overlap::Checked;
@@ -24,27 +24,30 @@ pub(crate) struct Queues<J: Run, C: QueueName> {
     free_tags: SpareQueue<FreeTag<J>>,
 }
 
-// A queue of free tags, and the right to take them.
-type FreeTags<J> = (SpareQueue<FreeTag<J>>, Taker<FreeTag<J>>);
+// A queue of free tags, the right to take them, and the count of those that were put there.
+type FreeTags<J> = (
+    SpareQueue<FreeTag<J>>,
+    Taker<FreeTag<J>>,
+    PutCount<FreeTag<J>>,
+);
 
 // A queue of these tags, all of which are put there, with the right to take them.
 fn free_tags<J: Run, R: Wait>(
     rt: &R,
     alloc: Global,
     tags: Vec<Tag>,
-    count: &mut PutCount<FreeTag<J>>,
 ) -> Result<FreeTags<J>, AllocError>
     requires free { AreFreeTags J.queue tags.items }
-    requires none { count.old ≡ 0 }
-    ensures room { IfOk result (λ free. free.0 ≡ length tags.items) }
-    ensures taker { IfOk result (λ free. free.1 ≡ 0) }
-    ensures all { OnOk result (count.new ≡ length tags.items) }
+    ensures room { IfOk result (λ free. free.0.room ≡ length tags.items) }
+    ensures taker { IfOk result (λ free. free.1 ≡ none_counted free.0.id) }
+    ensures all { IfOk result (λ free. free.2 ≡ record { queue = free.0.id; count = length tags.items }) }
 {
     let (free, taker) = SpareQueue::new(alloc, tags.len())?;
+    let mut count = free.put_count();
     for tag in tags {
-        free.put(rt, count, FreeTag::new(Box::new(alloc, tag)?));
+        free.put(rt, &mut count, FreeTag::new(Box::new(alloc, tag)?));
     }
-    Ok((free, taker))
+    Ok((free, taker, count))
 }
 
 // A run's queues, the right to push requests, and the right to take free tags.
@@ -64,13 +67,13 @@ impl<J: Run, C: QueueName> Queues<J, C> {
     ) -> Result<NewQueues<J, C>, RunFault>
         requires own { (queue ≡ J.queue) × AreFreeTags J.queue tags.items }
         ensures queue { IfOk result (λ made. made.0.queue ≡ queue) }
-        ensures rooms { IfOk result (λ made. (made.0.requests.room ≡ length tags.items) × (made.0.free_tags ≡ length tags.items)) }
+        ensures rooms { IfOk result (λ made. (made.0.requests.room ≡ length tags.items) × (made.0.free_tags.room ≡ length tags.items)) }
         ensures completions { IfOk result (λ made. made.0.completions ≡ completions) }
         ensures source { IfOk result (λ made. made.1 ≡ new_source made.0.requests.id workers) }
-        ensures taker { IfOk result (λ made. made.2 ≡ 0) }
+        ensures taker { IfOk result (λ made. made.2 ≡ none_counted made.0.free_tags.id) }
     {
         let (requests, source) = RequestQueue::new(alloc, tags.len(), workers as usize)?;
-        let (free_tags, taker) = free_tags(rt, alloc, tags, &mut PutCount::new())?;
+        let (free_tags, taker, _all) = free_tags(rt, alloc, tags)?;
         let queues = Queues {
             queue,
             requests,
@@ -82,12 +85,12 @@ impl<J: Run, C: QueueName> Queues<J, C> {
 }
 
 /// What a run's threads stand on: the runtime, the allocator, the checked script, what holds the run at its points, and the run's
-/// queues. `J` is the run, `C` its queue of completions, `L` its queue of requests, `R` the runtime's type, `S` the stall's.
+/// queues. `J` is the run, `C` its queue of completions, `L` its queues of requests and free tags, `R` the runtime's type, `S` the stall's.
 ///
 /// The type keeps that the script and the queues are those which its parameters name, that the queue has a slot and the
 /// script's hardware, and that the script's lines are few enough to be numbered.
 #[derive(Drop)]
-pub(crate) struct Hall<'a, J: Run, C: QueueName, L: QueueName, R, S> {
+pub(crate) struct Hall<'a, J: Run, C: QueueName, L: QueueNames, R, S> {
     pub(crate) rt: &'a R,
     pub(crate) alloc: Global,
     pub(crate) checked: &'a Checked<'a>,
@@ -102,18 +105,18 @@ pub(crate) struct Hall<'a, J: Run, C: QueueName, L: QueueName, R, S> {
 
 // A model shows some value: here for how many free tags there is room, which no clause reads. What else a hall is, its
 // invariant says by the run's names.
-impl<'a, J: Run, C: QueueName, L: QueueName, R, S> Model for Hall<'a, J, C, L, R, S> {
+impl<'a, J: Run, C: QueueName, L: QueueNames, R, S> Model for Hall<'a, J, C, L, R, S> {
     ghost use Rattle.std.specs.Prelude.{ℕ};
-    ghost use Rattle.blk_workers.specs.Halls.{IsHall};
+    ghost use Rattle.blk_workers.specs.Halls.{HasQueues, IsHall};
 
     ghost Value = { ℕ };
 
-    ghost view = { λ h. h.free_tags.now };
+    ghost view = { λ h. h.free_tags.now.room };
 
-    ghost invariant = { λ h. IsHall J.script J.queue L.id C.id h.checked.now h.queue.now h.requests.now.id h.completions.now.id };
+    ghost invariant = { λ h. IsHall J.script J.queue h.checked.now h.queue.now × HasQueues L.requests C.id L.free_tags h.requests.now.id h.completions.now.id h.free_tags.now.id };
 }
 
-impl<'a, J: Run, C: QueueName, L: QueueName, R, S> Hall<'a, J, C, L, R, S> {
+impl<'a, J: Run, C: QueueName, L: QueueNames, R, S> Hall<'a, J, C, L, R, S> {
     /// The hall of a run with these queues.
     pub(crate) fn new(
         rt: &'a R,
@@ -122,7 +125,8 @@ impl<'a, J: Run, C: QueueName, L: QueueName, R, S> Hall<'a, J, C, L, R, S> {
         stall: &'a S,
         queues: &'a Queues<J, C>,
     ) -> Hall<'a, J, C, L, R, S>
-        requires { IsHall J.script J.queue L.id C.id checked.now queues.now.queue queues.now.requests.id queues.now.completions.id }
+        requires hall { IsHall J.script J.queue checked.now queues.now.queue }
+        requires queues { HasQueues L.requests C.id L.free_tags queues.now.requests.id queues.now.completions.id queues.now.free_tags.id }
     {
         Hall {
             rt,

@@ -1,12 +1,13 @@
 //! How an accepted request is handed to the workers.
 ghost use Rattle.std.specs.Prelude.{◌≡◌, ◌+◌, ◌<◌, ◌^◌, true, Some, IfErr, OnOk, length};
+ghost use Rattle.run_queues.specs.Parts.{one_more};
 ghost use Rattle.run_desk.specs.Desk.{Stands};
 ghost use Rattle.blk_workers.specs.Progress.{AreHandedOver, HasHandedOver, IsReady};
 
 use crate::fault::RunFault;
 use crate::hall::Hall;
 use crate::job::{Completion, FreeTag, Job};
-use crate::naming::{QueueName, Run};
+use crate::naming::{QueueName, QueueNames, Run};
 use crate::stall::{Point, Stall};
 use freeze_queue::Tag;
 use queue_limits::Limits;
@@ -38,13 +39,14 @@ pub(crate) struct Accepted {
 
 // Takes a free tag, which it waits for, and enters the queue with it: a tag that was told these limits. They never differ,
 // since this thread set them, which no proof says; so it looks, and a tag that is told others leaves and enters again.
-fn entered<J: Run, C: QueueName, L: QueueName, R: Wait, S>(
+fn entered<J: Run, C: QueueName, L: QueueNames, R: Wait, S>(
     hall: &Hall<'_, J, C, L, R, S>,
     taker: &mut Taker<FreeTag<J>>,
     limits: Limits,
 ) -> Box<Tag>
-    requires room { taker.old + 1 < 2 ^ 64 }
-    ensures one { taker.new ≡ taker.old + 1 }
+    requires its_queue { taker.old.queue ≡ L.free_tags }
+    requires room { taker.old.count + 1 < 2 ^ 64 }
+    ensures one { taker.new ≡ one_more taker.old }
     ensures own { result.value.queue ≡ J.queue }
     ensures entered { result.value.entered ≡ true }
     ensures told { result.value.limits ≡ Some limits }
@@ -61,18 +63,19 @@ fn entered<J: Run, C: QueueName, L: QueueName, R: Wait, S>(
 }
 
 /// Hands an accepted request to the workers: it enters the queue with one free tag, under the limits in force, and is owed.
-pub(crate) fn hand_over<J: Run, C: QueueName, L: QueueName, R: Wait, S: Stall>(
+pub(crate) fn hand_over<J: Run, C: QueueName, L: QueueNames, R: Wait, S: Stall>(
     hall: &Hall<'_, J, C, L, R, S>,
     desk: &mut Desk,
     ends: &mut Ends<J, C>,
     accepted: Accepted,
 ) -> Result<(), RunFault>
-    requires handed_over { AreHandedOver J.script L.id C.id (length desk.old.replies) desk.old.replies ends.old.source ends.old.collector }
+    requires handed_over { AreHandedOver J.script L.requests C.id (length desk.old.replies) desk.old.replies ends.old.source ends.old.collector }
     requires stands { Stands J.script desk.old.replies desk.old.disk }
     requires ready { IsReady J.script desk.old.replies accepted }
-    requires room { ends.old.taker + 1 < 2 ^ 64 }
-    ensures handed_over { OnOk result (HasHandedOver J.script L.id C.id desk.old desk.new ends.new.source ends.new.collector) }
-    ensures tag { OnOk result (ends.new.taker ≡ ends.old.taker + 1) }
+    requires tags { ends.old.taker.queue ≡ L.free_tags }
+    requires room { ends.old.taker.count + 1 < 2 ^ 64 }
+    ensures handed_over { OnOk result (HasHandedOver J.script L.requests C.id desk.old desk.new ends.new.source ends.new.collector) }
+    ensures tag { OnOk result (ends.new.taker ≡ one_more ends.old.taker) }
     ensures memory { IfErr result (λ fault. fault ≡ RunFault.Memory) }
     ensures source { ends.new.source ≡ record ends.old.source { pushed = ends.new.source.pushed } }
 {

@@ -1,7 +1,7 @@
 //! What a worker is handed for a request, and what it hands back.
 ghost use Rattle.std.specs.Prelude.{◌≡◌, ◌<◌, true, false, IfOk};
 ghost use Rattle.run_desk.specs.Requests.{IsAcceptedAt, IsAnswerTo};
-ghost use Rattle.blk_workers.specs.Jobs.{IsJob, IsReadUnderItsTag};
+ghost use Rattle.blk_workers.specs.Jobs.{HasOnlyAsked, HasOnlyLeft, IsJob, IsReadUnderItsTag};
 
 use crate::naming::{QueueName, Run};
 use freeze_queue::{BlockQueue, Tag};
@@ -64,7 +64,8 @@ impl<J: Run, C: QueueName> Job<J, C> {
         requires queue { queue.now ≡ J.queue }
         requires script { script.now ≡ J.script }
         ensures request { IsAcceptedAt J.script self.duty.number self.position }
-        ensures number { result ≡ self.duty.number }
+        ensures number { result.number ≡ self.duty.number }
+        ensures stays { HasOnlyAsked self.tag result.tag }
         ensures read { IsReadUnderItsTag J.script self }
     {
         let Job {
@@ -202,7 +203,7 @@ impl<J: Run> FreeTag<J> {
 
 /// A request that is done: its tag is still entered, and its completion still to be told. It is told first, since what
 /// it becomes by that is the one way to its tag: so once the queue is drained each completion is in its queue, and whoever
-/// collects them all then waits for no worker. Contracts see its number.
+/// collects them all then waits for no worker. Contracts see its number and its tag.
 #[derive(Drop)]
 pub(crate) struct DoneJob<J: Run, C: QueueName> {
     tag: Box<Tag>,
@@ -212,11 +213,12 @@ pub(crate) struct DoneJob<J: Run, C: QueueName> {
 }
 
 impl<J: Run, C: QueueName> Model for DoneJob<J, C> {
-    ghost use Rattle.std.specs.Prelude.{◌≡◌, ℕ, true};
+    ghost use Rattle.std.specs.Prelude.{◌≡◌, true};
+    ghost use Rattle.blk_workers.specs.Jobs.{DoneFacts};
 
-    ghost Value = { ℕ };
+    ghost Value = { DoneFacts };
 
-    ghost view = { λ j. j.duty.number };
+    ghost view = { λ j. record { number = j.duty.number; tag = j.tag.value } };
 
     ghost invariant = { λ j. (j.tag.value.queue ≡ J.queue) × (j.tag.value.entered ≡ true) × (j.duty.queue ≡ C.id) × (j.completion.number ≡ j.duty.number) };
 }
@@ -229,7 +231,8 @@ impl<J: Run, C: QueueName> DoneJob<J, C> {
         completions: &CompletionQueue<Completion<J>>,
     ) -> CompletedJob<J, C>
         requires own { completions.now.id ≡ C.id }
-        ensures { result.number ≡ self }
+        ensures number { result.receipt.number ≡ self.number }
+        ensures stays { result.tag ≡ self.tag }
     {
         let DoneJob {
             tag,
@@ -246,7 +249,7 @@ impl<J: Run, C: QueueName> DoneJob<J, C> {
     }
 }
 
-/// A request whose completion is told, and whose tag is still entered. Contracts see its receipt.
+/// A request whose completion is told, and whose tag is still entered. Contracts see its receipt and its tag.
 #[derive(Drop)]
 pub(crate) struct CompletedJob<J: Run, C: QueueName> {
     tag: Box<Tag>,
@@ -256,22 +259,23 @@ pub(crate) struct CompletedJob<J: Run, C: QueueName> {
 
 impl<J: Run, C: QueueName> Model for CompletedJob<J, C> {
     ghost use Rattle.std.specs.Prelude.{◌≡◌, true};
-    ghost use Rattle.run_queues.specs.Parts.{DutyFacts};
+    ghost use Rattle.blk_workers.specs.Jobs.{CompletedFacts};
 
-    ghost Value = { DutyFacts };
+    ghost Value = { CompletedFacts };
 
-    ghost view = { λ j. j.receipt };
+    ghost view = { λ j. record { receipt = j.receipt; tag = j.tag.value } };
 
     ghost invariant = { λ j. (j.tag.value.queue ≡ J.queue) × (j.tag.value.entered ≡ true) × (j.receipt.queue ≡ C.id) };
 }
 
 impl<J: Run, C: QueueName> CompletedJob<J, C> {
-    /// Leaves the queue on a slot, and shows that the completion was told.
+    /// Leaves the queue on a slot, once, and shows that the completion was told.
     pub(crate) fn leave(self, queue: &BlockQueue, slot: u32) -> (FreeTag<J>, Receipt<Completion<J>>)
         requires queue { queue.now ≡ J.queue }
         requires slot { slot < J.queue.gate.slots }
         ensures own { result.1.queue ≡ C.id }
-        ensures number { result.1.number ≡ self.number }
+        ensures number { result.1.number ≡ self.receipt.number }
+        ensures left { HasOnlyLeft self.tag result.0 }
     {
         let CompletedJob {
             mut tag,

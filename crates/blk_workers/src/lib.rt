@@ -38,7 +38,7 @@
 //!   write leaves; its *completion* brings the answer back. Once the completion is told, a *receipt* is left of the duty: a
 //!   worker comes back with as many receipts as it drew requests.
 //! - `J` is the run: `J.script` its script, `J.queue` the queue that requests enter. `C` is its queue of completions, and `L` its
-//!   queue of requests: `C.id` and `L.id` say which. Each is a name that a run takes once it has the thing (src/naming.rt).
+//!   queues of requests and of free tags: `C.id`, `L.requests` and `L.free_tags` say which. Each is a name that a run takes once it has the thing (src/naming.rt).
 //!   `R` is the runtime's type, `S` the stall's.
 #![tactic(auto)]
 

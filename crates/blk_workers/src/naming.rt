@@ -36,3 +36,21 @@ impl QueueName for Brand {
 
     ghost id = { no_table };
 }
+
+/// The queues of requests and of free tags of a run, which are made together.
+pub(crate) trait QueueNames {
+    ghost use Rattle.atomic_table.specs.Seated.{TableId};
+
+    ghost requests: { TableId };
+
+    ghost free_tags: { TableId };
+}
+
+// Likewise.
+impl QueueNames for Brand {
+    ghost use Rattle.run_queues.specs.Nobody.{no_table};
+
+    ghost requests = { no_table };
+
+    ghost free_tags = { no_table };
+}

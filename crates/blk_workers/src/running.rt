@@ -1,7 +1,8 @@
 //! A script's run on several threads.
 ghost use Rattle.std.specs.Prelude.{◌≡◌, ◌≤◌, IfOk, map};
 ghost use Rattle.script_overlap.specs.Overlap.{HasNoOverlap};
-ghost use Rattle.blk_workers.specs.Halls.{IsHall};
+ghost use Rattle.run_queues.specs.Parts.{none_counted};
+ghost use Rattle.blk_workers.specs.Halls.{HasQueues, IsHall};
 ghost use Rattle.blk_workers.specs.Progress.{AreDrawn, AreFreeTags, AreNewCompletions, AreNewEnds, IsAt, IsNewQueue, IsRanBy, IsRun, Suits};
 
 use crate::config::Config;
@@ -9,7 +10,7 @@ use crate::fault::RunFault;
 use crate::hall::{Hall, Queues};
 use crate::handing::Ends;
 use crate::job::Completion;
-use crate::naming::{QueueName, Run};
+use crate::naming::{QueueName, QueueNames, Run};
 use crate::ran::Ran;
 use crate::stall::Stall;
 use crate::submitter::Submitter;
@@ -39,7 +40,7 @@ struct Inputs<'a, R, S> {
 fn run_in<
     J: Run + Send + Sync,
     C: QueueName + Send + Sync,
-    L: QueueName + Send + Sync,
+    L: QueueNames + Send + Sync,
     R: Threads + Wait + Sync,
     S: Stall,
 >(
@@ -48,10 +49,11 @@ fn run_in<
     submitter: Submitter,
     mut ends: Ends<J, C>,
 ) -> Result<Ran, RunFault>
-    requires hall { IsHall J.script J.queue L.id C.id inputs.now.checked.now queues.now.queue queues.now.requests.id queues.now.completions.id }
+    requires hall { IsHall J.script J.queue inputs.now.checked.now queues.now.queue }
+    requires queues { HasQueues L.requests C.id L.free_tags queues.now.requests.id queues.now.completions.id queues.now.free_tags.id }
     requires start { IsAt J.script J.queue 0 submitter }
-    requires ends { AreNewEnds L.id C.id 0 ends.source ends.collector }
-    requires tags { ends.taker ≡ 0 }
+    requires ends { AreNewEnds L.requests C.id 0 ends.source ends.collector }
+    requires tags { ends.taker ≡ none_counted L.free_tags }
     requires room { inputs.now.config.workers ≤ ends.source.room }
     ensures ran { IfOk result (IsRanBy J.script inputs.now.config.workers) }
 {

@@ -1,9 +1,10 @@
 //! The thread that submits and collects.
-ghost use Rattle.std.specs.Prelude.{◌≡◌, ◌+◌, ◌<◌, IfErr, IfOk, None, OnOk, length};
+ghost use Rattle.std.specs.Prelude.{◌≡◌, ◌+◌, ◌<◌, ◌⊎◌, true, IfErr, IfOk, None, OnOk, length};
 ghost use Rattle.script_meaning.specs.Script.{Meant};
-ghost use Rattle.script_meaning.specs.Requests.{accepted_at, accepted_in_all};
+ghost use Rattle.script_meaning.specs.Requests.{accepted_at, accepted_in_all, drains_at};
+ghost use Rattle.script_overlap.specs.Ordered.{IsOrdered};
 ghost use Rattle.blk_script.specs.Texts.{reply_line};
-ghost use Rattle.blk_workers.specs.Progress.{HasCollected, HasDrained, HasPassed, HasReplied, HasTaken, IsAt, IsAtStartWith, IsCollecting, IsEnd, IsReplyNext, IsRequestNext, IsRun, IsBeforeLine};
+ghost use Rattle.blk_workers.specs.Progress.{HasCollected, HasCounted, HasDrained, HasPassed, HasReplied, HasTaken, IsAt, IsAtStartWith, IsCollecting, IsEnd, IsFollowing, IsReplyNext, IsRequestNext, IsRun, IsBeforeLine, KillsToDrain};
 ghost use Rattle.blk_workers.specs.Following.{IsInStep};
 ghost use Rattle.run_desk.specs.Desk.{MayJoin, MayPass, MayTakeReply, Stands, owed_count};
 
@@ -13,7 +14,7 @@ use crate::following::{follow, freeze};
 use crate::hall::Hall;
 use crate::handing::{Accepted, Ends, hand_over};
 use crate::job::Completion;
-use crate::naming::{QueueName, Run};
+use crate::naming::{QueueName, QueueNames, Run};
 use crate::ran::Ran;
 use crate::stall::{Point, Stall};
 use blk_script::render;
@@ -98,7 +99,7 @@ impl Submitter {
 
     // Collects what is there, once as many are owed as there are tags; before an ordered request it drains the queue, and opens
     // it again.
-    fn make_way<J: Run, C: QueueName, L: QueueName, R: Wait, S: Stall>(
+    fn make_way<J: Run, C: QueueName, L: QueueNames, R: Wait, S: Stall>(
         &mut self,
         hall: &Hall<'_, J, C, L, R, S>,
         collector: &mut Collector<Completion<J>>,
@@ -107,6 +108,7 @@ impl Submitter {
         requires collecting { IsCollecting J.script C.id self.old.desk collector.old }
         ensures collected { HasCollected J.script J.queue C.id self.old self.new collector.old collector.new }
         ensures may_join { OnOk result (MayJoin J.script self.new.desk.replies) }
+        ensures kept { (self.new.freezer ≡ self.old.freezer) ⊎ IsOrdered J.script (length self.old.desk.replies) }
         ensures in_step { OnOk result (IsInStep self.new.state self.new.freezer) }
         ensures memory { IfErr result (λ fault. fault ≡ RunFault.Memory) }
     {
@@ -122,20 +124,22 @@ impl Submitter {
     }
 
     // Hands over the accepted request of the next line. Also where it fails, nothing of the right to push changes but how much
-    // was pushed (`kept`), so `lead` can still put end marks. For each request that is accepted one tag is taken (`tags`).
-    fn submit<J: Run, C: QueueName, L: QueueName, R: Wait, S: Stall>(
+    // was pushed (`source`), so `lead` can still put end marks. For each request that is accepted one tag is taken (`tags`).
+    fn submit<J: Run, C: QueueName, L: QueueNames, R: Wait, S: Stall>(
         &mut self,
         hall: &Hall<'_, J, C, L, R, S>,
         ends: &mut Ends<J, C>,
         request: Request,
     ) -> Result<(), RunFault>
-        requires taken { HasTaken J.script J.queue L.id C.id (length self.old.desk.replies) self.old ends.old.source ends.old.collector }
+        requires taken { HasTaken J.script J.queue L.requests C.id (length self.old.desk.replies) self.old ends.old.source ends.old.collector }
         requires next { IsRequestNext J.script (length self.old.desk.replies) request }
-        requires tags { ends.old.taker ≡ self.old.accepted }
-        ensures taken { OnOk result (HasTaken J.script J.queue L.id C.id (length self.old.desk.replies + 1) self.new ends.new.source ends.new.collector) }
-        ensures tags { OnOk result (ends.new.taker ≡ self.new.accepted) }
+        requires tags { HasCounted L.free_tags self.old.accepted ends.old.taker }
+        ensures taken { OnOk result (HasTaken J.script J.queue L.requests C.id (length self.old.desk.replies + 1) self.new ends.new.source ends.new.collector) }
+        ensures follows { IsFollowing J.queue (length self.old.desk.replies + 1) self.new.freezer }
+        ensures kept { (self.new.freezer ≡ self.old.freezer) ⊎ IsOrdered J.script (length self.old.desk.replies) }
+        ensures tags { OnOk result (HasCounted L.free_tags self.new.accepted ends.new.taker) }
         ensures memory { IfErr result (λ fault. fault ≡ RunFault.Memory) }
-        ensures kept { ends.new.source ≡ record ends.old.source { pushed = ends.new.source.pushed } }
+        ensures source { ends.new.source ≡ record ends.old.source { pushed = ends.new.source.pushed } }
     {
         let accepted = Accepted {
             request,
@@ -151,7 +155,7 @@ impl Submitter {
 
     // Drains the queue, which it freezes where it isn't frozen, and collects all completions. Where it is refused memory, the
     // queue is frozen too.
-    fn drain<J: Run, C: QueueName, L: QueueName, R: Wait, S: Stall>(
+    fn drain<J: Run, C: QueueName, L: QueueNames, R: Wait, S: Stall>(
         &mut self,
         hall: &Hall<'_, J, C, L, R, S>,
         collector: &mut Collector<Completion<J>>,
@@ -170,7 +174,7 @@ impl Submitter {
     }
 
     // Takes the next line, whose reply is there and after which the script's queue is `next`.
-    fn reply_and_follow<J: Run, C: QueueName, L: QueueName, R, S>(
+    fn reply_and_follow<J: Run, C: QueueName, L: QueueNames, R, S>(
         &mut self,
         hall: &Hall<'_, J, C, L, R, S>,
         next: QueueState,
@@ -181,6 +185,8 @@ impl Submitter {
         requires passes { MayPass J.script self.old.desk.replies }
         requires next { IsReplyNext J.script self.old.desk.replies line_number reply.now next }
         ensures passed { OnOk result (HasPassed J.script J.queue self.old self.new) }
+        ensures follows { IsFollowing J.queue (length self.old.desk.replies + 1) self.new.freezer }
+        ensures kills { self.new.freezer.kills ≡ self.old.freezer.kills }
         ensures memory { IfErr result (λ fault. fault ≡ RunFault.Memory) }
     {
         reply_now(
@@ -198,19 +204,21 @@ impl Submitter {
     }
 
     // Takes the next line, which is no request that the queue accepts.
-    fn reply_to<J: Run, C: QueueName, L: QueueName, R: Wait, S: Stall>(
+    fn reply_to<J: Run, C: QueueName, L: QueueNames, R: Wait, S: Stall>(
         &mut self,
         hall: &Hall<'_, J, C, L, R, S>,
         ends: &mut Ends<J, C>,
     ) -> Result<(), RunFault>
-        requires taken { HasTaken J.script J.queue L.id C.id (length self.old.desk.replies) self.old ends.old.source ends.old.collector }
+        requires taken { HasTaken J.script J.queue L.requests C.id (length self.old.desk.replies) self.old ends.old.source ends.old.collector }
         requires more { length self.old.desk.replies < length J.script.lines }
         requires next { accepted_at J.script (length self.old.desk.replies) ≡ None }
-        requires tags { ends.old.taker ≡ self.old.accepted }
-        ensures taken { OnOk result (HasTaken J.script J.queue L.id C.id (length self.old.desk.replies + 1) self.new ends.new.source ends.new.collector) }
-        ensures tags { OnOk result (ends.new.taker ≡ self.new.accepted) }
+        requires tags { HasCounted L.free_tags self.old.accepted ends.old.taker }
+        ensures taken { OnOk result (HasTaken J.script J.queue L.requests C.id (length self.old.desk.replies + 1) self.new ends.new.source ends.new.collector) }
+        ensures follows { IsFollowing J.queue (length self.old.desk.replies + 1) self.new.freezer }
+        ensures kills { (self.new.freezer.kills ≡ self.old.freezer.kills) ⊎ (drains_at J.script (length self.old.desk.replies) ≡ true) }
+        ensures tags { OnOk result (HasCounted L.free_tags self.new.accepted ends.new.taker) }
         ensures memory { IfErr result (λ fault. fault ≡ RunFault.Memory) }
-        ensures kept { ends.new.source ≡ record ends.old.source { pushed = ends.new.source.pushed } }
+        ensures source { ends.new.source ≡ record ends.old.source { pushed = ends.new.source.pushed } }
     {
         let line = &hall.checked.script().lines()[self.desk.replies.len()];
         let mut next = self.state;
@@ -225,20 +233,22 @@ impl Submitter {
         }
     }
 
-    // Takes the next line. `kept`: of the right to push nothing changes but how much was pushed. So `lead` can put end marks also
+    // Takes the next line. `source`: of the right to push nothing changes but how much was pushed. So `lead` can put end marks also
     // where this fails, and where it doesn't, `gather` finds the parts, the lists and their room as they were.
-    fn take_next<J: Run, C: QueueName, L: QueueName, R: Wait, S: Stall>(
+    fn take_next<J: Run, C: QueueName, L: QueueNames, R: Wait, S: Stall>(
         &mut self,
         hall: &Hall<'_, J, C, L, R, S>,
         ends: &mut Ends<J, C>,
     ) -> Result<(), RunFault>
-        requires taken { HasTaken J.script J.queue L.id C.id (length self.old.desk.replies) self.old ends.old.source ends.old.collector }
+        requires taken { HasTaken J.script J.queue L.requests C.id (length self.old.desk.replies) self.old ends.old.source ends.old.collector }
         requires more { length self.old.desk.replies < length J.script.lines }
-        requires tags { ends.old.taker ≡ self.old.accepted }
-        ensures taken { OnOk result (HasTaken J.script J.queue L.id C.id (length self.old.desk.replies + 1) self.new ends.new.source ends.new.collector) }
-        ensures tags { OnOk result (ends.new.taker ≡ self.new.accepted) }
+        requires tags { HasCounted L.free_tags self.old.accepted ends.old.taker }
+        ensures taken { OnOk result (HasTaken J.script J.queue L.requests C.id (length self.old.desk.replies + 1) self.new ends.new.source ends.new.collector) }
+        ensures follows { IsFollowing J.queue (length self.old.desk.replies + 1) self.new.freezer }
+        ensures kills { KillsToDrain J.script (length self.old.desk.replies) self.old.freezer.kills self.new.freezer.kills }
+        ensures tags { OnOk result (HasCounted L.free_tags self.new.accepted ends.new.taker) }
         ensures memory { IfErr result (λ fault. fault ≡ RunFault.Memory) }
-        ensures kept { ends.new.source ≡ record ends.old.source { pushed = ends.new.source.pushed } }
+        ensures source { ends.new.source ≡ record ends.old.source { pushed = ends.new.source.pushed } }
     {
         match hall.checked.request(self.desk.replies.len()) {
             Some(request) => self.submit(hall, ends, request),
@@ -246,22 +256,28 @@ impl Submitter {
         }
     }
 
-    /// Takes all lines, and drains the queue at the end. `kept` is as at `submit`.
-    pub(crate) fn submit_all<J: Run, C: QueueName, L: QueueName, R: Wait, S: Stall>(
+    /// Takes all lines, and drains the queue at the end; where a line fails, it takes no more and drains the queue too. `source` is as at `submit`.
+    pub(crate) fn submit_all<J: Run, C: QueueName, L: QueueNames, R: Wait, S: Stall>(
         &mut self,
         hall: &Hall<'_, J, C, L, R, S>,
         ends: &mut Ends<J, C>,
     ) -> Result<(), RunFault>
-        requires start { HasTaken J.script J.queue L.id C.id 0 self.old ends.old.source ends.old.collector }
-        requires tags { ends.old.taker ≡ self.old.accepted }
+        requires start { HasTaken J.script J.queue L.requests C.id 0 self.old ends.old.source ends.old.collector }
+        requires tags { HasCounted L.free_tags self.old.accepted ends.old.taker }
         ensures end { OnOk result (IsEnd J.script self.new) }
+        ensures frozen { (0 < self.new.freezer.depth) × (self.new.freezer.drained ≡ true) }
         ensures pushed { OnOk result (ends.new.source ≡ record ends.old.source { pushed = accepted_in_all J.script }) }
-        ensures tags { OnOk result (ends.new.taker ≡ accepted_in_all J.script) }
+        ensures tags { OnOk result (HasCounted L.free_tags (accepted_in_all J.script) ends.new.taker) }
         ensures memory { IfErr result (λ fault. fault ≡ RunFault.Memory) }
-        ensures kept { ends.new.source ≡ record ends.old.source { pushed = ends.new.source.pushed } }
+        ensures source { ends.new.source ≡ record ends.old.source { pushed = ends.new.source.pushed } }
     {
-        for _position in 0..hall.checked.script().lines().len() {
-            self.take_next(hall, ends)?;
+        for position in 0..hall.checked.script().lines().len() {
+            if let Err(why) = self.take_next(hall, ends) {
+                // What is under way ends: every tag leaves. Completions aren't waited for, since one brought no answer.
+                freeze(hall.rt, &mut self.freezer, hall.queue, position + 1);
+                hall.stall.at(self.accepted, Point::Drained);
+                return Err(why);
+            }
         }
         self.drain(hall, &mut ends.collector)
     }

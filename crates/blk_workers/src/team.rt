@@ -1,14 +1,15 @@
 //! The workers of a run: how they are started, led, ended and waited for.
 ghost use Rattle.std.specs.Prelude.{◌≡◌, ◌+◌, ◌-◌, ◌<◌, ◌≤◌, ◌↔◌, [], All, IfErr, IfOk, IfSome, IsErrOf, OnErr, OnOk, length, vec_capacity};
+ghost use Rattle.run_queues.specs.Parts.{none_counted};
 ghost use Rattle.run_queues.specs.Requests.{all_parts};
 ghost use Rattle.script_meaning.specs.Requests.{accepted_in_all};
-ghost use Rattle.blk_workers.specs.Progress.{AreBack, AreNewEnds, AreOut, AreAtStart, IsAt, IsEnd, IsLed, IsNewDrawer};
+ghost use Rattle.blk_workers.specs.Progress.{AreBack, AreNewEnds, AreOut, AreAtStart, HasCounted, IsAt, IsEnd, IsLed, IsNewDrawer};
 
 use crate::fault::RunFault;
 use crate::hall::Hall;
 use crate::handing::Ends;
 use crate::job::Job;
-use crate::naming::{QueueName, Run};
+use crate::naming::{QueueName, QueueNames, Run};
 use crate::stall::Stall;
 use crate::submitter::Submitter;
 use crate::worker::{FinishedWorker, work};
@@ -20,15 +21,15 @@ use std::thread::{JoinHandle, Scope, Threads};
 
 /// The right to draw for each worker, with room for so many numbers in the list of what it draws. Each takes one part of the
 /// source's.
-pub(crate) fn drawers<J: Run, C: QueueName, L: QueueName, R, S>(
+pub(crate) fn drawers<J: Run, C: QueueName, L: QueueNames, R, S>(
     hall: &Hall<'_, J, C, L, R, S>,
     source: &mut Source<Job<J, C>>,
     workers: u32,
     numbers_each: usize,
 ) -> Result<Vec<Drawer<Job<J, C>>>, AllocError>
-    requires own { source.old.queue ≡ L.id }
+    requires own { source.old.queue ≡ L.requests }
     requires parts { source.old.parts ≡ all_parts }
-    ensures drawers { IfOk result (λ ds. (length ds.items ≡ workers) × All (IsNewDrawer L.id numbers_each) ds.items) }
+    ensures drawers { IfOk result (λ ds. (length ds.items ≡ workers) × All (IsNewDrawer L.requests numbers_each) ds.items) }
     ensures source { OnOk result (source.new ≡ record source.old { parts = all_parts - workers }) }
 {
     let mut drawers = Vec::with_capacity(hall.alloc, workers as usize)?;
@@ -41,24 +42,24 @@ pub(crate) fn drawers<J: Run, C: QueueName, L: QueueName, R, S>(
 // Takes one of these rights to draw: each has room for the number of each accepted request, and one place more (src/running.rt).
 // `pop` says only that the list was what is left, and behind it what it gives: that both are new drawers is answered by hand
 // here, so `start` needs no answer for it.
-fn take_drawer<J: Run, C: QueueName, L: QueueName>(
+fn take_drawer<J: Run, C: QueueName, L: QueueNames>(
     drawers: &mut Vec<Drawer<Job<J, C>>>,
 ) -> Option<Drawer<Job<J, C>>>
-    requires { All (IsNewDrawer L.id (accepted_in_all J.script + 1)) drawers.old.items }
-    ensures one { IfSome result (IsNewDrawer L.id (accepted_in_all J.script + 1)) }
-    ensures rest { All (IsNewDrawer L.id (accepted_in_all J.script + 1)) drawers.new.items }
+    requires { All (IsNewDrawer L.requests (accepted_in_all J.script + 1)) drawers.old.items }
+    ensures one { IfSome result (IsNewDrawer L.requests (accepted_in_all J.script + 1)) }
+    ensures rest { All (IsNewDrawer L.requests (accepted_in_all J.script + 1)) drawers.new.items }
     ensures fewer { IfSome result (λ _. length drawers.new.items + 1 ≡ length drawers.old.items) }
 {
     drawers.pop()
 }
 
 // Puts an end mark for each worker that was started.
-fn push_end_marks<J: Run, C: QueueName, L: QueueName, R: Wait, S>(
+fn push_end_marks<J: Run, C: QueueName, L: QueueNames, R: Wait, S>(
     hall: &Hall<'_, J, C, L, R, S>,
     source: &mut Source<Job<J, C>>,
     started: usize,
 )
-    requires own { source.old.queue ≡ L.id }
+    requires own { source.old.queue ≡ L.requests }
     ensures source { source.new ≡ record source.old { marks = source.old.marks + started } }
 {
     for _worker in 0..started {
@@ -66,12 +67,14 @@ fn push_end_marks<J: Run, C: QueueName, L: QueueName, R: Wait, S>(
     }
 }
 
-// Waits for workers that were ended. What a thread hands back is let go only where it is joined: the scope would wait too, but
-// leak it, which `tools/sweep_refusals` would see.
-fn dismiss<J: Run, C: QueueName, L: QueueName, R: Threads>(
+// Waits for workers that were ended. `_source` is for the contract alone: an end mark was pushed by it for each of them. What a
+// thread hands back is let go only where it is joined: the scope would wait too, but leak it, which `tools/sweep_refusals` would see.
+fn dismiss<J: Run, C: QueueName, L: QueueNames, R: Threads>(
     rt: &R,
+    _source: &Source<Job<J, C>>,
     started: &mut Vec<JoinHandle<FinishedWorker<J, C, L>>>,
 )
+    requires ended { _source.now.marks ≡ length started.old.items }
     ensures { started.new.items ≡ [] }
 {
     while let Some(worker) = started.pop() {
@@ -81,20 +84,22 @@ fn dismiss<J: Run, C: QueueName, L: QueueName, R: Threads>(
 
 // Submits and collects while so many workers work, and ends them. Where that fails, it waits for them too, by the handles in
 // `started`, which it empties only then.
-fn lead<J: Run, C: QueueName, L: QueueName, R: Threads + Wait, S: Stall>(
+fn lead<J: Run, C: QueueName, L: QueueNames, R: Threads + Wait, S: Stall>(
     hall: &Hall<'_, J, C, L, R, S>,
     mut submitter: Submitter,
     ends: &mut Ends<J, C>,
     started: &mut Vec<JoinHandle<FinishedWorker<J, C, L>>>,
     workers: usize,
 ) -> Result<Submitter, RunFault>
-    requires ends { AreNewEnds L.id C.id workers ends.old.source ends.old.collector }
+    requires ends { AreNewEnds L.requests C.id workers ends.old.source ends.old.collector }
     requires start { IsAt J.script J.queue 0 submitter }
-    requires tags { ends.old.taker ≡ 0 }
+    requires tags { ends.old.taker ≡ none_counted L.free_tags }
+    requires started { length started.old.items ≡ workers }
     ensures end { IfOk result (IsEnd J.script) }
-    ensures source { OnOk result (ends.new.source ≡ record ends.old.source { pushed = accepted_in_all J.script; marks = workers }) }
+    ensures source { ends.new.source ≡ record ends.old.source { pushed = ends.new.source.pushed; marks = workers } }
+    ensures pushed { OnOk result (ends.new.source.pushed ≡ accepted_in_all J.script) }
     ensures started { OnOk result (started.new.items ≡ started.old.items) }
-    ensures tags { OnOk result (ends.new.taker ≡ accepted_in_all J.script) }
+    ensures tags { OnOk result (HasCounted L.free_tags (accepted_in_all J.script) ends.new.taker) }
     ensures memory { IfErr result (λ fault. fault ≡ RunFault.Memory) }
     ensures dismissed { OnErr result (started.new.items ≡ []) }
 {
@@ -103,7 +108,7 @@ fn lead<J: Run, C: QueueName, L: QueueName, R: Threads + Wait, S: Stall>(
     match submitted {
         Ok(()) => Ok(submitter),
         Err(why) => {
-            dismiss(hall.rt, started);
+            dismiss(hall.rt, &ends.source, started);
             Err(why)
         }
     }
@@ -111,14 +116,16 @@ fn lead<J: Run, C: QueueName, L: QueueName, R: Threads + Wait, S: Stall>(
 
 // Waits for the workers, which were ended, and takes back their right to draw with what they drew. There is a place for each
 // list (`AreOut`), so none is refused and no worker is left unjoined.
-fn gather<J: Run, C: QueueName, L: QueueName, R: Threads, S>(
+fn gather<J: Run, C: QueueName, L: QueueNames, R: Threads, S>(
     hall: &Hall<'_, J, C, L, R, S>,
     source: &mut Source<Job<J, C>>,
-    mut started: Vec<JoinHandle<FinishedWorker<J, C, L>>>,
+    started: &mut Vec<JoinHandle<FinishedWorker<J, C, L>>>,
 )
-    requires out { AreOut L.id (length started.items) source.old }
-    ensures back { AreBack L.id (length started.items) source.new }
+    requires out { AreOut L.requests (length started.old.items) source.old }
+    ensures back { AreBack L.requests (length started.old.items) source.new }
     ensures pushed { source.new.pushed ≡ source.old.pushed }
+    ensures ended { source.new.marks ≡ source.old.marks }
+    ensures joined { started.new.items ≡ [] }
 {
     while let Some(worker) = started.pop() {
         let back = worker.join(hall.rt);
@@ -134,7 +141,7 @@ fn start<
     'env,
     J: Run + Send + Sync + 'env,
     C: QueueName + Send + Sync + 'env,
-    L: QueueName + Send + Sync + 'env,
+    L: QueueNames + Send + Sync + 'env,
     R: Threads + Wait + Sync,
     S: Stall,
 >(
@@ -143,7 +150,7 @@ fn start<
     mut drawers: Vec<Drawer<Job<J, C>>>,
     mut started: Vec<JoinHandle<FinishedWorker<J, C, L>>>,
 ) -> Vec<JoinHandle<FinishedWorker<J, C, L>>>
-    requires drawers { All (IsNewDrawer L.id (accepted_in_all J.script + 1)) drawers.items }
+    requires drawers { All (IsNewDrawer L.requests (accepted_in_all J.script + 1)) drawers.items }
     requires room { (length started.items ≡ 0) × (length drawers.items ≤ vec_capacity started) }
     ensures few { length result.items ≤ length drawers.items }
 {
@@ -153,7 +160,7 @@ fn start<
         let worker = scope.spawn(
             move || -> FinishedWorker<J, C, L>
                 requires slot { slot < J.queue.gate.slots }
-                requires drawer { IsNewDrawer L.id (accepted_in_all J.script + 1) drawer }
+                requires drawer { IsNewDrawer L.requests (accepted_in_all J.script + 1) drawer }
             { work(hall, slot, drawer) },
         );
         let Ok(worker) = worker else {
@@ -165,44 +172,42 @@ fn start<
     started
 }
 
-// Submits and collects while the workers work that were started, ends them, and takes back what they drew. `Thread`
-// where fewer were started than there are to be: then they are ended at once. 32 is `MOST_WORKERS` (`AreDrawers` has the same
-// number). Any number below `all_parts`, which is 2^32, would do: the source has to keep a part (`AreOut`).
-fn lead_and_gather<J: Run, C: QueueName, L: QueueName, R: Threads + Wait, S: Stall>(
+// Submits and collects while the workers work that were started, ends each of them, also where the run fails, and takes back what
+// they drew. `Thread` where fewer were started than there are to be: then they are ended at once. 32 is `MOST_WORKERS`
+// (`AreDrawers` has the same number). Any number below `all_parts`, which is 2^32, would do: the source has to keep a part
+// (`AreOut`).
+fn lead_and_gather<J: Run, C: QueueName, L: QueueNames, R: Threads + Wait, S: Stall>(
     hall: &Hall<'_, J, C, L, R, S>,
     submitter: Submitter,
-    mut ends: Ends<J, C>,
-    mut started: Vec<JoinHandle<FinishedWorker<J, C, L>>>,
+    ends: &mut Ends<J, C>,
+    started: &mut Vec<JoinHandle<FinishedWorker<J, C, L>>>,
     workers: usize,
-) -> Result<(Submitter, Source<Job<J, C>>), RunFault>
+) -> Result<Submitter, RunFault>
     requires start { IsAt J.script J.queue 0 submitter }
-    requires ends { AreNewEnds L.id C.id workers ends.source ends.collector }
-    requires tags { ends.taker ≡ 0 }
+    requires ends { AreNewEnds L.requests C.id workers ends.old.source ends.old.collector }
+    requires tags { ends.old.taker ≡ none_counted L.free_tags }
     requires some { (0 < workers) × (workers ≤ 32) }
-    requires started { length started.items ≤ workers }
-    ensures led { IfOk result (λ led. IsLed J.script L.id workers led.0 led.1) }
-    ensures thread { IsErrOf result RunFault.Thread ↔ length started.items < workers }
+    requires started { length started.old.items ≤ workers }
+    ensures led { IfOk result (λ led. IsLed J.script L.requests workers led ends.new.source) }
+    ensures thread { IsErrOf result RunFault.Thread ↔ length started.old.items < workers }
+    ensures ended { ends.new.source.marks ≡ length started.old.items }
+    ensures joined { started.new.items ≡ [] }
 {
     if started.len() < workers {
         push_end_marks(hall, &mut ends.source, started.len());
-        dismiss(hall.rt, &mut started);
+        dismiss(hall.rt, &ends.source, started);
         return Err(RunFault::Thread);
     }
-    let submitter = lead(hall, submitter, &mut ends, &mut started, workers)?;
-    let Ends {
-        mut source,
-        collector: _,
-        taker: _,
-    } = ends;
-    gather(hall, &mut source, started);
-    Ok((submitter, source))
+    let submitter = lead(hall, submitter, ends, started, workers)?;
+    gather(hall, &mut ends.source, started);
+    Ok(submitter)
 }
 
 /// Starts the workers, submits and collects, ends them, and takes back what they drew.
 pub(crate) fn with_workers<
     J: Run + Send + Sync,
     C: QueueName + Send + Sync,
-    L: QueueName + Send + Sync,
+    L: QueueNames + Send + Sync,
     R: Threads + Wait + Sync,
     S: Stall,
 >(
@@ -211,9 +216,9 @@ pub(crate) fn with_workers<
     ends: Ends<J, C>,
     drawers: Vec<Drawer<Job<J, C>>>,
 ) -> Result<(Submitter, Source<Job<J, C>>), RunFault>
-    requires ready { AreAtStart J.script J.queue L.id C.id (length drawers.items) submitter ends.source ends.collector drawers.items }
-    requires tags { ends.taker ≡ 0 }
-    ensures led { IfOk result (λ led. IsLed J.script L.id (length drawers.items) led.0 led.1) }
+    requires ready { AreAtStart J.script J.queue L.requests C.id (length drawers.items) submitter ends.source ends.collector drawers.items }
+    requires tags { ends.taker ≡ none_counted L.free_tags }
+    ensures led { IfOk result (λ led. IsLed J.script L.requests (length drawers.items) led.0 led.1) }
 {
     let workers = drawers.len();
     let no_handles: Vec<JoinHandle<FinishedWorker<J, C, L>>> = Vec::with_capacity(
@@ -223,13 +228,20 @@ pub(crate) fn with_workers<
         thread::scope_env(),
         hall.rt,
         move |scope| -> Result<(Submitter, Source<Job<J, C>>), RunFault>
-            requires ready { AreAtStart J.script J.queue L.id C.id workers submitter ends.source ends.collector drawers.items }
-            requires tags { ends.taker ≡ 0 }
+            requires ready { AreAtStart J.script J.queue L.requests C.id workers submitter ends.source ends.collector drawers.items }
+            requires tags { ends.taker ≡ none_counted L.free_tags }
             requires room { (length no_handles.items ≡ 0) × (workers ≤ vec_capacity no_handles) }
-            ensures led { IfOk result (λ led. IsLed J.script L.id workers led.0 led.1) }
+            ensures led { IfOk result (λ led. IsLed J.script L.requests workers led.0 led.1) }
         {
-            let started = start(scope, hall, drawers, no_handles);
-            lead_and_gather(hall, submitter, ends, started, workers)
+            let mut ends = ends;
+            let mut started = start(scope, hall, drawers, no_handles);
+            let submitter = lead_and_gather(hall, submitter, &mut ends, &mut started, workers)?;
+            let Ends {
+                source,
+                collector: _,
+                taker: _,
+            } = ends;
+            Ok((submitter, source))
         },
     )
 }

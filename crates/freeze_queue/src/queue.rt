@@ -3,18 +3,21 @@ ghost use Rattle.std.specs.Prelude.{◌≡◌, ◌+◌, ◌<◌, ◌≤◌, true
 ghost use Rattle.percpu_core.specs.declared.limits.TheConstants.{SLOT_LIMIT};
 ghost use Rattle.percpu_core.specs.declared.view.PassView.{PassView};
 ghost use Rattle.percpu_core.specs.Views.{count};
-ghost use Rattle.percpu_gate.specs.Calls.{is_refused, taken, has_zero, LiveTryFinds, TryFinds, TryMeets};
+ghost use Rattle.percpu_gate.specs.Calls.{is_refused, taken, has_dead, has_zero, LiveTryFinds, TryFinds, TryMeets};
 ghost use Rattle.percpu_gate.specs.declared.tried.Tried.TheVariants.{Given};
 ghost use Rattle.queue_core.specs.declared.queue.TheConstants.{MOST_TAGS};
 ghost use Rattle.queue_core.specs.Queue.{IsQueue, first_tag, first_freezer, after_entering, after_refusal, after_asking, after_leaving};
 ghost use Rattle.queue_core.specs.AtTheGate.{AreInForce, HoldsOff};
 ghost use Rattle.queue_core.specs.Readings.{IsTag};
+ghost use Rattle.queue_core.specs.Staying.{has_left, after_stay, FindsDead};
+ghost use Rattle.queue_core.specs.declared.tag.Stay.TheVariants as Stay;
 ghost use Rattle.freeze_queue.specs.declared.enter.Enter.TheVariants.{Entered, Again};
-ghost use Rattle.freeze_queue.specs.Entering.{answered};
+ghost use Rattle.freeze_queue.specs.declared.enter.StayOrEnter.TheVariants.{Stayed, EnteredAgain};
+ghost use Rattle.freeze_queue.specs.Entering.{answered, has_entered_again, EndsWithEntering};
 
-use crate::enter::Enter;
+use crate::enter::{Enter, StayOrEnter};
 use crate::freezer::Freezer;
-use queue_core::{Entry, Limits, Memory, Put, Tag};
+use queue_core::{Entry, Limits, Memory, Put, Stay, Tag};
 use std::alloc::Global;
 use std::marker::Model;
 use std::sync::Wait;
@@ -106,9 +109,11 @@ impl BlockQueue {
         ensures entered { result ≡ Entered → tag.new ≡ after_entering tag.new.seat tag.old }
         ensures again { result ≡ Again → (r : Put) × (tag.new ≡ after_refusal r tag.new.seat tag.old) × (tag.new.seat.found_dead ≡ true) }
         ensures finds { LiveTryFinds self.now.gate slot tag.old.seat (answered result) }
+        // Again found DEAD at the one addition of this very call, also where the tag was refused before.
+        ensures meets { TryMeets self.now.gate has_dead tag.old.seat tag.new.seat (is_refused (answered result)) }
+        ensures looks { tag.new.seat.looks ≡ tag.old.seat.looks }
         // What Entered found is of the very step that took the reference: the gate, while it was live, gave it.
         ensures counted { tag.new.seat.live_given ≡ tag.old.seat.live_given + taken (answered result) }
-        // What Again found is of a step of this very call, also where the tag was refused before.
         ensures times { tag.new.seat.found_dead_times ≡ tag.old.seat.found_dead_times + count (is_refused (answered result)) }
     {
         match self.core.try_enter(tag, slot) {
@@ -154,7 +159,10 @@ impl BlockQueue {
         ensures entered { tag.new ≡ record (after_entering tag.new.seat tag.old) { releases = tag.new.releases } }
         ensures releases { tag.old.releases ≤ tag.new.releases }
         ensures counted { tag.new.seat.live_given ≡ tag.old.seat.live_given + 1 }
-        ensures finds { (before : PassView) × (before.live_given ≡ tag.old.seat.live_given) × LiveTryFinds self.now.gate slot before Given }
+        ensures finds { EndsWithEntering self.now.gate slot tag.old.seat }
+        // It loads the shared word at no time: each try is one addition at most.
+        ensures looks { tag.new.seat.looks ≡ tag.old.seat.looks }
+        ensures times { tag.old.seat.found_dead_times ≤ tag.new.seat.found_dead_times }
     {
         for _ in self.thawed.tries(rt) {
             if self.try_enter(tag, slot) == Enter::Entered {
@@ -174,6 +182,56 @@ impl BlockQueue {
         ensures { tag.new ≡ after_leaving result tag.old }
     {
         self.tell(self.core.leave(tag, slot))
+    }
+
+    /// Stays entered between two requests, for the price of one load, unless the queue is frozen: then it leaves, and the
+    /// last to leave wakes those who wait for the drain. Where it stays, its limits are those that it has. Linux: the
+    /// requests that a plug keeps, each with its reference of `q_usage_counter` (block/blk-mq.c).
+    ///
+    /// A thread that stays and then sleeps holds up every freeze, so it leaves before it waits.
+    #[inline]
+    pub fn stay(&self, tag: &mut Tag, slot: u32) -> Stay
+        requires own { tag.old.queue ≡ self.now }
+        requires slot { slot < self.now.gate.slots }
+        requires entered { tag.old.entered ≡ true }
+        // The one load of this very call is counted with what it found, so no answer comes from an earlier load, or from none.
+        ensures leaves { tag.new ≡ after_stay result tag.old }
+        ensures finds { FindsDead self.now.gate tag.old.seat (has_left result) }
+        ensures times { tag.new.seat.found_dead_times ≡ tag.old.seat.found_dead_times + count (has_left result) }
+        ensures looks { tag.new.seat.looks ≡ tag.old.seat.looks + 1 }
+    {
+        match self.core.stay(tag, slot) {
+            Stay::Stayed => Stay::Stayed,
+            Stay::Left(put) => Stay::Left(self.tell(put)),
+        }
+    }
+
+    /// Stays entered between two requests, for the price of one load, unless the queue is frozen: then it leaves, waits until
+    /// the queue thaws, and enters again. The answer says whether the limits may differ from those before.
+    ///
+    /// A thread that stays and then sleeps holds up every freeze, so it leaves before it waits.
+    #[inline]
+    pub fn stay_or_enter<R: Wait>(&self, rt: &R, tag: &mut Tag, slot: u32) -> StayOrEnter
+        requires own { tag.old.queue ≡ self.now }
+        requires slot { slot < self.now.gate.slots }
+        requires entered { tag.old.entered ≡ true }
+        ensures stayed { result ≡ Stayed → tag.new ≡ after_stay Stay.Stayed tag.old }
+        ensures again { result ≡ EnteredAgain → tag.new ≡ record (after_entering tag.new.seat tag.old) { releases = tag.new.releases } }
+        ensures releases { tag.old.releases ≤ tag.new.releases }
+        ensures looks { tag.new.seat.looks ≡ tag.old.seat.looks + 1 }
+        // It left where the load of this very call found the queue frozen, and a live queue let it in again, once.
+        ensures frozen { FindsDead self.now.gate tag.old.seat (has_entered_again result) }
+        ensures times { tag.old.seat.found_dead_times + count (has_entered_again result) ≤ tag.new.seat.found_dead_times }
+        ensures counted { tag.new.seat.live_given ≡ tag.old.seat.live_given + count (has_entered_again result) }
+        ensures finds { result ≡ EnteredAgain → EndsWithEntering self.now.gate slot tag.old.seat }
+    {
+        match self.stay(tag, slot) {
+            Stay::Stayed => StayOrEnter::Stayed,
+            Stay::Left(_) => {
+                self.enter(rt, tag, slot);
+                StayOrEnter::EnteredAgain
+            }
+        }
     }
 
     /// The limits in force, for an entered tag: the same at each call until it leaves, in whichever threads the

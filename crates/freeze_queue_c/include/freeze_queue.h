@@ -14,9 +14,13 @@
  * let each thread have a slot of its own. Threads may share a slot, which is slower, and a request may leave on another
  * slot than it entered.
  *
+ * A busy thread stays entered between two requests (stay): one load, in place of a leave and an entering. It leaves only
+ * once a freeze has begun. A thread that stays and then sleeps holds up every freeze, so leave before you wait: for work,
+ * for a lock, in poll.
+ *
  * Freezes nest: each is thawed by one thaw, and the last thaw lets requests enter again. Whether several threads freeze
  * or one does, the calls of a freezer are made one at a time, so it stands under a lock of yours, which isn't held while
- * the queue drains. freeze_queue_wait.h has that ready made for pthreads: entering that waits for the thaw, freezing that
+ * the queue drains. freeze_queue_waits.h has that ready made for pthreads: entering that waits for the thaw, freezing that
  * waits for the drain, with deadlines, and events for poll.
  *
  * No call waits, takes a lock or tries again; only new and next_tag allocate. Most answer a number: below 16 it is done,
@@ -81,6 +85,11 @@
 #define FREEZE_QUEUE_MUST_USE
 #endif
 
+/* The waits and the pool are inline functions, of which the library has symbols too, for other languages. */
+#ifndef FREEZE_QUEUE_INLINE
+#define FREEZE_QUEUE_INLINE static inline
+#endif
+
 #ifdef __cplusplus
 extern "C" {
 #endif
@@ -93,14 +102,24 @@ enum {
     FREEZE_QUEUE_MOST_PHYSICAL = 32768  /* sectors of a physical block */
 };
 
-/* Handles: open, and the place of what is the queue's own. All zero while closed. */
-typedef struct freeze_queue_freezer { bool is_open; void *at; } freeze_queue_freezer;
-typedef struct freeze_queue_tag { bool is_open; void *at; } freeze_queue_tag;
+/* Two words of a handle, for later versions. In C++ they keep a handle from being copied, and close it at first. */
+typedef struct freeze_queue_reserve {
+    void *words[2];
+#ifdef __cplusplus
+    freeze_queue_reserve() : words() {}
+    freeze_queue_reserve(const freeze_queue_reserve &) = delete;
+    freeze_queue_reserve &operator=(const freeze_queue_reserve &) = delete;
+#endif
+} freeze_queue_reserve;
+
+/* Handles: open, the place of what is the queue's own, and the reserve. All zero while closed. */
+typedef struct freeze_queue_freezer { bool is_open; void *at; freeze_queue_reserve reserved; } freeze_queue_freezer;
+typedef struct freeze_queue_tag { bool is_open; void *at; freeze_queue_reserve reserved; } freeze_queue_tag;
 
 /* Limits, in sectors: what the hardware takes in one command (1 to 65,535; one number for the queue's whole life); the
  * most that is sent in one (1 to hardware; 0 asks for hardware); the chunk whose multiples no piece crosses (to 65,535; 0:
- * none); and the physical block, with which a piece ends where it can (a power of two from 1 to 32,768).
- * Linux: struct queue_limits (include/linux/blkdev.h). */
+ * none); and the physical block, with which a piece ends where it can (a power of two from 1 to 32,768; 0 asks for 1).
+ * {.hardware = 64} has the defaults. Linux: struct queue_limits (include/linux/blkdev.h). */
 typedef struct freeze_queue_limits {
     uint32_t hardware;
     uint32_t max;
@@ -118,52 +137,57 @@ typedef struct freeze_queue_final {
 } freeze_queue_final;
 
 #if defined(__cplusplus) || __STDC_VERSION__ >= 201112L
-static_assert(sizeof(freeze_queue_freezer) == 16, "a handle is two words");
-static_assert(sizeof(freeze_queue_tag) == 16, "a handle is two words");
+static_assert(sizeof(freeze_queue_freezer) == 32, "a handle is four words");
+static_assert(sizeof(freeze_queue_tag) == 32, "a handle is four words");
 static_assert(sizeof(freeze_queue_limits) == 16, "as the library has it");
 static_assert(sizeof(freeze_queue_final) == 40, "as the library has it");
 #endif
 
 /* How a live queue counts: on slots, which is quick where each thread has one, or on one shared word. */
-enum { FREEZE_QUEUE_SLOTS = 0, FREEZE_QUEUE_ATOMIC = 1 };
+enum { FREEZE_QUEUE_MODE_SLOTS = 0, FREEZE_QUEUE_MODE_ATOMIC = 1 };
 
+/* Answers: below 16 the call is done, or its tag isn't entered since the queue is frozen. From 16 on it is refused, and
+ * the name has ERR. Both libraries number alike what both refuse: 21, and 32 to 47. */
 enum {
-    FREEZE_QUEUE_OK = 0,               /* done; the tag is entered; a leave that isn't the last */
+    FREEZE_QUEUE_OK = 0,               /* done; the tag is entered, or has stayed; a leave that isn't the last */
     FREEZE_QUEUE_LAST = 1,             /* of leave: the queue is drained by this call */
     FREEZE_QUEUE_NOT_ENTERED = 2,      /* the tag isn't entered: the queue is frozen (or, for try_enter_frozen, drained) */
     FREEZE_QUEUE_NOT_ENTERED_LAST = 3, /* the tag isn't entered, and the queue is drained by this call */
     FREEZE_QUEUE_DRAINED = 4,          /* of start_freeze: the queue is drained already */
-    FREEZE_QUEUE_LIVE_AGAIN = 5,       /* of thaw: requests enter again */
+    FREEZE_QUEUE_LIVE_AGAIN = 5,       /* of thaw: requests enter again; of waits_stay: the tag left, and entered again */
     /* the queue's own refusals */
-    FREEZE_QUEUE_DEPTH_FULL = 17, /* 1,000 freezes aren't thawed yet */
-    FREEZE_QUEUE_NOT_FROZEN = 18,
-    FREEZE_QUEUE_NOT_DRAINED = 19, /* a tag is entered still, or a refused entering is counted for a moment */
-    FREEZE_QUEUE_TAGS_OUT = 20,    /* tags weren't given back */
-    FREEZE_QUEUE_WORN_OUT = 21,    /* frozen 2^40 times */
+    FREEZE_QUEUE_ERR_DEPTH_FULL = 17,  /* 1,000 freezes aren't thawed yet */
+    FREEZE_QUEUE_ERR_NOT_FROZEN = 18,
+    FREEZE_QUEUE_ERR_NOT_DRAINED = 19, /* a tag is entered still, or a refused entering is counted for a moment */
+    FREEZE_QUEUE_ERR_TAGS_OUT = 20,    /* tags weren't given back */
+    FREEZE_QUEUE_ERR_WORN_OUT = 21,    /* frozen 2^40 times */
     /* refusals of limits */
-    FREEZE_QUEUE_ABOVE_HARDWARE = 25,  /* max is above hardware */
-    FREEZE_QUEUE_CHUNK_TOO_LARGE = 26, /* above 65,535 */
-    FREEZE_QUEUE_HARDWARE_RANGE = 27,  /* not from 1 to 65,535 */
-    FREEZE_QUEUE_BAD_PHYSICAL = 28,    /* not a power of two from 1 to 32,768 */
-    FREEZE_QUEUE_OTHER_HARDWARE = 29,  /* of set: hardware isn't the queue's */
-    /* of freeze_queue_wait.h and freeze_queue_pool.h alone */
-    FREEZE_QUEUE_TIMED_OUT = 30, /* the deadline has passed */
-    /* misuse */
-    FREEZE_QUEUE_CLOSED = 32,          /* the handle is closed */
-    FREEZE_QUEUE_OPEN = 33,            /* the handle is open */
-    FREEZE_QUEUE_SLOT = 34,            /* no such slot (FREEZE_QUEUE_SLOTS is a mode) */
-    FREEZE_QUEUE_ENTERED = 35,         /* the tag has entered */
-    FREEZE_QUEUE_NOT_ENTERED_TAG = 36, /* the tag hasn't entered */
-    FREEZE_QUEUE_OTHER_QUEUE = 37,     /* the tag is of another queue */
-    FREEZE_QUEUE_SIZE = 38,            /* 1 to 64 slots, 1 to 63 tags */
-    FREEZE_QUEUE_NO_TAG = 39,          /* every tag was given out */
-    FREEZE_QUEUE_NO_MEMORY = 40,
-    FREEZE_QUEUE_MODE = 41,   /* no such mode */
-    FREEZE_QUEUE_RANGE = 42,  /* of first_piece: no sector, or a start from 2^33 on */
-    FREEZE_QUEUE_IN_USE = 45 /* remove found another share of the queue: no use of handles leads there */
+    FREEZE_QUEUE_ERR_ABOVE_HARDWARE = 25,  /* max is above hardware */
+    FREEZE_QUEUE_ERR_CHUNK_TOO_LARGE = 26, /* above 65,535 */
+    FREEZE_QUEUE_ERR_HARDWARE_RANGE = 27,  /* not from 1 to 65,535 */
+    FREEZE_QUEUE_ERR_BAD_PHYSICAL = 28,    /* neither 0 nor a power of two from 1 to 32,768 */
+    FREEZE_QUEUE_ERR_OTHER_HARDWARE = 29,  /* of set: hardware isn't the queue's */
+    /* of freeze_queue_waits.h and freeze_queue_pool.h alone */
+    FREEZE_QUEUE_ERR_TIMED_OUT = 30, /* the deadline has passed */
+    FREEZE_QUEUE_ERR_DYING = 31,     /* the queue is marked dying: no request enters any more */
+    /* misuse, and want of memory or tags */
+    FREEZE_QUEUE_ERR_CLOSED = 32,      /* the handle is closed */
+    FREEZE_QUEUE_ERR_OPEN = 33,        /* the handle is open */
+    FREEZE_QUEUE_ERR_BAD_SLOT = 34,    /* the queue has no such slot */
+    FREEZE_QUEUE_ERR_BAD_SIZE = 35,    /* not 1 to 64 slots, or not 1 to 63 tags */
+    FREEZE_QUEUE_ERR_NO_MEMORY = 36,
+    FREEZE_QUEUE_ERR_IN_USE = 37,      /* remove found another share of the queue: no use of handles leads there */
+    FREEZE_QUEUE_ERR_OTHER_QUEUE = 38, /* the tag is of another queue */
+    FREEZE_QUEUE_ERR_NO_TAG = 39,      /* every tag was given out */
+    /* misuse of a queue alone */
+    FREEZE_QUEUE_ERR_ALREADY_ENTERED = 48, /* the tag has entered */
+    FREEZE_QUEUE_ERR_TAG_NOT_ENTERED = 49, /* the tag hasn't entered */
+    FREEZE_QUEUE_ERR_BAD_MODE = 50,        /* no such mode */
+    FREEZE_QUEUE_ERR_BAD_RANGE = 51,       /* of first_piece: no sector, or a start from 2^33 on */
+    FREEZE_QUEUE_ERR_TAG_NOT_OUT = 52      /* of a pool: the tag was given back already */
 };
 
-/* Whether the queue is drained, as this answer of try_enter, try_enter_frozen, leave or start_freeze tells: wake whoever
+/* Whether the queue is drained, as this answer of try_enter, try_enter_frozen, stay, leave or start_freeze tells: wake whoever
  * waits for that. */
 static inline bool freeze_queue_is_drained(uint32_t answer)
 {
@@ -173,7 +197,7 @@ static inline bool freeze_queue_is_drained(uint32_t answer)
 /* Whether the call was refused, and everything is as it was: 16 or more. */
 static inline bool freeze_queue_is_refused(uint32_t answer) { return answer >= 16; }
 
-/* Whether nothing was done since the call was wrong, or memory or tags have run out: 32 to 45. (A tag that isn't entered
+/* Whether nothing was done since the call was wrong, or memory or tags have run out: 32 or more. (A tag that isn't entered
  * is no misuse, and nor is a refusal of the queue or of limits.) */
 static inline bool freeze_queue_is_misuse(uint32_t answer) { return answer >= 32; }
 
@@ -182,29 +206,30 @@ const char *freeze_queue_text(uint32_t answer);
 
 /* ---- A queue comes and goes: whoever owns the freezer. ---- */
 
-/* Makes a live queue of these limits that counts on 1 to 64 slots, with 1 to 63 tags, for a closed handle. OPEN,
- * HARDWARE_RANGE, ABOVE_HARDWARE, CHUNK_TOO_LARGE, BAD_PHYSICAL, SIZE, NO_MEMORY. Linux: blk_mq_alloc_queue. */
+/* Makes a live queue of these limits that counts on 1 to 64 slots, with 1 to 63 tags, for a closed handle. ERR_OPEN,
+ * ERR_HARDWARE_RANGE, ERR_ABOVE_HARDWARE, ERR_CHUNK_TOO_LARGE, ERR_BAD_PHYSICAL, ERR_BAD_SIZE, ERR_NO_MEMORY. Linux:
+ * blk_mq_alloc_queue. */
 FREEZE_QUEUE_MUST_USE uint32_t freeze_queue_new(freeze_queue_freezer *freezer, const freeze_queue_limits *limits,
                                                 uint32_t slots, uint32_t tags);
 
-/* Gives a tag that is out of use, new or given back, to a closed handle, live or frozen. CLOSED, OPEN, NO_TAG,
- * NO_MEMORY. */
+/* Gives a tag that is out of use, new or given back, to a closed handle, live or frozen. ERR_CLOSED, ERR_OPEN, ERR_NO_TAG,
+ * ERR_NO_MEMORY. */
 FREEZE_QUEUE_MUST_USE uint32_t freeze_queue_next_tag(freeze_queue_freezer *freezer, freeze_queue_tag *tag);
 
 /* Takes a tag back that hasn't entered, live or frozen, for next_tag to give again, and closes its handle. Needs no
- * memory. CLOSED, OTHER_QUEUE, ENTERED. */
+ * memory. ERR_CLOSED, ERR_OTHER_QUEUE, ERR_ALREADY_ENTERED. */
 FREEZE_QUEUE_MUST_USE uint32_t freeze_queue_give_tag_back(freeze_queue_freezer *freezer, freeze_queue_tag *tag);
 
-/* Ends a queue, live or frozen, whose tags were all given back, but for those that nobody asked for, writes what is left
- * of it, and closes the handle. CLOSED, TAGS_OUT, WORN_OUT. (And IN_USE, if somebody else had a share of the queue, as no
- * use of handles leads to.) What ends a queue needs no memory, nor do CLOSED and TAGS_OUT; WORN_OUT and IN_USE take what
- * they freed once more, and where that is refused the freezer is gone, as by free_freezer: NO_MEMORY.
- * Linux: blk_mq_destroy_queue. */
+/* Ends a queue, live or frozen, whose tags were all given back, but for those that nobody asked for, writes what is
+ * left of it, and closes the handle. ERR_CLOSED, ERR_TAGS_OUT, ERR_WORN_OUT. (And ERR_IN_USE, if somebody else had a
+ * share of the queue, as no use of handles leads to.) What ends a queue needs no memory, nor do ERR_CLOSED and
+ * ERR_TAGS_OUT; ERR_WORN_OUT and ERR_IN_USE take what they freed once more, and where that is refused the freezer is
+ * gone, as by free_freezer: ERR_NO_MEMORY. Linux: blk_mq_destroy_queue. */
 FREEZE_QUEUE_MUST_USE uint32_t freeze_queue_remove(freeze_queue_freezer *freezer, freeze_queue_final *last);
 
 /* Free what a handle has, and close it; a closed one stays so. The queue counts a freed tag as out for ever: its remove
- * answers TAGS_OUT, and free_freezer ends it; and one that was entered holds every drain off. Tags whose freezer was freed
- * count on, and can only be freed. */
+ * answers ERR_TAGS_OUT, and free_freezer ends it; and one that was entered holds every drain off. Tags whose freezer
+ * was freed count on, and can only be freed. */
 void freeze_queue_free_tag(freeze_queue_tag *tag);
 void freeze_queue_free_freezer(freeze_queue_freezer *freezer);
 
@@ -214,25 +239,31 @@ uint64_t freeze_queue_freezer_number(freeze_queue_freezer *freezer);
 
 /* ---- A tag enters and leaves: the thread that has it, from any context but a signal handler. ---- */
 
-/* Enters unless the queue is frozen: OK, NOT_ENTERED, NOT_ENTERED_LAST. CLOSED, SLOT, ENTERED. Linux: blk_queue_enter with
- * BLK_MQ_REQ_NOWAIT. */
+/* Enters unless the queue is frozen: OK, NOT_ENTERED, NOT_ENTERED_LAST. ERR_CLOSED, ERR_BAD_SLOT, ERR_ALREADY_ENTERED.
+ * Linux: blk_queue_enter with BLK_MQ_REQ_NOWAIT. */
 FREEZE_QUEUE_MUST_USE uint32_t freeze_queue_try_enter(freeze_queue_tag *tag, uint32_t slot);
 
 /* Enters a queue that may be frozen, to look at what is under way, unless it is drained: OK, NOT_ENTERED,
- * NOT_ENTERED_LAST. Until the tag leaves it holds the drain off. CLOSED, SLOT, ENTERED. Linux: percpu_ref_tryget of
- * q_usage_counter. */
+ * NOT_ENTERED_LAST. Until the tag leaves it holds the drain off. ERR_CLOSED, ERR_BAD_SLOT, ERR_ALREADY_ENTERED. Linux:
+ * percpu_ref_tryget of q_usage_counter. */
 FREEZE_QUEUE_MUST_USE uint32_t freeze_queue_try_enter_frozen(freeze_queue_tag *tag, uint32_t slot);
 
-/* Leaves: OK, or LAST once, where it was the last of a freeze. CLOSED, SLOT, NOT_ENTERED_TAG. Linux: blk_queue_exit. */
+/* Stays entered for the next request, with the limits that the tag has: OK. If a freeze has begun, it leaves instead:
+ * NOT_ENTERED, NOT_ENTERED_LAST. Leave before you sleep. ERR_CLOSED, ERR_BAD_SLOT, ERR_TAG_NOT_ENTERED. Linux: the requests
+ * that a plug keeps, each with its reference of q_usage_counter (block/blk-mq.c). */
+FREEZE_QUEUE_MUST_USE uint32_t freeze_queue_stay(freeze_queue_tag *tag, uint32_t slot);
+
+/* Leaves: OK, or LAST once, where it was the last of a freeze. ERR_CLOSED, ERR_BAD_SLOT, ERR_TAG_NOT_ENTERED. Linux:
+ * blk_queue_exit. */
 FREEZE_QUEUE_MUST_USE uint32_t freeze_queue_leave(freeze_queue_tag *tag, uint32_t slot);
 
-/* Writes the limits in force, the same for as long as the tag is entered. CLOSED, NOT_ENTERED_TAG. */
+/* Writes the limits in force, the same for as long as the tag is entered. ERR_CLOSED, ERR_TAG_NOT_ENTERED. */
 FREEZE_QUEUE_MUST_USE uint32_t freeze_queue_limits_of(freeze_queue_tag *tag, freeze_queue_limits *limits);
 
 /* ---- The freezer freezes, sets and thaws: whoever owns it. ---- */
 
 /* Begins a freeze, and writes how many aren't thawed yet, this one too. DRAINED where the queue is drained by now (then a
- * leave may have been told so too); else OK, and whoever leaves last is told. CLOSED, DEPTH_FULL, WORN_OUT.
+ * leave may have been told so too); else OK, and whoever leaves last is told. ERR_CLOSED, ERR_DEPTH_FULL, ERR_WORN_OUT.
  * Linux: blk_freeze_queue_start. */
 FREEZE_QUEUE_MUST_USE uint32_t freeze_queue_start_freeze(freeze_queue_freezer *freezer, uint32_t *depth);
 
@@ -240,28 +271,29 @@ FREEZE_QUEUE_MUST_USE uint32_t freeze_queue_start_freeze(freeze_queue_freezer *f
  * Linux: percpu_ref_is_zero in blk_mq_freeze_queue_wait. */
 bool freeze_queue_poll_drained(freeze_queue_freezer *freezer);
 
-/* Sets the limits of a drained queue, for whoever enters after the thaw. CLOSED, HARDWARE_RANGE, ABOVE_HARDWARE,
- * CHUNK_TOO_LARGE, BAD_PHYSICAL, OTHER_HARDWARE, NOT_FROZEN, NOT_DRAINED. Linux: queue_limits_commit_update, under a
- * freeze. */
+/* Sets the limits of a drained queue, for whoever enters after the thaw. ERR_CLOSED, ERR_HARDWARE_RANGE,
+ * ERR_ABOVE_HARDWARE, ERR_CHUNK_TOO_LARGE, ERR_BAD_PHYSICAL, ERR_OTHER_HARDWARE, ERR_NOT_FROZEN, ERR_NOT_DRAINED.
+ * Linux: queue_limits_commit_update, under a freeze. */
 FREEZE_QUEUE_MUST_USE uint32_t freeze_queue_set(freeze_queue_freezer *freezer, const freeze_queue_limits *limits);
 
-/* Ends a freeze, drained or not, and writes how many are left: LIVE_AGAIN where none is, else OK. CLOSED, NOT_FROZEN.
- * Linux: blk_mq_unfreeze_queue. */
+/* Ends a freeze, drained or not, and writes how many are left: LIVE_AGAIN where none is, else OK. ERR_CLOSED,
+ * ERR_NOT_FROZEN. Linux: blk_mq_unfreeze_queue. */
 FREEZE_QUEUE_MUST_USE uint32_t freeze_queue_thaw(freeze_queue_freezer *freezer, uint32_t *depth);
 
-/* Counts in this mode from now on, a frozen queue once it is thawed. CLOSED, MODE.
+/* Counts in this mode from now on, a frozen queue once it is thawed. ERR_CLOSED, ERR_BAD_MODE.
  * Linux: percpu_ref_switch_to_atomic_sync, percpu_ref_switch_to_percpu. */
 FREEZE_QUEUE_MUST_USE uint32_t freeze_queue_mode(freeze_queue_freezer *freezer, uint32_t mode);
 
-/* Write the freezes that aren't thawed yet (0: live), and the limits. CLOSED. Linux: mq_freeze_depth. */
+/* Write the freezes that aren't thawed yet (0: live), and the limits. ERR_CLOSED. Linux: mq_freeze_depth. */
 uint32_t freeze_queue_depth(freeze_queue_freezer *freezer, uint32_t *depth);
 uint32_t freeze_queue_limits_in_force(freeze_queue_freezer *freezer, freeze_queue_limits *limits);
 
 /* ---- The splitter ---- */
 
 /* Writes the length of the first piece of count sectors from start on, 1 to count: all of them where max and the chunk
- * allow it; else up to the last end of a physical block that they allow, or as many as they allow where none ends there.
- * HARDWARE_RANGE, ABOVE_HARDWARE, CHUNK_TOO_LARGE, BAD_PHYSICAL, RANGE. Linux: get_max_io_size (block/blk-merge.c). */
+ * allow it; else up to the last end of a physical block that they allow, or as many as they allow where none ends
+ * there. ERR_HARDWARE_RANGE, ERR_ABOVE_HARDWARE, ERR_CHUNK_TOO_LARGE, ERR_BAD_PHYSICAL, ERR_BAD_RANGE. Linux:
+ * get_max_io_size (block/blk-merge.c). */
 FREEZE_QUEUE_MUST_USE uint32_t freeze_queue_first_piece(const freeze_queue_limits *limits, uint64_t start,
                                                         uint32_t count, uint32_t *piece);
 
@@ -318,6 +350,13 @@ FREEZE_QUEUE_MUST_USE static inline uint32_t freeze_queue_told_leave(freeze_queu
     uint32_t answer = freeze_queue_leave(tag, slot);
     return freeze_queue_acquires(answer == FREEZE_QUEUE_LAST, order, answer);
 }
+FREEZE_QUEUE_MUST_USE static inline uint32_t freeze_queue_told_stay(freeze_queue_tag *tag, uint32_t slot)
+{
+    void *order = freeze_queue_order_of_tag(tag);
+    __tsan_release(order);
+    uint32_t answer = freeze_queue_stay(tag, slot);
+    return freeze_queue_acquires(answer == FREEZE_QUEUE_NOT_ENTERED_LAST, order, answer);
+}
 FREEZE_QUEUE_MUST_USE static inline uint32_t freeze_queue_told_start_freeze(freeze_queue_freezer *freezer,
                                                                             uint32_t *depth)
 {
@@ -347,6 +386,7 @@ FREEZE_QUEUE_MUST_USE static inline uint32_t freeze_queue_told_thaw(freeze_queue
 
 #define freeze_queue_try_enter freeze_queue_told_try_enter
 #define freeze_queue_try_enter_frozen freeze_queue_told_try_enter_frozen
+#define freeze_queue_stay freeze_queue_told_stay
 #define freeze_queue_leave freeze_queue_told_leave
 #define freeze_queue_start_freeze freeze_queue_told_start_freeze
 #define freeze_queue_poll_drained freeze_queue_told_poll_drained

@@ -1,4 +1,4 @@
--- What a try to enter and a look into a queue tell of an open tag, and the look of a freeze of an open freezer.
+-- What a try to enter, a look into a queue and a stay tell of an open tag, and the look of a freeze of an open freezer.
 use Rattle.std.proofs.Common.{◌≡◌, ℕ, ◌+◌, Bool, true, None, List, refl, ap, sym, subst, ◌∙◌}
 use Rattle.std.specs.Prelude.{Ok}
 use Rattle.percpu_core.specs.Views.{count}
@@ -6,13 +6,15 @@ use Rattle.percpu_gate.specs.declared.tried.Put.{Put}
 use Rattle.percpu_gate.specs.Calls.{is_refused, taken, has_dead, has_zero, LiveTryFinds, TryFinds, TryMeets}
 use Rattle.percpu_gate.specs.Seats.{FindsZero}
 use Rattle.queue_core.specs.declared.tag.Entry.{Entry}
+use Rattle.queue_core.specs.declared.tag.Stay.{Stay}
 use Rattle.queue_core.specs.AtTheGate.{HoldsOff}
 use Rattle.queue_core.specs.Entering.{tried, after_try}
+use Rattle.queue_core.specs.Staying.{has_left, after_stay, FindsDead}
 use Rattle.queue_core.specs.Queue.{QueueFacts, TagFacts, FreezerFacts, after_freeze, after_look, freeze_refusal}
 use Rattle.freeze_queue_c.specs.declared.queue_number.QueueNumber.{QueueNumber}
 use Rattle.freeze_queue_c.specs.FreezerCalls.{StartedFreeze}
 use Rattle.freeze_queue_c.specs.Opened.{TagOpened, FreezerOpened}
-use Rattle.freeze_queue_c.specs.TagCalls.{TriedToEnter, TriedToLookIn}
+use Rattle.freeze_queue_c.specs.TagCalls.{TriedToEnter, TriedToLookIn, HasStayed}
 
 pub tried_to_enter : {queue : QueueFacts} {number : QueueNumber} {slot : ℕ} {old new : TagFacts} {before : TagOpened} {r : Entry}
     → before ≡ record { number = number; tag = old } → queue ≡ old.queue
@@ -47,6 +49,20 @@ looked_in {number = number} {old = old} {new = new} {r = r} was own leaves drain
       meets = subst (λ (q : QueueFacts). TryMeets q.gate has_zero old.seat new.seat (is_refused (tried r))) own meets;
       times = times;
       holds_off = off;
+    })
+
+pub has_stayed : {queue : QueueFacts} {number : QueueNumber} {old new : TagFacts} {before : TagOpened} {r : Stay}
+    → before ≡ record { number = number; tag = old } → queue ≡ old.queue
+    → new ≡ after_stay r old → FindsDead queue.gate old.seat (has_left r)
+    → new.seat.found_dead_times ≡ old.seat.found_dead_times + count (has_left r) → new.seat.looks ≡ old.seat.looks + 1
+    → HasStayed before (record { number = number; tag = new }) r
+has_stayed {number = number} {old = old} {new = new} {r = r} was own leaves finds times looks =
+    subst (λ (b : TagOpened). HasStayed b (record { number = number; tag = new }) r) (sym was) (record {
+      number = refl;
+      leaves = leaves;
+      finds = subst (λ (q : QueueFacts). FindsDead q.gate old.seat (has_left r)) own finds;
+      times = times;
+      looks = looks;
     })
 
 pub has_begun : {queue : QueueFacts} {number : QueueNumber} {waiting : List TagFacts} {old mid new : FreezerFacts} {before : FreezerOpened} {depth : ℕ} {drained : Bool} (put : Put)

@@ -49,12 +49,12 @@ IsKeptAs f None why = why ≡ OfMisuse Memory
 
 -- somebody has a share of the queue, which is as it was; or it is gone, where there is no memory to put it back. No way of using handles leads there
 abbrev pub IsKept : FreezerOpened → Option FreezerOpened → ℕ → Type 0
-IsKept f new result = ((new ≡ Some f) × (result ≡ 45)) ⊎ ((new ≡ None) × (result ≡ 40))
+IsKept f new result = ((new ≡ Some f) × (result ≡ 37)) ⊎ ((new ≡ None) × (result ≡ 36))
 
 -- what putting such a queue back into its handle leaves, by the number that C is answered
 abbrev pub Restores : Option FreezerOpened → Refusal → Option FreezerOpened → ℕ → Type 0
 Restores None why new result = (new ≡ None) × (result ≡ refusal_number why)
-Restores (Some back) why new result = ((new ≡ Some back) × (result ≡ refusal_number why)) ⊎ ((new ≡ None) × (result ≡ 40))
+Restores (Some back) why new result = ((new ≡ Some back) × (result ≡ refusal_number why)) ⊎ ((new ≡ None) × (result ≡ 36))
 
 -- what ending a queue leaves: refused with everything as it was, or ended
 abbrev pub RemovesOpen : Option FreezeFault → FreezerOpened → Option FreezerOpened → Final → Final → ℕ → Type 0

@@ -6,6 +6,8 @@ use Rattle.queue_limits.specs.FaultNumber as limit_faults
 use Rattle.queue_core.specs.declared.fault.FreezeFault.{FreezeFault}
 use Rattle.queue_core.specs.declared.tag.Entry.{Entry}
 use Rattle.queue_core.specs.declared.tag.Entry.TheVariants as entries
+use Rattle.queue_core.specs.declared.tag.Stay.{Stay}
+use Rattle.queue_core.specs.declared.tag.Stay.TheVariants.{Stayed, Left}
 use Rattle.queue_core.specs.Queue.{fault_number}
 use Rattle.freeze_queue_c.specs.declared.misuse.Misuse.{Misuse}
 use Rattle.freeze_queue_c.specs.declared.misuse.Misuse.TheVariants as misuses
@@ -16,15 +18,15 @@ abbrev pub misuse_number : Misuse → ℕ
 misuse_number misuses.Closed = 32
 misuse_number misuses.Open = 33
 misuse_number misuses.Slot = 34
-misuse_number misuses.Entered = 35
-misuse_number misuses.NotEntered = 36
-misuse_number misuses.OtherQueue = 37
-misuse_number misuses.Size = 38
+misuse_number misuses.Entered = 48
+misuse_number misuses.NotEntered = 49
+misuse_number misuses.OtherQueue = 38
+misuse_number misuses.Size = 35
 misuse_number misuses.NoTag = 39
-misuse_number misuses.Memory = 40
-misuse_number misuses.Mode = 41
-misuse_number misuses.Range = 42
-misuse_number misuses.InUse = 45
+misuse_number misuses.Memory = 36
+misuse_number misuses.Mode = 50
+misuse_number misuses.Range = 51
+misuse_number misuses.InUse = 37
 
 -- a refusal of limits is 24 more than its number, one of the queue 16 more
 abbrev pub refusal_number : Refusal → ℕ
@@ -41,6 +43,11 @@ put_number Last = 1
 abbrev pub entry_number : Entry → ℕ
 entry_number entries.Entered = 0
 entry_number (entries.Refused put) = 2 + put_number put
+
+-- who stays is answered 0; who has left as who didn't enter
+abbrev pub stay_number : Stay → ℕ
+stay_number Stayed = 0
+stay_number (Left put) = 2 + put_number put
 
 -- the number of an answer of the queue, or of its refusal
 abbrev pub queue_number : {A : Type 0} → (A → ℕ) → Result A FreezeFault → ℕ

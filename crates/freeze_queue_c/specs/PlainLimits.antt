@@ -1,5 +1,5 @@
 -- Four numbers as limits, and why they may not be.
-use Rattle.std.specs.Prelude.{◌==◌, ◌||◌, nat_lt, if◌then◌else◌, Option, Some, None}
+use Rattle.std.specs.Prelude.{ℕ, ◌==◌, ◌||◌, nat_lt, if◌then◌else◌, Option, Some, None}
 use Rattle.queue_limits.specs.Bounds.{Bounds, is_physical_size}
 use Rattle.queue_limits.specs.declared.fault.LimitFault.{LimitFault}
 use Rattle.queue_limits.specs.declared.fault.LimitFault.TheVariants.{AboveHardware, ChunkTooLarge, HardwareRange, BadPhysical}
@@ -10,9 +10,13 @@ use Rattle.freeze_queue_c.specs.declared.plain_limits.PlainLimits.{PlainLimits}
 abbrev pub as_bounds : PlainLimits → Bounds
 as_bounds p = record { hardware = p.hardware; max = p.max; chunk = p.chunk; physical = p.physical }
 
+-- the physical block that they ask for: 0 asks for one sector
+abbrev pub block_of : PlainLimits → ℕ
+block_of p = if p.physical == 0 then 1 else p.physical
+
 -- the limits that they ask for: a maximum of 0 asks for as many sectors as the hardware takes
 abbrev pub bounds_of : PlainLimits → Bounds
-bounds_of p = record { hardware = p.hardware; max = (if p.max == 0 then p.hardware else p.max); chunk = p.chunk; physical = p.physical }
+bounds_of p = record { hardware = p.hardware; max = (if p.max == 0 then p.hardware else p.max); chunk = p.chunk; physical = block_of p }
 
 -- the first reason for which no queue may have them
 abbrev pub limit_refusal : PlainLimits → Option LimitFault
@@ -20,5 +24,5 @@ limit_refusal p =
     if nat_lt p.hardware 1 || nat_lt HARDWARE_LIMIT p.hardware then Some HardwareRange
     else if nat_lt p.hardware p.max then Some AboveHardware
     else if nat_lt CHUNK_LIMIT p.chunk then Some ChunkTooLarge
-    else if is_physical_size p.physical then None
+    else if is_physical_size (block_of p) then None
     else Some BadPhysical

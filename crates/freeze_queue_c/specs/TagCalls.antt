@@ -5,10 +5,12 @@ use Rattle.percpu_core.specs.Views.{count}
 use Rattle.percpu_gate.specs.declared.tried.Put.{Put}
 use Rattle.percpu_gate.specs.Calls.{is_refused, taken, has_dead, has_zero, LiveTryFinds, TryFinds, TryMeets}
 use Rattle.queue_core.specs.declared.tag.Entry.{Entry}
+use Rattle.queue_core.specs.declared.tag.Stay.{Stay}
 use Rattle.queue_core.specs.Queue.{after_asking, after_leaving}
 use Rattle.queue_core.specs.Entering.{tried, after_try}
 use Rattle.queue_core.specs.AtTheGate.{AreInForce, HoldsOff}
 use Rattle.queue_core.specs.Readings.{IsTag}
+use Rattle.queue_core.specs.Staying.{has_left, after_stay, FindsDead}
 use Rattle.freeze_queue_c.specs.declared.misuse.Misuse.{Misuse}
 use Rattle.freeze_queue_c.specs.declared.misuse.Misuse.TheVariants.{Slot, Entered, NotEntered}
 use Rattle.freeze_queue_c.specs.declared.plain_limits.PlainLimits.{PlainLimits}
@@ -57,6 +59,14 @@ pub record TriedToLookIn (old new : TagOpened) (r : Entry) : Type 0 where
 -- what `leave` leaves
 pub record HasLeft (old new : TagOpened) (put : Put) : Type 0 where
   pub tag : new ≡ record old { tag = after_leaving put old.tag }
+
+-- what `stay` leaves: the one load of this call, which the tag counts, found the queue live, or frozen, and then the tag has left
+pub record HasStayed (old new : TagOpened) (r : Stay) : Type 0 where
+  pub number : new.number ≡ old.number
+  pub leaves : new.tag ≡ after_stay r old.tag
+  pub finds : FindsDead old.tag.queue.gate old.tag.seat (has_left r)
+  pub times : new.tag.seat.found_dead_times ≡ old.tag.seat.found_dead_times + count (has_left r)
+  pub looks : new.tag.seat.looks ≡ old.tag.seat.looks + 1
 
 -- what a tag that is in is told of its limits
 pub record ToldLimits (old new : TagOpened) (told : PlainLimits) : Type 0 where

@@ -34,7 +34,7 @@ pub enum Misuse {
 }
 
 impl Misuse {
-    /// The misuse's number, 32 to 45.
+    /// The misuse's number, 32 to 51.
     pub fn number(&self) -> u32
         ensures { result ≡ misuse_number self.now }
     {
@@ -42,15 +42,15 @@ impl Misuse {
             Misuse::Closed => 32,
             Misuse::Open => 33,
             Misuse::Slot => 34,
-            Misuse::Entered => 35,
-            Misuse::NotEntered => 36,
-            Misuse::OtherQueue => 37,
-            Misuse::Size => 38,
+            Misuse::Entered => 48,
+            Misuse::NotEntered => 49,
+            Misuse::OtherQueue => 38,
+            Misuse::Size => 35,
             Misuse::NoTag => 39,
-            Misuse::Memory => 40,
-            Misuse::Mode => 41,
-            Misuse::Range => 42,
-            Misuse::InUse => 45,
+            Misuse::Memory => 36,
+            Misuse::Mode => 50,
+            Misuse::Range => 51,
+            Misuse::InUse => 37,
         }
     }
 }

@@ -1,7 +1,7 @@
 //! The numbers that C is answered, and what is written for it.
 ghost use Rattle.std.specs.Prelude.{◌≡◌, ◌≤◌, ◌+◌};
 ghost use Rattle.queue_core.specs.Queue.{fault_number};
-ghost use Rattle.freeze_queue_c.specs.Numbers.{number_of, queue_number, done_number, entry_number, put_number};
+ghost use Rattle.freeze_queue_c.specs.Numbers.{number_of, queue_number, done_number, entry_number, put_number, stay_number};
 ghost use Rattle.freeze_queue_c.specs.Ran.{written};
 ghost use Rattle.freeze_queue_c.specs.FreezerCalls.{begun_number, thawed_number, begun_depth, thawed_depth, depth_written};
 
@@ -9,7 +9,7 @@ use crate::begun::Begun;
 use crate::misuse::Misuse;
 use crate::plain_limits::PlainLimits;
 use crate::refusal::Refusal;
-use queue_core::{Entry, FreezeFault, Put, Thawed};
+use queue_core::{Entry, FreezeFault, Put, Stay, Thawed};
 
 fn put_number(put: Put) -> u32
     ensures number { result ≡ put_number put }
@@ -28,6 +28,17 @@ pub fn of_entry(answer: Result<Entry, Misuse>) -> u32
     match answer {
         Ok(Entry::Entered) => 0,
         Ok(Entry::Refused(put)) => 2 + put_number(put),
+        Err(why) => why.number(),
+    }
+}
+
+/// What staying answers: 0 where it did; where it left, 2, or 3 where that was the last drop.
+pub fn of_stay(answer: Result<Stay, Misuse>) -> u32
+    ensures { result ≡ number_of stay_number answer }
+{
+    match answer {
+        Ok(Stay::Stayed) => 0,
+        Ok(Stay::Left(put)) => 2 + put_number(put),
         Err(why) => why.number(),
     }
 }

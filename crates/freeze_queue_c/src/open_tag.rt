@@ -1,12 +1,12 @@
 //! What an open tag handle leads to.
 ghost use Rattle.std.specs.Prelude.{◌≡◌, None};
 ghost use Rattle.freeze_queue_c.specs.Ran.{Ran, misuse_of};
-ghost use Rattle.freeze_queue_c.specs.TagCalls.{slot_misuse, enter_misuse, leave_misuse, limits_misuse, TriedToEnter, TriedToLookIn, HasLeft, ToldLimits};
+ghost use Rattle.freeze_queue_c.specs.TagCalls.{slot_misuse, enter_misuse, leave_misuse, limits_misuse, TriedToEnter, TriedToLookIn, HasStayed, HasLeft, ToldLimits};
 
 use crate::misuse::Misuse;
 use crate::plain_limits::PlainLimits;
 use crate::queue_number::QueueNumber;
-use queue_core::{BlockQueue, Entry, Put, Tag};
+use queue_core::{BlockQueue, Entry, Put, Stay, Tag};
 use std::marker::Model;
 use std::sync::Arc;
 
@@ -99,6 +99,15 @@ impl OpenTag {
     {
         self.refuse_enter(slot)?;
         Ok(self.queue.try_enter_frozen(&mut self.tag, slot))
+    }
+
+    /// Stays, or leaves where the queue is frozen. Refuses Slot, NotEntered.
+    pub fn stay(&mut self, slot: u32) -> Result<Stay, Misuse>
+        ensures { Ran (leave_misuse slot self.old) HasStayed self.old self.new result }
+    {
+        self.refuse_slot(slot)?;
+        self.refuse_outside()?;
+        Ok(self.queue.stay(&mut self.tag, slot))
     }
 
     /// Leaves. Refuses Slot, NotEntered.

@@ -5,8 +5,8 @@ ghost use Rattle.freeze_queue_c.specs.PlainLimits.{as_bounds, bounds_of, limit_r
 use queue_core::{LimitFault, Limits};
 
 /// Four numbers of sectors, which may be anything: what the hardware takes in one request, the most of one request (0 asks
-/// for as many as the hardware takes), the chunk (0: none), and the physical block. Linux: `struct queue_limits`
-/// (include/linux/blkdev.h).
+/// for as many as the hardware takes), the chunk (0: none), and the physical block (0: one sector). Linux: `struct
+/// queue_limits` (include/linux/blkdev.h).
 #[derive(Clone, Copy, Debug, PartialEq, Eq, Drop)]
 #[repr(C)]
 pub struct PlainLimits {
@@ -34,7 +34,7 @@ impl PlainLimits {
         ensures { MatchResult result (λ l. (limit_refusal self.now ≡ None) × (l ≡ bounds_of self.now)) (λ why. limit_refusal self.now ≡ Some why) }
     {
         let mut limits = Limits::new(self.hardware, self.max, self.chunk)?;
-        limits.set_physical(self.physical)?;
+        limits.set_physical(if self.physical == 0 { 1 } else { self.physical })?;
         Ok(limits)
     }
 }

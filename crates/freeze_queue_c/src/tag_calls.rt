@@ -1,10 +1,10 @@
 //! The calls of a tag. A closed handle answers Closed.
-ghost use Rattle.freeze_queue_c.specs.Numbers.{entry_number, put_number};
+ghost use Rattle.freeze_queue_c.specs.Numbers.{entry_number, put_number, stay_number};
 ghost use Rattle.freeze_queue_c.specs.Ran.{Answers, Writes};
-ghost use Rattle.freeze_queue_c.specs.TagCalls.{enter_misuse, leave_misuse, limits_misuse, TriedToEnter, TriedToLookIn, HasLeft, ToldLimits};
+ghost use Rattle.freeze_queue_c.specs.TagCalls.{enter_misuse, leave_misuse, limits_misuse, TriedToEnter, TriedToLookIn, HasStayed, HasLeft, ToldLimits};
 
 use crate::misuse::Misuse;
-use crate::number::{of_entry, of_put, write_limits};
+use crate::number::{of_entry, of_put, of_stay, write_limits};
 use crate::plain_limits::PlainLimits;
 use crate::tag_handle::TagHandle;
 
@@ -36,6 +36,21 @@ pub extern "C" fn freeze_queue_try_enter_frozen(tag: &mut TagHandle, slot: u32) 
     let answer = open.try_enter_frozen(slot);
     tag.put_back(open);
     of_entry(answer)
+}
+
+/// Stays entered for the next request, with the limits that the tag has: 0. Where the queue is frozen it leaves: 2, or 3 where
+/// this drained the queue: then the freezer is to be woken. Linux: the requests that a plug keeps (block/blk-mq.c).
+#[tactic(auto, using(crate::proofs::Closed::closed_answers))]
+#[unsafe(no_mangle)]
+pub extern "C" fn freeze_queue_stay(tag: &mut TagHandle, slot: u32) -> u32
+    ensures { Answers stay_number (leave_misuse slot) HasStayed tag.old.held.tag tag.new.held.tag result }
+{
+    let Some(mut open) = tag.take() else {
+        return of_stay(Err(Misuse::Closed));
+    };
+    let answer = open.stay(slot);
+    tag.put_back(open);
+    of_stay(answer)
 }
 
 /// Leaves. 1 where the queue is drained by it: then the freezer is to be woken. Linux: `blk_queue_exit` (block/blk-core.c).

@@ -18,7 +18,7 @@ use crate::open_tag::OpenTag;
 use crate::plain_limits::PlainLimits;
 use crate::queue_number::QueueNumber;
 use crate::tag_calls::{
-    freeze_queue_leave, freeze_queue_limits_of, freeze_queue_try_enter,
+    freeze_queue_leave, freeze_queue_limits_of, freeze_queue_stay, freeze_queue_try_enter,
     freeze_queue_try_enter_frozen,
 };
 use crate::tag_handle::TagHandle;
@@ -79,7 +79,9 @@ fn a_life(rt: HostRuntime) {
     assert!(rt; freeze_queue_thaw(&mut freezer, &mut depth) == 5);
     assert!(rt; depth == 0);
     assert!(rt; freeze_queue_try_enter(&mut other, 1) == 0);
+    assert!(rt; freeze_queue_stay(&mut other, 1) == 0);
     assert!(rt; freeze_queue_leave(&mut other, 1) == 0);
+    assert!(rt; freeze_queue_stay(&mut other, 1) == 49);
     freeze_queue_free_tag(&mut other);
     close(&mut freezer, &mut tag);
 }
@@ -142,12 +144,12 @@ fn misuse_of_a_tag(rt: HostRuntime) {
     assert!(rt; freeze_queue_try_enter(&mut tag, 2) == 34);
     assert!(rt; freeze_queue_try_enter_frozen(&mut tag, 2) == 34);
     assert!(rt; freeze_queue_leave(&mut tag, 2) == 34);
-    assert!(rt; freeze_queue_leave(&mut tag, 1) == 36);
-    assert!(rt; freeze_queue_limits_of(&mut tag, &mut told) == 36);
+    assert!(rt; freeze_queue_leave(&mut tag, 1) == 49);
+    assert!(rt; freeze_queue_limits_of(&mut tag, &mut told) == 49);
     assert!(rt; freeze_queue_try_enter(&mut tag, 1) == 0);
     assert!(rt; freeze_queue_try_enter(&mut tag, 2) == 34);
-    assert!(rt; freeze_queue_try_enter(&mut tag, 0) == 35);
-    assert!(rt; freeze_queue_try_enter_frozen(&mut tag, 0) == 35);
+    assert!(rt; freeze_queue_try_enter(&mut tag, 0) == 48);
+    assert!(rt; freeze_queue_try_enter_frozen(&mut tag, 0) == 48);
     assert!(rt; freeze_queue_leave(&mut tag, 0) == 0);
     freeze_queue_free_tag(&mut tag);
     assert!(rt; freeze_queue_try_enter(&mut tag, 0) == 32);
@@ -161,7 +163,7 @@ fn misuse_of_a_tag(rt: HostRuntime) {
 fn misuse_of_a_freezer(rt: HostRuntime) {
     let (mut freezer, mut tag) = opened(rt);
     let mut depth = 9;
-    assert!(rt; freeze_queue_mode(&mut freezer, 2) == 41);
+    assert!(rt; freeze_queue_mode(&mut freezer, 2) == 50);
     freeze_queue_free_freezer(&mut freezer);
     assert!(rt; freeze_queue_start_freeze(&mut freezer, &mut depth) == 32);
     assert!(rt; freeze_queue_thaw(&mut freezer, &mut depth) == 32);

@@ -78,7 +78,7 @@ end_refusal c = exit_refusal c.control.view.standing.phase (c.control.view.passe
 -- what ending a gate leaves: refused with everything as it was, or ended. (Somebody else's share of the gate is answered 45, with everything as it was, but that the control is gone where it has no new box: 44. No way of using handles leads there)
 abbrev pub ExitsOpen : Option ExitWhy → ControlOpened → Option ControlOpened → Final → Final → ℕ → Type 0
 ExitsOpen (Some why) c new there here result = (result ≡ 16 + exit_number why) × (new ≡ Some c) × (here ≡ there)
-ExitsOpen None c new there here result = ((new ≡ None) × (result ≡ 0) × IsFinal c here) ⊎ ((here ≡ there) × (((new ≡ Some c) × (result ≡ 45)) ⊎ ((new ≡ None) × (result ≡ 44))))
+ExitsOpen None c new there here result = ((new ≡ None) × (result ≡ 0) × IsFinal c here) ⊎ ((here ≡ there) × (((new ≡ Some c) × (result ≡ 37)) ⊎ ((new ≡ None) × (result ≡ 36))))
 
 abbrev pub Exits : Option ControlOpened → Option ControlOpened → Final → Final → ℕ → Type 0
 Exits None new there here result = (result ≡ 32) × (new ≡ None) × (here ≡ there)

@@ -15,17 +15,17 @@ abbrev pub misuse_number : Misuse → ℕ
 misuse_number misuses.Closed = 32
 misuse_number misuses.Open = 33
 misuse_number misuses.Slot = 34
-misuse_number misuses.HeldFull = 35
-misuse_number misuses.NotHeld = 36
-misuse_number misuses.Amount = 37
-misuse_number misuses.Word = 38
-misuse_number misuses.Step = 39
-misuse_number misuses.StillHeld = 40
-misuse_number misuses.OtherGate = 41
-misuse_number misuses.Size = 42
-misuse_number misuses.NoPass = 43
-misuse_number misuses.Memory = 44
-misuse_number misuses.InUse = 45
+misuse_number misuses.HeldFull = 64
+misuse_number misuses.NotHeld = 65
+misuse_number misuses.Amount = 67
+misuse_number misuses.Word = 68
+misuse_number misuses.Step = 69
+misuse_number misuses.StillHeld = 66
+misuse_number misuses.OtherGate = 38
+misuse_number misuses.Size = 35
+misuse_number misuses.NoPass = 39
+misuse_number misuses.Memory = 36
+misuse_number misuses.InUse = 37
 
 abbrev pub put_number : Put → ℕ
 put_number NotLast = 0

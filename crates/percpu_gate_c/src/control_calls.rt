@@ -111,7 +111,7 @@ pub extern "C" fn percpu_gate_store_word(control: &mut ControlHandle, k: u32, v:
 /// Writes the kills so far.
 #[tactic(auto, using(crate::proofs::Closed::closed_writes))]
 #[unsafe(no_mangle)]
-pub extern "C" fn percpu_gate_kills(control: &mut ControlHandle, kills: &mut u64) -> u32
+pub extern "C" fn percpu_gate_kill_count(control: &mut ControlHandle, kills: &mut u64) -> u32
     ensures { Writes no_misuse (Told (λ c. c.standing.kills)) control.old.held.control control.new.held.control kills.old kills.new result }
 {
     let Some(mut open) = control.take() else {
@@ -125,7 +125,7 @@ pub extern "C" fn percpu_gate_kills(control: &mut ControlHandle, kills: &mut u64
 /// Writes the releases of the control and of retired passes.
 #[tactic(auto, using(crate::proofs::Closed::closed_writes))]
 #[unsafe(no_mangle)]
-pub extern "C" fn percpu_gate_releases(control: &mut ControlHandle, releases: &mut u64) -> u32
+pub extern "C" fn percpu_gate_release_count(control: &mut ControlHandle, releases: &mut u64) -> u32
     ensures { Writes no_misuse (Told (λ c. c.releases)) control.old.held.control control.new.held.control releases.old releases.new result }
 {
     let Some(mut open) = control.take() else {
@@ -139,7 +139,10 @@ pub extern "C" fn percpu_gate_releases(control: &mut ControlHandle, releases: &m
 /// Writes the guarded words. (A pass reads them one by one, while it holds a reference.)
 #[tactic(auto, using(crate::proofs::Closed::closed_writes))]
 #[unsafe(no_mangle)]
-pub extern "C" fn percpu_gate_words(control: &mut ControlHandle, words: &mut [u64; WORDS]) -> u32
+pub extern "C" fn percpu_gate_all_words(
+    control: &mut ControlHandle,
+    words: &mut [u64; WORDS],
+) -> u32
     ensures { Writes no_misuse ToldWords control.old.held.control control.new.held.control words.old words.new result }
 {
     let Some(mut open) = control.take() else {

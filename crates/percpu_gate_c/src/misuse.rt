@@ -38,7 +38,7 @@ pub enum Misuse {
 }
 
 impl Misuse {
-    /// The misuse's number, 32 to 45.
+    /// The misuse's number, 32 to 69.
     pub fn number(&self) -> u32
         ensures { result ≡ misuse_number self.now }
     {
@@ -46,17 +46,17 @@ impl Misuse {
             Misuse::Closed => 32,
             Misuse::Open => 33,
             Misuse::Slot => 34,
-            Misuse::HeldFull => 35,
-            Misuse::NotHeld => 36,
-            Misuse::Amount => 37,
-            Misuse::Word => 38,
-            Misuse::Step => 39,
-            Misuse::StillHeld => 40,
-            Misuse::OtherGate => 41,
-            Misuse::Size => 42,
-            Misuse::NoPass => 43,
-            Misuse::Memory => 44,
-            Misuse::InUse => 45,
+            Misuse::HeldFull => 64,
+            Misuse::NotHeld => 65,
+            Misuse::Amount => 67,
+            Misuse::Word => 68,
+            Misuse::Step => 69,
+            Misuse::StillHeld => 66,
+            Misuse::OtherGate => 38,
+            Misuse::Size => 35,
+            Misuse::NoPass => 39,
+            Misuse::Memory => 36,
+            Misuse::InUse => 37,
         }
     }
 }

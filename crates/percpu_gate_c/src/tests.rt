@@ -6,9 +6,9 @@ mod freed;
 mod places;
 
 use crate::control_calls::{
-    percpu_gate_control_is_zero, percpu_gate_kill, percpu_gate_kills, percpu_gate_reinit,
-    percpu_gate_releases, percpu_gate_resurrect, percpu_gate_store_word,
-    percpu_gate_switch_to_atomic, percpu_gate_switch_to_slots, percpu_gate_words,
+    percpu_gate_all_words, percpu_gate_control_is_zero, percpu_gate_kill, percpu_gate_kill_count,
+    percpu_gate_reinit, percpu_gate_release_count, percpu_gate_resurrect, percpu_gate_store_word,
+    percpu_gate_switch_to_atomic, percpu_gate_switch_to_slots,
 };
 use crate::control_handle::ControlHandle;
 use crate::gate_number::GateNumber;
@@ -68,7 +68,7 @@ fn a_life(rt: HostRuntime) {
     assert!(rt; percpu_gate_is_zero(&mut pass));
     let mut words = WORDS;
     assert!(rt; percpu_gate_store_word(&mut control, 7, 4) == 0);
-    assert!(rt; percpu_gate_words(&mut control, &mut words) == 0);
+    assert!(rt; percpu_gate_all_words(&mut control, &mut words) == 0);
     assert!(rt; words == [7, 1, 2, 3, 4, 5, 6, 4]);
     assert!(rt; percpu_gate_reinit(&mut control) == 0);
     percpu_gate_free_pass(&mut pass);
@@ -89,7 +89,7 @@ fn three_lives(rt: HostRuntime) {
         assert!(rt; percpu_gate_put(&mut pass, 0, 1) == 1);
         assert!(rt; percpu_gate_control_is_zero(&mut control));
         assert!(rt; percpu_gate_store_word(&mut control, 0, life) == 0);
-        assert!(rt; percpu_gate_words(&mut control, &mut words) == 0);
+        assert!(rt; percpu_gate_all_words(&mut control, &mut words) == 0);
         assert!(rt; words == [life, 1, 2, 3, 4, 5, 6, 9]);
         assert!(rt; percpu_gate_reinit(&mut control) == 0);
     }
@@ -101,13 +101,13 @@ fn three_lives(rt: HostRuntime) {
 fn guarded_words(rt: HostRuntime) {
     let (mut control, mut pass) = opened(rt);
     let mut word = 1;
-    assert!(rt; percpu_gate_word(&mut pass, 7, &mut word) == 36);
+    assert!(rt; percpu_gate_word(&mut pass, 7, &mut word) == 65);
     assert!(rt; word == 1);
     assert!(rt; percpu_gate_try_get(&mut pass, 0) == 0);
-    assert!(rt; percpu_gate_word(&mut pass, 8, &mut word) == 38);
+    assert!(rt; percpu_gate_word(&mut pass, 8, &mut word) == 68);
     assert!(rt; percpu_gate_word(&mut pass, 7, &mut word) == 0);
     assert!(rt; word == 9);
-    assert!(rt; percpu_gate_store_word(&mut control, 8, 4) == 38);
+    assert!(rt; percpu_gate_store_word(&mut control, 8, 4) == 68);
     assert!(rt; percpu_gate_store_word(&mut control, 7, 4) == 18);
     percpu_gate_free_pass(&mut pass);
     percpu_gate_free_control(&mut control);
@@ -117,13 +117,13 @@ fn guarded_words(rt: HostRuntime) {
 fn misuse_of_a_pass(rt: HostRuntime) {
     let (mut control, mut pass) = opened(rt);
     assert!(rt; percpu_gate_try_get(&mut pass, 2) == 34);
-    assert!(rt; percpu_gate_get(&mut pass, 0, 1) == 36);
-    assert!(rt; percpu_gate_put(&mut pass, 0, 1) == 36);
+    assert!(rt; percpu_gate_get(&mut pass, 0, 1) == 65);
+    assert!(rt; percpu_gate_put(&mut pass, 0, 1) == 65);
     assert!(rt; percpu_gate_try_get(&mut pass, 1) == 0);
-    assert!(rt; percpu_gate_get(&mut pass, 0, 65_535) == 35);
+    assert!(rt; percpu_gate_get(&mut pass, 0, 65_535) == 64);
     assert!(rt; percpu_gate_get(&mut pass, 0, 65_534) == 0);
-    assert!(rt; percpu_gate_try_get_live(&mut pass, 1) == 35);
-    assert!(rt; percpu_gate_put(&mut pass, 0, 0) == 37);
+    assert!(rt; percpu_gate_try_get_live(&mut pass, 1) == 64);
+    assert!(rt; percpu_gate_put(&mut pass, 0, 0) == 67);
     assert!(rt; percpu_gate_put(&mut pass, 1, 65_535) == 0);
     percpu_gate_free_pass(&mut pass);
     assert!(rt; percpu_gate_try_get(&mut pass, 1) == 32);
@@ -150,13 +150,13 @@ fn misuse_of_a_control(rt: HostRuntime) {
     percpu_gate_free_pass(&mut pass);
     assert!(rt; percpu_gate_next_pass(&mut control, &mut pass) == 0);
     percpu_gate_free_pass(&mut pass);
-    assert!(rt; percpu_gate_next_pass(&mut control, &mut pass) == 43);
+    assert!(rt; percpu_gate_next_pass(&mut control, &mut pass) == 39);
     assert!(rt; percpu_gate_exit(&mut control, &mut last) == 22);
     assert!(rt; last.kills == 5);
     percpu_gate_free_control(&mut control);
     assert!(rt; percpu_gate_exit(&mut control, &mut last) == 32);
-    assert!(rt; percpu_gate_new_numbered(&mut control, &NUMBER, 65, 2, 0, &WORDS) == 42);
-    assert!(rt; percpu_gate_new_numbered(&mut control, &NUMBER, 2, 2, 3, &WORDS) == 42);
+    assert!(rt; percpu_gate_new_numbered(&mut control, &NUMBER, 65, 2, 0, &WORDS) == 35);
+    assert!(rt; percpu_gate_new_numbered(&mut control, &NUMBER, 2, 2, 3, &WORDS) == 35);
 }
 
 #[test]
@@ -178,16 +178,16 @@ fn switches_and_revivals(rt: HostRuntime) {
     assert!(rt; percpu_gate_put(&mut pass, 1, 1) == 0);
     assert!(rt; percpu_gate_front(&mut pass, &mut told) == 0);
     assert!(rt; told == 2);
-    assert!(rt; percpu_gate_releases(&mut control, &mut told) == 0);
+    assert!(rt; percpu_gate_release_count(&mut control, &mut told) == 0);
     assert!(rt; told == 0);
     assert!(rt; percpu_gate_kill(&mut control) == 1);
-    assert!(rt; percpu_gate_releases(&mut control, &mut told) == 0);
+    assert!(rt; percpu_gate_release_count(&mut control, &mut told) == 0);
     assert!(rt; told == 1);
     assert!(rt; percpu_gate_resurrect(&mut control) == 4);
-    assert!(rt; percpu_gate_kills(&mut control, &mut told) == 0);
+    assert!(rt; percpu_gate_kill_count(&mut control, &mut told) == 0);
     assert!(rt; told == 2);
     percpu_gate_free_control(&mut control);
-    assert!(rt; percpu_gate_kills(&mut control, &mut told) == 32);
+    assert!(rt; percpu_gate_kill_count(&mut control, &mut told) == 32);
     assert!(rt; told == 2);
     percpu_gate_free_pass(&mut pass);
 }
@@ -217,18 +217,18 @@ fn a_kill_step_by_step(rt: HostRuntime) {
     let mut slots = 7;
     let mut front = 8;
     assert!(rt; percpu_gate_phase(&mut control) == 0);
-    assert!(rt; percpu_gate_close_next(&mut control) == 39);
+    assert!(rt; percpu_gate_close_next(&mut control) == 69);
     assert!(rt; percpu_gate_mark_dead(&mut control, &mut slots) == 0);
     assert!(rt; slots == 2);
     assert!(rt; percpu_gate_kill(&mut control) == 20);
     assert!(rt; percpu_gate_close_next(&mut control) == 0);
-    assert!(rt; percpu_gate_collect(&mut control) == 39);
+    assert!(rt; percpu_gate_collect(&mut control) == 69);
     assert!(rt; percpu_gate_close_next(&mut control) == 0);
-    assert!(rt; percpu_gate_close_next(&mut control) == 39);
-    assert!(rt; percpu_gate_confirm(&mut control, &mut front) == 39);
+    assert!(rt; percpu_gate_close_next(&mut control) == 69);
+    assert!(rt; percpu_gate_confirm(&mut control, &mut front) == 69);
     assert!(rt; front == 8);
     assert!(rt; percpu_gate_collect(&mut control) == 0);
-    assert!(rt; percpu_gate_drop_base(&mut control) == 39);
+    assert!(rt; percpu_gate_drop_base(&mut control) == 69);
     assert!(rt; percpu_gate_confirm(&mut control, &mut front) == 0);
     assert!(rt; front == 1);
     assert!(rt; percpu_gate_phase(&mut control) == 4);

@@ -8,6 +8,7 @@
 //!   with its request. Whoever ends the request leaves with the tag. `try_enter` and `leave` are one counting
 //!   call of the gate each: no lock, and nothing that all submitters write, where each names a slot of its own
 //!   (in the other [`Mode`] they share one count).
+//!   A busy thread needn't leave between two requests: `stay` looks once whether a freeze has begun, and leaves only then.
 //! - **Frozen.** The [`Freezer`] counts freezes. The first kills the gate: no tag enters from then on, but by
 //!   `try_enter_frozen`, to look at what is under way. The last tag to leave is told [`Put::Last`]: the queue is drained.
 //! - **Set.** While it is drained its limits are set: they stand in the gate's guarded words, so they hold still
@@ -47,4 +48,4 @@ pub use percpu_gate::{Final, Memory, Mode, Put};
 pub use queue::{BlockQueue, MOST_TAGS, NewQueue};
 pub use queue_limits::{LimitFault, Limits};
 pub use remove::RemoveFault;
-pub use tag::{Entry, Tag};
+pub use tag::{Entry, Stay, Tag};

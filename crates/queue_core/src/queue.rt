@@ -8,10 +8,11 @@ ghost use Rattle.percpu_gate.specs.Calls.{is_refused, taken, has_dead, has_zero,
 ghost use Rattle.queue_core.specs.AtTheGate.{AreInForce, HoldsOff};
 ghost use Rattle.queue_core.specs.Readings.{IsTag};
 ghost use Rattle.queue_core.specs.Entering.{tried, after_try};
+ghost use Rattle.queue_core.specs.Staying.{has_left, after_stay, FindsDead};
 
 use crate::freezer::Freezer;
 use crate::limit_words::LIMIT_WORDS;
-use crate::tag::{Entry, Tag};
+use crate::tag::{Entry, Stay, Tag};
 use percpu_gate::{Gate, Memory, Pass, Put, Start};
 use queue_limits::Limits;
 use std::alloc::{AllocError, Global};
@@ -139,6 +140,28 @@ impl BlockQueue {
         ensures { tag.new ≡ after_leaving result tag.old }
     {
         tag.put(&self.gate, slot)
+    }
+
+    /// Stays entered between two requests, for the price of one load, unless the queue is frozen: then it leaves. Where it
+    /// stays, its limits are those that it has. Where its drop was the last, the freezer is to be woken. Linux: the
+    /// requests that a plug keeps, each with its reference of `q_usage_counter` (block/blk-mq.c).
+    ///
+    /// A thread that stays and then sleeps holds up every freeze, so it leaves before it waits.
+    #[inline]
+    pub fn stay(&self, tag: &mut Tag, slot: u32) -> Stay
+        requires own { tag.old.queue ≡ self.now }
+        requires slot { slot < self.now.gate.slots }
+        requires entered { tag.old.entered ≡ true }
+        // The one load of this very call is counted with what it found, so no answer comes from an earlier load, or from none.
+        ensures leaves { tag.new ≡ after_stay result tag.old }
+        ensures finds { FindsDead self.now.gate tag.old.seat (has_left result) }
+        ensures times { tag.new.seat.found_dead_times ≡ tag.old.seat.found_dead_times + count (has_left result) }
+        ensures looks { tag.new.seat.looks ≡ tag.old.seat.looks + 1 }
+    {
+        if tag.is_dying(&self.gate) {
+            return Stay::Left(self.leave(tag, slot));
+        }
+        Stay::Stayed
     }
 
     /// The limits in force, for an entered tag: the same at each call until it leaves, in whichever threads the

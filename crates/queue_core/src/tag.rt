@@ -9,6 +9,7 @@ ghost use Rattle.percpu_gate.specs.Calls.{is_refused, taken, has_dead, has_zero,
 ghost use Rattle.queue_core.specs.AtTheGate.{AreInForce, HoldsOff};
 ghost use Rattle.queue_core.specs.Readings.{IsTag};
 ghost use Rattle.queue_core.specs.Entering.{tried, after_try};
+ghost use Rattle.queue_core.specs.Staying.{after_asking_to_stay, FindsDead};
 
 use crate::limit_words::{LIMIT_WORDS, load_words};
 use percpu_gate::{Gate, Pass, Put, Tried};
@@ -22,6 +23,16 @@ pub enum Entry {
     /// The tag isn't entered. The try was counted for a moment, and dropping that was answered so: where it was the
     /// last, the queue is drained, and the freezer is to be woken.
     Refused(Put),
+}
+
+/// What a tag that wants to stay entered is answered.
+#[derive(Clone, Copy, Debug, PartialEq, Eq)]
+pub enum Stay {
+    /// The queue is live: the tag is entered still, with the limits that it has.
+    Stayed,
+    /// The queue is frozen, so the tag has left, and dropping its reference was answered so: where it was the last, the
+    /// queue is drained, and the freezer is to be woken.
+    Left(Put),
 }
 
 /// The right to have one request under way in one queue. Linux: a request's tag (block/blk-mq-tag.c).
@@ -102,6 +113,17 @@ impl Tag {
             Tried::Given => Entry::Entered,
             Tried::Refused(put) => Entry::Refused(put),
         }
+    }
+
+    /// Whether the gate was killed and isn't revived yet, at one load.
+    #[inline]
+    pub(crate) fn is_dying(&mut self, gate: &Gate<LIMIT_WORDS>) -> bool
+        requires own { self.old.queue.gate ≡ gate.now }
+        requires entered { self.old.entered ≡ true }
+        ensures looked { self.new ≡ after_asking_to_stay result self.old }
+        ensures finds { FindsDead gate.now self.old.seat result }
+    {
+        self.pass.is_dying(gate)
     }
 
     /// Drops it.

@@ -62,6 +62,17 @@ pub record DutyFacts : Type 0 where
   pub queue : TableId
   pub number : ℕ
 
+-- What those who take spares, or put them back, know: of which queue, and how many they counted.
+pub record CountFacts : Type 0 where
+  pub queue : TableId
+  pub count : ℕ
+
+abbrev pub none_counted : TableId → CountFacts
+none_counted queue = record { queue = queue; count = 0 }
+
+abbrev pub one_more : CountFacts → CountFacts
+one_more c = record c { count = c.count + 1 }
+
 -- the lists increase, and hold together what the merged one holds
 abbrev pub AreGathered : List (List ℕ) → List ℕ → Type 0
 AreGathered lists drawn = AllIncrease lists × ((x : ℕ) → times x drawn ≡ times_in_all x lists)

@@ -1,10 +1,12 @@
 //! The queue of what isn't in use.
 ghost use Rattle.std.specs.Prelude.{◌≡◌, ◌+◌, ◌<◌, ◌^◌, IfOk};
+ghost use Rattle.run_queues.specs.Parts.{none_counted, one_more};
 
 use crate::ruled_queue::RuledQueue;
+use crossbeam_queue::Pass;
 use crossbeam_queue::protocol::Free;
 use std::alloc::{AllocError, Global};
-use std::marker::{Model, PhantomData};
+use std::marker::Model;
 use std::sync::Wait;
 
 /// A queue of things that threads take and put back. What is known of one is what its type keeps: a type of which
@@ -15,97 +17,97 @@ pub struct SpareQueue<T: Drop> {
 }
 
 impl<T: Drop> Model for SpareQueue<T> {
-    ghost use Rattle.std.specs.Prelude.{ℕ};
     ghost use Rattle.crossbeam_queue.specs.Passes.{ruled_capacity};
+    ghost use Rattle.run_queues.specs.Parts.{QueueFacts};
 
-    ghost Value = { ℕ };
+    ghost Value = { QueueFacts };
 
-    ghost view = { λ q. ruled_capacity q.line.ring };
+    ghost view = { λ q. record { id = q.line.ring.table.shared.table_id; room = ruled_capacity q.line.ring } };
 }
 
-/// The right to take from a queue of spare things, which comes with the queue and which one thread has. Contracts see how many it
-/// took by it: so a clause can say that a thread took one for each of its tasks, and no more.
+/// The right to take from a queue of spare things, which comes with the queue and which one thread has. Contracts see from which
+/// queue, and how many it took by it: so a clause can say that a thread took one for each of its tasks, and no more.
 #[derive(Drop)]
 pub struct Taker<T: Drop> {
+    seat: Pass<T, ()>,
     taken: u64,
-    of: PhantomData<T>,
 }
 
 impl<T: Drop> Model for Taker<T> {
-    ghost use Rattle.std.specs.Prelude.{ℕ};
+    ghost use Rattle.std.specs.Prelude.{◌≡◌, []};
+    ghost use Rattle.run_queues.specs.Parts.{CountFacts};
 
-    ghost Value = { ℕ };
+    ghost Value = { CountFacts };
 
-    ghost view = { λ t. t.taken };
+    ghost view = { λ t. record { queue = t.seat.table_id; count = t.taken } };
+
+    ghost invariant = { λ t. t.seat.me.1 ≡ [] };
 }
 
-/// How many a thread put back, of what can't be had but from one who took it. Contracts see the number: so a clause can say that a
-/// thread put back one for each of its tasks.
+/// How many a thread put back into a queue, of what can't be had but from a caller that took it. Contracts see the queue and the
+/// number: so a clause can say that a thread put back one for each of its tasks.
 #[derive(Drop)]
 pub struct PutCount<T: Drop> {
+    seat: Pass<T, ()>,
     put: u64,
-    of: PhantomData<T>,
 }
 
 impl<T: Drop> Model for PutCount<T> {
-    ghost use Rattle.std.specs.Prelude.{ℕ};
+    ghost use Rattle.std.specs.Prelude.{◌≡◌, []};
+    ghost use Rattle.run_queues.specs.Parts.{CountFacts};
 
-    ghost Value = { ℕ };
+    ghost Value = { CountFacts };
 
-    ghost view = { λ p. p.put };
-}
+    ghost view = { λ p. record { queue = p.seat.table_id; count = p.put } };
 
-impl<T: Drop> PutCount<T> {
-    /// None so far.
-    pub fn new() -> PutCount<T>
-        ensures { result ≡ 0 }
-    {
-        PutCount {
-            put: 0,
-            of: PhantomData,
-        }
-    }
+    ghost invariant = { λ p. p.seat.me.1 ≡ [] };
 }
 
 impl<T: Drop> SpareQueue<T> {
     /// A queue with room for so many, which is all its memory, and the right to take from it.
     pub fn new(alloc: Global, room: usize) -> Result<(SpareQueue<T>, Taker<T>), AllocError>
         requires { 0 < room }
-        ensures queue { IfOk result (λ made. made.0 ≡ room) }
-        ensures taker { IfOk result (λ made. made.1 ≡ 0) }
+        ensures queue { IfOk result (λ made. made.0.room ≡ room) }
+        ensures taker { IfOk result (λ made. made.1 ≡ none_counted made.0.id) }
     {
-        let (line, _seat) = RuledQueue::new(alloc, room)?;
-        let taker = Taker {
-            taken: 0,
-            of: PhantomData,
-        };
-        Ok((SpareQueue { line }, taker))
+        let (line, seat) = RuledQueue::new(alloc, room)?;
+        Ok((SpareQueue { line }, Taker { seat, taken: 0 }))
     }
 
     /// How many it has room for.
     pub fn room(&self) -> usize
-        ensures { result ≡ self.now }
+        ensures { result ≡ self.now.room }
     {
         self.line.ring.capacity()
     }
 
+    /// A count of what a thread puts back here: none so far.
+    pub fn put_count(&self) -> PutCount<T>
+        ensures { result ≡ none_counted self.now.id }
+    {
+        PutCount {
+            seat: self.line.ring.pass(),
+            put: 0,
+        }
+    }
+
     /// Puts one back behind those that are there, and waits while there is no room. It is counted.
     pub fn put<R: Wait>(&self, rt: &R, count: &mut PutCount<T>, item: T)
-        requires room { count.old + 1 < 2 ^ 64 }
-        ensures counted { count.new ≡ count.old + 1 }
+        requires own { count.old.queue ≡ self.now.id }
+        requires room { count.old.count + 1 < 2 ^ 64 }
+        ensures counted { count.new ≡ one_more count.old }
     {
-        let mut seat = self.line.ring.pass();
-        self.line.push_as::<Free, R>(rt, &mut seat, item);
+        self.line.push_as::<Free, R>(rt, &mut count.seat, item);
         count.put += 1;
     }
 
     /// Takes the first, and waits while there is none. It is counted.
     pub fn take<R: Wait>(&self, rt: &R, taker: &mut Taker<T>) -> T
-        requires room { taker.old + 1 < 2 ^ 64 }
-        ensures counted { taker.new ≡ taker.old + 1 }
+        requires own { taker.old.queue ≡ self.now.id }
+        requires room { taker.old.count + 1 < 2 ^ 64 }
+        ensures counted { taker.new ≡ one_more taker.old }
     {
-        let mut seat = self.line.ring.pass();
         taker.taken += 1;
-        self.line.pop_as::<Free, R>(rt, &mut seat)
+        self.line.pop_as::<Free, R>(rt, &mut taker.seat)
     }
 }

@@ -1,5 +1,5 @@
 -- What a request that entered a queue, and a change of its limits, leave.
-use Rattle.std.specs.Prelude.{◌≡◌, ◌+◌, ◌≤◌, ℕ, Bool, true, false, Option, Some, None, Result, Ok, Err, List}
+use Rattle.std.specs.Prelude.{◌≡◌, ◌+◌, ◌≤◌, ℕ, Bool, true, false, Option, Some, None, IfSome, Result, Ok, Err, List}
 use Rattle.queue_limits.specs.Bounds.{Bounds, AreAllowed}
 use Rattle.queue_limits.specs.Pieces.{IsSplit}
 use Rattle.percpu_core.specs.declared.view.PassView.{PassView}
@@ -27,6 +27,10 @@ pub record IsCutByLimits (t : TagFacts) (start count : ℕ) (lengths : List ℕ)
 pub record IsChanged (limits : Bounds) (old new : FreezerFacts) : Type 0 where
   pub last : Put
   pub leaves : new ≡ after_thaw true (after_set limits (after_look true (after_freeze last old)))
+
+-- while no live gate gives a tag another reference, it keeps the limits that it was told
+abbrev pub KeepsLimits : TagFacts → TagFacts → Type 0
+KeepsLimits old new = IfSome old.limits (λ l. new.seat.live_given ≡ old.seat.live_given → new.limits ≡ Some l)
 
 -- a tag that is in was told these limits by a call at which its seat knew all that it knows now but what it read then; they were in force
 abbrev pub WereReadInside : QueueFacts → TagFacts → Bounds → Type 0

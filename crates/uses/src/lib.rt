@@ -3,7 +3,8 @@
 //!
 //! [`commands`] cuts a request into the commands that a device takes. [`serve`] runs a request on a device that
 //! may be removed at any moment, [`remove`] removes it, and [`race`] has the two race, on two threads. [`submit`]
-//! cuts a request in a queue whose limits another thread may change meanwhile, as [`change_limits`] does; [`enter_under`] is
+//! cuts a request in a queue whose limits another thread may change meanwhile, as [`change_limits`] does; [`submit_next`] cuts
+//! the next one of a thread that stays entered between its requests; [`enter_under`] is
 //! for a request that needs certain limits: it compares what it is told, and leaves and enters again where that differs.
 #![tactic(auto)]
 
@@ -15,4 +16,4 @@ mod settings;
 pub use cutting::{Command, commands};
 pub use racing::{Raced, race};
 pub use removal::{Served, remove, serve};
-pub use settings::{change_limits, enter_under, submit};
+pub use settings::{change_limits, enter_under, submit, submit_next};

@@ -5,7 +5,7 @@ ghost use Rattle.percpu_gate.specs.Calls.{is_refused, taken, LiveTryFinds};
 ghost use Rattle.freeze_queue.specs.Queue.{fault_of, freeze_refusal};
 ghost use Rattle.freeze_queue.specs.Readings.{IsTag};
 ghost use Rattle.uses.specs.Commands.{lengths, found, AreInARow};
-ghost use Rattle.uses.specs.Settings.{IsCutByLimits, IsChanged, WereReadInside, EndsWithOneTry, is_made};
+ghost use Rattle.uses.specs.Settings.{IsCutByLimits, IsChanged, KeepsLimits, WereReadInside, EndsWithOneTry, is_made};
 
 use crate::cutting::{Command, commands};
 use freeze_queue::{BlockQueue, Enter, FreezeFault, Freezer, Tag};
@@ -51,6 +51,35 @@ pub fn submit(
             Err(why)
         }
     }
+}
+
+/// The commands for the next request of a thread whose tag is in. It stays for that, with the limits that it was told, unless a
+/// freeze has begun: then it leaves, waits for the thaw and enters again. A busy thread submits for the price of a
+/// load by this. It leaves before it waits for anything else, since a thread that stays and then sleeps holds up every freeze.
+pub fn submit_next<R: Wait>(
+    rt: &R,
+    alloc: Global,
+    queue: &BlockQueue,
+    tag: &mut Tag,
+    slot: u32,
+    start: u64,
+    count: u32,
+) -> Result<Vec<Command>, AllocError>
+    requires own { tag.old.queue ≡ queue.now }
+    requires slot { slot < queue.now.gate.slots }
+    requires entered { tag.old.entered ≡ true }
+    requires place { start < 2 ^ 32 }
+    ensures own { tag.new.queue ≡ queue.now }
+    ensures entered { tag.new.entered ≡ true }
+    // It asks once, and where no gate gave it another reference it has stayed: then these are the limits of before.
+    ensures looks { tag.new.seat.looks ≡ tag.old.seat.looks + 1 }
+    ensures same { KeepsLimits tag.old tag.new }
+    ensures row { IfOk result (λ made. AreInARow start made.items) }
+    ensures split { IfOk result (λ made. IsCutByLimits tag.new start count (lengths made.items)) }
+{
+    let _answer = queue.stay_or_enter(rt, tag, slot);
+    let limits = queue.limits(tag);
+    commands(alloc, &limits, start, count)
 }
 
 /// Enters, and waits until the limits in force are these. A tag that enters after a change of limits may find that the freezer

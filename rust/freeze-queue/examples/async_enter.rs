@@ -69,7 +69,7 @@ fn main() -> Result<(), Box<dyn Error>> {
         threads.spawn(|| {
             for change in 0..CHANGES {
                 let frozen = queue.freeze().expect("nobody else freezes");
-                frozen.set(Limits { max: 1 + change % 64, ..Limits::of_hardware(64) }).expect("they are limits");
+                frozen.set(Limits::of_hardware(64).with_max(1 + change % 64)).expect("they are limits");
             }
         });
         run(tags.iter_mut().map(|tag| Box::pin(submit(&queue, tag)) as Pin<Box<dyn Future<Output = _>>>))

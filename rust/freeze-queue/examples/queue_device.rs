@@ -35,7 +35,7 @@ fn submit(queue: &Queue, tag: &mut Tag, device: &Device, thousand: &mpsc::Sender
 }
 
 fn main() -> Result<(), Box<dyn Error>> {
-    let queue = Queue::new(Limits { max: 32, ..Limits::of_hardware(64) }, 4, 4)?;
+    let queue = Queue::new(Limits::of_hardware(64).with_max(32), 4, 4)?;
     let mut tags = (0..4).map(|slot| queue.next_tag(slot)).collect::<Result<Vec<Tag>, _>>()?;
     let device = Device::default();
     let (thousand, thousands) = mpsc::channel();

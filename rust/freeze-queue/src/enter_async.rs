@@ -1,14 +1,14 @@
 //! Entering by a future.
+use crate::body::TagState;
 use crate::entered::Entered;
-use crate::errors::{EnterError, TryEnterError};
-use crate::queue::Queue;
+use crate::errors::EnterError;
+use crate::shared::Shared;
 use crate::tag::Tag;
-use crate::waits::Seen;
 use std::fmt;
 use std::pin::Pin;
 use std::task::{Context, Poll};
 
-/// The future of [`Queue::enter_async`].
+/// The future of [`Queue::enter_async`](crate::Queue::enter_async).
 ///
 /// It needs no runtime: while the queue is frozen its waker is noted at the queue, in the place of its tag, and the last
 /// thaw wakes it. It asks for no memory. One that is dropped isn't woken.
@@ -31,39 +31,14 @@ use std::task::{Context, Poll};
 /// ```
 #[must_use = "a future does nothing unless it is polled"]
 pub struct EnterAsync<'e> {
-    queue: &'e Queue,
-    /// None once it is done.
-    tag: Option<&'e mut Tag>,
-    /// The queue has a waker of it, or had one.
-    is_noted: bool,
+    queue: &'e Shared,
+    /// None once it is done. It is an error if the tag is of another queue.
+    tag: Option<Result<&'e mut TagState, EnterError>>,
 }
 
 impl<'e> EnterAsync<'e> {
-    pub(crate) fn of(queue: &'e Queue, tag: &'e mut Tag) -> EnterAsync<'e> {
-        EnterAsync { queue, tag: Some(tag), is_noted: false }
-    }
-
-    /// The tag enters, or doesn't; none where it waits, and the context's waker is noted.
-    fn in_or_noted(&mut self, tag: &mut Tag, context: &Context<'_>) -> Option<Result<(), EnterError>> {
-        loop {
-            match self.queue.in_at_once(tag) {
-                Ok(()) => return Some(Ok(())),
-                Err(TryEnterError::OtherQueue) => return Some(Err(EnterError::OtherQueue)),
-                Err(TryEnterError::StillEntered) => return Some(Err(EnterError::StillEntered)),
-                Err(TryEnterError::Dying) => return Some(Err(EnterError::Dying)),
-                Err(TryEnterError::Frozen) => {}
-            }
-            let mut waker = Some(context.waker().clone()); // before the lock, since it is somebody's code
-            let seen = self.queue.waits.lock().seen_or_noted(tag.seat, &mut waker);
-            match seen {
-                Some(Seen::Live) => {}
-                Some(Seen::Dying) => return Some(Err(EnterError::Dying)),
-                None => {
-                    self.is_noted = true;
-                    return None;
-                }
-            }
-        }
+    pub(crate) fn of(queue: &'e Shared, tag: &'e mut Tag) -> EnterAsync<'e> {
+        EnterAsync { queue, tag: Some(tag.state_of(queue).ok_or(EnterError::OtherQueue)) }
     }
 }
 
@@ -72,32 +47,27 @@ impl<'e> Future for EnterAsync<'e> {
 
     fn poll(self: Pin<&mut Self>, context: &mut Context<'_>) -> Poll<Self::Output> {
         let this = self.get_mut();
-        let tag = this.tag.take().expect("it isn't polled once it is done");
-        match this.in_or_noted(tag, context) {
-            Some(Ok(())) => Poll::Ready(Ok(Entered::of(this.queue, tag))),
-            Some(Err(why)) => Poll::Ready(Err(why)),
-            None => {
-                this.tag = Some(tag);
-                Poll::Pending
-            }
-        }
+        let done = match this.tag.as_mut().expect("it isn't polled once it is done") {
+            Ok(tag) => this.queue.in_or_noted(tag, context),
+            Err(why) => Some(Err(*why)),
+        };
+        let Some(done) = done else { return Poll::Pending };
+        let tag = this.tag.take().expect("it was there for the poll");
+        Poll::Ready(tag.and_then(|tag| done.map(|()| Entered::of(this.queue, tag))))
     }
 }
 
 impl Drop for EnterAsync<'_> {
     fn drop(&mut self) {
-        match &self.tag {
-            Some(tag) if self.is_noted => {
-                let old = self.queue.waits.lock().seats.forget(tag.seat);
-                drop(old);
-            }
-            _ => {}
+        if let Some(Ok(tag)) = &mut self.tag {
+            let noted = self.queue.forget_waker(tag);
+            drop(noted);
         }
     }
 }
 
 impl fmt::Debug for EnterAsync<'_> {
     fn fmt(&self, f: &mut fmt::Formatter<'_>) -> fmt::Result {
-        f.debug_struct("EnterAsync").field("tag", &self.tag).finish_non_exhaustive()
+        f.debug_struct("EnterAsync").field("is_done", &self.tag.is_none()).finish_non_exhaustive()
     }
 }

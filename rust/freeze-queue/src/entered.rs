@@ -1,10 +1,12 @@
 //! A request that has entered.
-use crate::errors::{RangeError, SlotError};
+use crate::body::TagState;
+use crate::erased::queue_core::{Put, Stay};
+use crate::errors::{EnterError, RangeError, SlotError, StayError};
 use crate::limits::Limits;
 use crate::pieces::Pieces;
-use crate::queue::Queue;
-use crate::tag::Tag;
+use crate::shared::Shared;
 use std::fmt;
+use std::mem::ManuallyDrop;
 
 /// A request that has entered its queue: while it is there the queue doesn't drain, and its limits hold still.
 ///
@@ -16,7 +18,7 @@ use std::fmt;
 /// ```
 /// use freeze_queue::{Limits, Queue};
 ///
-/// let queue = Queue::new(Limits { max: 8, ..Limits::of_hardware(64) }, 1, 1)?;
+/// let queue = Queue::new(Limits::of_hardware(64).with_max(8), 1, 1)?;
 /// let mut tag = queue.next_tag(0)?;
 /// let request = queue.enter(&mut tag)?;
 /// for piece in request.pieces(0, 20)? {
@@ -27,25 +29,31 @@ use std::fmt;
 /// ```
 #[must_use = "a request leaves where it is dropped"]
 pub struct Entered<'e> {
-    queue: &'e Queue,
+    queue: &'e Shared,
     /// Of this queue, and entered.
-    tag: &'e mut Tag,
+    tag: &'e mut TagState,
     limits: Limits,
 }
 
 impl<'e> Entered<'e> {
     /// Of a tag that has entered this queue, of which it is.
     #[inline]
-    pub(crate) fn of(queue: &'e Queue, tag: &'e mut Tag) -> Entered<'e> {
+    pub(crate) fn of(queue: &'e Shared, tag: &'e mut TagState) -> Entered<'e> {
         let limits = queue.limits_under(tag);
         Entered { queue, tag, limits }
+    }
+
+    /// The number of its queue.
+    #[inline]
+    pub(crate) fn queue_number(&self) -> u64 {
+        self.queue.number.get()
     }
 
     /// The limits in force, the same until it leaves.
     ///
     /// ```
     /// # use freeze_queue::{Limits, Queue};
-    /// # let queue = Queue::new(Limits { max: 8, ..Limits::of_hardware(64) }, 1, 1)?;
+    /// # let queue = Queue::new(Limits::of_hardware(64).with_max(8), 1, 1)?;
     /// # let mut tag = queue.next_tag(0)?;
     /// let request = queue.enter(&mut tag)?;
     /// assert_eq!(request.limits().max, 8);
@@ -68,7 +76,7 @@ impl<'e> Entered<'e> {
     ///
     /// ```
     /// # use freeze_queue::{Limits, Queue};
-    /// # let queue = Queue::new(Limits { chunk: 8, ..Limits::of_hardware(64) }, 1, 1)?;
+    /// # let queue = Queue::new(Limits::of_hardware(64).with_chunk(8), 1, 1)?;
     /// # let mut tag = queue.next_tag(0)?;
     /// let request = queue.enter(&mut tag)?;
     /// let starts: Vec<u64> = request.pieces(6, 12)?.map(|piece| piece.start).collect();
@@ -77,6 +85,86 @@ impl<'e> Entered<'e> {
     /// ```
     pub fn pieces(&self, start: u64, count: u32) -> Result<Pieces<'_>, RangeError> {
         Pieces::of(self.limits.in_force(), start, count)
+    }
+
+    /// Stays entered for the next request of this thread, with the same limits: one load, in place of a leave and an
+    /// enter. If a freeze has begun, it leaves, waits for the thaw as [`enter`](crate::Queue::enter) does, and enters again: the
+    /// limits may differ then. Linux: the requests that a plug keeps, each with its reference of `q_usage_counter`.
+    ///
+    /// A thread that stays and then sleeps holds up every freeze, so it leaves before it waits.
+    /// [`Queue::serve`](crate::Queue::serve) stays between the calls of a closure.
+    ///
+    /// # Errors
+    ///
+    /// [`EnterError`] has each. It has left.
+    ///
+    /// # Examples
+    ///
+    /// ```
+    /// # use freeze_queue::{Limits, Queue};
+    /// # let queue = Queue::new(Limits::of_hardware(64), 1, 1)?;
+    /// # let mut tag = queue.next_tag(0)?;
+    /// let mut request = queue.enter(&mut tag)?;
+    /// for sectors in [10, 100, 1000] {
+    ///     let pieces = request.pieces(0, sectors)?;
+    ///     assert_eq!(pieces.count() as u32, sectors.div_ceil(request.limits().max));
+    ///     request = request.stay_or_enter()?;
+    /// }
+    /// drop(request); // leaves, before the thread waits for more
+    /// # Ok::<(), Box<dyn std::error::Error>>(())
+    /// ```
+    #[inline]
+    pub fn stay_or_enter(self) -> Result<Entered<'e>, EnterError> {
+        match self.queue.stays(self.tag) {
+            Stay::Stayed => Ok(self),
+            Stay::Left(put) => self.enter_again(put),
+        }
+    }
+
+    /// Of a tag that has left, and that was answered so. A waker or a wait that panics has it leave no second time.
+    #[cold]
+    fn enter_again(self, put: Put) -> Result<Entered<'e>, EnterError> {
+        let mut left = ManuallyDrop::new(self);
+        let Entered { queue, tag, limits } = &mut *left;
+        queue.dropped(put);
+        queue.in_or_waits(tag)?;
+        *limits = queue.limits_under(tag);
+        Ok(ManuallyDrop::into_inner(left))
+    }
+
+    /// Stays entered for the next request of this thread as [`stay_or_enter`](Entered::stay_or_enter) does, and waits for
+    /// nothing: if a freeze has begun, it leaves.
+    ///
+    /// # Errors
+    ///
+    /// [`StayError::Frozen`]. It has left.
+    ///
+    /// # Examples
+    ///
+    /// ```
+    /// # use freeze_queue::{Limits, Queue};
+    /// # let queue = Queue::new(Limits::of_hardware(64), 1, 1)?;
+    /// # let mut tag = queue.next_tag(0)?;
+    /// let mut request = queue.enter(&mut tag)?;
+    /// for _ in 0..3 {
+    ///     assert_eq!(request.limits().max, 64); // serves a request
+    ///     let Ok(same) = request.stay() else {
+    ///         break; // serves something else meanwhile
+    ///     };
+    ///     request = same;
+    /// }
+    /// # Ok::<(), Box<dyn std::error::Error>>(())
+    /// ```
+    #[inline]
+    pub fn stay(self) -> Result<Entered<'e>, StayError> {
+        match self.queue.stays(self.tag) {
+            Stay::Stayed => Ok(self),
+            Stay::Left(put) => {
+                // Before a waker is called, which may panic: it has left, and doesn't leave again.
+                ManuallyDrop::new(self).queue.dropped(put);
+                Err(StayError::Frozen)
+            }
+        }
     }
 
     /// Leaves on this slot, and its tag counts there from now on: as a request does that ends on another thread.
@@ -98,7 +186,7 @@ impl<'e> Entered<'e> {
     /// # Ok::<(), Box<dyn std::error::Error>>(())
     /// ```
     pub fn use_slot(&mut self, slot: u32) -> Result<(), SlotError> {
-        self.tag.use_slot(slot)
+        self.tag.use_slot(self.queue, slot)
     }
 }
 
@@ -111,6 +199,7 @@ impl Drop for Entered<'_> {
 
 impl fmt::Debug for Entered<'_> {
     fn fmt(&self, f: &mut fmt::Formatter<'_>) -> fmt::Result {
-        f.debug_tuple("Entered").field(self.tag).finish()
+        let (queue, slot) = (self.queue.number, self.tag.slot);
+        f.debug_struct("Entered").field("queue", &queue).field("slot", &slot).finish_non_exhaustive()
     }
 }

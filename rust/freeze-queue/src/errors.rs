@@ -35,10 +35,12 @@ macro_rules! texts_or_limits {
 }
 
 mod entering;
+mod entering_any;
 mod freezing;
 
-pub use entering::{EnterError, EnterFrozenError, EnterTimeoutError, TryEnterError};
-pub use freezing::{FreezeError, FreezeTimeoutError, TryFreezeError};
+pub use entering::{EnterError, EnterFrozenError, EnterTimeoutError, StayError, TryEnterError};
+pub use entering_any::{EnterAnyError, EnterAnyTimeoutError, TryEnterAnyError};
+pub use freezing::{FreezeError, FreezeTimeoutError, TryFreezeError, UpdateError};
 
 /// Why no queue has such limits.
 ///
@@ -46,9 +48,10 @@ pub use freezing::{FreezeError, FreezeTimeoutError, TryFreezeError};
 /// use freeze_queue::{Limits, LimitsError};
 ///
 /// assert_eq!(Limits::of_hardware(0).check(), Err(LimitsError::HardwareRange));
-/// assert_eq!(Limits { physical: 3, ..Limits::of_hardware(64) }.check(), Err(LimitsError::BadPhysical));
+/// assert_eq!(Limits::of_hardware(64).with_physical(3).check(), Err(LimitsError::BadPhysical));
 /// ```
 #[derive(Clone, Copy, Debug, PartialEq, Eq, Hash)]
+#[non_exhaustive]
 pub enum LimitsError {
     /// `hardware` isn't from 1 to 65,535.
     HardwareRange,
@@ -66,10 +69,11 @@ pub enum LimitsError {
 /// use freeze_queue::{Limits, LimitsError, NewError, Queue};
 ///
 /// assert_eq!(Queue::new(Limits::of_hardware(64), 1, 64).unwrap_err(), NewError::Size);
-/// let refused = Queue::new(Limits { max: 65, ..Limits::of_hardware(64) }, 1, 64);
+/// let refused = Queue::new(Limits::of_hardware(64).with_max(65), 1, 64);
 /// assert_eq!(refused.unwrap_err(), NewError::Limits(LimitsError::AboveHardware));
 /// ```
 #[derive(Clone, Copy, Debug, PartialEq, Eq, Hash)]
+#[non_exhaustive]
 pub enum NewError {
     /// The limits are refused.
     Limits(LimitsError),
@@ -90,13 +94,12 @@ pub enum NewError {
 /// # Ok::<(), Box<dyn std::error::Error>>(())
 /// ```
 #[derive(Clone, Copy, Debug, PartialEq, Eq, Hash)]
+#[non_exhaustive]
 pub enum NextTagError {
     /// The queue has no such slot.
     NoSlot,
     /// Every tag is out.
     NoTag,
-    /// There is no memory for it. The tag waits still.
-    NoMemory,
 }
 
 /// Why a tag doesn't change its slot.
@@ -108,6 +111,7 @@ pub enum NextTagError {
 /// # Ok::<(), Box<dyn std::error::Error>>(())
 /// ```
 #[derive(Clone, Copy, Debug, PartialEq, Eq, Hash)]
+#[non_exhaustive]
 pub enum SlotError {
     /// The queue has no such slot.
     NoSlot,
@@ -124,6 +128,7 @@ pub enum SlotError {
 /// # Ok::<(), Box<dyn std::error::Error>>(())
 /// ```
 #[derive(Clone, Copy, Debug, PartialEq, Eq, Hash)]
+#[non_exhaustive]
 pub enum GiveBackError {
     /// The tag is of another queue.
     OtherQueue,
@@ -141,9 +146,12 @@ pub enum GiveBackError {
 /// # Ok::<(), Box<dyn std::error::Error>>(())
 /// ```
 #[derive(Clone, Copy, Debug, PartialEq, Eq, Hash)]
+#[non_exhaustive]
 pub enum RemoveError {
-    /// A tag that was given isn't given back. One that was dropped never will be: then drop the queue.
+    /// A tag is out, or a request that was forgotten (`mem::forget`) has it for ever: then drop the queue.
     TagsOut,
+    /// A freeze with a share of the queue is there ([`OwnedFrozen`](crate::OwnedFrozen)), or was forgotten.
+    FreezeOut,
     /// The queue was frozen 2^40 times.
     WornOut,
 }
@@ -158,6 +166,7 @@ pub enum RemoveError {
 /// # Ok::<(), Box<dyn std::error::Error>>(())
 /// ```
 #[derive(Clone, Copy, Debug, PartialEq, Eq, Hash)]
+#[non_exhaustive]
 pub enum SetError {
     /// The limits are refused.
     Limits(LimitsError),
@@ -177,6 +186,7 @@ pub enum SetError {
 /// # Ok::<(), Box<dyn std::error::Error>>(())
 /// ```
 #[derive(Clone, Copy, Debug, PartialEq, Eq, Hash)]
+#[non_exhaustive]
 pub enum RangeError {
     /// A sector of it would be 2^33 or above.
     TooFar,
@@ -191,6 +201,7 @@ pub enum RangeError {
 /// assert_eq!(Limits::of_hardware(64).pieces(1 << 33, 1).unwrap_err(), PiecesError::TooFar);
 /// ```
 #[derive(Clone, Copy, Debug, PartialEq, Eq, Hash)]
+#[non_exhaustive]
 pub enum PiecesError {
     /// The limits are refused.
     Limits(LimitsError),
@@ -211,10 +222,14 @@ texts! {
         ChunkTooLarge => "a chunk of more than 65535 sectors",
         BadPhysical => "a physical block that isn't a power of two from 1 to 32768 sectors",
     }
-    NextTagError { NoSlot => "no such slot", NoTag => "every tag was given out", NoMemory => "no memory", }
+    NextTagError { NoSlot => "no such slot", NoTag => "every tag was given out", }
     SlotError { NoSlot => "no such slot", }
     GiveBackError { OtherQueue => "the tag is of another queue", StillEntered => "the tag has entered", }
-    RemoveError { TagsOut => "tags aren't given back", WornOut => "the queue was frozen 2^40 times", }
+    RemoveError {
+        TagsOut => "tags aren't given back",
+        FreezeOut => "a freeze has a share of the queue",
+        WornOut => "the queue was frozen 2^40 times",
+    }
     RangeError { TooFar => "a sector from 2^33 on", }
 }
 

@@ -1,9 +1,9 @@
 //! A frozen queue.
+use crate::erased::queue_core;
 use crate::errors::SetError;
+use crate::freezing::Freeze;
 use crate::limits::Limits;
-use crate::queue::Queue;
 use std::fmt;
-use std::mem::ManuallyDrop;
 
 /// A freeze of a queue, which is drained: no request is under way, and none enters while it is there.
 ///
@@ -19,19 +19,28 @@ use std::mem::ManuallyDrop;
 /// let nested = queue.freeze()?;
 /// drop(frozen);
 /// assert_eq!(queue.depth(), 1);
-/// nested.set(Limits { chunk: 8, ..queue.limits() })?;
+/// nested.set(queue.limits().with_chunk(8))?;
 /// # Ok::<(), Box<dyn std::error::Error>>(())
 /// ```
 #[must_use = "a freeze is thawed where it is dropped"]
 pub struct Frozen<'q> {
-    /// Frozen once more than its other guards say, and drained.
-    queue: &'q Queue,
+    /// Of a drained queue.
+    freeze: Freeze<'q>,
 }
 
+/// A freeze with a share of its queue ([`Queue::freeze_owned`](crate::Queue::freeze_owned)): it borrows nothing, so it may be kept
+/// from one message to another, and be thawed on any thread.
+pub type OwnedFrozen = Frozen<'static>;
+
 impl<'q> Frozen<'q> {
-    /// Of a queue that was frozen for it, and is drained.
-    pub(crate) fn of(queue: &'q Queue) -> Frozen<'q> {
-        Frozen { queue }
+    /// Of a queue that is drained.
+    pub(crate) fn of(freeze: Freeze<'q>) -> Frozen<'q> {
+        Frozen { freeze }
+    }
+
+    /// The number of its queue.
+    pub(crate) fn queue_number(&self) -> u64 {
+        self.freeze.queue.number.get()
     }
 
     /// Sets the limits, for whoever enters after the thaw. Linux: `queue_limits_commit_update`, under a freeze.
@@ -47,14 +56,34 @@ impl<'q> Frozen<'q> {
     /// # let queue = Queue::new(Limits::of_hardware(64), 1, 1)?;
     /// # let mut tag = queue.next_tag(0)?;
     /// let frozen = queue.freeze()?;
-    /// frozen.set(Limits { max: 8, ..Limits::of_hardware(64) })?;
+    /// frozen.set(Limits::of_hardware(64).with_max(8))?;
     /// assert_eq!(frozen.set(Limits::of_hardware(32)), Err(SetError::OtherHardware));
     /// drop(frozen);
     /// assert_eq!(queue.enter(&mut tag)?.limits().max, 8);
     /// # Ok::<(), Box<dyn std::error::Error>>(())
     /// ```
     pub fn set(&self, limits: Limits) -> Result<(), SetError> {
-        self.queue.store_limits(limits.checked()?)
+        self.freeze.queue.store_limits(limits.checked()?)
+    }
+
+    /// Sets limits of the same hardware in place of those seen before. If others are in force by now, it sets nothing.
+    pub(crate) fn replace(&self, seen: Limits, limits: queue_core::Limits) -> bool {
+        self.freeze.queue.replace_limits(seen, limits)
+    }
+
+    /// The limits that were set last. Only holders of a freeze change them.
+    ///
+    /// ```
+    /// # use freeze_queue::{Limits, Queue};
+    /// # let queue = Queue::new(Limits::of_hardware(64), 1, 1)?;
+    /// let frozen = queue.freeze()?;
+    /// frozen.set(frozen.limits().with_max(8))?;
+    /// assert_eq!(frozen.limits().max, 8);
+    /// # Ok::<(), Box<dyn std::error::Error>>(())
+    /// ```
+    #[must_use]
+    pub fn limits(&self) -> Limits {
+        self.freeze.queue.waits.lock().freezer.limits().into()
     }
 
     /// Never thaws this freeze, since the device is gone: no request enters any more, and those that wait to enter, or
@@ -77,20 +106,12 @@ impl<'q> Frozen<'q> {
     /// # Ok::<(), Box<dyn std::error::Error>>(())
     /// ```
     pub fn mark_dying(self) {
-        // Before a waker is called, which may panic: this freeze isn't thawed then either.
-        let frozen = ManuallyDrop::new(self);
-        frozen.queue.waits.mark_dying();
-    }
-}
-
-impl Drop for Frozen<'_> {
-    fn drop(&mut self) {
-        self.queue.thaw();
+        self.freeze.mark_dying();
     }
 }
 
 impl fmt::Debug for Frozen<'_> {
     fn fmt(&self, f: &mut fmt::Formatter<'_>) -> fmt::Result {
-        f.debug_tuple("Frozen").field(self.queue).finish()
+        f.debug_struct("Frozen").field("queue", &self.freeze.queue.number).finish_non_exhaustive()
     }
 }

@@ -1,5 +1,5 @@
 //! A refusal that hands back what the call was given.
-use crate::errors::{EnterError, GiveBackError, RemoveError, TryEnterError};
+use crate::errors::{EnterError, EnterFrozenError, EnterTimeoutError, GiveBackError, RemoveError, TryEnterError};
 use crate::queue::Queue;
 use crate::tag::Tag;
 use std::error::Error;
@@ -18,7 +18,6 @@ use std::fmt;
 /// assert_eq!(queue.depth(), 0);
 /// # Ok::<(), Box<dyn std::error::Error>>(())
 /// ```
-#[derive(Debug)]
 pub struct HandedBack<T, E> {
     /// What the call was given, as it was.
     pub value: T,
@@ -32,7 +31,14 @@ impl<T, E: fmt::Display> fmt::Display for HandedBack<T, E> {
     }
 }
 
-impl<T: fmt::Debug, E: Error> Error for HandedBack<T, E> {}
+/// The reason alone, whatever the value is.
+impl<T, E: fmt::Debug> fmt::Debug for HandedBack<T, E> {
+    fn fmt(&self, f: &mut fmt::Formatter<'_>) -> fmt::Result {
+        f.debug_struct("HandedBack").field("reason", &self.reason).finish_non_exhaustive()
+    }
+}
+
+impl<T, E: Error> Error for HandedBack<T, E> {}
 
 /// That `?` in a function with these errors drops what was handed back.
 macro_rules! reasons {
@@ -49,6 +55,8 @@ reasons! {
     Tag, GiveBackError;
     Tag, EnterError;
     Tag, TryEnterError;
+    Tag, EnterTimeoutError;
+    Tag, EnterFrozenError;
     Queue, RemoveError;
 }
 

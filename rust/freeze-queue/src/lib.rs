@@ -21,7 +21,7 @@
 //!             }
 //!         });
 //!     }
-//!     queue.freeze().unwrap().set(Limits { max: 8, ..Limits::of_hardware(64) }).unwrap();
+//!     queue.update(|limits| limits.with_max(8)).unwrap(); // frozen and drained meanwhile
 //! });
 //! println!("at most {} sectors", queue.limits().max);
 //! # assert_eq!(queue.limits().max, 8);
@@ -30,38 +30,66 @@
 //!
 //! # A queue's parts
 //!
-//! A [`Queue`] is shared, by `&` or by an `Arc`, and has 1 to 63 [`Tag`]s. A tag has one request in flight, which borrows
-//! it ([`Entered`]), or takes it along to end on another thread ([`OwnedEntered`]). Entering and leaving count on one of 1
-//! to 64 slots: let each thread have a slot of its own. Threads may share a slot, which is slower, and a request may leave
-//! on another slot than it entered.
+//! A [`Queue`] is shared, by `&` or by an `Arc`, and has 1 to 63 [`Tag`]s, each with one request in flight at a time. A request
+//! borrows a tag that a thread keeps ([`Queue::enter`]). Or the tag goes along with it ([`OwnedEntered`]), so that the request ends
+//! on any thread: a tag that the caller has ([`Queue::enter_owned`]), or any that is free ([`Queue::enter_any`]). A tag that is
+//! dropped, alone or with its request, goes home to its queue, and to the first that waits for one.
 //!
-//! Freezes nest, of one thread or of several: each [`Frozen`] is one, and the last that is dropped lets requests enter
-//! again. A device that goes away is frozen for ever ([`Frozen::mark_dying`]): then no thread waits to enter any more.
+//! Entering and leaving count on one of 1 to 64 slots: let each thread have a slot of its own. Threads may share a slot, which is
+//! slower, and a request may leave on another slot than it entered. `enter_any` picks the slot by the thread.
+//!
+//! A busy thread stays entered between two requests, for the price of one load ([`Entered::stay_or_enter`],
+//! [`Queue::serve`]). It leaves once a freeze has begun, and before it sleeps for any other reason: until then it holds up
+//! every freeze.
+//!
+//! Freezes nest, of one thread or of several: each [`Frozen`] is one, and the last that is dropped lets requests enter again.
+//! An [`OwnedFrozen`] borrows nothing. A device that goes away is frozen for ever ([`Frozen::mark_dying`]): then no thread waits to
+//! enter any more.
+//!
+//! A queue around a value of Rust's own, as a whole device, is a [`guarded::Queue<T>`](guarded::Queue): a request lends `&T`, a freeze
+//! `&mut T`, and the end gives T back.
+//!
+//! A freeze in time: requests in flight leave under the old limits, and waiting ones enter under the new:
+//!
+#![doc = include_str!("freeze_in_time.svg")]
 //!
 //! # Waiting
 //!
-//! Entering waits while the queue is frozen, and freezing waits for the drain, by `std`'s mutex and condition variables, or
-//! by a future ([`Queue::enter_async`]) on any executor. Only the slow path touches them: a refused entering, the leaving
-//! that drains the queue, and each call that freezes, thaws or asks. A thread that waits for itself waits for ever: one that
-//! freezes while its own request is in flight, or enters while it has a [`Frozen`].
+//! Entering waits while the queue is frozen, and freezing waits for the drain: by `std`'s mutex and condition variables, or by a
+//! future on any executor.
 //!
-//! Only [`Queue::new`] asks for memory, and want of it is an ordinary refusal. The holder of a [`Frozen`] sees all writes
-//! from before the freeze, and from requests that were in flight. A request that enters after a thaw sees all writes from
-//! before the thaw.
+//! | a thread waits | a future waits | for |
+//! |---|---|---|
+//! | [`enter`](Queue::enter), [`enter_timeout`](Queue::enter_timeout) | [`enter_async`](Queue::enter_async) | the thaw |
+//! | [`enter_owned`](Queue::enter_owned), [`enter_owned_timeout`](Queue::enter_owned_timeout) | [`enter_owned_async`](Queue::enter_owned_async) | the thaw |
+//! | [`enter_any`](Queue::enter_any), [`enter_any_timeout`](Queue::enter_any_timeout) | [`enter_any_async`](Queue::enter_any_async) | a tag, in order of arrival, and the thaw |
+//! | [`freeze`](Queue::freeze), [`freeze_timeout`](Queue::freeze_timeout), [`Freezing::wait`] | [`freeze_async`](Queue::freeze_async), [`Freezing::drained`] | the drain |
+//!
+//! Only the slow path touches them: a refused entering, the leaving that drains the queue, a wait for a tag, and each call that
+//! freezes, thaws or asks. A thread that waits for itself waits for ever: one that freezes while its own request is in flight,
+//! enters while it has a [`Frozen`], or waits for a tag while it has all of them.
+//!
+//! If a waker panics, the others are woken, and the panic goes on in the call that woke it, unless its thread unwinds already. A task
+//! that is woken by a call within a waker is woken once that waker has returned.
+//!
+//! [`Queue::new`] asks for memory, and so does the line of those that wait for a tag. Want of it is an ordinary refusal, but for one
+//! allocation of `Queue::new`, an `Arc`, which stable Rust can't refuse. The holder of a [`Frozen`] sees all writes from before the
+//! freeze, and from requests that were in flight. A request that enters after a thaw sees all writes from before the thaw.
 //!
 //! # What is proved, and what isn't
 //!
 //! The steps of the queue are in `src/erased`. A program cut this Rust out of sources with contracts, all of which are
 //! proved, in any order of the atomic steps of all threads. The proof is of those sources, for callers that meet the
 //! preconditions. No proof covers the program that cuts, its stand-ins, the Rust compiler, this crate around the steps, or
-//! its waits and wakes (`src/waits.rs`, `src/seats.rs`). Its types enforce the preconditions: [`misuse`] shows the misuse
+//! its waits and wakes (`src/waits.rs`, `src/line.rs`). Its types enforce the preconditions: [`misuse`] shows the misuse
 //! that doesn't compile, and an error refuses the misuse that types can't exclude. A refusal that they do exclude is a bug
-//! of this crate, and panics. There is no `unsafe` in any of it, so a mistake here could break the laws of the queue, and
-//! never the safety of memory.
+//! of this crate, and panics. There is no `unsafe` in any of it but for one file of 60 lines, `src/guarded/value.rs`, by which a
+//! [`guarded::Queue<T>`](guarded::Queue) lends its T. A mistake elsewhere could break the laws of the queue. It could break the safety of
+//! memory for users of that type alone.
 //!
 //! The module `erased` is public for the crates above this one, and no part of the API that versions promise: its functions
 //! trust their preconditions, so no user calls them.
-#![forbid(unsafe_code)]
+#![deny(unsafe_code)] // but for guarded/value.rs
 
 extern crate alloc;
 
@@ -70,35 +98,52 @@ extern crate alloc;
 #[doc = include_str!("../README.md")]
 mod readme {}
 
+mod body;
 #[cfg(test)]
 mod counted;
+mod drained;
+mod drains;
+mod enter_any;
 mod enter_async;
+mod enter_owned_async;
 mod entered;
 #[doc(hidden)]
 pub mod erased;
 mod errors;
 mod excluded;
+mod freezing;
 mod frozen;
+pub mod guarded;
 mod handed_back;
 mod limits;
+mod line;
 mod locked;
 #[cfg(any(doc, doctest))]
 pub mod misuse;
 mod outcomes;
 mod owned;
 mod pieces;
+mod places;
 mod queue;
 mod seats;
+mod shared;
+mod sync;
 mod tag;
+mod threads;
 mod waits;
 
+pub use drained::{Drained, FreezeAsync};
+pub use enter_any::EnterAny;
 pub use enter_async::EnterAsync;
+pub use enter_owned_async::EnterOwnedAsync;
 pub use entered::Entered;
 pub use errors::{
-    EnterError, EnterFrozenError, EnterTimeoutError, FreezeError, FreezeTimeoutError, GiveBackError, LimitsError,
-    NewError, NextTagError, PiecesError, RangeError, RemoveError, SetError, SlotError, TryEnterError, TryFreezeError,
+    EnterAnyError, EnterAnyTimeoutError, EnterError, EnterFrozenError, EnterTimeoutError, FreezeError,
+    FreezeTimeoutError, GiveBackError, LimitsError, NewError, NextTagError, PiecesError, RangeError, RemoveError,
+    SetError, SlotError, StayError, TryEnterAnyError, TryEnterError, TryFreezeError, UpdateError,
 };
-pub use frozen::Frozen;
+pub use freezing::{Freezing, OwnedFreezing};
+pub use frozen::{Frozen, OwnedFrozen};
 pub use handed_back::HandedBack;
 pub use limits::Limits;
 pub use outcomes::Final;

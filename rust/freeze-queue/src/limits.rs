@@ -10,10 +10,11 @@ use crate::pieces::Pieces;
 /// ```
 /// use freeze_queue::Limits;
 ///
-/// let limits = Limits { max: 8, chunk: 128, ..Limits::of_hardware(64) };
-/// assert_eq!(limits, Limits { hardware: 64, max: 8, chunk: 128, physical: 1 });
+/// let limits = Limits::of_hardware(64).with_max(8).with_chunk(128);
+/// assert_eq!((limits.hardware, limits.max, limits.chunk, limits.physical), (64, 8, 128, 1));
 /// ```
 #[derive(Clone, Copy, Debug, PartialEq, Eq, Hash)]
+#[non_exhaustive]
 pub struct Limits {
     /// What the hardware takes in one command: 1 to 65,535, and one number for the whole life of a queue.
     pub hardware: u32,
@@ -30,12 +31,58 @@ impl Limits {
     ///
     /// ```
     /// # use freeze_queue::Limits;
-    /// let all = Limits { hardware: 64, max: 64, chunk: 0, physical: 1 };
-    /// assert_eq!(Limits::of_hardware(64), all);
+    /// let limits = Limits::of_hardware(64);
+    /// assert_eq!((limits.hardware, limits.max, limits.chunk, limits.physical), (64, 64, 0, 1));
     /// ```
     #[must_use]
     pub const fn of_hardware(sectors: u32) -> Limits {
         Limits { hardware: sectors, max: sectors, chunk: 0, physical: 1 }
+    }
+
+    /// The same limits for a device that takes so many sectors in a command. `max` stays as it is.
+    ///
+    /// ```
+    /// # use freeze_queue::{Limits, LimitsError};
+    /// let limits = Limits::of_hardware(64).with_hardware(32);
+    /// assert_eq!((limits.hardware, limits.max), (32, 64));
+    /// assert_eq!(limits.check(), Err(LimitsError::AboveHardware));
+    /// ```
+    #[must_use]
+    pub const fn with_hardware(self, sectors: u32) -> Limits {
+        Limits { hardware: sectors, ..self }
+    }
+
+    /// The same limits, with at most so many sectors in a command. 0 asks for `hardware`.
+    ///
+    /// ```
+    /// # use freeze_queue::Limits;
+    /// assert_eq!(Limits::of_hardware(64).with_max(8).max, 8);
+    /// ```
+    #[must_use]
+    pub const fn with_max(self, sectors: u32) -> Limits {
+        Limits { max: sectors, ..self }
+    }
+
+    /// The same limits, where no piece crosses a multiple of so many sectors. 0 asks for none.
+    ///
+    /// ```
+    /// # use freeze_queue::Limits;
+    /// assert_eq!(Limits::of_hardware(64).with_chunk(128).chunk, 128);
+    /// ```
+    #[must_use]
+    pub const fn with_chunk(self, sectors: u32) -> Limits {
+        Limits { chunk: sectors, ..self }
+    }
+
+    /// The same limits, with physical blocks of so many sectors.
+    ///
+    /// ```
+    /// # use freeze_queue::Limits;
+    /// assert_eq!(Limits::of_hardware(64).with_physical(8).physical, 8);
+    /// ```
+    #[must_use]
+    pub const fn with_physical(self, sectors: u32) -> Limits {
+        Limits { physical: sectors, ..self }
     }
 
     /// Whether a queue takes these limits: to be asked before a freeze, so that nobody waits for limits that are refused.
@@ -52,7 +99,7 @@ impl Limits {
     /// # use freeze_queue::{Limits, LimitsError};
     /// let limits = Limits::of_hardware(64);
     /// assert_eq!(limits.check(), Ok(()));
-    /// assert_eq!(Limits { max: 65, ..limits }.check(), Err(LimitsError::AboveHardware));
+    /// assert_eq!(limits.with_max(65).check(), Err(LimitsError::AboveHardware));
     /// ```
     pub fn check(&self) -> Result<(), LimitsError> {
         self.checked().map(drop)
@@ -70,7 +117,7 @@ impl Limits {
     ///
     /// ```
     /// # use freeze_queue::{Limits, Piece};
-    /// let limits = Limits { chunk: 8, ..Limits::of_hardware(64) };
+    /// let limits = Limits::of_hardware(64).with_chunk(8);
     /// let pieces: Vec<Piece> = limits.pieces(6, 6)?.collect();
     /// assert_eq!(pieces, [Piece { start: 6, sectors: 2 }, Piece { start: 8, sectors: 4 }]);
     /// # Ok::<(), Box<dyn std::error::Error>>(())

@@ -1,8 +1,9 @@
 //! A lock that the thread sanitizer sees. A standard library that isn't built for the sanitizer takes a contended mutex unseen,
 //! so under `--cfg freeze_queue_tsan` the thread that has the lock steps on an atomic number too, first and last. Without it
 //! nothing of this is there.
+use crate::sync::{Condvar, Mutex, MutexGuard};
 use std::ops::{Deref, DerefMut};
-use std::sync::{Condvar, Mutex, MutexGuard, PoisonError};
+use std::sync::{PoisonError, TryLockError};
 use std::time::Instant;
 
 #[cfg(freeze_queue_tsan)]
@@ -10,7 +11,7 @@ struct Order(std::sync::atomic::AtomicU64);
 
 #[cfg(freeze_queue_tsan)]
 impl Order {
-    fn new() -> Order {
+    const fn new() -> Order {
         Order(std::sync::atomic::AtomicU64::new(0))
     }
 
@@ -24,7 +25,7 @@ struct Order;
 
 #[cfg(not(freeze_queue_tsan))]
 impl Order {
-    fn new() -> Order {
+    const fn new() -> Order {
         Order
     }
 
@@ -39,15 +40,27 @@ pub(crate) struct Lock<T> {
 }
 
 impl<T> Lock<T> {
-    pub(crate) fn new(value: T) -> Lock<T> {
+    pub(crate) const fn new(value: T) -> Lock<T> {
         Lock { value: Mutex::new(value), order: Order::new() }
     }
 
+    /// Takes the lock, unless another thread has it.
+    #[inline]
+    pub(crate) fn try_lock(&self) -> Option<Locked<'_, T>> {
+        match self.value.try_lock() {
+            Ok(guard) => Some(self.locked(guard)),
+            Err(TryLockError::Poisoned(guard)) => Some(self.locked(guard.into_inner())),
+            Err(TryLockError::WouldBlock) => None,
+        }
+    }
+
     /// Takes the lock.
+    #[inline]
     pub(crate) fn lock(&self) -> Locked<'_, T> {
         self.locked(self.value.lock().unwrap_or_else(PoisonError::into_inner))
     }
 
+    #[inline]
     fn locked<'l>(&'l self, guard: MutexGuard<'l, T>) -> Locked<'l, T> {
         self.order.step();
         Locked { last: LastStep(&self.order), guard, of: self }
@@ -84,12 +97,14 @@ impl<'l, T> Locked<'l, T> {
 impl<T> Deref for Locked<'_, T> {
     type Target = T;
 
+    #[inline]
     fn deref(&self) -> &T {
         &self.guard
     }
 }
 
 impl<T> DerefMut for Locked<'_, T> {
+    #[inline]
     fn deref_mut(&mut self) -> &mut T {
         &mut self.guard
     }
@@ -98,6 +113,7 @@ impl<T> DerefMut for Locked<'_, T> {
 struct LastStep<'l>(&'l Order);
 
 impl Drop for LastStep<'_> {
+    #[inline]
     fn drop(&mut self) {
         self.0.step();
     }

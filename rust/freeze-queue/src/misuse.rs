@@ -357,21 +357,189 @@
 //! queue.depth();
 //! ```
 //!
+//! # A tag that is used while it goes along with its request
+//!
+//! It comes back where the request leaves:
+//!
+//! ```
+//! # use freeze_queue::{Limits, Queue};
+//! # let queue = Queue::new(Limits::of_hardware(64), 2, 2).unwrap();
+//! let tag = queue.next_tag(0).unwrap();
+//! let request = queue.enter_owned(tag).unwrap();
+//! let tag = request.leave();
+//! queue.give_back(tag).unwrap();
+//! ```
+//! ```compile_fail,E0382
+//! # use freeze_queue::{Limits, Queue};
+//! # let queue = Queue::new(Limits::of_hardware(64), 2, 2).unwrap();
+//! let tag = queue.next_tag(0).unwrap();
+//! let request = queue.enter_owned(tag).unwrap();
+//! queue.give_back(tag).unwrap();
+//! ```
+//! ```compile_fail,E0382
+//! # use freeze_queue::{Limits, Queue};
+//! # let queue = Queue::new(Limits::of_hardware(64), 2, 2).unwrap();
+//! let tag = queue.next_tag(0).unwrap();
+//! let entering = queue.enter_owned_async(tag);
+//! queue.give_back(tag).unwrap();
+//! ```
+//!
+//! # An owned request that leaves twice, or is used after it
+//!
+//! ```
+//! # use freeze_queue::{Limits, Queue};
+//! # let queue = Queue::new(Limits::of_hardware(64), 2, 2).unwrap();
+//! let request = queue.enter_any().unwrap();
+//! assert_eq!(request.limits().max, 64);
+//! drop(request.leave());
+//! ```
+//! ```compile_fail,E0382
+//! # use freeze_queue::{Limits, Queue};
+//! # let queue = Queue::new(Limits::of_hardware(64), 2, 2).unwrap();
+//! let request = queue.enter_any().unwrap();
+//! let tag = request.leave();
+//! drop(request);
+//! ```
+//! ```compile_fail,E0505
+//! # use freeze_queue::{Limits, Queue};
+//! # let queue = Queue::new(Limits::of_hardware(64), 2, 2).unwrap();
+//! let request = queue.enter_any().unwrap();
+//! let limits = request.limits();
+//! drop(request);
+//! assert_eq!(limits.max, 64);
+//! ```
+//! ```compile_fail,E0599
+//! # use freeze_queue::{Limits, Queue};
+//! # let queue = Queue::new(Limits::of_hardware(64), 2, 2).unwrap();
+//! let request = queue.enter_any().unwrap();
+//! let another = request.clone();
+//! ```
+//!
+//! # A request of several pieces that leaves before the last of them ends
+//!
+//! Each has a share of it, and no share can leave:
+//!
+//! ```
+//! # use freeze_queue::{Limits, Queue};
+//! # let queue = Queue::new(Limits::of_hardware(64), 2, 2).unwrap();
+//! use std::sync::Arc;
+//! let request = Arc::new(queue.enter_any().unwrap());
+//! let piece = Arc::clone(&request);
+//! drop(request);
+//! assert_eq!(piece.limits().max, 64);
+//! ```
+//! ```compile_fail,E0507
+//! # use freeze_queue::{Limits, Queue};
+//! # let queue = Queue::new(Limits::of_hardware(64), 2, 2).unwrap();
+//! use std::sync::Arc;
+//! let request = Arc::new(queue.enter_any().unwrap());
+//! let piece = Arc::clone(&request);
+//! let tag = request.leave();
+//! assert_eq!(piece.limits().max, 64);
+//! ```
+//! ```compile_fail,E0596
+//! # use freeze_queue::{Limits, Queue};
+//! # let queue = Queue::new(Limits::of_hardware(64), 2, 2).unwrap();
+//! use std::sync::Arc;
+//! let request = Arc::new(queue.enter_any().unwrap());
+//! request.use_slot(1).unwrap();
+//! ```
+//!
+//! # A limit that is set before the drain
+//!
+//! ```
+//! # use freeze_queue::{Limits, Queue};
+//! # let queue = Queue::new(Limits::of_hardware(64), 2, 2).unwrap();
+//! let freezing = queue.begin_freeze().unwrap();
+//! freezing.wait().set(Limits::of_hardware(64)).unwrap();
+//! ```
+//! ```compile_fail,E0599
+//! # use freeze_queue::{Limits, Queue};
+//! # let queue = Queue::new(Limits::of_hardware(64), 2, 2).unwrap();
+//! let freezing = queue.begin_freeze().unwrap();
+//! freezing.set(Limits::of_hardware(64)).unwrap();
+//! ```
+//! ```compile_fail,E0382
+//! # use freeze_queue::{Limits, Queue};
+//! # let queue = Queue::new(Limits::of_hardware(64), 2, 2).unwrap();
+//! let freezing = queue.begin_freeze().unwrap();
+//! let drained = freezing.drained();
+//! freezing.wait();
+//! ```
+//!
+//! # A freeze that is borrowed, or a future, that outlives its queue
+//!
+//! Only one with a share of the queue does:
+//!
+//! ```
+//! # use freeze_queue::{Limits, Queue};
+//! # let queue = Queue::new(Limits::of_hardware(64), 2, 2).unwrap();
+//! let frozen = queue.freeze_owned().unwrap();
+//! drop(queue);
+//! assert_eq!(frozen.limits().max, 64);
+//! ```
+//! ```compile_fail,E0505
+//! # use freeze_queue::{Limits, Queue};
+//! # let queue = Queue::new(Limits::of_hardware(64), 2, 2).unwrap();
+//! let freezing = queue.begin_freeze().unwrap();
+//! drop(queue);
+//! assert!(freezing.is_drained());
+//! ```
+//! ```compile_fail,E0505
+//! # use freeze_queue::{Limits, Queue};
+//! # let queue = Queue::new(Limits::of_hardware(64), 2, 2).unwrap();
+//! let freezes = queue.freeze_async();
+//! drop(queue);
+//! drop(freezes);
+//! ```
+//! ```compile_fail,E0505
+//! # use freeze_queue::{Limits, Queue};
+//! # let queue = Queue::new(Limits::of_hardware(64), 2, 2).unwrap();
+//! let entering = queue.enter_any_async();
+//! drop(queue);
+//! drop(entering);
+//! ```
+//!
+//! # Limits that are written out
+//!
+//! There may be more of them one day:
+//!
+//! ```
+//! # use freeze_queue::{Limits, Queue};
+//! # let queue = Queue::new(Limits::of_hardware(64), 2, 2).unwrap();
+//! let limits = Limits::of_hardware(64).with_max(8);
+//! ```
+//! ```compile_fail,E0639
+//! # use freeze_queue::{Limits, Queue};
+//! # let queue = Queue::new(Limits::of_hardware(64), 2, 2).unwrap();
+//! let limits = Limits { max: 8, ..Limits::of_hardware(64) };
+//! ```
+//!
 //! # A tag or a freeze that is made by hand
 //!
 //! ```compile_fail,E0451
 //! # use freeze_queue::{Limits, Queue};
 //! # let queue = Queue::new(Limits::of_hardware(64), 2, 2).unwrap();
-//! let forged = freeze_queue::Tag { slot: 64, ..queue.next_tag(0).unwrap() };
+//! let forged = freeze_queue::Tag { body: None };
 //! ```
 //! ```compile_fail,E0451
 //! # use freeze_queue::{Limits, Queue};
 //! # let queue = Queue::new(Limits::of_hardware(64), 2, 2).unwrap();
-//! let forged = freeze_queue::Frozen { queue: &queue };
+//! let forged = freeze_queue::Frozen { freeze: todo!() };
+//! ```
+//! ```compile_fail,E0451
+//! # use freeze_queue::{Limits, Queue};
+//! # let queue = Queue::new(Limits::of_hardware(64), 2, 2).unwrap();
+//! let forged = freeze_queue::Freezing { freeze: todo!() };
 //! ```
 //! ```compile_fail,E0451
 //! # use freeze_queue::{Limits, Queue};
 //! # let queue = Queue::new(Limits::of_hardware(64), 2, 2).unwrap();
 //! # let mut tag = queue.next_tag(0).unwrap();
-//! let forged = freeze_queue::Entered { queue: &queue, tag: &mut tag, limits: queue.limits() };
+//! let forged = freeze_queue::Entered { queue: todo!(), tag: todo!(), limits: queue.limits() };
+//! ```
+//! ```compile_fail,E0451
+//! # use freeze_queue::{Limits, Queue};
+//! # let queue = Queue::new(Limits::of_hardware(64), 2, 2).unwrap();
+//! let forged = freeze_queue::OwnedEntered { tag: queue.next_tag(0).unwrap(), limits: queue.limits() };
 //! ```

@@ -1,61 +1,80 @@
 //! A request that takes its tag along.
 use crate::errors::{RangeError, SlotError};
+use crate::handed_back::HandedBack;
 use crate::limits::Limits;
 use crate::pieces::Pieces;
-use crate::queue::Queue;
 use crate::tag::Tag;
 use std::fmt;
-use std::sync::Arc;
 
-/// A request that has entered, with the tag that it entered with and a share of its queue: it may end on another thread.
+/// A request that has entered with a tag of its own, which has a share of the queue: it may end on any thread.
 ///
-/// [`leave`](OwnedEntered::leave) gives the tag back. Dropping it leaves and drops the tag, which is then out of its queue
-/// for ever.
+/// Dropping it leaves, and gives its tag back to the queue; [`leave`](OwnedEntered::leave) gives the tag to the caller. It is
+/// `Sync`: if the pieces of a request end on several threads, each has a clone of an `Arc` of it, and the last one leaves.
 ///
 /// ```
 /// use freeze_queue::{Limits, Queue};
 /// use std::sync::{Arc, mpsc};
 /// use std::thread;
 ///
-/// let queue = Arc::new(Queue::new(Limits::of_hardware(64), 1, 1)?);
+/// let queue = Queue::new(Limits::of_hardware(64), 1, 1)?;
 /// let (sent, requests) = mpsc::channel();
-/// let completes = thread::spawn(move || requests.into_iter().map(freeze_queue::OwnedEntered::leave).last());
-/// sent.send(queue.enter_owned(queue.next_tag(0)?)?)?;
-/// drop(sent);
-/// queue.give_back(completes.join().unwrap().unwrap())?;
+/// let completes = thread::spawn(move || requests.into_iter().for_each(drop));
+/// let request = Arc::new(queue.enter_owned(queue.next_tag(0)?)?);
+/// for piece in request.pieces(0, 1000)? {
+///     sent.send((piece, Arc::clone(&request)))?; // the last piece that ends leaves
+/// }
+/// drop((sent, request));
+/// completes.join().unwrap();
+/// queue.remove()?; // each tag was given back
 /// # Ok::<(), Box<dyn std::error::Error>>(())
 /// ```
 #[must_use = "a request leaves where it is dropped"]
 pub struct OwnedEntered {
-    queue: Arc<Queue>,
-    /// Of this queue, and entered; none once it was given back.
-    tag: Option<Tag>,
+    /// Entered, until it was taken.
+    tag: Tag,
     limits: Limits,
 }
 
 impl OwnedEntered {
-    /// Of a tag that has entered this queue, of which it is.
-    pub(crate) fn of(queue: Arc<Queue>, mut tag: Tag) -> OwnedEntered {
-        let limits = queue.limits_under(&mut tag);
-        OwnedEntered { queue, tag: Some(tag), limits }
+    /// Of a tag that has entered its queue.
+    #[inline]
+    pub(crate) fn of(mut tag: Tag) -> OwnedEntered {
+        let (queue, state) = tag.parts_mut();
+        let limits = queue.limits_under(state);
+        OwnedEntered { tag, limits }
+    }
+
+    /// The number of its queue.
+    #[inline]
+    pub(crate) fn queue_number(&self) -> u64 {
+        self.tag.queue_number()
+    }
+
+    /// The request of a tag that entered; or why it didn't, with the tag.
+    #[inline]
+    pub(crate) fn or_handed_back<E>(tag: Tag, entered: Result<(), E>) -> Result<OwnedEntered, HandedBack<Tag, E>> {
+        match entered {
+            Ok(()) => Ok(OwnedEntered::of(tag)),
+            Err(reason) => Err(HandedBack { value: tag, reason }),
+        }
     }
 
     /// Leaves, and gives the tag back.
     ///
     /// ```
     /// # use freeze_queue::{Limits, Queue};
-    /// # use std::sync::Arc;
-    /// # let queue = Arc::new(Queue::new(Limits::of_hardware(64), 1, 1)?);
+    /// # let queue = Queue::new(Limits::of_hardware(64), 1, 1)?;
     /// let request = queue.enter_owned(queue.next_tag(0)?)?;
     /// let mut tag = request.leave();
     /// assert!(queue.enter(&mut tag).is_ok());
     /// # Ok::<(), Box<dyn std::error::Error>>(())
     /// ```
-    #[expect(clippy::missing_panics_doc, reason = "it never does")]
-    #[must_use = "a tag that is dropped is out of its queue for ever"]
+    #[inline]
+    #[must_use = "the drop of a request gives its tag back"]
     pub fn leave(mut self) -> Tag {
-        let mut tag = self.tag.take().expect("it is there until this call");
-        self.queue.leave(&mut tag);
+        let mut tag = self.tag.take(); // before a waker is called, which may panic: it leaves once
+        let (queue, state) = tag.parts_mut();
+        queue.leave(state);
         tag
     }
 
@@ -63,12 +82,12 @@ impl OwnedEntered {
     ///
     /// ```
     /// # use freeze_queue::{Limits, Queue};
-    /// # use std::sync::Arc;
-    /// # let queue = Arc::new(Queue::new(Limits::of_hardware(64), 1, 1)?);
+    /// # let queue = Queue::new(Limits::of_hardware(64), 1, 1)?;
     /// let request = queue.enter_owned(queue.next_tag(0)?)?;
     /// assert_eq!(request.limits().max, 64);
     /// # Ok::<(), Box<dyn std::error::Error>>(())
     /// ```
+    #[inline]
     #[must_use]
     pub fn limits(&self) -> &Limits {
         &self.limits
@@ -85,8 +104,7 @@ impl OwnedEntered {
     ///
     /// ```
     /// # use freeze_queue::{Limits, Queue};
-    /// # use std::sync::Arc;
-    /// # let queue = Arc::new(Queue::new(Limits::of_hardware(64), 1, 1)?);
+    /// # let queue = Queue::new(Limits::of_hardware(64), 1, 1)?;
     /// let request = queue.enter_owned(queue.next_tag(0)?)?;
     /// assert_eq!(request.pieces(0, 65)?.count(), 2);
     /// # Ok::<(), Box<dyn std::error::Error>>(())
@@ -105,25 +123,32 @@ impl OwnedEntered {
     ///
     /// ```
     /// # use freeze_queue::{Limits, Queue};
-    /// # use std::sync::Arc;
-    /// # let queue = Arc::new(Queue::new(Limits::of_hardware(64), 2, 1)?);
+    /// # let queue = Queue::new(Limits::of_hardware(64), 2, 1)?;
     /// let mut request = queue.enter_owned(queue.next_tag(0)?)?;
     /// request.use_slot(1)?;
     /// assert_eq!(request.leave().slot(), 1);
     /// # Ok::<(), Box<dyn std::error::Error>>(())
     /// ```
-    #[expect(clippy::missing_panics_doc, reason = "it never does")]
     pub fn use_slot(&mut self, slot: u32) -> Result<(), SlotError> {
-        self.tag.as_mut().expect("it is there until it leaves").use_slot(slot)
+        self.tag.use_slot(slot)
     }
 }
 
 impl Drop for OwnedEntered {
+    #[inline]
     fn drop(&mut self) {
-        if let Some(mut tag) = self.tag.take() {
-            self.queue.leave(&mut tag);
+        let tag = self.tag.take();
+        if tag.is_there() {
+            end(tag);
         }
     }
+}
+
+/// A request leaves that is dropped, and its tag goes home. (Out of line, so that [`OwnedEntered::leave`] inlines.)
+#[inline(never)]
+fn end(mut tag: Tag) {
+    let (queue, state) = tag.parts_mut();
+    queue.leave(state);
 }
 
 impl fmt::Debug for OwnedEntered {

@@ -34,7 +34,7 @@ pub struct Piece {
 /// ```
 /// use freeze_queue::Limits;
 ///
-/// let limits = Limits { physical: 4, ..Limits::of_hardware(7) };
+/// let limits = Limits::of_hardware(7).with_physical(4);
 /// let lengths: Vec<u32> = limits.pieces(0, 17)?.map(|piece| piece.sectors).collect();
 /// assert_eq!(lengths, [4, 4, 4, 5]);
 /// # Ok::<(), Box<dyn std::error::Error>>(())

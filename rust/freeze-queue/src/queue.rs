@@ -1,23 +1,32 @@
 //! A queue: made and ended, its tags, and what it is asked.
-use crate::erased::queue_core::{self as erased, BlockQueue, FreezeFault, Mode};
+use crate::body::{Parts, Room, TagState};
+use crate::erased::queue_core::{self as erased, BlockQueue, Mode};
 use crate::errors::{GiveBackError, NewError, NextTagError, RemoveError};
-use crate::excluded::excluded;
 use crate::handed_back::HandedBack;
 use crate::limits::Limits;
+use crate::line::Line;
 use crate::outcomes::Final;
+use crate::places::Places;
+use crate::shared::{Share, Shared};
+use crate::sync::yield_now;
 use crate::tag::Tag;
 use crate::waits::{Held, Waits};
 use std::fmt;
 use std::num::NonZeroU64;
+use std::sync::Arc;
 use std::sync::atomic::{AtomicU64, Ordering::Relaxed};
 
 mod enters;
+mod enters_any;
+mod enters_owned;
 mod freezes;
+mod stays;
 
 /// A queue, which requests enter and leave by many threads, and which can be frozen to change its limits.
 ///
 /// Threads share it by `&`, or by an `Arc`. A request that enters a live queue or leaves it takes no lock and waits for
-/// nobody. A queue that is dropped frees what it has; one that is [removed](Queue::remove) tells what is left of it.
+/// nobody. Tags, owned requests and owned freezes have shares of the queue of their own, and may outlive this handle. A
+/// queue that is dropped ends with the last of them; one that is [removed](Queue::remove) tells what is left of it.
 ///
 /// ```
 /// use freeze_queue::{Limits, Queue};
@@ -33,15 +42,12 @@ mod freezes;
 ///         });
 ///     }
 ///     let frozen = queue.freeze().unwrap(); // no request is under way
-///     frozen.set(Limits { max: 8, ..Limits::of_hardware(64) }).unwrap();
+///     frozen.set(Limits::of_hardware(64).with_max(8)).unwrap();
 /// });
 /// # Ok::<(), Box<dyn std::error::Error>>(())
 /// ```
 pub struct Queue {
-    /// What each request reads, and nobody writes: the number, which no other queue has, and where the gate's words are.
-    number: NonZeroU64,
-    erased: BlockQueue,
-    pub(crate) waits: Waits,
+    shared: Arc<Shared>,
 }
 
 impl Queue {
@@ -83,15 +89,44 @@ impl Queue {
     /// # Ok::<(), Box<dyn std::error::Error>>(())
     /// ```
     pub fn new(limits: Limits, slots: u32, tags: u32) -> Result<Queue, NewError> {
-        static NUMBERS: AtomicU64 = AtomicU64::new(0);
         let limits = limits.checked()?;
         if slots == 0 || slots > Queue::MOST_SLOTS || tags == 0 || tags > Queue::MOST_TAGS {
             return Err(NewError::Size);
         }
-        let made = BlockQueue::new(limits, slots, tags);
-        let (erased, freezer, tags) = made.map_err(|erased::Memory| NewError::NoMemory)?;
+        Queue::make(limits, slots, tags).ok_or(NewError::NoMemory)
+    }
+
+    /// The queue and its tags, each in its place. None if memory is refused.
+    fn make(limits: erased::Limits, slots: u32, tags: u32) -> Option<Queue> {
+        static NUMBERS: AtomicU64 = AtomicU64::new(0);
+        let (erased, freezer, mut tags) = BlockQueue::new(limits, slots, tags).ok()?;
+        let (count, mut rooms) = (tags.len(), Vec::new());
+        rooms.try_reserve_exact(count).ok()?;
+        for _ in 0..count {
+            rooms.push(Room::new()?);
+        }
+        let (places, line) = (Places::new(count)?, Line::new(count)?);
+        let mut kept = Vec::new();
+        kept.try_reserve_exact(count).ok()?;
         let number = NonZeroU64::MIN.saturating_add(NUMBERS.fetch_add(1, Relaxed));
-        Ok(Queue { number, erased, waits: Waits::of(Held::new(freezer, tags)) })
+        let waits = Waits::of(Held::new(freezer, line, kept));
+        let shared = Arc::new(Shared { number, erased, places, waits });
+        for (number, (erased, room)) in tags.drain(..).zip(rooms).enumerate() {
+            let (shared, place) = (Arc::clone(&shared), shared.places.all()[number]);
+            let state = TagState { erased, slot: 0, number, is_noted: false };
+            place.put(room.fill(Parts { state, shared, place }));
+        }
+        Some(Queue { shared })
+    }
+
+    #[inline]
+    pub(crate) fn shared(&self) -> &Shared {
+        &self.shared
+    }
+
+    /// For a freeze with a share of the queue.
+    pub(crate) fn share(&self) -> Share<'static> {
+        Share::Own(Arc::clone(&self.shared))
     }
 
     /// Gives a tag that is out of use, new or given back, which counts on this slot, from 0 on. The queue may be frozen.
@@ -112,17 +147,15 @@ impl Queue {
     /// # Ok::<(), Box<dyn std::error::Error>>(())
     /// ```
     pub fn next_tag(&self, slot: u32) -> Result<Tag, NextTagError> {
-        if slot >= self.erased.slots() {
+        if slot >= self.shared.erased.slots() {
             return Err(NextTagError::NoSlot);
         }
-        let mut held = self.waits.lock();
-        let tag = held.tags.pop().ok_or(NextTagError::NoTag)?;
-        let seat = held.seats.seat();
-        drop(held);
-        Ok(Tag::on_slot(tag, slot, self.erased.slots(), self.number, seat))
+        let mut tag = self.shared.places.find().ok_or(NextTagError::NoTag)?;
+        tag.state.slot = slot;
+        Ok(Tag::of(tag))
     }
 
-    /// Takes a tag back, for [`next_tag`](Queue::next_tag) to give again. The queue may be frozen. Needs no memory.
+    /// Takes a tag back, for [`next_tag`](Queue::next_tag) to give again, as the drop of the tag does. The queue may be frozen.
     ///
     /// # Errors
     ///
@@ -141,28 +174,23 @@ impl Queue {
     /// queue.give_back(refused.value)?;
     /// # Ok::<(), Box<dyn std::error::Error>>(())
     /// ```
-    #[expect(clippy::result_large_err, reason = "a refusal hands the tag back")]
-    pub fn give_back(&self, tag: Tag) -> Result<(), HandedBack<Tag, GiveBackError>> {
-        if tag.queue_number() != self.number() {
-            return Err(HandedBack { value: tag, reason: GiveBackError::OtherQueue });
-        }
-        if tag.erased.entered() {
-            return Err(HandedBack { value: tag, reason: GiveBackError::StillEntered });
-        }
-        let mut held = self.waits.lock();
-        let forgotten = held.seats.free(tag.seat);
-        held.tags.push(tag.erased); // there is room: all of them were here once
-        drop(held);
-        drop(forgotten);
-        Ok(())
+    pub fn give_back(&self, mut tag: Tag) -> Result<(), HandedBack<Tag, GiveBackError>> {
+        let reason = match tag.state_of(&self.shared) {
+            None => GiveBackError::OtherQueue,
+            Some(state) if state.erased.entered() => GiveBackError::StillEntered,
+            Some(_) => {
+                drop(tag);
+                return Ok(());
+            }
+        };
+        Err(HandedBack { value: tag, reason })
     }
 
-    /// Ends a queue, live or frozen, whose tags were all given back, but for those that nobody asked for. Needs no memory.
-    /// Linux: `blk_mq_destroy_queue`.
+    /// Ends a queue, live or frozen, whose tags were all given back or dropped. Needs no memory. Linux: `blk_mq_destroy_queue`.
     ///
     /// # Errors
     ///
-    /// [`RemoveError::TagsOut`] or [`RemoveError::WornOut`]. They hand the queue back.
+    /// [`RemoveError`] has each. They hand the queue back.
     ///
     /// # Examples
     ///
@@ -177,22 +205,42 @@ impl Queue {
     /// assert_eq!(queue.remove()?.limits, Limits::of_hardware(64));
     /// # Ok::<(), Box<dyn std::error::Error>>(())
     /// ```
-    #[expect(clippy::result_large_err, reason = "a refusal hands the queue back")]
     pub fn remove(self) -> Result<Final, HandedBack<Queue, RemoveError>> {
-        let Queue { number, erased, waits } = self;
+        match self.take_all_back() {
+            Ok(()) => {}
+            Err(reason) => return Err(HandedBack { value: self, reason }),
+        }
+        let mut shared = Arc::clone(&self.shared);
+        drop(self);
+        // A thread that gave a tag back may have its share for some steps more.
+        let Shared { erased, waits, .. } = loop {
+            match Arc::try_unwrap(shared) {
+                Ok(alone) => break alone,
+                Err(again) => shared = again,
+            }
+            yield_now();
+        };
         let held = waits.into_held();
         let limits = held.freezer.limits().into();
-        match held.remove(erased) {
-            Ok(left) => Ok(Final { kills: left.kills, releases: left.releases, limits }),
-            Err((why, erased, held)) => {
-                let reason = match why {
-                    FreezeFault::TagsOut(_) => RemoveError::TagsOut,
-                    FreezeFault::WornOut => RemoveError::WornOut,
-                    other => excluded("remove", other),
-                };
-                Err(HandedBack { value: Queue { number, erased, waits: Waits::of(held) }, reason })
-            }
+        let left = held.remove(erased);
+        Ok(Final { kills: left.kills, releases: left.releases, limits })
+    }
+
+    /// Takes all tags back, of a queue that is to end; or none, and why.
+    fn take_all_back(&self) -> Result<(), RemoveError> {
+        let (shared, places) = (&self.shared, self.shared.places.all());
+        let mut held = shared.waits.lock();
+        if held.shares > 0 {
+            return Err(RemoveError::FreezeOut);
         }
+        if !places.iter().all(|place| place.is_home()) {
+            return Err(RemoveError::TagsOut);
+        }
+        held.freeze_to_end(&shared.erased)?;
+        for tag in places.iter().filter_map(|place| place.take_or_ask()) {
+            held.take_back(tag.into_erased());
+        }
+        Ok(())
     }
 
     /// Counts on one shared word from now on, a frozen queue once it is thawed. Linux: `percpu_ref_switch_to_atomic_sync`
@@ -205,7 +253,7 @@ impl Queue {
     /// # Ok::<(), Box<dyn std::error::Error>>(())
     /// ```
     pub fn switch_to_atomic(&self) {
-        self.waits.lock().freezer.mode(&self.erased, Mode::Atomic);
+        self.shared.waits.lock().freezer.mode(&self.shared.erased, Mode::Atomic);
     }
 
     /// Counts on slots from now on, as a queue does that is made; a frozen queue once it is thawed. Linux:
@@ -218,20 +266,20 @@ impl Queue {
     /// # Ok::<(), Box<dyn std::error::Error>>(())
     /// ```
     pub fn switch_to_slots(&self) {
-        self.waits.lock().freezer.mode(&self.erased, Mode::Slots);
+        self.shared.waits.lock().freezer.mode(&self.shared.erased, Mode::Slots);
     }
 
     /// The limits, as they were at a moment of the call. (Who has entered has those that hold still.)
     ///
     /// ```
     /// # use freeze_queue::{Limits, Queue};
-    /// let queue = Queue::new(Limits { max: 0, ..Limits::of_hardware(64) }, 1, 1)?;
+    /// let queue = Queue::new(Limits::of_hardware(64).with_max(0), 1, 1)?;
     /// assert_eq!(queue.limits(), Limits::of_hardware(64));
     /// # Ok::<(), Box<dyn std::error::Error>>(())
     /// ```
     #[must_use]
     pub fn limits(&self) -> Limits {
-        self.waits.lock().freezer.limits().into()
+        self.shared.waits.lock().freezer.limits().into()
     }
 
     /// The freezes that weren't thawed yet, at a moment of the call; 0 of a live queue. Linux: `mq_freeze_depth`.
@@ -247,7 +295,7 @@ impl Queue {
     /// ```
     #[must_use]
     pub fn depth(&self) -> u32 {
-        self.waits.lock().freezer.depth()
+        self.shared.waits.lock().freezer.depth()
     }
 
     /// Whether the queue is frozen and drained, at a moment of the call. Linux: `percpu_ref_is_zero` in
@@ -263,7 +311,7 @@ impl Queue {
     /// ```
     #[must_use]
     pub fn is_drained(&self) -> bool {
-        self.waits.lock().freezer.poll_drained(&self.erased)
+        self.shared.waits.lock().freezer.poll_drained(&self.shared.erased)
     }
 
     /// Whether its device is gone: [`Frozen::mark_dying`](crate::Frozen::mark_dying). Linux: `blk_queue_dying`.
@@ -277,7 +325,7 @@ impl Queue {
     /// ```
     #[must_use]
     pub fn is_dying(&self) -> bool {
-        self.waits.is_dying()
+        self.shared.waits.is_dying()
     }
 
     /// Its number, from 1 on, which no other queue has.
@@ -292,13 +340,19 @@ impl Queue {
     #[inline]
     #[must_use]
     pub fn number(&self) -> u64 {
-        self.number.get()
+        self.shared.number.get()
+    }
+}
+
+impl Drop for Queue {
+    fn drop(&mut self) {
+        self.shared.waits.close(self.shared.places.all());
     }
 }
 
 impl fmt::Debug for Queue {
     /// Its number alone, since the rest is under its lock.
     fn fmt(&self, f: &mut fmt::Formatter<'_>) -> fmt::Result {
-        f.debug_struct("Queue").field("number", &self.number).finish_non_exhaustive()
+        f.debug_struct("Queue").field("number", &self.shared.number).finish_non_exhaustive()
     }
 }

@@ -1,6 +1,10 @@
 //! Where the futures of a queue leave their wakers: a seat for each tag, so that none asks for memory.
+use crate::line::Notify;
 use crate::queue::Queue;
+use std::any::Any;
 use std::array;
+use std::cell::RefCell;
+use std::collections::VecDeque;
 use std::mem;
 use std::panic::{AssertUnwindSafe, catch_unwind, resume_unwind};
 use std::task::Waker;
@@ -9,101 +13,123 @@ use std::thread;
 /// Tags of a queue at most.
 const MOST_TAGS: usize = Queue::MOST_TAGS as usize;
 
-/// A tag's seat.
-#[derive(Default)]
-enum Seat {
-    /// No tag has it.
-    #[default]
-    Free,
-    /// Its tag isn't waited with.
-    Quiet,
-    /// A future waits with its tag.
-    Waits(Waker),
-}
-
-impl Seat {
-    /// Takes the waker out, where there is one.
-    fn take_waker(&mut self) -> Option<Waker> {
-        match mem::replace(self, Seat::Quiet) {
-            Seat::Waits(waker) => Some(waker),
-            Seat::Free => {
-                *self = Seat::Free;
-                None
-            }
-            Seat::Quiet => None,
-        }
-    }
-}
-
-/// The seats of a queue, of which a tag has one from when it is given until it is given back.
+/// The seats of a queue, by the numbers of its tags: each has the waker of the future that waits with its tag, if one does.
 pub(crate) struct Seats {
-    seats: [Seat; MOST_TAGS],
+    seats: [Option<Waker>; MOST_TAGS],
     /// How many wait.
     waiting: usize,
 }
 
 impl Default for Seats {
     fn default() -> Seats {
-        Seats { seats: array::from_fn(|_| Seat::Free), waiting: 0 }
+        Seats { seats: array::from_fn(|_| None), waiting: 0 }
     }
 }
 
 impl Seats {
-    /// A seat for a tag that was given: no queue has more tags than there are seats.
-    pub(crate) fn seat(&mut self) -> usize {
-        let free = self.seats.iter().position(|seat| matches!(seat, Seat::Free));
-        let seat = free.expect("a bug of freeze-queue: more tags than seats");
-        self.seats[seat] = Seat::Quiet;
-        seat
-    }
-
-    /// Frees the seat of a tag that was given back. Its waker comes back, as of a future that was forgotten.
-    pub(crate) fn free(&mut self, seat: usize) -> Option<Waker> {
-        let old = self.forget(seat);
-        self.seats[seat] = Seat::Free;
-        old
-    }
-
-    /// Notes who waits, in place of who did.
+    /// Notes a waker, in place of the one that was there.
     pub(crate) fn note(&mut self, seat: usize, waker: Waker) -> Option<Waker> {
-        let old = self.forget(seat);
-        self.seats[seat] = Seat::Waits(waker);
-        self.waiting += 1;
+        let old = self.seats[seat].replace(waker);
+        self.waiting += usize::from(old.is_none());
         old
     }
 
-    /// Nobody waits with this seat's tag any more.
+    /// No future waits with this seat's tag any more.
     pub(crate) fn forget(&mut self, seat: usize) -> Option<Waker> {
-        let old = self.seats[seat].take_waker();
+        let old = self.seats[seat].take();
         self.waiting -= usize::from(old.is_some());
         old
     }
 
-    /// All who wait.
+    /// All that wait.
     pub(crate) fn take_wakers(&mut self) -> Wakers {
         if mem::take(&mut self.waiting) == 0 {
             return Wakers(None);
         }
-        Wakers(Some(array::from_fn(|seat| self.seats[seat].take_waker())))
+        Wakers(Some(mem::replace(&mut self.seats, array::from_fn(|_| None))))
     }
 }
 
-/// Futures to be woken, where there are any.
-#[must_use = "who waits is to be woken"]
+/// Futures to be woken, if there are any.
+#[must_use = "what waits is to be woken"]
 pub(crate) struct Wakers(Option<[Option<Waker>; MOST_TAGS]>);
 
 impl Wakers {
-    /// Wakes each, also where waking one of them panics; such a panic goes on then.
-    pub(crate) fn wake(self) {
-        let mut panicked = None;
-        for waker in self.0.into_iter().flatten().flatten() {
-            if let Err(panic) = catch_unwind(AssertUnwindSafe(|| waker.wake())) {
-                panicked.get_or_insert(panic);
-            }
-        }
-        match panicked {
-            Some(panic) if !thread::panicking() => resume_unwind(panic),
-            _ => {}
+    pub(crate) fn into_iter(self) -> impl Iterator<Item = Notify> {
+        self.0.into_iter().flatten().flatten().map(Notify::Task)
+    }
+}
+
+thread_local! {
+    /// The tasks that a waker of this thread woke in its turn, by calls of this crate. None while no waker is called.
+    static PUT_OFF: RefCell<Option<VecDeque<Notify>>> = const { RefCell::new(None) };
+}
+
+/// Wakes each, also if waking one of them panics. The first panic goes on then, unless the thread panics already: a second one
+/// would abort. A panic that doesn't go on is forgotten, since dropping what it carries may panic again.
+///
+/// A waker may make calls that wake others, as one whose task ends and hands its tag on. Their wakes are put off until that waker
+/// has returned, so no row of such tasks deepens the stack.
+pub(crate) fn wake_each(all: impl Iterator<Item = Notify>) {
+    let (is_outermost, mut first) = (is_outermost(), None);
+    for one in all {
+        let now = if is_outermost { Some(one) } else { put_off(one) };
+        if let Some(one) = now {
+            wake(one, &mut first);
         }
     }
+    while let Some(one) = is_outermost.then(next_put_off).flatten() {
+        wake(one, &mut first);
+    }
+    match first {
+        Some(panic) if !thread::panicking() => resume_unwind(panic),
+        other => mem::forget(other),
+    }
+}
+
+fn wake(one: Notify, first: &mut Option<Box<dyn Any + Send>>) {
+    match catch_unwind(AssertUnwindSafe(|| one.notify())) {
+        Err(panic) if first.is_none() => *first = Some(panic),
+        other => mem::forget(other),
+    }
+}
+
+/// Whether no waker is called on this thread yet. The caller does so from now on, until nothing is put off. (A thread that ends has
+/// no such list any more: each of its calls wakes at once.)
+fn is_outermost() -> bool {
+    let begin = |off: &RefCell<Option<VecDeque<Notify>>>| {
+        let mut off = off.borrow_mut();
+        let is_outermost = off.is_none();
+        off.get_or_insert_default();
+        is_outermost
+    };
+    PUT_OFF.try_with(begin).unwrap_or(true)
+}
+
+/// Puts the wake of a task off. A thread is to be woken at once, which runs nobody's code, and a task if memory is refused.
+fn put_off(one: Notify) -> Option<Notify> {
+    let mut one = Some(one);
+    if matches!(one, Some(Notify::Task(_))) {
+        let _ended = PUT_OFF.try_with(|off| {
+            let mut off = off.borrow_mut();
+            let Some(off) = off.as_mut() else { return };
+            if off.try_reserve(1).is_ok() {
+                off.extend(one.take());
+            }
+        });
+    }
+    one
+}
+
+/// The next that was put off. If there is none, no waker is called on this thread any more.
+fn next_put_off() -> Option<Notify> {
+    let next = |off: &RefCell<Option<VecDeque<Notify>>>| {
+        let mut off = off.borrow_mut();
+        let next = off.as_mut().and_then(VecDeque::pop_front);
+        if next.is_none() {
+            *off = None;
+        }
+        next
+    };
+    PUT_OFF.try_with(next).ok().flatten()
 }

@@ -1,15 +1,17 @@
-//! A tag: who enters.
-use crate::erased::queue_core as erased;
+//! A tag: the right to have one request in flight.
+use crate::body::{Body, Parts, TagState};
 use crate::errors::SlotError;
+use crate::shared::{self, Shared};
 use std::fmt;
-use std::num::NonZeroU64;
+use std::ptr;
+use std::sync::Arc;
 
 /// A tag, with which one request at a time enters its queue.
 ///
 /// A thread that ends what it begins keeps a tag; else a tag goes along with its request
-/// ([`OwnedEntered`](crate::OwnedEntered)). It lies alone on 256 bytes, so that the tags of two threads share no cache
-/// line. [`Queue::give_back`](crate::Queue::give_back) hands it back to its queue. A queue whose tag was dropped instead
-/// counts it as out for ever, and can't be [removed](crate::Queue::remove).
+/// ([`OwnedEntered`](crate::OwnedEntered)). It is one pointer, to an allocation with a share of its queue. Dropping it gives
+/// it back to its queue, on whichever thread; [`Queue::give_back`](crate::Queue::give_back) does the same, and checks that it
+/// is that queue's. A tag under a forgotten request (`mem::forget`) is out for ever.
 ///
 /// ```
 /// use freeze_queue::{Limits, Queue};
@@ -17,26 +19,49 @@ use std::num::NonZeroU64;
 /// let queue = Queue::new(Limits::of_hardware(64), 1, 1)?;
 /// let mut tag = queue.next_tag(0)?;
 /// drop(queue.enter(&mut tag)?);
-/// queue.give_back(tag)?;
+/// drop(tag); // or queue.give_back(tag)
 /// queue.remove()?;
 /// # Ok::<(), Box<dyn std::error::Error>>(())
 /// ```
-#[repr(align(128))]
 pub struct Tag {
-    pub(crate) erased: erased::Tag,
-    /// The number of its queue. (Since it isn't 0, an `Option` of a tag has no more bytes than a tag.)
-    queue: NonZeroU64,
-    /// Below `slots`, which are the queue's.
-    slot: u32,
-    slots: u32,
-    /// Where a future that waits with it leaves its waker.
-    pub(crate) seat: usize,
+    /// None once it was given back.
+    body: Option<Body>,
 }
 
 impl Tag {
-    /// On a slot that there is, below `slots`, of the queue of this number.
-    pub(crate) fn on_slot(erased: erased::Tag, slot: u32, slots: u32, queue: NonZeroU64, seat: usize) -> Tag {
-        Tag { erased, queue, slot, slots, seat }
+    pub(crate) fn of(body: Body) -> Tag {
+        Tag { body: Some(body) }
+    }
+
+    /// The same tag, out of one that is about to be dropped.
+    #[inline]
+    pub(crate) fn take(&mut self) -> Tag {
+        Tag { body: self.body.take() }
+    }
+
+    #[inline]
+    pub(crate) fn parts(&self) -> &Parts {
+        self.body.as_ref().expect("it is there until it is dropped")
+    }
+
+    /// Its queue, and what changes as it is used.
+    #[inline]
+    pub(crate) fn parts_mut(&mut self) -> (&Arc<Shared>, &mut TagState) {
+        let Parts { state, shared, .. } = &mut **self.body.as_mut().expect("it is there until it is dropped");
+        (shared, state)
+    }
+
+    /// Whether it wasn't taken.
+    #[inline]
+    pub(crate) fn is_there(&self) -> bool {
+        self.body.is_some()
+    }
+
+    /// What changes as it is used, if it is a tag of this queue.
+    #[inline]
+    pub(crate) fn state_of(&mut self, queue: &Shared) -> Option<&mut TagState> {
+        let (shared, state) = self.parts_mut();
+        ptr::eq(Arc::as_ptr(shared), queue).then_some(state)
     }
 
     /// The slot that it counts on.
@@ -51,7 +76,7 @@ impl Tag {
     #[inline]
     #[must_use]
     pub fn slot(&self) -> u32 {
-        self.slot
+        self.parts().state.slot
     }
 
     /// Counts on this slot from now on, as on that of the thread which has the tag now. A request may leave on another
@@ -72,11 +97,8 @@ impl Tag {
     /// # Ok::<(), Box<dyn std::error::Error>>(())
     /// ```
     pub fn use_slot(&mut self, slot: u32) -> Result<(), SlotError> {
-        if slot >= self.slots {
-            return Err(SlotError::NoSlot);
-        }
-        self.slot = slot;
-        Ok(())
+        let (shared, state) = self.parts_mut();
+        state.use_slot(shared, slot)
     }
 
     /// The number of its queue, from 1 on, which no other has.
@@ -91,12 +113,44 @@ impl Tag {
     #[inline]
     #[must_use]
     pub fn queue_number(&self) -> u64 {
-        self.queue.get()
+        self.parts().shared.number.get()
     }
+}
+
+impl TagState {
+    /// Counts on this slot from now on.
+    pub(crate) fn use_slot(&mut self, queue: &Shared, slot: u32) -> Result<(), SlotError> {
+        if slot >= queue.erased.slots() {
+            return Err(SlotError::NoSlot);
+        }
+        self.slot = slot;
+        Ok(())
+    }
+}
+
+impl Drop for Tag {
+    #[inline]
+    fn drop(&mut self) {
+        if let Some(body) = self.body.take() {
+            go_home(body);
+        }
+    }
+}
+
+/// The tag goes home, unless its request was forgotten: then it is out for ever.
+#[inline(never)]
+fn go_home(mut body: Body) {
+    if body.state.erased.entered() {
+        return;
+    }
+    let Parts { state, shared, .. } = &mut *body;
+    let noted = shared.forget_waker(state);
+    shared::bring_home(body);
+    drop(noted);
 }
 
 impl fmt::Debug for Tag {
     fn fmt(&self, f: &mut fmt::Formatter<'_>) -> fmt::Result {
-        f.debug_struct("Tag").field("queue", &self.queue_number()).field("slot", &self.slot).finish_non_exhaustive()
+        f.debug_struct("Tag").field("queue", &self.queue_number()).field("slot", &self.slot()).finish_non_exhaustive()
     }
 }

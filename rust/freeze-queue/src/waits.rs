@@ -3,23 +3,34 @@
 //! No wake is lost. A thread that sleeps announces it, looks, and then sleeps, all under the lock. The look asks the queue
 //! itself, and a waking thread changes the queue before it locks to wake. No thread holds the lock while the queue drains,
 //! and no user's code runs under it: wakers are called after it is released.
+use crate::body::Body;
+use crate::drains::Drains;
 use crate::erased::queue_core::{BlockQueue, Final, FreezeFault, Freezer, LIMIT_WORDS, RemoveFault, Tag};
-use crate::errors::FreezeTimeoutError;
+use crate::errors::{FreezeError, RemoveError};
 use crate::excluded::excluded;
+use crate::line::Line;
 use crate::locked::{Lock, Locked};
-use crate::seats::{Seats, Wakers};
-use std::sync::Condvar;
+use crate::places::Place;
+use crate::seats::{Seats, Wakers, wake_each};
+use crate::sync::Condvar;
+use std::iter;
 use std::task::Waker;
 use std::time::Instant;
 
 /// The state that the lock guards.
 pub(crate) struct Held {
     pub(crate) freezer: Freezer,
-    /// The tags that are out of use, with room for all of the queue.
-    pub(crate) tags: Vec<Tag>,
     pub(crate) seats: Seats,
+    pub(crate) line: Line,
+    pub(crate) drains: Drains,
+    /// Room for the tags of a queue that ends.
+    room: Vec<Tag>,
+    /// Freezes that have a share of the queue.
+    pub(crate) shares: u32,
     /// The device is gone, and its freeze is never thawed.
-    dying: bool,
+    pub(crate) is_dying: bool,
+    /// The queue was dropped: a tag that comes home ends.
+    is_closed: bool,
     /// Threads that sleep until the queue is live, or until it is drained.
     entering: u32,
     draining: u32,
@@ -33,25 +44,42 @@ pub(crate) enum Seen {
 }
 
 impl Held {
-    /// For a queue at which no thread waits.
-    pub(crate) fn new(freezer: Freezer, tags: Vec<Tag>) -> Held {
-        Held { freezer, tags, seats: Seats::default(), dying: false, entering: 0, draining: 0 }
+    /// For a queue at which no thread waits, with room for all its tags.
+    pub(crate) fn new(freezer: Freezer, line: Line, room: Vec<Tag>) -> Held {
+        let (seats, drains) = (Seats::default(), Drains::default());
+        let (is_dying, is_closed) = (false, false);
+        Held { freezer, seats, line, drains, room, shares: 0, is_dying, is_closed, entering: 0, draining: 0 }
     }
 
-    /// Ends the queue. Where that is refused, all comes back as it was.
-    #[expect(clippy::result_large_err, reason = "a refusal hands the queue back")]
-    pub(crate) fn remove(self, queue: BlockQueue) -> Result<Final<LIMIT_WORDS>, (FreezeFault, BlockQueue, Held)> {
-        let Held { freezer, tags, seats, dying, entering, draining } = self;
-        freezer.remove(queue, tags).map_err(|refused| {
-            let RemoveFault { why, freezer, queue, tags } = refused;
-            (why, queue, Held { freezer, tags, seats, dying, entering, draining })
-        })
+    /// Freezes a queue that is to end, unless it is frozen.
+    pub(crate) fn freeze_to_end(&mut self, queue: &BlockQueue) -> Result<(), RemoveError> {
+        if self.freezer.depth() > 0 {
+            return Ok(());
+        }
+        match self.freezer.start_freeze(queue) {
+            Ok(_) => Ok(()),
+            Err(FreezeFault::WornOut) => Err(RemoveError::WornOut),
+            Err(other) => excluded("start_freeze", other),
+        }
+    }
+
+    /// A tag of a queue that ends.
+    pub(crate) fn take_back(&mut self, tag: Tag) {
+        self.room.push(tag); // there is room: it is one of the queue's
+    }
+
+    /// Ends a frozen queue, whose tags were all taken back.
+    pub(crate) fn remove(self, queue: BlockQueue) -> Final<LIMIT_WORDS> {
+        match self.freezer.remove(queue, self.room) {
+            Ok(left) => left,
+            Err(RemoveFault { why, .. }) => excluded("remove", why),
+        }
     }
 
     fn seen(&self) -> Option<Seen> {
         match self.freezer.depth() {
             0 => Some(Seen::Live),
-            _ if self.dying => Some(Seen::Dying),
+            _ if self.is_dying => Some(Seen::Dying),
             _ => None,
         }
     }
@@ -107,15 +135,22 @@ impl Waits {
         seen
     }
 
-    /// Freezes the queue, and waits until it is drained. Where the deadline passes before it thaws that freeze again.
-    pub(crate) fn freeze(&self, queue: &BlockQueue, deadline: Option<Instant>) -> Result<(), FreezeTimeoutError> {
+    /// Begins a freeze. The caller thaws it. If it drains the queue, those that wait for the drain look by themselves.
+    pub(crate) fn begin_freeze(&self, queue: &BlockQueue, shares: u32) -> Result<(), FreezeError> {
         let mut held = self.lock();
         match held.freezer.start_freeze(queue) {
             Ok(_) => {}
-            Err(FreezeFault::DepthFull) => return Err(FreezeTimeoutError::DepthFull),
-            Err(FreezeFault::WornOut) => return Err(FreezeTimeoutError::WornOut),
+            Err(FreezeFault::DepthFull) => return Err(FreezeError::DepthFull),
+            Err(FreezeFault::WornOut) => return Err(FreezeError::WornOut),
             Err(other) => excluded("start_freeze", other),
         }
+        held.shares += shares;
+        Ok(())
+    }
+
+    /// Waits until a queue that is frozen is drained; whether it is by the deadline.
+    pub(crate) fn until_drained(&self, queue: &BlockQueue, deadline: Option<Instant>) -> bool {
+        let mut held = self.lock();
         held.draining += 1;
         let mut in_time = true;
         let drained = loop {
@@ -126,19 +161,13 @@ impl Waits {
             (held, in_time) = held.sleep(&self.drained, deadline);
         };
         held.draining -= 1;
-        if drained {
-            return Ok(());
-        }
-        self.thaw_under(queue, held);
-        Err(FreezeTimeoutError::TimedOut)
+        drained
     }
 
-    /// Ends a freeze, and wakes those who wait to enter where it was the last.
-    pub(crate) fn thaw(&self, queue: &BlockQueue) {
-        self.thaw_under(queue, self.lock());
-    }
-
-    fn thaw_under(&self, queue: &BlockQueue, mut held: Locked<'_, Held>) {
+    /// Ends a freeze, which may have had a share of the queue, and wakes those that wait to enter if it was the last.
+    pub(crate) fn thaw(&self, queue: &BlockQueue, shares: u32) {
+        let mut held = self.lock();
+        held.shares -= shares;
         match held.freezer.thaw(queue) {
             Ok(thawed) if thawed.live => self.wake_those_who_enter(held),
             Ok(_) => {}
@@ -146,31 +175,78 @@ impl Waits {
         }
     }
 
-    /// Notes that the freeze of the caller is never thawed, and sends those away who wait to enter.
-    pub(crate) fn mark_dying(&self) {
+    /// Notes that the freeze of the caller is never thawed, and sends those away that wait to enter, or for a tag.
+    pub(crate) fn mark_dying(&self, shares: u32) {
         let mut held = self.lock();
-        held.dying = true;
-        self.wake_those_who_enter(held);
+        held.shares -= shares;
+        held.is_dying = true;
+        let sent_away = held.line.send_away();
+        let wakers = self.all_who_enter(&mut held);
+        drop(held);
+        wake_each(sent_away.into_iter().map(|(_, one)| one).chain(wakers.into_iter()));
     }
 
     pub(crate) fn is_dying(&self) -> bool {
-        self.lock().dying
+        self.lock().is_dying
     }
 
     fn wake_those_who_enter(&self, mut held: Locked<'_, Held>) {
+        let wakers = self.all_who_enter(&mut held);
+        drop(held);
+        wake_each(wakers.into_iter());
+    }
+
+    /// Wakes the threads that wait to enter. The wakers of the futures are to be called without the lock.
+    fn all_who_enter(&self, held: &mut Held) -> Wakers {
         if held.entering > 0 {
             self.live.notify_all();
         }
-        let wakers: Wakers = held.seats.take_wakers();
-        drop(held);
-        wakers.wake();
+        held.seats.take_wakers()
     }
 
-    /// Wakes those who wait for the drain: by whoever was told of it.
+    /// Wakes those that wait for the drain: by the call that was told of it.
     #[cold]
     pub(crate) fn tell_drained(&self) {
-        if self.lock().draining > 0 {
+        let mut held = self.lock();
+        if held.draining > 0 {
             self.drained.notify_all();
         }
+        let wakers = held.drains.take_wakers();
+        drop(held);
+        wake_each(wakers.into_iter());
+    }
+
+    /// A tag comes home that is asked for: the first in line has it, or its place. It ends if the queue was dropped.
+    pub(crate) fn hand_over(&self, tag: Body) {
+        let mut held = self.lock();
+        let ended = if held.is_closed {
+            Some(tag)
+        } else {
+            match held.line.hand(tag) {
+                Ok(first) => {
+                    drop(held);
+                    wake_each(iter::once(first));
+                    return;
+                }
+                Err(tag) => {
+                    tag.place.put(tag);
+                    None
+                }
+            }
+        };
+        drop(held);
+        drop(ended); // without the lock, since the queue may end with it
+    }
+
+    /// The queue was dropped: each tag that is home ends, and any other as it comes home.
+    pub(crate) fn close(&self, places: &[&Place]) {
+        let mut held = self.lock();
+        held.is_closed = true;
+        let (handed, sent_away) = (held.line.take_handed(), held.line.send_away());
+        drop(held);
+        for place in places {
+            drop(place.take_or_ask());
+        }
+        drop((handed, sent_away)); // of futures that were forgotten
     }
 }

@@ -1,7 +1,5 @@
 //! Misuses that compile: each is refused by an error, or does what its documentation says. (Those that don't compile
 //! stand in src/misuse.rs.) An answer that the types exclude would panic as a bug of the crate, and fail the test.
-#![allow(clippy::drop_non_drop, reason = "a tag that is dropped is out for ever")]
-
 use freeze_queue::{
     EnterError, EnterFrozenError, FreezeTimeoutError, GiveBackError, Limits, OwnedEntered, Queue, RemoveError, Tag,
     TryEnterError, TryFreezeError,
@@ -17,7 +15,7 @@ use std::task::{Context, Poll, Wake, Waker};
 use std::thread;
 use std::time::Duration;
 
-const LIMITS: Limits = Limits { hardware: 64, max: 32, chunk: 128, physical: 8 };
+const LIMITS: Limits = Limits::of_hardware(64).with_max(32).with_chunk(128).with_physical(8);
 
 fn with_tags() -> (Queue, Tag, Tag) {
     let queue = Queue::new(LIMITS, 2, 2).unwrap();
@@ -51,10 +49,9 @@ fn a_request_is_forgotten() {
 #[test]
 fn an_owned_request_is_forgotten() {
     let (queue, tag, _other) = with_tags();
-    let queue = Arc::new(queue);
     mem::forget(queue.enter_owned(tag).unwrap());
     assert_eq!(queue.try_freeze().unwrap_err(), TryFreezeError::NotDrained);
-    assert!(Arc::into_inner(queue).is_none());
+    assert_eq!(queue.remove().unwrap_err().reason, RemoveError::TagsOut);
 }
 
 /// A freeze that is forgotten is never thawed: nested ones come and go, and the queue can be removed.
@@ -103,16 +100,35 @@ fn the_queue_is_dropped_first() {
     assert_eq!(stranger.give_back(other).unwrap_err().reason, GiveBackError::OtherQueue);
 }
 
-/// A tag that is dropped is out for ever, and its place is given to no other.
+/// A tag that is dropped goes home, on whichever thread; one under a forgotten request is out for ever.
 #[test]
 fn a_tag_is_dropped() {
-    let (queue, tag, other) = with_tags();
-    drop(tag);
+    let (queue, tag, mut other) = with_tags();
+    thread::spawn(move || drop(tag)).join().unwrap();
+    let again = queue.next_tag(0).unwrap();
     assert!(queue.next_tag(0).is_err());
-    queue.give_back(other).unwrap();
+    mem::forget(queue.enter(&mut other).unwrap());
+    drop((again, other));
     let last = queue.next_tag(0).unwrap();
+    assert!(queue.next_tag(0).is_err());
     queue.give_back(last).unwrap();
     assert_eq!(queue.remove().unwrap_err().reason, RemoveError::TagsOut);
+}
+
+/// Completers panic with their requests, as often as there are tags, and more: each tag goes home.
+#[test]
+fn completers_panic() {
+    let (queue, tag, other) = with_tags();
+    drop((tag, other));
+    for _ in 0..6 {
+        let request = queue.enter_any().unwrap();
+        let completes = thread::spawn(move || {
+            let _request = request;
+            panic!("as the test wants");
+        });
+        assert!(completes.join().is_err());
+    }
+    queue.remove().unwrap();
 }
 
 /// A thread that panics while its request is under way leaves as it unwinds, and one that has frozen thaws.
@@ -162,7 +178,7 @@ fn guards_are_dropped_in_any_order() {
         drop(freezes.remove(at));
         assert!(queue.is_drained());
     }
-    freezes.swap_remove(0).set(Limits { max: 1, ..LIMITS }).unwrap();
+    freezes.swap_remove(0).set(LIMITS.with_max(1)).unwrap();
     assert_eq!((queue.depth(), queue.limits().max), (0, 1));
 }
 
@@ -221,6 +237,7 @@ impl Wake for GivesBack {
 
 impl Drop for GivesBack {
     fn drop(&mut self) {
+        assert!(self.0.depth() <= 1, "a call that takes the lock");
         self.0.give_back(self.1.lock().unwrap().take().unwrap()).unwrap();
         self.2.fetch_add(1, Ordering::SeqCst);
     }

@@ -4,7 +4,7 @@
 //! the memory, which no type of Rust's can know: so this test has `unsafe` of its own.
 #![allow(unsafe_code)]
 
-use freeze_queue::{Limits, Queue, Tag};
+use freeze_queue::{Queue, Tag};
 use std::cell::UnsafeCell;
 use std::ptr;
 use std::sync::atomic::{AtomicBool, AtomicU64, Ordering};
@@ -85,7 +85,7 @@ fn change(queue: &Queue, device: &Device, requests: &AtomicU64, lives: u64) -> u
             1 => queue.try_freeze().unwrap_or_else(|_| queue.freeze().unwrap()),
             _ => queue.freeze().unwrap(),
         };
-        let set = || frozen.set(Limits { max, ..LIMITS }).unwrap();
+        let set = || frozen.set(LIMITS.with_max(max)).unwrap();
         if life % 2 == 0 {
             set();
         }

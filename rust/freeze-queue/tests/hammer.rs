@@ -16,7 +16,7 @@ const THREADS: u32 = 4;
 /// Of a setting the chunk is four times the most of a piece: so one that was changed in between would show.
 fn setting(of: u64) -> Limits {
     let max = 1 + u32::try_from(of % 64).unwrap();
-    Limits { max, chunk: 4 * max, ..Limits::of_hardware(64) }
+    Limits::of_hardware(64).with_max(max).with_chunk(4 * max)
 }
 
 fn is_one_setting(limits: &Limits) -> bool {

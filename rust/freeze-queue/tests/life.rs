@@ -1,25 +1,16 @@
 //! Each call on one thread: what it tells, each refusal, and that a refusal leaves everything as it was.
 use freeze_queue::{
-    EnterError, EnterFrozenError, EnterTimeoutError, Final, FreezeError, FreezeTimeoutError, GiveBackError, Limits,
-    LimitsError, NewError, NextTagError, OwnedEntered, Piece, PiecesError, Queue, RangeError, RemoveError, SetError,
-    SlotError, Tag, TryEnterError, TryFreezeError,
+    EnterError, EnterFrozenError, EnterTimeoutError, Final, FreezeError, FreezeTimeoutError, GiveBackError, HandedBack,
+    Limits, LimitsError, NewError, NextTagError, OwnedEntered, Piece, PiecesError, Queue, RangeError, RemoveError,
+    SetError, SlotError, Tag, TryEnterError, TryFreezeError, UpdateError,
 };
 use std::error::Error;
 use std::mem;
-use std::sync::Arc;
+use std::panic::{AssertUnwindSafe, catch_unwind};
 use std::time::{Duration, Instant};
 
-const LIMITS: Limits = Limits { hardware: 64, max: 32, chunk: 128, physical: 8 };
-
-fn queue(slots: u32, tags: u32) -> Queue {
-    Queue::new(LIMITS, slots, tags).unwrap()
-}
-
-fn with_tag() -> (Queue, Tag) {
-    let queue = queue(2, 2);
-    let tag = queue.next_tag(0).unwrap();
-    (queue, tag)
-}
+mod shared;
+use shared::{LIMITS, queue, with_tag};
 
 #[test]
 fn sizes() {
@@ -47,13 +38,13 @@ fn sizes() {
 #[test]
 fn limits_that_are_refused() {
     let wanted = [
-        (Limits { hardware: 0, ..LIMITS }, LimitsError::HardwareRange),
-        (Limits { hardware: 65_536, max: 65_537, ..LIMITS }, LimitsError::HardwareRange),
-        (Limits { max: 65, chunk: 65_536, ..LIMITS }, LimitsError::AboveHardware),
-        (Limits { chunk: 65_536, physical: 3, ..LIMITS }, LimitsError::ChunkTooLarge),
-        (Limits { physical: 0, ..LIMITS }, LimitsError::BadPhysical),
-        (Limits { physical: 3, ..LIMITS }, LimitsError::BadPhysical),
-        (Limits { physical: 65_536, ..LIMITS }, LimitsError::BadPhysical),
+        (LIMITS.with_hardware(0), LimitsError::HardwareRange),
+        (LIMITS.with_hardware(65_536).with_max(65_537), LimitsError::HardwareRange),
+        (LIMITS.with_max(65).with_chunk(65_536), LimitsError::AboveHardware),
+        (LIMITS.with_chunk(65_536).with_physical(3), LimitsError::ChunkTooLarge),
+        (LIMITS.with_physical(0), LimitsError::BadPhysical),
+        (LIMITS.with_physical(3), LimitsError::BadPhysical),
+        (LIMITS.with_physical(65_536), LimitsError::BadPhysical),
     ];
     let queue = queue(1, 1);
     let frozen = queue.freeze().unwrap();
@@ -63,13 +54,14 @@ fn limits_that_are_refused() {
         assert_eq!(limits.pieces(1 << 40, 1).unwrap_err(), PiecesError::Limits(why));
         assert_eq!(frozen.set(limits), Err(SetError::Limits(why)));
     }
-    assert_eq!(frozen.set(Limits { hardware: 63, ..LIMITS }), Err(SetError::OtherHardware));
+    assert_eq!(frozen.set(LIMITS.with_hardware(63)), Err(SetError::OtherHardware));
     assert_eq!(queue.limits(), LIMITS);
-    let most = Limits { hardware: 65_535, max: 65_535, chunk: 65_535, physical: 32_768 };
+    let most = Limits::of_hardware(65_535).with_max(65_535).with_chunk(65_535).with_physical(32_768);
     assert_eq!(Queue::new(most, 1, 1).unwrap().limits(), most);
-    let least = Limits { hardware: 1, max: 0, chunk: 0, physical: 1 };
-    assert_eq!(Queue::new(least, 1, 1).unwrap().limits(), Limits { max: 1, ..least });
-    assert_eq!(Limits::of_hardware(9), Limits { hardware: 9, max: 9, chunk: 0, physical: 1 });
+    let least = Limits::of_hardware(1).with_max(0).with_chunk(0).with_physical(1);
+    assert_eq!(Queue::new(least, 1, 1).unwrap().limits(), least.with_max(1));
+    let plain = Limits::of_hardware(9);
+    assert_eq!((plain.hardware, plain.max, plain.chunk, plain.physical), (9, 9, 0, 1));
 }
 
 fn lengths(limits: Limits, start: u64, count: u32) -> Vec<u32> {
@@ -79,10 +71,10 @@ fn lengths(limits: Limits, start: u64, count: u32) -> Vec<u32> {
 /// Worked by hand.
 #[test]
 fn pieces() {
-    assert_eq!(lengths(Limits { chunk: 8, ..Limits::of_hardware(64) }, 6, 6), [2, 4]);
-    assert_eq!(lengths(Limits { max: 4, chunk: 8, ..LIMITS }, 6, 6), [2, 4]);
-    assert_eq!(lengths(Limits { max: 12, chunk: 0, ..LIMITS }, 3, 40), [5, 8, 8, 8, 11]);
-    assert_eq!(lengths(Limits { max: 5, chunk: 0, ..LIMITS }, 0, 12), [5, 3, 4]);
+    assert_eq!(lengths(Limits::of_hardware(64).with_chunk(8), 6, 6), [2, 4]);
+    assert_eq!(lengths(LIMITS.with_max(4).with_chunk(8), 6, 6), [2, 4]);
+    assert_eq!(lengths(LIMITS.with_max(12).with_chunk(0), 3, 40), [5, 8, 8, 8, 11]);
+    assert_eq!(lengths(LIMITS.with_max(5).with_chunk(0), 0, 12), [5, 3, 4]);
     assert_eq!(lengths(LIMITS, 0, 0), []);
     let last: Vec<Piece> = LIMITS.pieces((1 << 33) - 3, 3).unwrap().collect();
     assert_eq!(last, [Piece { start: (1 << 33) - 3, sectors: 3 }]);
@@ -122,7 +114,7 @@ fn a_request() {
 #[test]
 fn a_freeze() {
     let (queue, mut tag) = with_tag();
-    let other = Limits { max: 8, chunk: 0, ..LIMITS };
+    let other = LIMITS.with_max(8).with_chunk(0);
     let frozen = queue.freeze().unwrap();
     assert_eq!((queue.depth(), queue.is_drained()), (1, true));
     assert_eq!(queue.try_enter(&mut tag).unwrap_err(), TryEnterError::Frozen);
@@ -134,10 +126,10 @@ fn a_freeze() {
     drop(frozen);
     assert_eq!((queue.depth(), queue.is_drained()), (1, true));
     assert_eq!(queue.try_enter(&mut tag).unwrap_err(), TryEnterError::Frozen);
-    nested.set(Limits { max: 0, ..other }).unwrap();
+    nested.set(other.with_max(0)).unwrap();
     drop(nested);
     assert_eq!((queue.depth(), queue.is_drained()), (0, false));
-    assert_eq!(queue.enter(&mut tag).unwrap().limits(), &Limits { max: 64, ..other });
+    assert_eq!(queue.enter(&mut tag).unwrap().limits(), &other.with_max(64));
 }
 
 #[test]
@@ -160,6 +152,27 @@ fn a_freeze_while_a_request_is_under_way() {
     assert_eq!(late.unwrap_err(), EnterTimeoutError::TimedOut);
     assert!(began.elapsed() >= Duration::from_millis(30));
     drop(frozen);
+}
+
+/// An update changes what it finds, under one freeze; one that is refused, or panics, sets nothing and freezes nothing.
+#[test]
+fn an_update() {
+    let (queue, mut tag) = with_tag();
+    let set = queue.update(|limits| limits.with_max(limits.max + 1).with_chunk(0)).unwrap();
+    assert_eq!((set, queue.limits()), (LIMITS.with_max(33).with_chunk(0), set));
+    assert_eq!(queue.update(|limits| limits.with_max(0)), Ok(set.with_max(64)));
+    assert_eq!(queue.update(|_| LIMITS.with_max(65)), Err(UpdateError::Limits(LimitsError::AboveHardware)));
+    assert_eq!(queue.update(|_| Limits::of_hardware(32)), Err(UpdateError::OtherHardware));
+    let inside = queue.update(|limits| {
+        assert_eq!((queue.depth(), queue.is_drained()), (0, false));
+        assert!(queue.try_enter(&mut tag).is_ok());
+        limits
+    });
+    assert_eq!(inside, Ok(set.with_max(64)));
+    assert!(catch_unwind(AssertUnwindSafe(|| queue.update(|_| panic!("as the test wants")))).is_err());
+    assert_eq!((queue.depth(), queue.limits()), (0, set.with_max(64)));
+    let _all: Vec<_> = (0..Queue::MOST_DEPTH).map(|_| queue.freeze().unwrap()).collect();
+    assert_eq!(queue.update(|limits| limits), Err(UpdateError::DepthFull));
 }
 
 #[test]
@@ -200,7 +213,6 @@ fn tags_of_another_queue() {
     assert_eq!(there.try_enter(&mut tag).unwrap_err(), TryEnterError::OtherQueue);
     assert_eq!(there.try_enter_frozen(&mut tag).unwrap_err(), EnterFrozenError::OtherQueue);
     assert_eq!(there.enter_timeout(&mut tag, Duration::MAX).unwrap_err(), EnterTimeoutError::OtherQueue);
-    let there = Arc::new(there);
     let refused = there.enter_owned(tag).unwrap_err();
     assert_eq!(refused.reason, EnterError::OtherQueue);
     let refused = there.try_enter_owned(refused.value).unwrap_err();
@@ -208,7 +220,7 @@ fn tags_of_another_queue() {
     let refused = there.give_back(refused.value).unwrap_err();
     assert_eq!(refused.reason, GiveBackError::OtherQueue);
     here.give_back(refused.value).unwrap();
-    assert!(Arc::into_inner(there).unwrap().remove().is_ok());
+    assert!(there.remove().is_ok());
 }
 
 #[test]
@@ -221,7 +233,6 @@ fn slots() {
     request.use_slot(1).unwrap();
     drop(request);
     assert_eq!(tag.slot(), 1);
-    let queue = Arc::new(queue);
     let mut request = queue.enter_owned(tag).unwrap();
     assert_eq!(request.use_slot(2), Err(SlotError::NoSlot));
     request.use_slot(0).unwrap();
@@ -231,9 +242,9 @@ fn slots() {
 
 #[test]
 fn a_request_that_takes_its_tag_along() {
-    let queue = Arc::new(queue(1, 1));
+    let queue = queue(1, 1);
     let request = queue.enter_owned(queue.next_tag(0).unwrap()).unwrap();
-    assert_eq!((request.limits(), Arc::strong_count(&queue)), (&LIMITS, 2));
+    assert_eq!(request.limits(), &LIMITS);
     assert_eq!(request.pieces(0, 65).unwrap().map(|piece| piece.sectors).collect::<Vec<_>>(), [32, 32, 1]);
     assert_eq!(queue.try_freeze().unwrap_err(), TryFreezeError::NotDrained);
     let tag = request.leave();
@@ -241,9 +252,9 @@ fn a_request_that_takes_its_tag_along() {
     let refused = queue.try_enter_owned(tag).unwrap_err();
     assert_eq!(refused.reason, TryEnterError::Frozen);
     drop(frozen);
-    drop(queue.try_enter_owned(refused.value).unwrap()); // it leaves, and its tag is out for ever
+    drop(queue.try_enter_owned(refused.value).unwrap()); // it leaves, and its tag goes home
     assert!(queue.try_freeze().is_ok());
-    assert_eq!(Arc::into_inner(queue).unwrap().remove().unwrap_err().reason, RemoveError::TagsOut);
+    assert_eq!(queue.remove().unwrap().limits, LIMITS);
 }
 
 #[test]
@@ -256,7 +267,6 @@ fn tags_come_and_go() {
         queue.give_back(tag).unwrap();
     }
     drop(frozen);
-    let queue = Arc::new(queue);
     for _ in 0..200 {
         let request = queue.enter_owned(queue.next_tag(0).unwrap()).unwrap();
         queue.give_back(request.leave()).unwrap();
@@ -296,20 +306,21 @@ fn the_end() -> Result<(), Box<dyn Error>> {
 
 #[test]
 fn the_question_mark_drops_what_is_handed_back() {
-    fn removes(queue: Queue) -> Result<Final, RemoveError> {
+    fn removes(queue: Queue, _out: Tag) -> Result<Final, RemoveError> {
         Ok(queue.remove()?)
     }
     fn gives(queue: &Queue, tag: Tag) -> Result<(), GiveBackError> {
         Ok(queue.give_back(tag)?)
     }
-    fn enters(queue: &Arc<Queue>, tag: Tag) -> Result<(), EnterError> {
+    fn enters(queue: &Queue, tag: Tag) -> Result<(), EnterError> {
         drop(queue.enter_owned(tag)?);
         Ok(())
     }
-    let (here, there) = (queue(1, 2), Arc::new(queue(1, 1)));
+    let (here, there) = (queue(1, 2), queue(1, 1));
     assert_eq!(gives(&there, here.next_tag(0).unwrap()), Err(GiveBackError::OtherQueue));
     assert_eq!(enters(&there, here.next_tag(0).unwrap()), Err(EnterError::OtherQueue));
-    assert_eq!(removes(here), Err(RemoveError::TagsOut));
+    let out = here.next_tag(0).unwrap();
+    assert_eq!(removes(here, out), Err(RemoveError::TagsOut));
 }
 
 #[test]
@@ -319,16 +330,22 @@ fn what_is_shown() {
     assert_eq!(format!("{queue:?}"), format!("Queue {{ number: {number}, .. }}"));
     let shown = format!("Tag {{ queue: {number}, slot: 0, .. }}");
     assert_eq!(format!("{tag:?}"), shown);
-    assert_eq!(format!("{:?}", queue.enter(&mut tag).unwrap()), format!("Entered({shown})"));
-    assert_eq!(format!("{:?}", queue.freeze().unwrap()), format!("Frozen({queue:?})"));
-    assert!(format!("{:?}", queue.enter_async(&mut tag)).starts_with("EnterAsync { tag: Some(Tag {"));
-    let queue = Arc::new(queue);
-    assert_eq!(format!("{:?}", queue.enter_owned(tag).unwrap()), format!("OwnedEntered(Some({shown}))"));
+    let of_queue = format!("queue: {number}, ..");
+    assert_eq!(format!("{:?}", queue.enter(&mut tag).unwrap()), format!("Entered {{ queue: {number}, slot: 0, .. }}"));
+    assert_eq!(format!("{:?}", queue.freeze().unwrap()), format!("Frozen {{ {of_queue} }}"));
+    assert_eq!(format!("{:?}", queue.begin_freeze().unwrap()), format!("Freezing {{ {of_queue} }}"));
+    assert_eq!(format!("{:?}", queue.begin_freeze().unwrap().drained()), "Drained { is_done: false, .. }");
+    assert_eq!(format!("{:?}", queue.enter_async(&mut tag)), "EnterAsync { is_done: false, .. }");
+    assert_eq!(format!("{:?}", queue.enter_any_async()), "EnterAny { is_done: false, .. }");
+    let request = queue.enter_owned(tag).unwrap();
+    assert_eq!(format!("{request:?}"), format!("OwnedEntered({shown})"));
+    let entering = queue.enter_owned_async(request.leave());
+    assert!(format!("{entering:?}").starts_with("EnterOwnedAsync { tag: Some(Tag {"));
 }
 
 #[test]
 fn sizes_in_memory() {
-    assert_eq!((align_of::<Tag>(), mem::size_of::<Tag>()), (128, 256));
-    assert_eq!(align_of::<Queue>(), 128);
-    assert!(mem::size_of::<OwnedEntered>() <= 384);
+    assert_eq!((mem::size_of::<Tag>(), mem::size_of::<Queue>()), (8, 8));
+    assert_eq!(mem::size_of::<OwnedEntered>(), 24);
+    assert!(mem::size_of::<Result<OwnedEntered, HandedBack<Tag, EnterError>>>() <= 32);
 }

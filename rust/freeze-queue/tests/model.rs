@@ -6,6 +6,8 @@ use std::sync::Arc;
 
 #[path = "model/life.rs"]
 mod life;
+#[path = "model/line.rs"]
+mod line;
 #[path = "model/plain.rs"]
 mod plain;
 #[path = "model/refusals.rs"]
@@ -25,7 +27,7 @@ fn some_limits(chance: &mut Chance) -> Limits {
     let (hardware, chunk, physical) = (one_of(&HARDWARE), one_of(&CHUNKS), one_of(&PHYSICAL));
     let most = if hardware < 65_536 { hardware + 1 } else { 9 };
     let max = if chance.one_in(4) { chance.below(70_000) } else { chance.below(most) };
-    Limits { hardware, max, chunk, physical }
+    Limits::of_hardware(hardware).with_max(max).with_chunk(chunk).with_physical(physical)
 }
 
 /// Makes a queue, where its limits and its size are allowed, and says why not where they aren't.

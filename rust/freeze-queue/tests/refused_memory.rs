@@ -3,7 +3,8 @@
 #![allow(unsafe_code)]
 
 use freeze_queue::{
-    EnterTimeoutError, FreezeTimeoutError, Limits, NewError, Queue, Tag, TryEnterError, TryFreezeError,
+    EnterAnyError, EnterAnyTimeoutError, EnterTimeoutError, FreezeTimeoutError, NewError, Queue, Tag, TryEnterError,
+    TryFreezeError,
 };
 use std::alloc::{GlobalAlloc, Layout, System};
 use std::cell::Cell;
@@ -11,11 +12,12 @@ use std::future::Future;
 use std::mem;
 use std::pin::pin;
 use std::ptr;
-use std::sync::Arc;
+use std::sync::{Arc, Mutex, MutexGuard, PoisonError};
 use std::task::{Context, Poll, Waker};
 use std::time::Duration;
 
-const LIMITS: Limits = Limits { hardware: 64, max: 32, chunk: 128, physical: 8 };
+mod shared;
+use shared::{LIMITS, Woken};
 
 thread_local! {
     /// How many allocations succeed before one is refused. `None`: none is refused.
@@ -62,19 +64,29 @@ fn after<T>(allowed: u64, call: impl FnOnce() -> T) -> T {
     answer
 }
 
+/// The test has the store of places to itself, which has some for each tag that it uses: they are kept for the queues to come.
+fn with_places() -> MutexGuard<'static, ()> {
+    static ONE: Mutex<()> = Mutex::new(());
+    let one = ONE.lock().unwrap_or_else(PoisonError::into_inner);
+    drop(Queue::new(LIMITS, 1, 63).unwrap());
+    one
+}
+
 fn end(queue: Queue, tag: Tag) {
     queue.give_back(tag).unwrap();
     assert_eq!(queue.remove().unwrap().limits, LIMITS);
 }
 
+/// Each but the last, which is that of the `Arc` that the queue and its tags share: stable Rust can't refuse it.
 #[test]
 fn each_allocation_refused() {
+    let _one = with_places();
     let new = || Queue::new(LIMITS, 64, 2);
     let (asked, blocks) = (ASKED.get(), BLOCKS.get());
     let queue = new().unwrap();
     let asked = ASKED.get() - asked;
-    assert!(asked > 2, "a queue takes more than two allocations");
-    for allowed in 0..asked {
+    assert!(asked > 8, "a queue takes more than eight allocations");
+    for allowed in 0..asked - 1 {
         let blocks = BLOCKS.get();
         assert_eq!(after(allowed, new).unwrap_err(), NewError::NoMemory);
         assert_eq!(BLOCKS.get(), blocks);
@@ -89,6 +101,7 @@ fn each_allocation_refused() {
 /// No call but `Queue::new` asks for memory: neither those that wait, nor a future that does, nor the end.
 #[test]
 fn the_rest_needs_no_memory() {
+    let _one = with_places();
     let blocks = BLOCKS.get();
     let queue = Queue::new(LIMITS, 4, 3).unwrap();
     let (mut tag, mut other) = (queue.next_tag(3).unwrap(), queue.next_tag(0).unwrap());
@@ -118,18 +131,101 @@ fn the_rest_needs_no_memory() {
     assert_eq!(BLOCKS.get(), blocks, "nothing leaks");
 }
 
+/// The memory of places is refused, where the store has too few: nothing is lost, and the store has what was made.
+#[test]
+fn the_memory_of_places_is_refused() {
+    let _one = with_places();
+    let new = || Queue::new(LIMITS, 1, 63);
+    let asked = ASKED.get();
+    drop(new().unwrap());
+    let (usual, mut all) = (ASKED.get() - asked, vec![]);
+    let most = loop {
+        let asked = ASKED.get();
+        all.push(new().unwrap());
+        let asked = ASKED.get() - asked;
+        if asked > usual {
+            break asked;
+        }
+    };
+    let refused = (0..most - 1).filter(|allowed| {
+        let made = after(*allowed, new);
+        assert!(made.as_ref().err().is_none_or(|why| *why == NewError::NoMemory));
+        made.is_err()
+    });
+    assert_eq!(refused.count() as u64, most - 1);
+    drop(all);
+    let (asked, blocks) = (ASKED.get(), BLOCKS.get());
+    drop(new().unwrap());
+    assert_eq!((ASKED.get() - asked, BLOCKS.get()), (usual, blocks));
+}
+
+/// The forms with a tag of their own and freezes need no memory either; the line does, and says so, and a future that waits for
+/// the drain does without.
+#[test]
+fn memory_of_what_waits() {
+    let _one = with_places();
+    let blocks = BLOCKS.get();
+    let queue = Queue::new(LIMITS, 4, 2).unwrap();
+    let mut context = Context::from_waker(Waker::noop());
+    after(0, || {
+        let request = queue.enter_owned(queue.next_tag(1).unwrap()).unwrap();
+        let other = queue.enter_any().unwrap();
+        assert_eq!(queue.enter_any().unwrap_err(), EnterAnyError::NoMemory);
+        let late = queue.enter_any_timeout(Duration::ZERO);
+        assert_eq!(late.unwrap_err(), EnterAnyTimeoutError::NoMemory);
+        assert!(matches!(pin!(queue.enter_any_async()).poll(&mut context), Poll::Ready(Err(EnterAnyError::NoMemory))));
+        drop(other);
+        let mut drained = pin!(queue.begin_freeze_owned().unwrap().drained());
+        assert!(drained.as_mut().poll(&mut context).is_pending());
+        let mut entering = pin!(queue.enter_any_async());
+        assert!(entering.as_mut().poll(&mut context).is_pending(), "it has a tag, and waits for the thaw");
+        drop(request);
+        let Poll::Ready(frozen) = drained.poll(&mut context) else { panic!("it is drained") };
+        frozen.set(LIMITS).unwrap();
+        drop(frozen);
+        assert!(matches!(entering.poll(&mut context), Poll::Ready(Ok(_))));
+    });
+    queue.remove().unwrap();
+    assert_eq!(BLOCKS.get(), blocks, "nothing leaks");
+}
+
+/// A future of the drain whose waker can't be noted wakes itself, and so looks again.
+#[test]
+fn a_drain_is_waited_for_without_memory() {
+    let _one = with_places();
+    let queue = Queue::new(LIMITS, 1, 1).unwrap();
+    let request = queue.enter_any().unwrap();
+    let woken = Arc::new(Woken::default());
+    let waker = Waker::from(Arc::clone(&woken));
+    let mut context = Context::from_waker(&waker);
+    let mut drained = pin!(queue.begin_freeze().unwrap().drained());
+    for times in 1..4 {
+        assert!(after(0, || drained.as_mut().poll(&mut context).is_pending()));
+        assert_eq!(woken.times(), times);
+    }
+    assert!(drained.as_mut().poll(&mut context).is_pending());
+    drop(request);
+    assert_eq!(woken.times(), 4, "by the drain");
+    assert!(drained.poll(&mut context).is_ready());
+}
+
 /// What is dropped rather than ended leaks nothing: a tag that a request takes along, one whose request was forgotten, and
 /// a share of the queue that a request has.
 #[test]
 fn what_is_dropped_is_freed() {
+    let _one = with_places();
     let blocks = BLOCKS.get();
-    let queue = Arc::new(Queue::new(LIMITS, 4, 4).unwrap());
+    let queue = Queue::new(LIMITS, 4, 4).unwrap();
     let (mut tag, other) = (queue.next_tag(3).unwrap(), queue.next_tag(0).unwrap());
     let taken = queue.next_tag(0).unwrap();
     mem::forget(queue.enter(&mut tag).unwrap());
     drop(queue.enter_owned(other).unwrap());
     let request = queue.enter_owned(taken).unwrap();
+    let freezing = queue.begin_freeze_owned().unwrap();
     drop(queue);
-    let _tag = request.leave();
+    drop(tag);
+    drop(request.leave());
+    assert_ne!(BLOCKS.get(), blocks, "a freeze has a share");
+    drop(freezing);
     assert_eq!(BLOCKS.get(), blocks);
 }

@@ -1,6 +1,6 @@
 //! Who waits is woken: what is waited for comes about some milliseconds later, on another thread, and a wake that is lost
 //! is seen since nobody comes within a minute.
-use freeze_queue::{EnterError, EnterTimeoutError, FreezeTimeoutError, Limits, Queue, Tag, TryEnterError};
+use freeze_queue::{EnterError, EnterTimeoutError, FreezeTimeoutError, Queue, Tag, TryEnterError};
 use std::sync::atomic::{AtomicBool, AtomicU32, Ordering};
 use std::thread;
 use std::time::{Duration, Instant};
@@ -199,7 +199,7 @@ fn refused_tries_tell_of_the_drain() {
                 });
             }
             for change in 0..3000 {
-                queue.freeze().unwrap().set(Limits { max: 1 + change % 64, ..LIMITS }).unwrap();
+                queue.freeze().unwrap().set(LIMITS.with_max(1 + change % 64)).unwrap();
             }
             over.store(true, Ordering::SeqCst);
         });

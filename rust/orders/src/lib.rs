@@ -18,10 +18,17 @@
 //!
 //! - `gate`: the races of `examples/`, and random ones. They have the outcomes that `gate_races` finds, which searches by the
 //!   machine and not by the code.
-//! - `queue`: tags enter, read the limits twice, leave and look in, beside nested freezes, new limits, thaws and the removal. The
-//!   limits hold still under a tag, each drain has one last release, and each call is answered as its contract says.
-//! - `waits`: tags that wait to enter, beside threads that freeze by one shared freezer; and several threads that wait for one
-//!   drain. No wake is lost, and a wait changes nothing.
+//! - `queue`: tags enter, read the limits twice, stay, leave and look in, beside nested freezes, new limits, thaws and the
+//!   removal. The limits hold still under a tag, each drain has one last release, and each call is answered as its contract says.
+//! - `waits`: tags that wait to enter, and tags that stay, beside threads that freeze by one shared freezer; and several
+//!   threads that wait for one drain. No wake is lost, and a wait changes nothing.
+//!
+//! The public crates have wakers, futures and any values behind their locks, which can't be written down: [`turns`] goes through the orders
+//! of these, by threads that take turns.
+//!
+//! - `whole`: freeze-queue's own files. Threads and tasks enter beside freezes, wait in line for a tag, and wait for the drain; a device goes
+//!   away, deadlines pass at any moment, futures are dropped, a waker panics. Each wait ends. A guarded value is never lent twice.
+//! - `whole_gate`: percpu-gate's own files. References lend a guarded value beside kills, changes, revivals and the removal.
 //!
 //! `tests/rust/orders_wrong` plants mistakes in a copy, each of which they find.
 //!
@@ -41,6 +48,8 @@ mod memory;
 mod op;
 mod orders;
 mod queue_race;
+mod stay_race;
+pub mod turns;
 mod wait_race;
 
 pub use actor::{at_once, join};
@@ -48,4 +57,5 @@ pub use drain_race::{DrainRace, Drained, Finish, LookRace};
 pub use gate_race::{Call, GateRace};
 pub use orders::{Ending, Fault, Found, Orders, Race};
 pub use queue_race::{FIRST_MOST, Freezing, QueueRace, Told, Visit};
+pub use stay_race::StayRace;
 pub use wait_race::{FIRST, WaitRace, Waited};

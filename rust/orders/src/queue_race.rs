@@ -2,7 +2,7 @@
 
 use crate::actor::{at_once, join};
 use crate::erased::percpu_words::Mode;
-use crate::erased::queue_core::{BlockQueue, Entry, Final, FreezeFault, Freezer, Limits, Put, Tag};
+use crate::erased::queue_core::{BlockQueue, Entry, Final, FreezeFault, Freezer, Limits, Put, Stay, Tag};
 use crate::orders::Race;
 
 /// A call of the freezer.
@@ -18,13 +18,15 @@ pub enum Freezing {
     Count(Mode),
 }
 
-/// A visit of a tag, if it is let in: it reads the limits twice, and leaves.
+/// A visit of a tag, if it is let in: it reads the limits twice, and leaves. One that stays asks for that between the two.
 #[derive(Clone, Copy, Debug, PartialEq, Eq)]
 pub enum Visit {
     /// It enters unless the queue is frozen.
     Enter,
     /// It enters unless the queue is drained.
     Look,
+    /// It enters unless the queue is frozen, and stays for another request unless a freeze has begun.
+    Stay,
 }
 
 /// Tags that visit a queue, each on a slot, and a freezer, which removes the queue once all tags are through.
@@ -41,6 +43,8 @@ pub struct QueueRace {
 pub enum Told {
     /// A visit: the largest request at both looks, and whether the tag was the last to leave.
     Visited(u32, u32, bool),
+    /// A visit of a tag that didn't stay: the largest request at its one look, and whether it was the last to leave.
+    Left(u32, bool),
     /// A tag wasn't let in; whether the count that it dropped was the last.
     Refused(bool),
     /// The depth; whether the kill's own count was the last.
@@ -64,16 +68,20 @@ pub const FIRST_MOST: u32 = 8;
 
 fn visit(queue: &BlockQueue, tag: &mut Tag, slot: u32, visit: Visit) -> Told {
     let entry = match visit {
-        Visit::Enter => queue.try_enter(tag, slot),
+        Visit::Enter | Visit::Stay => queue.try_enter(tag, slot),
         Visit::Look => queue.try_enter_frozen(tag, slot),
     };
-    match entry {
-        Entry::Refused(put) => Told::Refused(put == Put::Last),
-        Entry::Entered => {
-            let (one, other) = (queue.limits(tag), queue.limits(tag));
-            Told::Visited(one.max(), other.max(), queue.leave(tag, slot) == Put::Last)
+    if let Entry::Refused(put) = entry {
+        return Told::Refused(put == Put::Last);
+    }
+    let one = queue.limits(tag).max();
+    if visit == Visit::Stay {
+        if let Stay::Left(put) = queue.stay(tag, slot) {
+            return Told::Left(one, put == Put::Last);
         }
     }
+    let other = queue.limits(tag).max();
+    Told::Visited(one, other, queue.leave(tag, slot) == Put::Last)
 }
 
 fn freezing(queue: &BlockQueue, freezer: &mut Freezer, call: Freezing) -> Result<Told, FreezeFault> {

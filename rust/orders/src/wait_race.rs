@@ -71,7 +71,7 @@ fn enters(race: &WaitRace, queue: &BlockQueue, shared: &SharedFreezer<'_>, mut t
 }
 
 /// Freezes, sets the limits and thaws; a thaw that comes from another meanwhile is no fault.
-fn freezes(shared: &SharedFreezer<'_>, most: u32) -> Waited {
+pub(crate) fn freezes(shared: &SharedFreezer<'_>, most: u32) -> Waited {
     let mut guard = match shared.freeze() {
         Ok(guard) => guard,
         Err(FreezeFault::NotFrozen) => return Waited::Froze(Vec::new(), true),
@@ -82,6 +82,15 @@ fn freezes(shared: &SharedFreezer<'_>, most: u32) -> Waited {
     guard.freezer.set(queue, Limits::new(FIRST, most, 0).expect("limits")).expect("a drained queue");
     let after = guard.freezer.thaw(queue).expect("a frozen queue");
     Waited::Froze(vec![before, after], false)
+}
+
+/// Depth, kills and releases of a freezer, once all others are through.
+pub(crate) fn ended(shared: SharedFreezer<'_>) -> Waited {
+    join();
+    let freezer = shared.into_inner().freezer;
+    let depth = freezer.depth();
+    let control = freezer.core.into_control();
+    Waited::End(depth, control.kills(), control.releases())
 }
 
 impl Race for WaitRace {
@@ -100,10 +109,6 @@ impl Race for WaitRace {
         if actor < self.tags + self.freezers {
             return freezes(&shared, FIRST - 1 - u32::try_from(actor - self.tags).expect("few freezers"));
         }
-        join();
-        let freezer = shared.into_inner().freezer;
-        let depth = freezer.depth();
-        let control = freezer.core.into_control();
-        Waited::End(depth, control.kills(), control.releases())
+        ended(shared)
     }
 }

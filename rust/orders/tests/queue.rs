@@ -4,10 +4,10 @@ use orders::erased::percpu_words::Mode;
 use orders::{FIRST_MOST, Freezing, Orders, QueueRace, Told, Visit};
 
 use Freezing::{Count, Freeze, Set, Thaw};
-use Visit::{Enter, Look};
+use Visit::{Enter, Look, Stay};
 
 fn is_last(told: &Told) -> bool {
-    matches!(told, Told::Visited(_, _, true) | Told::Refused(true) | Told::Frozen(_, true))
+    matches!(told, Told::Visited(_, _, true) | Told::Left(_, true) | Told::Refused(true) | Told::Frozen(_, true))
 }
 
 /// The freezer's calls are answered as their contracts say, where that doesn't depend on the drain.
@@ -51,8 +51,11 @@ fn check_outcome(race: &QueueRace, answers: &[Vec<Told>]) {
         if let Told::Visited(one, other, _) = told {
             assert_eq!(one, other, "limits changed under a tag");
             assert!(in_force.contains(one), "{one} of {in_force:?}");
+        } else if let Told::Left(one, _) = told {
+            assert_eq!(*visit, Stay);
+            assert!(in_force.contains(one), "{one} of {in_force:?}");
         } else {
-            assert!(*visit == Enter || lasts > 0, "a look in is refused by a drained queue alone");
+            assert!(*visit != Look || lasts > 0, "a look in is refused by a drained queue alone");
         }
     }
     let begun = |told: &&Told| matches!(told, Told::Frozen(1, _));
@@ -137,4 +140,41 @@ fn two_enter_a_queue_that_stays_frozen() {
     // While the one is in, the other can't enter any more, and can look in.
     let looks = |it: &Vec<Vec<Told>>| matches!(it[1][..], [Told::Refused(_), Told::Visited(..)]);
     assert!(outcomes.iter().any(looks), "{outcomes:?}");
+}
+
+/// A live queue lets each tag stay. Beside a freeze each stays or leaves, and either may be the last to go.
+#[test]
+fn two_stay_beside_a_change_of_limits() {
+    let outcomes = check("two tags that stay beside a change of limits", &[&[Stay], &[Stay]], &[Freeze, Set(4), Thaw]);
+    let answers = |told: Told| outcomes.iter().filter(|it| it[0][0] == told && it[1][0] != told).count();
+    assert!(answers(Told::Visited(FIRST_MOST, FIRST_MOST, false)) > 0, "none stays");
+    assert!(answers(Told::Left(FIRST_MOST, true)) > 0, "none leaves as the last");
+    assert!(answers(Told::Left(FIRST_MOST, false)) > 0, "none leaves before another");
+    assert!(outcomes.iter().any(|it| it[0][0] == Told::Visited(4, 4, false)), "none stays after the thaw");
+    let outcomes = check("two tags that stay in a live queue", &[&[Stay], &[Stay]], &[Thaw]);
+    let stayed = vec![Told::Visited(FIRST_MOST, FIRST_MOST, false)];
+    assert!(outcomes.iter().all(|it| it[..2] == [stayed.clone(), stayed.clone()]), "one left: {outcomes:?}");
+}
+
+/// In a second life each stays and leaves as in the first: what it found then is no answer now.
+#[test]
+fn one_stays_beside_two_freezes() {
+    let (tags, freezer) = (vec![vec![Stay, Stay]], vec![Freeze, Set(4), Thaw, Freeze, Set(2), Thaw]);
+    let race = QueueRace { tags, freezer };
+    let outcomes =
+        check_orders("a tag that stays beside two freezes, at most 6 switches", &race, Orders::of(&race).switches(6));
+    let is_told = |told: [Told; 2]| outcomes.iter().any(|it| it[0] == told);
+    assert!(is_told([Told::Left(FIRST_MOST, true), Told::Visited(4, 4, false)]), "none stays in the second life");
+    assert!(is_told([Told::Left(FIRST_MOST, true), Told::Left(4, true)]), "none leaves in both lives");
+    assert!(
+        is_told([Told::Visited(FIRST_MOST, FIRST_MOST, false), Told::Left(4, true)]),
+        "none leaves in the second life alone"
+    );
+}
+
+/// While a tag holds a freeze up, it stays no more; and it holds up the freeze until then.
+#[test]
+fn one_stays_in_a_queue_that_stays_frozen() {
+    let outcomes = check("a tag that stays, and a look in, beside a freeze that stays", &[&[Stay], &[Look]], &[Freeze]);
+    assert!(outcomes.iter().any(|it| matches!(it[0][0], Told::Left(..)) && matches!(it[1][0], Told::Visited(..))));
 }

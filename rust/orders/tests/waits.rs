@@ -3,7 +3,9 @@
 
 use orders::erased::atomic_table::Table;
 use orders::erased::wait_queue::WaitQueue;
-use orders::{DrainRace, Drained, FIRST, Fault, Finish, Found, LookRace, Orders, Race, WaitRace, Waited, at_once};
+use orders::{
+    DrainRace, Drained, FIRST, Fault, Finish, Found, LookRace, Orders, Race, StayRace, WaitRace, Waited, at_once,
+};
 
 /// Goes through the orders of a race, in which no thread may wait for ever.
 fn found<R: Race>(orders: &mut Orders<'_, R>) -> Found<R::Answer> {
@@ -51,6 +53,19 @@ fn check(race: WaitRace, switches: u8) {
     }
 }
 
+/// Goes through the orders of tags that stay: all outcomes.
+fn stayed(race: StayRace, switches: u8) -> Vec<Vec<Waited>> {
+    let mut orders = Orders::of(&race).switches(switches);
+    let found = found(&mut orders);
+    let (outcomes, states, ways) = (found.outcomes.len(), found.states, found.interleavings);
+    println!("orders of {race:?}, {switches} switches: {outcomes} outcomes, {states} states, {ways} interleavings");
+    for (answers, ending) in &found.outcomes {
+        let is_right = std::panic::catch_unwind(|| check_outcome(answers)).is_ok();
+        assert!(is_right, "{answers:?} by\n{}", orders.schedule(ending).join("\n"));
+    }
+    found.outcomes.into_keys().collect()
+}
+
 #[test]
 fn one_enters_and_one_freezes() {
     check(WaitRace { tags: 1, freezers: 1, rounds: 1, reads_depth: false }, 4);
@@ -64,6 +79,25 @@ fn two_enter_and_one_freezes() {
 #[test]
 fn one_enters_and_two_freeze() {
     check(WaitRace { tags: 1, freezers: 2, rounds: 1, reads_depth: false }, 2);
+}
+
+/// Tags that stay leave for a freeze, and enter again: no wake is lost, and no stay sees two limits.
+#[test]
+fn two_stay_and_one_freezes() {
+    let race = StayRace { tags: 2, turns: 1 };
+    let outcomes = stayed(race, 2);
+    let stays = |it: &Vec<Waited>, of: usize| matches!(&it[of], Waited::Entered(seen, _) if seen.len() == 1);
+    assert!(outcomes.iter().any(|it| stays(it, 0) && stays(it, 1)), "none stays");
+    assert!(outcomes.iter().any(|it| !stays(it, 0) && !stays(it, 1)), "none leaves for the freeze");
+    let again = Waited::Entered(vec![(FIRST, FIRST), (FIRST - 1, FIRST - 1)], 1);
+    assert!(outcomes.iter().any(|it| it[0] == again), "none is the last to leave by its stay, and enters again");
+}
+
+#[test]
+fn one_stays_for_three_turns_and_one_freezes() {
+    let outcomes = stayed(StayRace { tags: 1, turns: 3 }, 4);
+    let most = outcomes.iter().map(|it| matches!(&it[0], Waited::Entered(seen, _) if seen.len() == 2));
+    assert!(most.clone().any(|it| it) && !most.clone().all(|it| it), "it leaves for the one freeze, or for none");
 }
 
 /// A thread that waits for the drain has let the freezer's lock go: the tag that holds the drain off takes it before it leaves.

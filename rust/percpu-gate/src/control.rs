@@ -39,18 +39,20 @@ pub struct Control {
     ///
     /// Borrowed during a call of it alone, and no such call comes back to this crate: so no borrow fails.
     erased: RefCell<ErasedControl>,
-    /// The passes that weren't given out.
+    /// The passes that aren't out, with room for all of the gate: new ones, and those that were retired. Each holds nothing.
     passes: Vec<ErasedPass>,
+    /// The releases of the passes that were retired.
+    of_retired: u64,
     shared: Arc<Shared>,
 }
 
 impl Control {
     /// The control of this gate, which has these passes, none of them given out.
     pub(crate) fn of(control: ErasedControl, passes: Vec<ErasedPass>, shared: Shared) -> Control {
-        Control { erased: RefCell::new(control), passes, shared: Arc::new(shared) }
+        Control { erased: RefCell::new(control), passes, of_retired: 0, shared: Arc::new(shared) }
     }
 
-    /// Gives the next pass, live or dead, which counts on this slot, from 0 on.
+    /// Gives a pass that isn't out, new or retired, live or dead, which counts on this slot, from 0 on. It needs no memory.
     ///
     /// # Errors
     ///
@@ -74,7 +76,7 @@ impl Control {
         Ok(Pass::on_slot(pass, slot, Arc::clone(&self.shared)))
     }
 
-    /// Ends a pass, live or dead.
+    /// Takes a pass back, live or dead, for [`next_pass`](Control::next_pass) to give again. It needs no memory.
     ///
     /// # Errors
     ///
@@ -102,7 +104,9 @@ impl Control {
         if pass.held() > 0 {
             return Err(HandedBack { value: pass, reason: RetireError::StillHeld });
         }
-        self.erased.get_mut().retire(&self.shared.gate, pass.into_erased());
+        let (pass, releases) = pass.into_parts();
+        self.passes.push(pass); // there is room: all of them were here once
+        self.of_retired += releases;
         Ok(())
     }
 
@@ -127,13 +131,13 @@ impl Control {
         if self.erased.get_mut().passes() as usize > self.passes.len() {
             return Err(HandedBack { value: self, reason: ExitError::PassesOut });
         }
-        let Control { erased, passes, shared } = self;
+        let Control { erased, passes, of_retired, shared } = self;
         // Each pass that was given out is retired, which has dropped its share, so this share is alone. The other arm can't be reached.
         let gate = match Arc::try_unwrap(shared) {
             Ok(shared) => shared.gate,
             Err(shared) => {
                 let reason = ExitError::PassesOut;
-                return Err(HandedBack { value: Control { erased, passes, shared }, reason });
+                return Err(HandedBack { value: Control { erased, passes, of_retired, shared }, reason });
             }
         };
         let mut control = erased.into_inner();
@@ -170,8 +174,8 @@ impl Control {
     }
 
     /// Kills the gate, and calls `confirm` in the middle of it, with the kill's odd front: when no pass is given a live
-    /// reference any more, and before the count can reach zero. Where `confirm` panics the kill is ended all the same.
-    /// Linux: `percpu_ref_kill_and_confirm`.
+    /// reference any more, and before the count can reach zero. If `confirm` panics, the kill is ended all the same. (The
+    /// separate steps of a kill are for C alone, as `percpu_gate.h` has them.) Linux: `percpu_ref_kill_and_confirm`.
     ///
     /// # Errors
     ///

@@ -1,4 +1,4 @@
-//! What a call may refuse. A refusal leaves everything as it was.
+//! The refusals of calls. A refusal leaves everything as it was. A later version may refuse for one reason more.
 use core::error::Error;
 use core::fmt;
 
@@ -25,6 +25,7 @@ macro_rules! texts {
 /// assert_eq!(refused.unwrap_err(), NewError::Size);
 /// ```
 #[derive(Clone, Copy, Debug, PartialEq, Eq, Hash)]
+#[non_exhaustive]
 pub enum NewError {
     /// A gate has 1 to 64 slots and 1 to 64 passes.
     Size,
@@ -44,13 +45,12 @@ pub enum NewError {
 /// # Ok::<(), Box<dyn std::error::Error>>(())
 /// ```
 #[derive(Clone, Copy, Debug, PartialEq, Eq, Hash)]
+#[non_exhaustive]
 pub enum NextPassError {
     /// The gate has no such slot.
     NoSlot,
-    /// Every pass was given: a gate has as many as it was made with, in its whole life.
+    /// Every pass is out: the gate has as many as it was made with, and none of them is retired.
     NoPass,
-    /// There is no memory for it. Never answered any more, since a gate's passes are made with it.
-    NoMemory,
 }
 
 /// Why [`Pass::use_slot`](crate::Pass::use_slot) changes nothing.
@@ -64,6 +64,7 @@ pub enum NextPassError {
 /// # Ok::<(), Box<dyn std::error::Error>>(())
 /// ```
 #[derive(Clone, Copy, Debug, PartialEq, Eq, Hash)]
+#[non_exhaustive]
 pub enum SlotError {
     /// The gate has no such slot.
     NoSlot,
@@ -80,6 +81,7 @@ pub enum SlotError {
 /// # Ok::<(), Box<dyn std::error::Error>>(())
 /// ```
 #[derive(Clone, Copy, Debug, PartialEq, Eq, Hash)]
+#[non_exhaustive]
 pub enum TryGetError {
     /// The gate was killed, or, where any gate will do, it is at zero.
     NotGiven,
@@ -87,7 +89,7 @@ pub enum TryGetError {
     HeldFull,
 }
 
-/// Why a reference can't be held once more.
+/// Why a pass can't hold so many references more.
 ///
 /// ```
 /// # use percpu_gate::{Gate, GetError, Start};
@@ -102,6 +104,7 @@ pub enum TryGetError {
 /// # Ok::<(), Box<dyn std::error::Error>>(())
 /// ```
 #[derive(Clone, Copy, Debug, PartialEq, Eq, Hash)]
+#[non_exhaustive]
 pub enum GetError {
     /// The pass holds 65,535 references already.
     HeldFull,
@@ -121,6 +124,7 @@ pub enum GetError {
 /// # Ok::<(), Box<dyn std::error::Error>>(())
 /// ```
 #[derive(Clone, Copy, Debug, PartialEq, Eq, Hash)]
+#[non_exhaustive]
 pub enum RetireError {
     /// The pass is of another gate.
     OtherGate,
@@ -143,6 +147,7 @@ pub enum RetireError {
 /// # Ok::<(), Box<dyn std::error::Error>>(())
 /// ```
 #[derive(Clone, Copy, Debug, PartialEq, Eq, Hash)]
+#[non_exhaustive]
 pub enum ExitError {
     /// A pass that was given isn't retired. One that was dropped never will be: then drop the control.
     PassesOut,
@@ -158,6 +163,7 @@ pub enum ExitError {
 /// # Ok::<(), Box<dyn std::error::Error>>(())
 /// ```
 #[derive(Clone, Copy, Debug, PartialEq, Eq, Hash)]
+#[non_exhaustive]
 pub enum KillError {
     /// The gate was killed, or started dead, and wasn't revived since.
     AlreadyDead,
@@ -181,6 +187,7 @@ pub enum KillError {
 /// # Ok::<(), Box<dyn std::error::Error>>(())
 /// ```
 #[derive(Clone, Copy, Debug, PartialEq, Eq, Hash)]
+#[non_exhaustive]
 pub enum ReinitError {
     /// The gate is live.
     NotDead,
@@ -198,6 +205,7 @@ pub enum ReinitError {
 /// # Ok::<(), Box<dyn std::error::Error>>(())
 /// ```
 #[derive(Clone, Copy, Debug, PartialEq, Eq, Hash)]
+#[non_exhaustive]
 pub enum ResurrectError {
     /// The gate is live.
     NotDead,
@@ -213,6 +221,7 @@ pub enum ResurrectError {
 /// # Ok::<(), Box<dyn std::error::Error>>(())
 /// ```
 #[derive(Clone, Copy, Debug, PartialEq, Eq, Hash)]
+#[non_exhaustive]
 pub enum StoreError {
     /// The gate is live.
     NotDead,
@@ -222,11 +231,7 @@ pub enum StoreError {
 
 texts! {
     NewError { Size => "no gate has this size", NoMemory => "no memory", }
-    NextPassError {
-        NoSlot => "no such slot",
-        NoPass => "every pass was given out",
-        NoMemory => "no memory",
-    }
+    NextPassError { NoSlot => "no such slot", NoPass => "every pass is out", }
     SlotError { NoSlot => "no such slot", }
     TryGetError {
         NotGiven => "no reference is given",

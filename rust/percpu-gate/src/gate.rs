@@ -55,7 +55,7 @@ impl Gate {
     /// ```
     pub const MOST_SLOTS: u32 = erased::SLOT_LIMIT;
 
-    /// Passes of a gate at most, in its whole life.
+    /// Passes of a gate that are out at a time, at most.
     ///
     /// ```
     /// assert_eq!(percpu_gate::Gate::MOST_PASSES, 64);

@@ -2,12 +2,14 @@
 use crate::control::Control;
 use crate::errors::{ExitError, RetireError, TryGetError};
 use crate::pass::Pass;
+use alloc::boxed::Box;
 use core::error::Error;
 use core::fmt;
 
 /// A refusal of a call that takes a value: it hands the value back.
 ///
-/// `?` turns it into its reason, and so drops the value.
+/// `?` turns it into its reason, or into a boxed [`Error`], and so drops the value. (It is no `Error` itself, since one that has a
+/// pass could be no `Box<dyn Error + Send + Sync>`.)
 ///
 /// ```
 /// # use percpu_gate::{ExitError, Gate, HandedBack, Start};
@@ -19,12 +21,18 @@ use core::fmt;
 /// assert_eq!(control.kills(), 0);
 /// # Ok::<(), Box<dyn std::error::Error>>(())
 /// ```
-#[derive(Debug)]
 pub struct HandedBack<T, E> {
     /// What the call was given, as it was.
     pub value: T,
     /// Why the call refused.
     pub reason: E,
+}
+
+/// The reason alone, whatever the value is.
+impl<T, E: fmt::Debug> fmt::Debug for HandedBack<T, E> {
+    fn fmt(&self, f: &mut fmt::Formatter<'_>) -> fmt::Result {
+        f.debug_struct("HandedBack").field("reason", &self.reason).finish_non_exhaustive()
+    }
 }
 
 impl<T, E: fmt::Display> fmt::Display for HandedBack<T, E> {
@@ -33,14 +41,24 @@ impl<T, E: fmt::Display> fmt::Display for HandedBack<T, E> {
     }
 }
 
-impl<T: fmt::Debug, E: Error> Error for HandedBack<T, E> {}
-
 /// That `?` in a function with these errors drops what was handed back.
 macro_rules! reasons {
     ($($value:ty, $error:ident;)+) => {$(
         impl From<HandedBack<$value, $error>> for $error {
             fn from(refused: HandedBack<$value, $error>) -> $error {
                 refused.reason
+            }
+        }
+
+        impl From<HandedBack<$value, $error>> for Box<dyn Error> {
+            fn from(refused: HandedBack<$value, $error>) -> Box<dyn Error> {
+                Box::new(refused.reason)
+            }
+        }
+
+        impl From<HandedBack<$value, $error>> for Box<dyn Error + Send + Sync> {
+            fn from(refused: HandedBack<$value, $error>) -> Box<dyn Error + Send + Sync> {
+                Box::new(refused.reason)
             }
         }
     )+};

@@ -30,8 +30,8 @@
 //!
 //! A gate has one [`Control`] and 1 to 64 [`Pass`]es; each thread counts with a pass of its own, on a slot of its own.
 //! Threads may share a slot, which is slower. A reference belongs to the pass that took it, unlike `percpu_ref`'s; a
-//! request that ends on another thread takes its pass along ([`OwnedReference`]). The passes are 64 in the gate's whole
-//! life: if threads come and go, keep the passes of the threads that are gone for new ones.
+//! request that ends on another thread takes its pass along ([`OwnedReference`]). Threads may come and go: a thread that
+//! goes has its pass retired ([`Control::retire`]), and the control gives it out again.
 //!
 //! A gate has eight guarded words too, for a setting: the control stores them while the gate is dead and at zero
 //! ([`Control::store_word`]), and they are read under a reference alone ([`Reference::word`]). A request therefore sees the
@@ -58,6 +58,9 @@
 //! # Ok::<(), Box<dyn std::error::Error>>(())
 //! ```
 //!
+//! A gate around a value of Rust's own, as a whole device, is a [`guarded::Gate<T>`](guarded::Gate): a reference lends `&T`, a gate
+//! that is dead and at zero `&mut T`, and the end gives T back.
+//!
 //! No call waits, takes a lock or tries again. Only [`Gate::new`] asks for memory. `on_last` sees all writes from before the
 //! kill, and by callers while they held a reference. A caller that gets a reference after a revival sees all writes from
 //! before the revival.
@@ -69,19 +72,21 @@
 //! preconditions. No proof covers the program that cuts, its stand-in for the words that threads step on
 //! (`src/erased/atomic_table.rs`), the Rust compiler, or this crate around the steps. Its types enforce the preconditions:
 //! [`misuse`] shows the misuse that doesn't compile, and an error refuses the misuse that types can't exclude. A refusal that
-//! they do exclude is a bug of this crate, and panics. There is no `unsafe` in any of it, so a mistake here could break
-//! the laws of the gate, and never the safety of memory.
+//! they do exclude is a bug of this crate, and panics. There is no `unsafe` in any of it but for one file of 57 lines,
+//! `src/guarded/value.rs`, by which a [`guarded::Gate<T>`](guarded::Gate) lends its T. A mistake elsewhere could break the laws of the gate. It
+//! could break the safety of memory for users of that type alone.
 //!
 //! The module `erased` is public for the crates above this one, and no part of the API that versions promise: its functions
 //! trust their preconditions, so no user calls them.
 //!
 //! The crate needs `alloc` and 64-bit atomics, and no other crate. Its one feature, `std`, is for the crates above
-//! it; without it (`default-features = false`) the crate is `no_std`, and its API is the same.
+//! it, and for [`OnLast`] in a thread that unwinds. Without it (`default-features = false`) the crate is `no_std`, and its API is
+//! the same.
 #![no_std]
-#![forbid(unsafe_code)]
+#![deny(unsafe_code)] // but for guarded/value.rs
 
 extern crate alloc;
-#[cfg(test)]
+#[cfg(any(test, feature = "std"))]
 extern crate std;
 
 #[cfg(not(target_has_atomic = "64"))]
@@ -97,6 +102,7 @@ mod control;
 pub mod erased;
 mod errors;
 mod gate;
+pub mod guarded;
 mod handed_back;
 #[cfg(any(doc, doctest))]
 pub mod misuse;
@@ -104,6 +110,7 @@ mod outcomes;
 mod owned;
 mod pass;
 mod reference;
+mod references;
 mod shared;
 mod word;
 
@@ -118,13 +125,15 @@ pub use outcomes::{Final, Killed, Phase, Revived};
 pub use owned::OwnedReference;
 pub use pass::Pass;
 pub use reference::Reference;
+pub use references::References;
 pub use word::Word;
 
 use alloc::sync::Arc;
 use shared::WORD_COUNT;
 
 /// Called once for each release, by the call that makes it, on its thread. No lock of this crate is held meanwhile. If it
-/// panics, so does that call, and no other call reports the release.
+/// panics, so does that call, and no other call reports the release. If that thread unwinds from another panic already,
+/// the first panic goes on. (Without the feature `std` the program ends there, as in any destructor that panics.)
 ///
 /// ```
 /// use percpu_gate::{Gate, OnLast, Start};

@@ -43,7 +43,7 @@ impl OwnedReference {
         }
     }
 
-    /// Puts the reference, and gives the pass back.
+    /// Puts the reference, and gives the pass back. (If `on_last` panics in this call, the pass is dropped.)
     ///
     /// ```
     /// # use percpu_gate::{Gate, Start};
@@ -58,7 +58,7 @@ impl OwnedReference {
     #[expect(clippy::missing_panics_doc, reason = "it never does")]
     pub fn put(mut self) -> Pass {
         let pass = self.pass.take().expect("it is there until this call");
-        pass.put();
+        pass.put(1);
         pass
     }
 
@@ -75,6 +75,7 @@ impl OwnedReference {
     /// # Ok::<(), Box<dyn std::error::Error>>(())
     /// ```
     #[expect(clippy::missing_panics_doc, reason = "it never does")]
+    #[inline]
     #[must_use]
     pub fn pass(&self) -> &Pass {
         self.pass.as_ref().expect("it is there until it is put")
@@ -116,7 +117,7 @@ impl OwnedReference {
 impl Drop for OwnedReference {
     fn drop(&mut self) {
         if let Some(pass) = self.pass.take() {
-            pass.put();
+            pass.put(1);
         }
     }
 }

@@ -14,8 +14,8 @@ use core::fmt;
 ///
 /// It moves from thread to thread, but two never use it at once (it is `Send`, and not `Sync`). It lies alone on 256
 /// bytes, so that the passes of two threads share no cache line. No call waits, takes a lock or tries again, and none
-/// asks for memory. [`Control::retire`](crate::Control::retire) ends it. A gate whose pass was dropped instead counts it
-/// as out for ever, and can't [`exit`](crate::Control::exit).
+/// asks for memory. [`Control::retire`](crate::Control::retire) takes it back, and gives it out again. A gate whose pass was
+/// dropped instead counts it as out for ever, and can't [`exit`](crate::Control::exit).
 ///
 /// ```
 /// use percpu_gate::{Gate, Start};
@@ -45,13 +45,15 @@ pub struct Pass {
     erased: RefCell<ErasedPass>,
     /// Below the gate's slots.
     slot: Cell<u32>,
+    /// The releases that fell to it since it was given out.
+    releases: Cell<u64>,
     shared: Arc<Shared>,
 }
 
 impl Pass {
     /// A pass of this gate that holds nothing, on one of its slots.
     pub(crate) fn on_slot(pass: ErasedPass, slot: u32, shared: Arc<Shared>) -> Pass {
-        Pass { erased: RefCell::new(pass), slot: Cell::new(slot), shared }
+        Pass { erased: RefCell::new(pass), slot: Cell::new(slot), releases: Cell::new(0), shared }
     }
 
     /// The gate that it counts at.
@@ -64,9 +66,16 @@ impl Pass {
         self.erased.borrow().held()
     }
 
-    /// The erased pass, of a pass that ends.
-    pub(crate) fn into_erased(self) -> ErasedPass {
-        self.erased.into_inner()
+    /// The erased pass, and the releases that fell to it since it was given out.
+    pub(crate) fn into_parts(self) -> (ErasedPass, u64) {
+        (self.erased.into_inner(), self.releases.get())
+    }
+
+    /// A release fell to this pass.
+    #[cold]
+    fn release(&self) {
+        self.releases.set(self.releases.get() + 1);
+        self.shared.call_on_last();
     }
 
     /// Takes a reference unless the gate has reached zero; while this pass holds one it is given one more. Linux:
@@ -278,6 +287,7 @@ impl Pass {
     /// assert_eq!(pass.gate_number(), control.gate_number());
     /// # Ok::<(), Box<dyn std::error::Error>>(())
     /// ```
+    #[inline]
     #[must_use]
     pub fn gate_number(&self) -> u64 {
         self.shared.number
@@ -296,28 +306,30 @@ impl Pass {
             Tried::Given => Ok(()),
             Tried::Refused(Put::NotLast) => Err(TryGetError::NotGiven),
             Tried::Refused(Put::Last) => {
-                self.shared.call_on_last();
+                self.release();
                 Err(TryGetError::NotGiven)
             }
         }
     }
 
-    /// One reference more. The caller has a reference of this pass.
-    pub(crate) fn get(&self) -> Result<(), GetError> {
+    /// Takes as many references more, in one step. The caller has a reference of this pass.
+    pub(crate) fn get(&self, count: u32) -> Result<(), GetError> {
         let mut pass = self.erased.borrow_mut();
-        if pass.held() >= HELD_LIMIT {
+        if count > HELD_LIMIT - pass.held() {
             return Err(GetError::HeldFull);
         }
-        pass.get(&self.shared.gate, self.slot.get(), 1);
+        if count > 0 {
+            pass.get(&self.shared.gate, self.slot.get(), count);
+        }
         Ok(())
     }
 
-    /// Drops the caller's reference, which this pass holds.
+    /// Drops so many references of the caller's, one or more, which this pass holds.
     #[inline]
-    pub(crate) fn put(&self) {
-        let put = self.erased.borrow_mut().put(&self.shared.gate, self.slot.get(), 1);
+    pub(crate) fn put(&self, count: u32) {
+        let put = self.erased.borrow_mut().put(&self.shared.gate, self.slot.get(), count);
         if put == Put::Last {
-            self.shared.call_on_last();
+            self.release();
         }
     }
 

@@ -2,6 +2,7 @@
 use crate::WORD_COUNT;
 use crate::errors::GetError;
 use crate::pass::Pass;
+use crate::references::References;
 use crate::word::Word;
 use core::fmt;
 
@@ -35,9 +36,15 @@ pub struct Reference<'p> {
 }
 
 impl<'p> Reference<'p> {
-    /// Of a pass that holds one more than it has given out.
+    /// The pass holds one more than it has given out.
     pub(crate) fn of(pass: &'p Pass) -> Reference<'p> {
         Reference { pass }
+    }
+
+    /// The number of its gate.
+    #[inline]
+    pub(crate) fn gate_number(&self) -> u64 {
+        self.pass.gate_number()
     }
 
     /// One reference more, live or dead: who holds one is always given another, but for the last of 65,535. Linux:
@@ -64,8 +71,37 @@ impl<'p> Reference<'p> {
     /// # Ok::<(), Box<dyn std::error::Error>>(())
     /// ```
     pub fn try_clone(&self) -> Result<Reference<'p>, GetError> {
-        self.pass.get()?;
+        self.pass.get(1)?;
         Ok(Reference::of(self.pass))
+    }
+
+    /// Takes as many references more, live or dead, in one step. (A try of several is a try of one, and this.) Linux:
+    /// `percpu_ref_get_many`.
+    ///
+    /// # Errors
+    ///
+    /// [`GetError::HeldFull`].
+    ///
+    /// # Examples
+    ///
+    /// ```
+    /// # use percpu_gate::{Gate, Start};
+    /// # use std::sync::Arc;
+    /// # let mut control = Gate::new(1, 1, Start::Slots, [0; 8], Arc::new(|| {}))?;
+    /// # let pass = control.next_pass(0)?;
+    /// let request = pass.try_get_live()?;
+    /// let mut bios = request.get_many(8)?;
+    /// control.kill()?;
+    /// drop(request);
+    /// bios.put_many(5);
+    /// assert_eq!(bios.count(), 3);
+    /// drop(bios); // the other three, in one step
+    /// assert!(control.is_zero());
+    /// # Ok::<(), Box<dyn std::error::Error>>(())
+    /// ```
+    pub fn get_many(&self, count: u32) -> Result<References<'p>, GetError> {
+        self.pass.get(count)?;
+        Ok(References::of(self.pass, count))
     }
 
     /// A guarded word: one value for as long as a reference is held.
@@ -105,7 +141,7 @@ impl<'p> Reference<'p> {
 
 impl Drop for Reference<'_> {
     fn drop(&mut self) {
-        self.pass.put();
+        self.pass.put(1);
     }
 }
 

@@ -24,9 +24,16 @@ impl Shared {
         Shared { gate, number: NUMBERS.fetch_add(1, Relaxed), on_last }
     }
 
-    /// Calls `on_last`, for the one call of the gate that was answered that its reference was the last.
+    /// Calls `on_last`, for the one call of the gate that was answered that its reference was the last. A thread that unwinds
+    /// already goes on with its first panic, if `on_last` panics too. (Without `std` the program ends then.)
     #[cold]
     pub(crate) fn call_on_last(&self) {
+        #[cfg(feature = "std")]
+        if std::thread::panicking() {
+            let on_last = std::panic::AssertUnwindSafe(|| (self.on_last)());
+            drop(std::panic::catch_unwind(on_last));
+            return;
+        }
         (self.on_last)();
     }
 }

@@ -144,7 +144,7 @@ impl Run {
             Ok(()) => {
                 assert_eq!((seat.gate, seat.forgotten), (*gate, 0));
                 let counter = &mut self.made[*gate].counter;
-                counter.out -= 1;
+                (counter.out, counter.waiting) = (counter.out - 1, counter.waiting + 1);
                 counter.known += seat.told;
                 return;
             }

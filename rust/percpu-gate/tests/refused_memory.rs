@@ -89,12 +89,15 @@ fn the_rest_needs_no_memory() {
         let held = pass.try_get_live().unwrap();
         control.kill_and_confirm(|_| ()).unwrap();
         drop(held.try_clone().unwrap());
+        drop(held.get_many(7).unwrap());
         drop(held);
         control.store_word(percpu_gate::Word::ALL[0], 3).unwrap();
         control.reinit().unwrap();
         control.switch_to_atomic();
-        let other = control.next_pass(0).unwrap();
-        control.retire(other).unwrap();
+        for _ in 0..10 {
+            let other = control.next_pass(0).unwrap();
+            control.retire(other).unwrap();
+        }
         let request = pass.into_reference_live().unwrap();
         end(control, request.put());
     });

@@ -3,11 +3,7 @@
 #![forbid(unsafe_code)]
 #![allow(missing_docs, missing_debug_implementations, clippy::all, clippy::pedantic, rustdoc::all)]
 
-pub mod trials_gate;
-pub mod trials_program;
-pub mod trials_queue;
-pub mod trials_run;
-pub mod trials_script;
+pub mod trials_rows;
 pub mod uses;
 
 pub use ::blkq::erased::{

@@ -1,12 +1,12 @@
 //! Whole runs with one allocation refused after another. Each run answers `memory` or `thread`, or completes if it didn't need
-//! the memory, and frees its blocks.
+//! the memory, frees its blocks, and has drained the queue after the last request that entered.
 //!
 //! Each run is a process of its own, since std aborts if memory for a thread is refused. The test counts these aborts, and checks
 //! that each is of a size that std asks for: no allocation of the erased code may abort.
 //! (This program's allocator is its own, which refuses and counts, so it has `unsafe`.)
 #![allow(unsafe_code)]
 
-use blkq::erased::blk_workers::{Config, NoStall};
+use blkq::erased::blk_workers::{Config, Point, Stall};
 use blkq::erased::blkq_run::{self, replay_bytes, run_bytes};
 use blkq::erased::counted_io::Counted;
 use blkq::erased::races_run::{self, outcomes_bytes};
@@ -15,7 +15,7 @@ use std::env::{args, current_exe};
 use std::fs::{read, read_dir};
 use std::path::{Path, PathBuf};
 use std::process::{Command, exit};
-use std::sync::atomic::{AtomicI64, Ordering};
+use std::sync::atomic::{AtomicBool, AtomicI64, Ordering};
 use std::thread::sleep;
 use std::time::Duration;
 
@@ -64,6 +64,20 @@ unsafe impl GlobalAlloc for Refusing {
 #[global_allocator]
 static ALLOCATOR: Refusing = Refusing;
 
+/// Whether a request entered after the last drain.
+#[derive(Default)]
+struct Open(AtomicBool);
+
+impl Stall for Open {
+    fn at(&self, _number: u32, point: Point) {
+        match point {
+            Point::Entered => self.0.store(true, Ordering::SeqCst),
+            Point::Drained => self.0.store(false, Ordering::SeqCst),
+            _ => {}
+        }
+    }
+}
+
 /// Runs an example into this room: the number of its fault, if it is refused.
 fn answer(example: &Path, input: &[u8], room: &mut [u8]) -> Result<(), u8> {
     let (mut reader, mut writer) = (Counted::new(input), Counted::new(room));
@@ -75,7 +89,13 @@ fn answer(example: &Path, input: &[u8], room: &mut [u8]) -> Result<(), u8> {
         "gate" => replay_bytes(&mut reader, &mut writer).map(drop).map_err(number),
         _ => {
             let config = Config::new(WORKERS, 2, 2).unwrap();
-            run_bytes(&mut reader, &mut writer, config, &NoStall).map_err(number)
+            let open = Open::default();
+            let answered = run_bytes(&mut reader, &mut writer, config, &open);
+            if open.0.into_inner() {
+                eprintln!("a request entered, and the queue wasn't drained");
+                return Err(WRONG);
+            }
+            answered.map_err(number)
         }
     }
 }

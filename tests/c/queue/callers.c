@@ -5,25 +5,15 @@
 #define _POSIX_C_SOURCE 200809L
 #endif
 #include "freeze_queue_pool.h"
-#include "freeze_queue_wait.h"
+#include "../is.h"
+#include "freeze_queue_waits.h"
 
 #include <ctype.h>
 #include <stdio.h>
 #include <stdlib.h>
 #include <string.h>
 
-static int failures;
-
-static void is(const char *what, uint64_t value, uint64_t want, int line)
-{
-    if (value == want)
-        return;
-    fprintf(stderr, "line %d: %s is %lu, not %lu\n", line, what, (unsigned long)value, (unsigned long)want);
-    failures++;
-}
-
 #define IS(call, want) is(#call, call, FREEZE_QUEUE_##want, __LINE__)
-#define TELLS(value, want) is(#value, (uint64_t)(value), want, __LINE__)
 
 /* ---- Answers ---- */
 
@@ -32,15 +22,18 @@ static void is(const char *what, uint64_t value, uint64_t want, int line)
 static const struct { const char *name; uint32_t is, number; const char *words; } answers[] = {
     NAMED(OK, 0, "done"), NAMED(LAST, 1, "done, and"), NAMED(NOT_ENTERED, 2, "isn't entered"),
     NAMED(NOT_ENTERED_LAST, 3, "isn't entered, and"), NAMED(DRAINED, 4, "drained already"),
-    NAMED(LIVE_AGAIN, 5, "live again"), NAMED(DEPTH_FULL, 17, "1000"), NAMED(NOT_FROZEN, 18, "isn't frozen"),
-    NAMED(NOT_DRAINED, 19, "isn't drained"), NAMED(TAGS_OUT, 20, "aren't given back"), NAMED(WORN_OUT, 21, "2^40"),
-    NAMED(ABOVE_HARDWARE, 25, "more sectors than"), NAMED(CHUNK_TOO_LARGE, 26, "chunk"),
-    NAMED(HARDWARE_RANGE, 27, "outside 1 to 65535"), NAMED(BAD_PHYSICAL, 28, "power of two"),
-    NAMED(OTHER_HARDWARE, 29, "isn't the queue's"), NAMED(TIMED_OUT, 30, "deadline"), NAMED(CLOSED, 32, "closed"),
-    NAMED(OPEN, 33, "is open"), NAMED(SLOT, 34, "no such slot"), NAMED(ENTERED, 35, "has entered"),
-    NAMED(NOT_ENTERED_TAG, 36, "hasn't entered"), NAMED(OTHER_QUEUE, 37, "another queue"), NAMED(SIZE, 38, "slots or tags"),
-    NAMED(NO_TAG, 39, "was given out"), NAMED(NO_MEMORY, 40, "memory"), NAMED(MODE, 41, "no such mode"),
-    NAMED(RANGE, 42, "2^33"), NAMED(IN_USE, 45, "in use"),
+    NAMED(LIVE_AGAIN, 5, "live again"), NAMED(ERR_DEPTH_FULL, 17, "1000"), NAMED(ERR_NOT_FROZEN, 18, "isn't frozen"),
+    NAMED(ERR_NOT_DRAINED, 19, "isn't drained"), NAMED(ERR_TAGS_OUT, 20, "aren't given back"),
+    NAMED(ERR_WORN_OUT, 21, "2^40"), NAMED(ERR_ABOVE_HARDWARE, 25, "more sectors than"),
+    NAMED(ERR_CHUNK_TOO_LARGE, 26, "chunk"), NAMED(ERR_HARDWARE_RANGE, 27, "outside 1 to 65535"),
+    NAMED(ERR_BAD_PHYSICAL, 28, "power of two"), NAMED(ERR_OTHER_HARDWARE, 29, "isn't the queue's"),
+    NAMED(ERR_TIMED_OUT, 30, "deadline"), NAMED(ERR_DYING, 31, "dying"),
+    NAMED(ERR_CLOSED, 32, "closed"), NAMED(ERR_OPEN, 33, "is open"),
+    NAMED(ERR_BAD_SLOT, 34, "no such slot"), NAMED(ERR_BAD_SIZE, 35, "slots or tags"), NAMED(ERR_NO_MEMORY, 36, "memory"),
+    NAMED(ERR_IN_USE, 37, "in use"), NAMED(ERR_OTHER_QUEUE, 38, "another queue"), NAMED(ERR_NO_TAG, 39, "was given out"),
+    NAMED(ERR_ALREADY_ENTERED, 48, "has entered"), NAMED(ERR_TAG_NOT_ENTERED, 49, "hasn't entered"),
+    NAMED(ERR_BAD_MODE, 50, "no such mode"), NAMED(ERR_BAD_RANGE, 51, "2^33"),
+    NAMED(ERR_TAG_NOT_OUT, 52, "back already"),
 };
 
 /* A text fits into a line of a log, behind a colon. */
@@ -62,7 +55,7 @@ static void answers_are_named(void)
         for (size_t j = 0; j < i; j++)
             TELLS(strstr(text, answers[j].words) && strstr(freeze_queue_text(answers[j].is), answers[i].words), false);
         TELLS(freeze_queue_is_refused(answers[i].is), i >= 6);
-        TELLS(freeze_queue_is_misuse(answers[i].is), i >= 17);
+        TELLS(freeze_queue_is_misuse(answers[i].is), i >= 18);
     }
     TELLS(is_plain(freeze_queue_text(UINT32_MAX)) && is_plain(freeze_queue_text(6)), true);
 }
@@ -142,7 +135,7 @@ static void changes(uint32_t max)
     next.max = max;
     next.chunk = 4 * max;
     pthread_mutex_lock(&own);
-    uint32_t refused = FREEZE_QUEUE_CLOSED, answer = freeze_queue_start_freeze(&freezer, &depth);
+    uint32_t refused = FREEZE_QUEUE_ERR_CLOSED, answer = freeze_queue_start_freeze(&freezer, &depth);
     if (answer == FREEZE_QUEUE_OK)
         while (!freeze_queue_poll_drained(&freezer))
             pthread_cond_wait(&told, &own);
@@ -191,7 +184,7 @@ static void *submits_and_waits(void *of)
     while (!__atomic_load_n(&over, __ATOMIC_RELAXED)) {
         struct timespec soon = freeze_queue_deadline(50000);
         uint32_t answer = freeze_queue_waits_enter(&waits, &me->tag, me->number, me->number ? NULL : &soon);
-        if (answer == FREEZE_QUEUE_TIMED_OUT && me->number == 0)
+        if (answer == FREEZE_QUEUE_ERR_TIMED_OUT && me->number == 0)
             continue;
         me->wrong += answer != FREEZE_QUEUE_OK;
         sends(me);
@@ -220,7 +213,7 @@ static void *freezes_and_waits(void *of)
             answer = freeze_queue_waits_thaw(&waits);
             me->wrong += answer != FREEZE_QUEUE_OK && answer != FREEZE_QUEUE_LIVE_AGAIN;
         } else
-            me->wrong += answer != FREEZE_QUEUE_TIMED_OUT || i % 4 != 0;
+            me->wrong += answer != FREEZE_QUEUE_ERR_TIMED_OUT || i % 4 != 0;
         pthread_mutex_unlock(&each[me->number]);
     }
     return NULL;
@@ -244,8 +237,8 @@ static void over_the_waits(void)
     TELLS(depth, 0);
     /* deadlines that pass, and that don't since nothing is waited for */
     IS(freeze_queue_waits_enter(&waits, &callers[0].tag, 0, &past), OK);
-    IS(freeze_queue_waits_freeze(&waits, &soon), TIMED_OUT);
-    IS(freeze_queue_waits_change(&waits, &limits, &past), TIMED_OUT);
+    IS(freeze_queue_waits_freeze(&waits, &soon), ERR_TIMED_OUT);
+    IS(freeze_queue_waits_change(&waits, &limits, &past), ERR_TIMED_OUT);
     IS(freeze_queue_waits_leave(&waits, &callers[0].tag, 0), OK);
     IS(freeze_queue_waits_change(&waits, &limits, &past), OK);
     freeze_queue_waits_destroy(&waits);

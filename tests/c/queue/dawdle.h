@@ -26,5 +26,7 @@ static inline void dawdle(void)
 #define pthread_cond_timedwait(condition, lock, until) (dawdle(), pthread_cond_timedwait(condition, lock, until))
 #define __atomic_load_n(at, order) (dawdle(), __atomic_load_n(at, order))
 #define __atomic_store_n(at, value, order) (dawdle(), __atomic_store_n(at, value, order))
+#define __atomic_compare_exchange_n(at, was, value, weak, order, other) \
+    (dawdle(), __atomic_compare_exchange_n(at, was, value, weak, order, other))
 #define __atomic_exchange_n(at, value, order) (dawdle(), __atomic_exchange_n(at, value, order))
 #endif

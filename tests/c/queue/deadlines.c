@@ -16,19 +16,9 @@ static int shows(clockid_t clock, struct timespec *at)
 }
 #define clock_gettime shows
 #include "freeze_queue_pool.h"
-
-static int failures;
-
-static void is(const char *what, uint64_t value, uint64_t want, int line)
-{
-    if (value == want)
-        return;
-    fprintf(stderr, "line %d: %s is %lu, not %lu\n", line, what, (unsigned long)value, (unsigned long)want);
-    failures++;
-}
+#include "../is.h"
 
 #define IS(call, want) is(#call, call, FREEZE_QUEUE_##want, __LINE__)
-#define TELLS(value, want) is(#value, value, want, __LINE__)
 
 static struct timespec later_by(struct timespec at, int64_t seconds, long nanoseconds)
 {

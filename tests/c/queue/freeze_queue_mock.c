@@ -22,6 +22,7 @@ struct tag { struct queue *queue; bool entered; };
 /* Its calls are the library's own, and not what the header makes of them for the thread sanitizer. */
 #undef freeze_queue_try_enter
 #undef freeze_queue_try_enter_frozen
+#undef freeze_queue_stay
 #undef freeze_queue_leave
 #undef freeze_queue_start_freeze
 #undef freeze_queue_poll_drained
@@ -64,15 +65,15 @@ static bool tells(struct queue *queue)
 
 static uint32_t refusal_of(const freeze_queue_limits *limits)
 {
-    uint32_t physical = limits->physical;
+    uint32_t physical = limits->physical ? limits->physical : 1;
     if (limits->hardware < 1 || limits->hardware > FREEZE_QUEUE_MOST_HARDWARE)
-        return FREEZE_QUEUE_HARDWARE_RANGE;
+        return FREEZE_QUEUE_ERR_HARDWARE_RANGE;
     if (limits->max > limits->hardware)
-        return FREEZE_QUEUE_ABOVE_HARDWARE;
+        return FREEZE_QUEUE_ERR_ABOVE_HARDWARE;
     if (limits->chunk > FREEZE_QUEUE_MOST_HARDWARE)
-        return FREEZE_QUEUE_CHUNK_TOO_LARGE;
-    if (physical < 1 || physical > FREEZE_QUEUE_MOST_PHYSICAL || (physical & (physical - 1)) != 0)
-        return FREEZE_QUEUE_BAD_PHYSICAL;
+        return FREEZE_QUEUE_ERR_CHUNK_TOO_LARGE;
+    if (physical > FREEZE_QUEUE_MOST_PHYSICAL || (physical & (physical - 1)) != 0)
+        return FREEZE_QUEUE_ERR_BAD_PHYSICAL;
     return FREEZE_QUEUE_OK;
 }
 
@@ -80,6 +81,7 @@ static freeze_queue_limits in_full(const freeze_queue_limits *limits)
 {
     freeze_queue_limits full = *limits;
     full.max = full.max ? full.max : full.hardware;
+    full.physical = full.physical ? full.physical : 1;
     return full;
 }
 
@@ -89,15 +91,15 @@ uint32_t freeze_queue_new_numbered(freeze_queue_freezer *freezer, const struct q
                                    const freeze_queue_limits *limits, uint32_t slots, uint32_t tags)
 {
     if (freezer->is_open)
-        return FREEZE_QUEUE_OPEN;
+        return FREEZE_QUEUE_ERR_OPEN;
     uint32_t refusal = refusal_of(limits);
     if (refusal)
         return refusal;
     if (slots < 1 || slots > FREEZE_QUEUE_MOST_SLOTS || tags < 1 || tags > FREEZE_QUEUE_MOST_TAGS)
-        return FREEZE_QUEUE_SIZE;
+        return FREEZE_QUEUE_ERR_BAD_SIZE;
     struct queue *queue = malloc(sizeof *queue);
     if (!queue)
-        return FREEZE_QUEUE_NO_MEMORY;
+        return FREEZE_QUEUE_ERR_NO_MEMORY;
     *queue = (struct queue){.number = *number, .limits = in_full(limits), .slots = slots, .waiting = tags, .shares = 1};
     pthread_mutex_init(&queue->lock, NULL);
     *freezer = (freeze_queue_freezer){.is_open = true, .at = queue};
@@ -107,15 +109,15 @@ uint32_t freeze_queue_new_numbered(freeze_queue_freezer *freezer, const struct q
 uint32_t freeze_queue_next_tag(freeze_queue_freezer *freezer, freeze_queue_tag *tag)
 {
     if (!freezer->is_open)
-        return FREEZE_QUEUE_CLOSED;
+        return FREEZE_QUEUE_ERR_CLOSED;
     if (tag->is_open)
-        return FREEZE_QUEUE_OPEN;
+        return FREEZE_QUEUE_ERR_OPEN;
     struct queue *queue = locked(freezer->at);
     if (queue->waiting == 0)
-        return unlocked(queue, FREEZE_QUEUE_NO_TAG);
+        return unlocked(queue, FREEZE_QUEUE_ERR_NO_TAG);
     struct tag *made = malloc(sizeof *made);
     if (!made)
-        return unlocked(queue, FREEZE_QUEUE_NO_MEMORY);
+        return unlocked(queue, FREEZE_QUEUE_ERR_NO_MEMORY);
     *made = (struct tag){.queue = queue};
     *tag = (freeze_queue_tag){.is_open = true, .at = made};
     queue->waiting--;
@@ -144,12 +146,12 @@ void freeze_queue_free_freezer(freeze_queue_freezer *freezer)
 uint32_t freeze_queue_give_tag_back(freeze_queue_freezer *freezer, freeze_queue_tag *tag)
 {
     if (!freezer->is_open || !tag->is_open)
-        return FREEZE_QUEUE_CLOSED;
+        return FREEZE_QUEUE_ERR_CLOSED;
     struct tag *given = tag->at;
     if (given->queue != freezer->at)
-        return FREEZE_QUEUE_OTHER_QUEUE;
+        return FREEZE_QUEUE_ERR_OTHER_QUEUE;
     if (given->entered)
-        return FREEZE_QUEUE_ENTERED;
+        return FREEZE_QUEUE_ERR_ALREADY_ENTERED;
     struct queue *queue = locked(given->queue);
     queue->waiting++;
     queue->out--;
@@ -161,10 +163,10 @@ uint32_t freeze_queue_give_tag_back(freeze_queue_freezer *freezer, freeze_queue_
 uint32_t freeze_queue_remove(freeze_queue_freezer *freezer, freeze_queue_final *last)
 {
     if (!freezer->is_open)
-        return FREEZE_QUEUE_CLOSED;
+        return FREEZE_QUEUE_ERR_CLOSED;
     struct queue *queue = locked(freezer->at);
     if (queue->out > 0)
-        return unlocked(queue, FREEZE_QUEUE_TAGS_OUT);
+        return unlocked(queue, FREEZE_QUEUE_ERR_TAGS_OUT);
     if (queue->depth == 0) {
         queue->depth = 1;
         queue->kills++;
@@ -194,12 +196,12 @@ uint64_t freeze_queue_freezer_number(freeze_queue_freezer *freezer)
 static uint32_t enter(freeze_queue_tag *handle, uint32_t slot, bool frozen_too)
 {
     if (!handle->is_open)
-        return FREEZE_QUEUE_CLOSED;
+        return FREEZE_QUEUE_ERR_CLOSED;
     struct tag *tag = handle->at;
     if (slot >= tag->queue->slots)
-        return FREEZE_QUEUE_SLOT;
+        return FREEZE_QUEUE_ERR_BAD_SLOT;
     if (tag->entered)
-        return FREEZE_QUEUE_ENTERED;
+        return FREEZE_QUEUE_ERR_ALREADY_ENTERED;
     struct queue *queue = locked(tag->queue);
     if (frozen_too ? drained(queue) : queue->depth > 0)
         return unlocked(queue, FREEZE_QUEUE_NOT_ENTERED);
@@ -214,25 +216,39 @@ uint32_t freeze_queue_try_enter_frozen(freeze_queue_tag *tag, uint32_t slot) { r
 uint32_t freeze_queue_leave(freeze_queue_tag *handle, uint32_t slot)
 {
     if (!handle->is_open)
-        return FREEZE_QUEUE_CLOSED;
+        return FREEZE_QUEUE_ERR_CLOSED;
     struct tag *tag = handle->at;
     if (slot >= tag->queue->slots)
-        return FREEZE_QUEUE_SLOT;
+        return FREEZE_QUEUE_ERR_BAD_SLOT;
     if (!tag->entered)
-        return FREEZE_QUEUE_NOT_ENTERED_TAG;
+        return FREEZE_QUEUE_ERR_TAG_NOT_ENTERED;
     struct queue *queue = locked(tag->queue);
     queue->entered--;
     tag->entered = false;
     return unlocked(queue, tells(queue) ? FREEZE_QUEUE_LAST : FREEZE_QUEUE_OK);
 }
 
+uint32_t freeze_queue_stay(freeze_queue_tag *handle, uint32_t slot)
+{
+    struct tag *tag = handle->at;
+    if (handle->is_open && tag->entered && slot < tag->queue->slots) {
+        bool live = locked(tag->queue)->depth == 0;
+        unlocked(tag->queue, 0);
+        if (live)
+            return FREEZE_QUEUE_OK;
+    }
+    uint32_t answer = freeze_queue_leave(handle, slot);
+    return answer == FREEZE_QUEUE_LAST ? FREEZE_QUEUE_NOT_ENTERED_LAST
+           : answer == FREEZE_QUEUE_OK ? FREEZE_QUEUE_NOT_ENTERED : answer;
+}
+
 uint32_t freeze_queue_limits_of(freeze_queue_tag *handle, freeze_queue_limits *limits)
 {
     if (!handle->is_open)
-        return FREEZE_QUEUE_CLOSED;
+        return FREEZE_QUEUE_ERR_CLOSED;
     struct tag *tag = handle->at;
     if (!tag->entered)
-        return FREEZE_QUEUE_NOT_ENTERED_TAG;
+        return FREEZE_QUEUE_ERR_TAG_NOT_ENTERED;
     *limits = locked(tag->queue)->limits;
     return unlocked(tag->queue, FREEZE_QUEUE_OK);
 }
@@ -240,10 +256,10 @@ uint32_t freeze_queue_limits_of(freeze_queue_tag *handle, freeze_queue_limits *l
 uint32_t freeze_queue_start_freeze(freeze_queue_freezer *freezer, uint32_t *depth)
 {
     if (!freezer->is_open)
-        return FREEZE_QUEUE_CLOSED;
+        return FREEZE_QUEUE_ERR_CLOSED;
     struct queue *queue = locked(freezer->at);
     if (queue->depth >= FREEZE_QUEUE_MOST_DEPTH)
-        return unlocked(queue, FREEZE_QUEUE_DEPTH_FULL);
+        return unlocked(queue, FREEZE_QUEUE_ERR_DEPTH_FULL);
     if (queue->depth == 0) {
         queue->kills++;
         queue->told = false;
@@ -264,17 +280,17 @@ bool freeze_queue_poll_drained(freeze_queue_freezer *freezer)
 uint32_t freeze_queue_set(freeze_queue_freezer *freezer, const freeze_queue_limits *limits)
 {
     if (!freezer->is_open)
-        return FREEZE_QUEUE_CLOSED;
+        return FREEZE_QUEUE_ERR_CLOSED;
     uint32_t refusal = refusal_of(limits);
     if (refusal)
         return refusal;
     struct queue *queue = locked(freezer->at);
     if (limits->hardware != queue->limits.hardware)
-        return unlocked(queue, FREEZE_QUEUE_OTHER_HARDWARE);
+        return unlocked(queue, FREEZE_QUEUE_ERR_OTHER_HARDWARE);
     if (queue->depth == 0)
-        return unlocked(queue, FREEZE_QUEUE_NOT_FROZEN);
+        return unlocked(queue, FREEZE_QUEUE_ERR_NOT_FROZEN);
     if (!drained(queue))
-        return unlocked(queue, FREEZE_QUEUE_NOT_DRAINED);
+        return unlocked(queue, FREEZE_QUEUE_ERR_NOT_DRAINED);
     queue->limits = in_full(limits);
     return unlocked(queue, FREEZE_QUEUE_OK);
 }
@@ -282,10 +298,10 @@ uint32_t freeze_queue_set(freeze_queue_freezer *freezer, const freeze_queue_limi
 uint32_t freeze_queue_thaw(freeze_queue_freezer *freezer, uint32_t *depth)
 {
     if (!freezer->is_open)
-        return FREEZE_QUEUE_CLOSED;
+        return FREEZE_QUEUE_ERR_CLOSED;
     struct queue *queue = locked(freezer->at);
     if (queue->depth == 0)
-        return unlocked(queue, FREEZE_QUEUE_NOT_FROZEN);
+        return unlocked(queue, FREEZE_QUEUE_ERR_NOT_FROZEN);
     *depth = --queue->depth;
     return unlocked(queue, *depth == 0 ? FREEZE_QUEUE_LIVE_AGAIN : FREEZE_QUEUE_OK);
 }
@@ -293,14 +309,14 @@ uint32_t freeze_queue_thaw(freeze_queue_freezer *freezer, uint32_t *depth)
 uint32_t freeze_queue_mode(freeze_queue_freezer *freezer, uint32_t mode)
 {
     if (!freezer->is_open)
-        return FREEZE_QUEUE_CLOSED;
-    return mode > FREEZE_QUEUE_ATOMIC ? FREEZE_QUEUE_MODE : FREEZE_QUEUE_OK;
+        return FREEZE_QUEUE_ERR_CLOSED;
+    return mode > FREEZE_QUEUE_MODE_ATOMIC ? FREEZE_QUEUE_ERR_BAD_MODE : FREEZE_QUEUE_OK;
 }
 
 uint32_t freeze_queue_depth(freeze_queue_freezer *freezer, uint32_t *depth)
 {
     if (!freezer->is_open)
-        return FREEZE_QUEUE_CLOSED;
+        return FREEZE_QUEUE_ERR_CLOSED;
     *depth = locked(freezer->at)->depth;
     return unlocked(freezer->at, FREEZE_QUEUE_OK);
 }
@@ -308,7 +324,7 @@ uint32_t freeze_queue_depth(freeze_queue_freezer *freezer, uint32_t *depth)
 uint32_t freeze_queue_limits_in_force(freeze_queue_freezer *freezer, freeze_queue_limits *limits)
 {
     if (!freezer->is_open)
-        return FREEZE_QUEUE_CLOSED;
+        return FREEZE_QUEUE_ERR_CLOSED;
     *limits = locked(freezer->at)->limits;
     return unlocked(freezer->at, FREEZE_QUEUE_OK);
 }
@@ -319,12 +335,12 @@ uint32_t freeze_queue_first_piece(const freeze_queue_limits *limits, uint64_t st
     if (refusal)
         return refusal;
     if (count == 0 || start >= (uint64_t)1 << 33)
-        return FREEZE_QUEUE_RANGE;
+        return FREEZE_QUEUE_ERR_BAD_RANGE;
     uint32_t reach = in_full(limits).max, to_boundary = UINT32_MAX;
     if (limits->chunk > 0)
         to_boundary = limits->chunk - (uint32_t)(start % limits->chunk);
     reach = reach < to_boundary ? reach : to_boundary;
-    uint32_t past = (uint32_t)((start + reach) % limits->physical);
+    uint32_t past = (uint32_t)((start + reach) % in_full(limits).physical);
     *piece = count <= reach ? count : past < reach ? reach - past : reach;
     return FREEZE_QUEUE_OK;
 }

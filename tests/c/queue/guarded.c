@@ -95,7 +95,7 @@ static void wait_in_some_way(int way, uint32_t answer, unsigned long before, fre
         while (!freeze_queue_poll_drained(&freezer))
             sched_yield();
     } else if (way == 1) {
-        while (freeze_queue_set(&freezer, &next) == FREEZE_QUEUE_NOT_DRAINED)
+        while (freeze_queue_set(&freezer, &next) == FREEZE_QUEUE_ERR_NOT_DRAINED)
             sched_yield();
     } else if (answer != FREEZE_QUEUE_DRAINED) {
         while (atomic_load(&told) == before)

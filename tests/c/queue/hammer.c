@@ -38,7 +38,7 @@ static bool enters(struct submitter *me, freeze_queue_tag *tag, long turn)
 {
     struct timespec soon = freeze_queue_deadline(20000);
     uint32_t answer = freeze_queue_waits_enter(&waits, tag, me->number, turn % 8 ? NULL : &soon);
-    need(answer == FREEZE_QUEUE_OK || (turn % 8 == 0 && answer == FREEZE_QUEUE_TIMED_OUT), "an entering");
+    need(answer == FREEZE_QUEUE_OK || (turn % 8 == 0 && answer == FREEZE_QUEUE_ERR_TIMED_OUT), "an entering");
     me->gave_up += answer != FREEZE_QUEUE_OK;
     return answer == FREEZE_QUEUE_OK;
 }
@@ -82,7 +82,7 @@ static void *freeze(void *of)
         struct timespec soon = freeze_queue_deadline(2000);
         bool waits_on = (i + me->number) % 4 > 0;
         uint32_t answer = freeze_queue_waits_freeze(&waits, waits_on ? NULL : &soon);
-        if (answer == FREEZE_QUEUE_TIMED_OUT && !waits_on) {
+        if (answer == FREEZE_QUEUE_ERR_TIMED_OUT && !waits_on) {
             me->gave_up++;
             continue;
         }
@@ -122,7 +122,7 @@ int main(int argc, char **argv)
     need(threads >= 1 && threads <= MOST && freezers >= 1 && freezers <= MOST_FREEZERS, "1 to 8 submitters, 1 or 2 freezers");
     freezes = (argc > 1 ? atol(argv[1]) : 10000) / freezers;
     need(freeze_queue_new(&freezer, &setting, (uint32_t)threads, tags) == FREEZE_QUEUE_OK, "no queue");
-    need(freeze_queue_set(&freezer, &setting) == FREEZE_QUEUE_NOT_FROZEN, "a set while live");
+    need(freeze_queue_set(&freezer, &setting) == FREEZE_QUEUE_ERR_NOT_FROZEN, "a set while live");
     need(freeze_queue_waits_init(&waits, &freezer) == 0 && freeze_queue_pool_fill(&pool, &freezer, tags) == 0, "no waits");
     run(threads);
     need(freeze_queue_pool_empty(&pool, &freezer) == FREEZE_QUEUE_OK, "tags are out");

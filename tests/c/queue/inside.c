@@ -1,4 +1,4 @@
-/* By the queue's own memory, which no program may read or write. WORN_OUT, after 2^40 freezes, and IN_USE, where somebody
+/* By the queue's own memory, which no program may read or write. ERR_WORN_OUT, after 2^40 freezes, and ERR_IN_USE, where somebody
  * else has a share of the queue: no use of handles leads there, or none in a day, so the counts are written here. And that
  * a call counts on the slot that it is given, which no answer tells. */
 #include "freeze_queue.h"
@@ -8,7 +8,6 @@
 enum { ROUNDS = 12345 };
 
 #define IS(call, want) is(#call, call, FREEZE_QUEUE_##want, __LINE__)
-#define TELLS(value, want) is(#value, (uint64_t)(value), want, __LINE__)
 
 static const freeze_queue_limits limits = {.hardware = 8, .max = 3, .chunk = 0, .physical = 1};
 static freeze_queue_freezer freezer;
@@ -53,16 +52,16 @@ static void worn_out(void)
     IS(freeze_queue_thaw(&freezer, &depth), OK);
     IS(freeze_queue_thaw(&freezer, &depth), LIVE_AGAIN);
     depth = 7;
-    IS(freeze_queue_start_freeze(&freezer, &depth), WORN_OUT);
+    IS(freeze_queue_start_freeze(&freezer, &depth), ERR_WORN_OUT);
     TELLS(depth, 7);
     IS(freeze_queue_depth(&freezer, &depth), OK);
     TELLS(depth, 0);
     TELLS(freeze_queue_poll_drained(&freezer), false);
     IS(freeze_queue_try_enter(&tags[0], 0), OK);
-    IS(freeze_queue_remove(&freezer, &last), TAGS_OUT);
+    IS(freeze_queue_remove(&freezer, &last), ERR_TAGS_OUT);
     IS(freeze_queue_leave(&tags[0], 0), OK);
     IS(freeze_queue_give_tag_back(&freezer, &tags[0]), OK);
-    IS(freeze_queue_remove(&freezer, &last), WORN_OUT);
+    IS(freeze_queue_remove(&freezer, &last), ERR_WORN_OUT);
     TELLS(last.kills, 0); /* nothing is written */
     TELLS(freezer.is_open && freezer.at != NULL, true);
     IS(freeze_queue_next_tag(&freezer, &tags[0]), OK); /* as it was */
@@ -86,7 +85,7 @@ static void worn_out_without_memory(void)
         IS(freeze_queue_give_tag_back(&freezer, &tags[0]), OK);
         last.kills = 0;
         allowed = allow;
-        IS(freeze_queue_remove(&freezer, &last), NO_MEMORY);
+        IS(freeze_queue_remove(&freezer, &last), ERR_NO_MEMORY);
         TELLS(allowed, 0);
         allowed = -1;
         TELLS(last.kills, 0);
@@ -116,7 +115,7 @@ static void in_use(void)
     uint64_t *shares = a_shared_queue();
     last.kills = 0;
     *shares = 2;
-    IS(freeze_queue_remove(&freezer, &last), IN_USE);
+    IS(freeze_queue_remove(&freezer, &last), ERR_IN_USE);
     TELLS(last.kills, 0);
     TELLS(freezer.is_open && freezer.at != NULL, true);
     TELLS(*shares, 2);
@@ -127,7 +126,7 @@ static void in_use(void)
     IS(freeze_queue_leave(&tags[0], 0), OK);
     IS(freeze_queue_give_tag_back(&freezer, &tags[0]), OK);
     IS(freeze_queue_start_freeze(&freezer, &depth), DRAINED);
-    IS(freeze_queue_remove(&freezer, &last), IN_USE);
+    IS(freeze_queue_remove(&freezer, &last), ERR_IN_USE);
     *shares = 1;
     IS(freeze_queue_remove(&freezer, &last), OK);
     TELLS(last.kills == 1 && last.releases == 1, true);
@@ -137,7 +136,7 @@ static void in_use(void)
     *shares = 2;
     last.kills = 0;
     allowed = 0;
-    IS(freeze_queue_remove(&freezer, &last), NO_MEMORY);
+    IS(freeze_queue_remove(&freezer, &last), ERR_NO_MEMORY);
     allowed = -1;
     TELLS(last.kills, 0);
     TELLS(freezer.is_open || freezer.at != NULL, false);

@@ -20,7 +20,7 @@ static uint32_t try_that_is_last(freeze_queue_tag *tag, uint32_t slot)
 
 #undef freeze_queue_try_enter
 #define freeze_queue_try_enter try_that_is_last
-#include "freeze_queue_wait.h"
+#include "freeze_queue_waits.h"
 
 static freeze_queue_waits waits;
 

@@ -1,4 +1,4 @@
-/* Many queues, one after another: each is made, gives a tag, takes the tag back and ends. No call answers IN_USE or NO_MEMORY,
+/* Many queues, one after another: each is made, gives a tag, takes the tag back and ends. No call answers ERR_IN_USE or ERR_NO_MEMORY,
  * also behind the millionth queue. Then the greatest queue gives all its tags and takes them back, again and again, for each of
  * sixteen devices. Word: how many queues. */
 #include "freeze_queue.h"

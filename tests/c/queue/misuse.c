@@ -1,22 +1,12 @@
 /* Each call of the queue's library, and each number that it may answer, but for want of memory (refused.c), for a queue that
  * is worn out or in use (inside.c), and for a try that drains the queue (told_once.c). A call that is refused writes nothing. */
 #include "freeze_queue.h"
+#include "../is.h"
 
 #include <stdio.h>
 #include <string.h>
 
-static int failures;
-
-static void is(const char *call, uint64_t answer, uint64_t want, int line)
-{
-    if (answer == want)
-        return;
-    fprintf(stderr, "line %d: %s answers %lu, not %lu\n", line, call, (unsigned long)answer, (unsigned long)want);
-    failures++;
-}
-
 #define IS(call, want) is(#call, call, FREEZE_QUEUE_##want, __LINE__)
-#define TELLS(value, want) is(#value, value, want, __LINE__)
 
 static const freeze_queue_limits plain = {.hardware = 8, .max = 0, .chunk = 0, .physical = 1};
 static freeze_queue_final last;
@@ -34,23 +24,24 @@ static void closed_handles(void)
 {
     freeze_queue_freezer freezer = {0};
     freeze_queue_tag tag = {0};
-    IS(freeze_queue_next_tag(&freezer, &tag), CLOSED);
-    IS(freeze_queue_give_tag_back(&freezer, &tag), CLOSED);
-    IS(freeze_queue_remove(&freezer, &last), CLOSED);
+    IS(freeze_queue_next_tag(&freezer, &tag), ERR_CLOSED);
+    IS(freeze_queue_give_tag_back(&freezer, &tag), ERR_CLOSED);
+    IS(freeze_queue_remove(&freezer, &last), ERR_CLOSED);
     TELLS(freeze_queue_tag_number(&tag), 0);
     TELLS(freeze_queue_freezer_number(&freezer), 0);
-    IS(freeze_queue_try_enter(&tag, 0), CLOSED);
-    IS(freeze_queue_try_enter_frozen(&tag, 0), CLOSED);
-    IS(freeze_queue_leave(&tag, 0), CLOSED);
-    IS(freeze_queue_limits_of(&tag, &told), CLOSED);
-    IS(freeze_queue_start_freeze(&freezer, &number), CLOSED);
+    IS(freeze_queue_try_enter(&tag, 0), ERR_CLOSED);
+    IS(freeze_queue_try_enter_frozen(&tag, 0), ERR_CLOSED);
+    IS(freeze_queue_stay(&tag, 0), ERR_CLOSED);
+    IS(freeze_queue_leave(&tag, 0), ERR_CLOSED);
+    IS(freeze_queue_limits_of(&tag, &told), ERR_CLOSED);
+    IS(freeze_queue_start_freeze(&freezer, &number), ERR_CLOSED);
     TELLS(freeze_queue_poll_drained(&freezer), false);
-    IS(freeze_queue_set(&freezer, &plain), CLOSED);
-    IS(freeze_queue_set(&freezer, &(freeze_queue_limits){0}), CLOSED);
-    IS(freeze_queue_thaw(&freezer, &number), CLOSED);
-    IS(freeze_queue_mode(&freezer, 9), CLOSED);
-    IS(freeze_queue_depth(&freezer, &number), CLOSED);
-    IS(freeze_queue_limits_in_force(&freezer, &told), CLOSED);
+    IS(freeze_queue_set(&freezer, &plain), ERR_CLOSED);
+    IS(freeze_queue_set(&freezer, &(freeze_queue_limits){0}), ERR_CLOSED);
+    IS(freeze_queue_thaw(&freezer, &number), ERR_CLOSED);
+    IS(freeze_queue_mode(&freezer, 9), ERR_CLOSED);
+    IS(freeze_queue_depth(&freezer, &number), ERR_CLOSED);
+    IS(freeze_queue_limits_in_force(&freezer, &told), ERR_CLOSED);
     freeze_queue_free_tag(&tag);
     freeze_queue_free_freezer(&freezer);
     is_unwritten(__LINE__);
@@ -58,19 +49,33 @@ static void closed_handles(void)
 
 /* Limits that are refused, in the order in which the refusals come: each of these breaks all later rules too. */
 static const struct { freeze_queue_limits limits; uint32_t want; } wrong[] = {
-    {{0, 1, 65536, 0}, FREEZE_QUEUE_HARDWARE_RANGE},
-    {{65536, 65537, 65536, 0}, FREEZE_QUEUE_HARDWARE_RANGE},
-    {{UINT32_MAX, 0, 0, 1}, FREEZE_QUEUE_HARDWARE_RANGE},
-    {{8, 9, 65536, 0}, FREEZE_QUEUE_ABOVE_HARDWARE},
-    {{65535, UINT32_MAX, 0, 1}, FREEZE_QUEUE_ABOVE_HARDWARE},
-    {{8, 8, 65536, 0}, FREEZE_QUEUE_CHUNK_TOO_LARGE},
-    {{8, 0, UINT32_MAX, 1}, FREEZE_QUEUE_CHUNK_TOO_LARGE},
-    {{8, 0, 65535, 0}, FREEZE_QUEUE_BAD_PHYSICAL},
-    {{8, 0, 65535, 3}, FREEZE_QUEUE_BAD_PHYSICAL},
-    {{8, 0, 0, 65536}, FREEZE_QUEUE_BAD_PHYSICAL},
-    {{8, 0, 0, 0x80000000}, FREEZE_QUEUE_BAD_PHYSICAL},
+    {{0, 1, 65536, 3}, FREEZE_QUEUE_ERR_HARDWARE_RANGE},
+    {{65536, 65537, 65536, 3}, FREEZE_QUEUE_ERR_HARDWARE_RANGE},
+    {{UINT32_MAX, 0, 0, 1}, FREEZE_QUEUE_ERR_HARDWARE_RANGE},
+    {{8, 9, 65536, 3}, FREEZE_QUEUE_ERR_ABOVE_HARDWARE},
+    {{65535, UINT32_MAX, 0, 1}, FREEZE_QUEUE_ERR_ABOVE_HARDWARE},
+    {{8, 8, 65536, 3}, FREEZE_QUEUE_ERR_CHUNK_TOO_LARGE},
+    {{8, 0, UINT32_MAX, 1}, FREEZE_QUEUE_ERR_CHUNK_TOO_LARGE},
+    {{8, 0, 65535, 3}, FREEZE_QUEUE_ERR_BAD_PHYSICAL},
+    {{8, 0, 0, 65536}, FREEZE_QUEUE_ERR_BAD_PHYSICAL},
+    {{8, 0, 0, 0x80000000}, FREEZE_QUEUE_ERR_BAD_PHYSICAL},
 };
 enum { WRONG = sizeof wrong / sizeof *wrong };
+
+/* The hardware's limit alone: 0 is the default of the others. */
+static void default_limits(void)
+{
+    const freeze_queue_limits asked = {.hardware = 24};
+    freeze_queue_limits given = {7, 7, 7, 7};
+    freeze_queue_freezer freezer = {0};
+    IS(freeze_queue_new(&freezer, &asked, 1, 1), OK);
+    IS(freeze_queue_limits_in_force(&freezer, &given), OK);
+    TELLS(given.hardware == 24 && given.max == 24 && given.chunk == 0 && given.physical == 1, true);
+    IS(freeze_queue_first_piece(&asked, 7, 100, &number), OK);
+    TELLS(number, 24);
+    number = 7;
+    freeze_queue_free_freezer(&freezer);
+}
 
 static void refused_limits(freeze_queue_freezer *freezer)
 {
@@ -81,10 +86,10 @@ static void refused_limits(freeze_queue_freezer *freezer)
         TELLS(freeze_queue_first_piece(&wrong[i].limits, 0, 0, &number), wrong[i].want);
     }
     TELLS(closed.is_open, false);
-    IS(freeze_queue_set(freezer, &(freeze_queue_limits){9, 0, 0, 1}), OTHER_HARDWARE);
-    IS(freeze_queue_first_piece(&plain, 0, 0, &number), RANGE);
-    IS(freeze_queue_first_piece(&plain, (uint64_t)1 << 33, 1, &number), RANGE);
-    IS(freeze_queue_first_piece(&plain, UINT64_MAX, 1, &number), RANGE);
+    IS(freeze_queue_set(freezer, &(freeze_queue_limits){9, 0, 0, 1}), ERR_OTHER_HARDWARE);
+    IS(freeze_queue_first_piece(&plain, 0, 0, &number), ERR_BAD_RANGE);
+    IS(freeze_queue_first_piece(&plain, (uint64_t)1 << 33, 1, &number), ERR_BAD_RANGE);
+    IS(freeze_queue_first_piece(&plain, UINT64_MAX, 1, &number), ERR_BAD_RANGE);
     is_unwritten(__LINE__);
     IS(freeze_queue_first_piece(&plain, ((uint64_t)1 << 33) - 1, 1, &number), OK);
     TELLS(number, 1);
@@ -93,21 +98,26 @@ static void refused_limits(freeze_queue_freezer *freezer)
 
 static void a_tag(freeze_queue_freezer *freezer, freeze_queue_tag *tag)
 {
-    IS(freeze_queue_try_enter(tag, 2), SLOT);
-    IS(freeze_queue_try_enter_frozen(tag, UINT32_MAX), SLOT);
-    IS(freeze_queue_leave(tag, 2), SLOT);
-    IS(freeze_queue_leave(tag, 0), NOT_ENTERED_TAG);
-    IS(freeze_queue_limits_of(tag, &told), NOT_ENTERED_TAG);
+    IS(freeze_queue_try_enter(tag, 2), ERR_BAD_SLOT);
+    IS(freeze_queue_try_enter_frozen(tag, UINT32_MAX), ERR_BAD_SLOT);
+    IS(freeze_queue_leave(tag, 2), ERR_BAD_SLOT);
+    IS(freeze_queue_leave(tag, 0), ERR_TAG_NOT_ENTERED);
+    IS(freeze_queue_stay(tag, 2), ERR_BAD_SLOT);
+    IS(freeze_queue_stay(tag, 0), ERR_TAG_NOT_ENTERED);
+    IS(freeze_queue_limits_of(tag, &told), ERR_TAG_NOT_ENTERED);
     IS(freeze_queue_try_enter(tag, 1), OK);
-    IS(freeze_queue_try_enter(tag, 0), ENTERED);
-    IS(freeze_queue_try_enter_frozen(tag, 0), ENTERED);
-    IS(freeze_queue_try_enter(tag, 2), SLOT);
-    IS(freeze_queue_leave(tag, 2), SLOT);
-    IS(freeze_queue_give_tag_back(freezer, tag), ENTERED);
+    IS(freeze_queue_try_enter(tag, 0), ERR_ALREADY_ENTERED);
+    IS(freeze_queue_try_enter_frozen(tag, 0), ERR_ALREADY_ENTERED);
+    IS(freeze_queue_try_enter(tag, 2), ERR_BAD_SLOT);
+    IS(freeze_queue_leave(tag, 2), ERR_BAD_SLOT);
+    IS(freeze_queue_stay(tag, 2), ERR_BAD_SLOT);
+    IS(freeze_queue_stay(tag, 0), OK);
+    IS(freeze_queue_give_tag_back(freezer, tag), ERR_ALREADY_ENTERED);
     TELLS(tag->is_open, true);
     is_unwritten(__LINE__);
     IS(freeze_queue_leave(tag, 0), OK);
-    IS(freeze_queue_leave(tag, 0), NOT_ENTERED_TAG);
+    IS(freeze_queue_leave(tag, 0), ERR_TAG_NOT_ENTERED);
+    IS(freeze_queue_stay(tag, 0), ERR_TAG_NOT_ENTERED);
     IS(freeze_queue_try_enter_frozen(tag, 0), OK);
     IS(freeze_queue_leave(tag, 1), OK);
 }
@@ -126,15 +136,15 @@ static void set_and_look(freeze_queue_freezer *freezer, uint32_t max)
 /* A freeze with a tag in, one more on it, and a look under a freeze. */
 static void a_freeze(freeze_queue_freezer *freezer, freeze_queue_tag *tag, freeze_queue_tag *other)
 {
-    IS(freeze_queue_set(freezer, &plain), NOT_FROZEN);
-    IS(freeze_queue_thaw(freezer, &number), NOT_FROZEN);
+    IS(freeze_queue_set(freezer, &plain), ERR_NOT_FROZEN);
+    IS(freeze_queue_thaw(freezer, &number), ERR_NOT_FROZEN);
     TELLS(freeze_queue_poll_drained(freezer), false);
     is_unwritten(__LINE__);
     IS(freeze_queue_try_enter(tag, 0), OK);
     IS(freeze_queue_start_freeze(freezer, &number), OK);
     TELLS(number, 1);
     TELLS(freeze_queue_poll_drained(freezer), false);
-    IS(freeze_queue_set(freezer, &plain), NOT_DRAINED);
+    IS(freeze_queue_set(freezer, &plain), ERR_NOT_DRAINED);
     IS(freeze_queue_try_enter(other, 0), NOT_ENTERED);
     IS(freeze_queue_try_enter_frozen(other, 0), OK);
     IS(freeze_queue_leave(tag, 1), OK);
@@ -161,28 +171,28 @@ static void a_thaw_in_between(freeze_queue_freezer *freezer, freeze_queue_tag *t
     IS(freeze_queue_start_freeze(freezer, &number), OK);
     IS(freeze_queue_thaw(freezer, &number), LIVE_AGAIN);
     IS(freeze_queue_leave(tag, 0), OK);
-    IS(freeze_queue_mode(freezer, FREEZE_QUEUE_ATOMIC), OK);
-    IS(freeze_queue_mode(freezer, 2), MODE);
+    IS(freeze_queue_mode(freezer, FREEZE_QUEUE_MODE_ATOMIC), OK);
+    IS(freeze_queue_mode(freezer, 2), ERR_BAD_MODE);
     IS(freeze_queue_start_freeze(freezer, &number), DRAINED);
-    IS(freeze_queue_mode(freezer, FREEZE_QUEUE_SLOTS), OK);
+    IS(freeze_queue_mode(freezer, FREEZE_QUEUE_MODE_SLOTS), OK);
     for (uint32_t depth = 2; depth <= FREEZE_QUEUE_MOST_DEPTH; depth++) {
         IS(freeze_queue_start_freeze(freezer, &number), DRAINED);
         TELLS(number, depth);
     }
     number = 7;
-    IS(freeze_queue_start_freeze(freezer, &number), DEPTH_FULL);
+    IS(freeze_queue_start_freeze(freezer, &number), ERR_DEPTH_FULL);
     TELLS(number, 7);
     for (uint32_t depth = FREEZE_QUEUE_MOST_DEPTH; depth > 1; depth--)
         IS(freeze_queue_thaw(freezer, &number), OK);
     TELLS(number, 1);
 }
 
-/* Numbers from 0 to 50: which are refused, misuse, or tell a drain, and a text for each that is an answer. */
+/* Numbers from 0 to 80: which are refused, misuse, or tell a drain, and a text for each that is an answer. */
 static void numbers(void)
 {
     static const char *const none = "no answer of a queue";
-    for (uint32_t n = 0; n <= 50; n++) {
-        bool is_answer = n <= 5 || (n >= 17 && n <= 21) || (n >= 25 && n <= 30) || (n >= 32 && n <= 42) || n == 45;
+    for (uint32_t n = 0; n <= 80; n++) {
+        bool is_answer = n <= 5 || (n >= 17 && n <= 21) || (n >= 25 && n <= 31) || (n >= 32 && n <= 39) || (n >= 48 && n <= 52);
         TELLS(freeze_queue_is_misuse(n), n >= 32);
         TELLS(freeze_queue_is_refused(n), n >= 16);
         TELLS(freeze_queue_is_drained(n), n == 1 || n == 3 || n == 4);
@@ -201,12 +211,12 @@ static void two_queues(freeze_queue_freezer *freezer, freeze_queue_tag *tag)
     TELLS(freeze_queue_freezer_number(&other) > freeze_queue_freezer_number(freezer), true);
     IS(freeze_queue_next_tag(&other, &others), OK);
     TELLS(freeze_queue_tag_number(&others), freeze_queue_freezer_number(&other));
-    IS(freeze_queue_give_tag_back(freezer, &others), OTHER_QUEUE);
-    IS(freeze_queue_give_tag_back(&other, tag), OTHER_QUEUE);
+    IS(freeze_queue_give_tag_back(freezer, &others), ERR_OTHER_QUEUE);
+    IS(freeze_queue_give_tag_back(&other, tag), ERR_OTHER_QUEUE);
     IS(freeze_queue_try_enter(&others, 63), OK);
-    IS(freeze_queue_give_tag_back(freezer, &others), OTHER_QUEUE);
+    IS(freeze_queue_give_tag_back(freezer, &others), ERR_OTHER_QUEUE);
     IS(freeze_queue_leave(&others, 0), OK);
-    IS(freeze_queue_remove(&other, &left), TAGS_OUT);
+    IS(freeze_queue_remove(&other, &left), ERR_TAGS_OUT);
     IS(freeze_queue_give_tag_back(&other, &others), OK);
     TELLS(others.is_open, false);
     IS(freeze_queue_remove(&other, &left), OK); /* from live */
@@ -216,14 +226,14 @@ static void two_queues(freeze_queue_freezer *freezer, freeze_queue_tag *tag)
 
 static void ends(freeze_queue_freezer *freezer, freeze_queue_tag *tag, freeze_queue_tag *other)
 {
-    IS(freeze_queue_remove(freezer, &last), TAGS_OUT);
+    IS(freeze_queue_remove(freezer, &last), ERR_TAGS_OUT);
     is_unwritten(__LINE__);
     IS(freeze_queue_give_tag_back(freezer, tag), OK);
-    IS(freeze_queue_give_tag_back(freezer, tag), CLOSED);
+    IS(freeze_queue_give_tag_back(freezer, tag), ERR_CLOSED);
     IS(freeze_queue_next_tag(freezer, tag), OK); /* the same one again */
-    IS(freeze_queue_next_tag(freezer, tag), OPEN);
+    IS(freeze_queue_next_tag(freezer, tag), ERR_OPEN);
     IS(freeze_queue_give_tag_back(freezer, tag), OK);
-    IS(freeze_queue_remove(freezer, &last), TAGS_OUT);
+    IS(freeze_queue_remove(freezer, &last), ERR_TAGS_OUT);
     IS(freeze_queue_give_tag_back(freezer, other), OK);
     IS(freeze_queue_remove(freezer, &last), OK);
     TELLS(last.dead, true);
@@ -237,17 +247,18 @@ int main(void)
     freeze_queue_tag tag = {0}, other = {0}, none = {0};
     closed_handles();
     numbers();
-    IS(freeze_queue_new(&freezer, &plain, 0, 1), SIZE);
-    IS(freeze_queue_new(&freezer, &plain, 65, 1), SIZE);
-    IS(freeze_queue_new(&freezer, &plain, 1, 0), SIZE);
-    IS(freeze_queue_new(&freezer, &plain, 1, 64), SIZE);
+    IS(freeze_queue_new(&freezer, &plain, 0, 1), ERR_BAD_SIZE);
+    IS(freeze_queue_new(&freezer, &plain, 65, 1), ERR_BAD_SIZE);
+    IS(freeze_queue_new(&freezer, &plain, 1, 0), ERR_BAD_SIZE);
+    IS(freeze_queue_new(&freezer, &plain, 1, 64), ERR_BAD_SIZE);
     IS(freeze_queue_new(&freezer, &plain, 2, 2), OK);
-    IS(freeze_queue_new(&freezer, &(freeze_queue_limits){0}, 0, 0), OPEN);
+    IS(freeze_queue_new(&freezer, &(freeze_queue_limits){0}, 0, 0), ERR_OPEN);
     IS(freeze_queue_next_tag(&freezer, &tag), OK);
-    IS(freeze_queue_next_tag(&freezer, &tag), OPEN);
+    IS(freeze_queue_next_tag(&freezer, &tag), ERR_OPEN);
     IS(freeze_queue_next_tag(&freezer, &other), OK);
-    IS(freeze_queue_next_tag(&freezer, &none), NO_TAG);
-    IS(freeze_queue_give_tag_back(&freezer, &none), CLOSED);
+    IS(freeze_queue_next_tag(&freezer, &none), ERR_NO_TAG);
+    IS(freeze_queue_give_tag_back(&freezer, &none), ERR_CLOSED);
+    default_limits();
     refused_limits(&freezer);
     a_tag(&freezer, &tag);
     a_freeze(&freezer, &tag, &other);

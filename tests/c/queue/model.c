@@ -61,9 +61,11 @@ static freeze_queue_limits some_limits(void)
     return limits;
 }
 
-/* A size of a physical block is one of sixteen. */
+/* A size of a physical block is one of sixteen; 0 asks for the least. */
 static bool is_physical(uint32_t sectors)
 {
+    if (sectors == 0)
+        return true;
     for (uint32_t size = 1; size <= 32768; size *= 2)
         if (size == sectors)
             return true;
@@ -72,10 +74,10 @@ static bool is_physical(uint32_t sectors)
 
 static uint32_t refusal_of(const freeze_queue_limits *limits)
 {
-    return limits->hardware - 1u > 65534        ? FREEZE_QUEUE_HARDWARE_RANGE
-           : limits->max > limits->hardware     ? FREEZE_QUEUE_ABOVE_HARDWARE
-           : limits->chunk > 65535              ? FREEZE_QUEUE_CHUNK_TOO_LARGE
-           : !is_physical(limits->physical)     ? FREEZE_QUEUE_BAD_PHYSICAL
+    return limits->hardware - 1u > 65534        ? FREEZE_QUEUE_ERR_HARDWARE_RANGE
+           : limits->max > limits->hardware     ? FREEZE_QUEUE_ERR_ABOVE_HARDWARE
+           : limits->chunk > 65535              ? FREEZE_QUEUE_ERR_CHUNK_TOO_LARGE
+           : !is_physical(limits->physical)     ? FREEZE_QUEUE_ERR_BAD_PHYSICAL
                                                 : FREEZE_QUEUE_OK;
 }
 
@@ -83,6 +85,8 @@ static freeze_queue_limits kept(freeze_queue_limits limits)
 {
     if (limits.max == 0)
         limits.max = limits.hardware;
+    if (limits.physical == 0)
+        limits.physical = 1;
     return limits;
 }
 
@@ -100,9 +104,9 @@ static void make(uint32_t f)
     uint32_t out = any_below(6) ? 1 + any_below(4) : any_below(70);
     freeze_queue_limits limits = some_limits();
     bool fits = slots >= 1 && slots <= 64 && out >= 1 && out <= 63;
-    uint32_t want = freezers[f].queue ? FREEZE_QUEUE_OPEN : refusal_of(&limits);
+    uint32_t want = freezers[f].queue ? FREEZE_QUEUE_ERR_OPEN : refusal_of(&limits);
     if (want == FREEZE_QUEUE_OK && !fits)
-        want = FREEZE_QUEUE_SIZE;
+        want = FREEZE_QUEUE_ERR_BAD_SIZE;
     IS(freeze_queue_new(&freezers[f].handle, &limits, slots, out), want);
     if (want)
         return;
@@ -115,10 +119,10 @@ static void make(uint32_t f)
 static void give(uint32_t f, uint32_t t)
 {
     struct queue *q = freezers[f].queue;
-    uint32_t want = !q              ? FREEZE_QUEUE_CLOSED
-                    : tags[t].queue ? FREEZE_QUEUE_OPEN
+    uint32_t want = !q              ? FREEZE_QUEUE_ERR_CLOSED
+                    : tags[t].queue ? FREEZE_QUEUE_ERR_OPEN
                     : q->waiting    ? FREEZE_QUEUE_OK
-                                    : FREEZE_QUEUE_NO_TAG;
+                                    : FREEZE_QUEUE_ERR_NO_TAG;
     IS(freeze_queue_next_tag(&freezers[f].handle, &tags[t].handle), want);
     if (want)
         return;
@@ -131,9 +135,9 @@ static void give(uint32_t f, uint32_t t)
 static void take_back(uint32_t f, uint32_t t)
 {
     struct queue *q = freezers[f].queue;
-    uint32_t want = !q || !tags[t].queue ? FREEZE_QUEUE_CLOSED
-                    : tags[t].queue != q ? FREEZE_QUEUE_OTHER_QUEUE
-                    : tags[t].entered    ? FREEZE_QUEUE_ENTERED
+    uint32_t want = !q || !tags[t].queue ? FREEZE_QUEUE_ERR_CLOSED
+                    : tags[t].queue != q ? FREEZE_QUEUE_ERR_OTHER_QUEUE
+                    : tags[t].entered    ? FREEZE_QUEUE_ERR_ALREADY_ENTERED
                                          : FREEZE_QUEUE_OK;
     IS(freeze_queue_give_tag_back(&freezers[f].handle, &tags[t].handle), want);
     if (want)
@@ -147,7 +151,7 @@ static void end(uint32_t f)
 {
     struct queue *q = freezers[f].queue;
     freeze_queue_final last = {.kills = UNWRITTEN};
-    uint32_t want = !q ? FREEZE_QUEUE_CLOSED : q->out ? FREEZE_QUEUE_TAGS_OUT : FREEZE_QUEUE_OK;
+    uint32_t want = !q ? FREEZE_QUEUE_ERR_CLOSED : q->out ? FREEZE_QUEUE_ERR_TAGS_OUT : FREEZE_QUEUE_OK;
     IS(freeze_queue_remove(&freezers[f].handle, &last), want);
     if (want) {
         IS(last.kills, UNWRITTEN);
@@ -165,9 +169,9 @@ static void enter(uint32_t t, bool frozen_too)
 {
     struct queue *q = tags[t].queue;
     uint32_t slot = some_slot(q);
-    uint32_t want = !q                ? FREEZE_QUEUE_CLOSED
-                    : slot >= q->slots ? FREEZE_QUEUE_SLOT
-                    : tags[t].entered ? FREEZE_QUEUE_ENTERED
+    uint32_t want = !q                ? FREEZE_QUEUE_ERR_CLOSED
+                    : slot >= q->slots ? FREEZE_QUEUE_ERR_BAD_SLOT
+                    : tags[t].entered ? FREEZE_QUEUE_ERR_ALREADY_ENTERED
                     : (frozen_too ? drained(q) : q->depth > 0) ? FREEZE_QUEUE_NOT_ENTERED
                                                                : FREEZE_QUEUE_OK;
     IS((frozen_too ? freeze_queue_try_enter_frozen : freeze_queue_try_enter)(&tags[t].handle, slot), want);
@@ -177,14 +181,21 @@ static void enter(uint32_t t, bool frozen_too)
     tags[t].entered = true;
 }
 
+/* What leave and stay refuse; FREEZE_QUEUE_OK if nothing. */
+static uint32_t refused_of_entered(uint32_t t, uint32_t slot)
+{
+    const struct queue *q = tags[t].queue;
+    return !q                 ? FREEZE_QUEUE_ERR_CLOSED
+           : slot >= q->slots ? FREEZE_QUEUE_ERR_BAD_SLOT
+           : !tags[t].entered ? FREEZE_QUEUE_ERR_TAG_NOT_ENTERED
+                              : FREEZE_QUEUE_OK;
+}
+
 static void leave(uint32_t t)
 {
     struct queue *q = tags[t].queue;
     uint32_t slot = some_slot(q);
-    uint32_t want = !q                  ? FREEZE_QUEUE_CLOSED
-                    : slot >= q->slots  ? FREEZE_QUEUE_SLOT
-                    : !tags[t].entered  ? FREEZE_QUEUE_NOT_ENTERED_TAG
-                                        : FREEZE_QUEUE_OK;
+    uint32_t want = refused_of_entered(t, slot);
     if (!want) {
         tags[t].entered = false;
         q->entered--;
@@ -194,11 +205,25 @@ static void leave(uint32_t t)
     IS(freeze_queue_leave(&tags[t].handle, slot), want);
 }
 
+static void stay(uint32_t t)
+{
+    struct queue *q = tags[t].queue;
+    uint32_t slot = some_slot(q);
+    uint32_t want = refused_of_entered(t, slot);
+    if (!want && q->depth > 0) {
+        tags[t].entered = false;
+        q->entered--;
+        want = drained(q) ? FREEZE_QUEUE_NOT_ENTERED_LAST : FREEZE_QUEUE_NOT_ENTERED;
+        q->releases += drained(q);
+    }
+    IS(freeze_queue_stay(&tags[t].handle, slot), want);
+}
+
 static void look(uint32_t t)
 {
     struct queue *q = tags[t].queue;
     freeze_queue_limits limits = unwritten;
-    uint32_t want = !q ? FREEZE_QUEUE_CLOSED : !tags[t].entered ? FREEZE_QUEUE_NOT_ENTERED_TAG : FREEZE_QUEUE_OK;
+    uint32_t want = !q ? FREEZE_QUEUE_ERR_CLOSED : !tags[t].entered ? FREEZE_QUEUE_ERR_TAG_NOT_ENTERED : FREEZE_QUEUE_OK;
     IS(freeze_queue_limits_of(&tags[t].handle, &limits), want);
     are(&limits, want ? &unwritten : &q->limits);
     IS(freeze_queue_tag_number(&tags[t].handle), q ? q->number : 0);
@@ -209,7 +234,7 @@ static void freeze(uint32_t f)
     struct queue *q = freezers[f].queue;
     uint32_t depth = UNWRITTEN;
     if (!q) {
-        IS(freeze_queue_start_freeze(&freezers[f].handle, &depth), FREEZE_QUEUE_CLOSED);
+        IS(freeze_queue_start_freeze(&freezers[f].handle, &depth), FREEZE_QUEUE_ERR_CLOSED);
         IS(depth, UNWRITTEN);
         return;
     }
@@ -223,7 +248,7 @@ static void freeze(uint32_t f)
 static void thaw(uint32_t f)
 {
     struct queue *q = freezers[f].queue;
-    uint32_t depth = UNWRITTEN, want = !q ? FREEZE_QUEUE_CLOSED : q->depth ? FREEZE_QUEUE_OK : FREEZE_QUEUE_NOT_FROZEN;
+    uint32_t depth = UNWRITTEN, want = !q ? FREEZE_QUEUE_ERR_CLOSED : q->depth ? FREEZE_QUEUE_OK : FREEZE_QUEUE_ERR_NOT_FROZEN;
     if (!want && --q->depth == 0)
         want = FREEZE_QUEUE_LIVE_AGAIN;
     IS(freeze_queue_thaw(&freezers[f].handle, &depth), want);
@@ -236,11 +261,11 @@ static void set(uint32_t f)
     freeze_queue_limits limits = some_limits();
     if (q && any_below(3))
         limits.hardware = q->limits.hardware;
-    uint32_t want = q ? refusal_of(&limits) : FREEZE_QUEUE_CLOSED;
+    uint32_t want = q ? refusal_of(&limits) : FREEZE_QUEUE_ERR_CLOSED;
     if (want == FREEZE_QUEUE_OK)
-        want = limits.hardware != q->limits.hardware ? FREEZE_QUEUE_OTHER_HARDWARE
-               : q->depth == 0                       ? FREEZE_QUEUE_NOT_FROZEN
-               : q->entered                          ? FREEZE_QUEUE_NOT_DRAINED
+        want = limits.hardware != q->limits.hardware ? FREEZE_QUEUE_ERR_OTHER_HARDWARE
+               : q->depth == 0                       ? FREEZE_QUEUE_ERR_NOT_FROZEN
+               : q->entered                          ? FREEZE_QUEUE_ERR_NOT_DRAINED
                                                      : FREEZE_QUEUE_OK;
     IS(freeze_queue_set(&freezers[f].handle, &limits), want);
     if (!want)
@@ -250,7 +275,7 @@ static void set(uint32_t f)
 static void ask(uint32_t f)
 {
     struct queue *q = freezers[f].queue;
-    uint32_t want = q ? FREEZE_QUEUE_OK : FREEZE_QUEUE_CLOSED, depth = UNWRITTEN, mode = any_below(3);
+    uint32_t want = q ? FREEZE_QUEUE_OK : FREEZE_QUEUE_ERR_CLOSED, depth = UNWRITTEN, mode = any_below(3);
     freeze_queue_limits limits = unwritten;
     IS(freeze_queue_poll_drained(&freezers[f].handle), q && drained(q));
     IS(freeze_queue_freezer_number(&freezers[f].handle), q ? q->number : 0);
@@ -258,7 +283,7 @@ static void ask(uint32_t f)
     IS(depth, q ? q->depth : UNWRITTEN);
     IS(freeze_queue_limits_in_force(&freezers[f].handle, &limits), want);
     are(&limits, q ? &q->limits : &unwritten);
-    IS(freeze_queue_mode(&freezers[f].handle, mode), q && mode == 2 ? FREEZE_QUEUE_MODE : want);
+    IS(freeze_queue_mode(&freezers[f].handle, mode), q && mode == 2 ? FREEZE_QUEUE_ERR_BAD_MODE : want);
 }
 
 /* Whether `length` sectors from start on are within the reach there, told sector by sector. */
@@ -295,7 +320,7 @@ static void cut(void)
     limits.max = limits.max > 70 ? 33 : limits.max;
     uint32_t want = refusal_of(&limits);
     if (want == FREEZE_QUEUE_OK && (count == 0 || start >= (uint64_t)1 << 33))
-        want = FREEZE_QUEUE_RANGE;
+        want = FREEZE_QUEUE_ERR_BAD_RANGE;
     IS(freeze_queue_first_piece(&limits, start, count, &piece), want);
     limits = kept(limits);
     IS(piece, want ? UNWRITTEN : piece_of(&limits, start, count));
@@ -314,7 +339,7 @@ static void let_go(uint32_t f, uint32_t t)
 
 static void call(uint32_t f, uint32_t t)
 {
-    switch (any_below(30)) {
+    switch (any_below(33)) {
     case 0: case 1: make(f); break;
     case 2: case 3: case 4: give(f, t); break;
     case 5: case 6: take_back(f, t); break;
@@ -328,6 +353,7 @@ static void call(uint32_t f, uint32_t t)
     case 25: case 26: set(f); break;
     case 27: ask(f); break;
     case 28: cut(); break;
+    case 29: case 30: case 31: stay(t); break;
     default: if (any_below(20) == 0) let_go(f, t);
     }
 }

@@ -1,20 +1,11 @@
 /* Sizes and offsets of the structs, and the order of arguments: each call that takes several numbers is given another in
  * each place, and each field that is written is read. No contract of the library has these. */
 #include "freeze_queue.h"
+#include "../is.h"
 
 #include <stddef.h>
 #include <stdio.h>
 #include <string.h>
-
-static int failures;
-
-static void is(const char *what, uint64_t value, uint64_t want, int line)
-{
-    if (value == want)
-        return;
-    fprintf(stderr, "line %d: %s is %lu, not %lu\n", line, what, (unsigned long)value, (unsigned long)want);
-    failures++;
-}
 
 #define IS(value, want) is(#value, value, want, __LINE__)
 
@@ -22,12 +13,14 @@ static const freeze_queue_limits first = {.hardware = 64, .max = 32, .chunk = 24
 
 static void sizes(void)
 {
-    IS(sizeof(freeze_queue_freezer), 16);
+    IS(sizeof(freeze_queue_freezer), 32);
     IS(offsetof(freeze_queue_freezer, is_open), 0);
     IS(offsetof(freeze_queue_freezer, at), 8);
-    IS(sizeof(freeze_queue_tag), 16);
+    IS(offsetof(freeze_queue_freezer, reserved), 16);
+    IS(sizeof(freeze_queue_tag), 32);
     IS(offsetof(freeze_queue_tag, is_open), 0);
     IS(offsetof(freeze_queue_tag, at), 8);
+    IS(offsetof(freeze_queue_tag, reserved), 16);
     IS(sizeof(freeze_queue_limits), 16);
     IS(offsetof(freeze_queue_limits, hardware), 0);
     IS(offsetof(freeze_queue_limits, max), 4);
@@ -116,11 +109,11 @@ int main(void)
     IS(freezer.at != NULL, 1);
     IS(freeze_queue_next_tag(&freezer, &tag[0]), FREEZE_QUEUE_OK);
     IS(freeze_queue_next_tag(&freezer, &tag[1]), FREEZE_QUEUE_OK);
-    IS(freeze_queue_next_tag(&freezer, &tag[2]), FREEZE_QUEUE_NO_TAG);
+    IS(freeze_queue_next_tag(&freezer, &tag[2]), FREEZE_QUEUE_ERR_NO_TAG);
     IS(tag[0].is_open, 1);
     IS(tag[0].at != NULL, 1);
     IS(tag[2].is_open, 0);
-    IS(freeze_queue_try_enter(&tag[1], 3), FREEZE_QUEUE_SLOT);
+    IS(freeze_queue_try_enter(&tag[1], 3), FREEZE_QUEUE_ERR_BAD_SLOT);
     limits(&freezer, &tag[0]);
     IS(freeze_queue_give_tag_back(&freezer, &tag[0]), FREEZE_QUEUE_OK);
     IS(freeze_queue_give_tag_back(&freezer, &tag[1]), FREEZE_QUEUE_OK);

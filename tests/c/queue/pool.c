@@ -2,6 +2,7 @@
  * more threads than it has tags, each of which writes plain memory of the tag that it has. Words: turns, threads. */
 #define _POSIX_C_SOURCE 200809L
 #include "freeze_queue_pool.h"
+#include "../is.h"
 
 #include <sched.h>
 #include <stdio.h>
@@ -9,18 +10,7 @@
 
 enum { MOST = 16, TAGS = 3 };
 
-static int failures;
-
-static void is(const char *call, uint64_t answer, uint64_t want, int line)
-{
-    if (answer == want)
-        return;
-    fprintf(stderr, "line %d: %s answers %lu, not %lu\n", line, call, (unsigned long)answer, (unsigned long)want);
-    failures++;
-}
-
 #define IS(call, want) is(#call, call, FREEZE_QUEUE_##want, __LINE__)
-#define TELLS(value, want) is(#value, value, want, __LINE__)
 
 static freeze_queue_freezer freezer, other, closed;
 static freeze_queue_pool pool;
@@ -32,28 +22,28 @@ static void filled_and_emptied(void)
 {
     freeze_queue_tag out = {0};
     freeze_queue_final last;
-    IS(freeze_queue_pool_empty(&pool, &freezer), CLOSED);
-    IS(freeze_queue_pool_fill(&pool, &closed, 1), CLOSED);
-    IS(freeze_queue_pool_fill(&pool, &freezer, 0), SIZE);
-    IS(freeze_queue_pool_fill(&pool, &freezer, 64), SIZE);
-    IS(freeze_queue_pool_fill(&pool, &freezer, TAGS + 1), NO_TAG); /* those that it gave are back */
+    IS(freeze_queue_pool_empty(&pool, &freezer), ERR_CLOSED);
+    IS(freeze_queue_pool_fill(&pool, &closed, 1), ERR_CLOSED);
+    IS(freeze_queue_pool_fill(&pool, &freezer, 0), ERR_BAD_SIZE);
+    IS(freeze_queue_pool_fill(&pool, &freezer, 64), ERR_BAD_SIZE);
+    IS(freeze_queue_pool_fill(&pool, &freezer, TAGS + 1), ERR_NO_TAG); /* those that it gave are back */
     IS(freeze_queue_next_tag(&freezer, &out), OK);
-    IS(freeze_queue_pool_fill(&pool, &freezer, TAGS), NO_TAG);
+    IS(freeze_queue_pool_fill(&pool, &freezer, TAGS), ERR_NO_TAG);
     IS(freeze_queue_give_tag_back(&freezer, &out), OK);
     IS(freeze_queue_pool_fill(&pool, &freezer, TAGS), OK);
-    IS(freeze_queue_pool_fill(&pool, &freezer, TAGS), OPEN);
-    IS(freeze_queue_pool_fill(&pool, &closed, 0), OPEN); /* before other refusals */
-    IS(freeze_queue_pool_empty(&pool, &other), OTHER_QUEUE);
+    IS(freeze_queue_pool_fill(&pool, &freezer, TAGS), ERR_OPEN);
+    IS(freeze_queue_pool_fill(&pool, &closed, 0), ERR_OPEN); /* before other refusals */
+    IS(freeze_queue_pool_empty(&pool, &other), ERR_OTHER_QUEUE);
     freeze_queue_tag *tag = freeze_queue_pool_take(&pool, 1);
     TELLS(place_of(tag), 1);
-    IS(freeze_queue_pool_empty(&pool, &freezer), TAGS_OUT);
+    IS(freeze_queue_pool_empty(&pool, &freezer), ERR_TAGS_OUT);
     IS(freeze_queue_try_enter(tag, 0), OK);
     freeze_queue_pool_give(&pool, tag);
-    IS(freeze_queue_pool_empty(&pool, &freezer), ENTERED); /* and keeps two */
+    IS(freeze_queue_pool_empty(&pool, &freezer), ERR_ALREADY_ENTERED); /* and keeps two */
     TELLS(pool.count, 2);
     tag = freeze_queue_pool_take(&pool, 1);
     IS(freeze_queue_leave(tag, 0), OK);
-    IS(freeze_queue_pool_empty(&pool, &freezer), TAGS_OUT);
+    IS(freeze_queue_pool_empty(&pool, &freezer), ERR_TAGS_OUT);
     freeze_queue_pool_give(&pool, tag);
     IS(freeze_queue_pool_empty(&pool, &freezer), OK);
     IS(freeze_queue_remove(&other, &last), OK);

@@ -3,31 +3,10 @@
  * this malloc refuses and both count.) */
 #define _POSIX_C_SOURCE 200809L
 #include "freeze_queue_pool.h"
+#include "../refusing.h"
 
 #include <stdio.h>
 #include <stdlib.h>
-
-void *__real_malloc(size_t size);
-void __real_free(void *at);
-static long allowed = -1; /* none refused */
-static long blocks;       /* that were had and not given back */
-
-void *__wrap_malloc(size_t size)
-{
-    if (allowed == 0)
-        return NULL;
-    if (allowed > 0)
-        allowed--;
-    void *at = __real_malloc(size);
-    blocks += at != NULL;
-    return at;
-}
-
-void __wrap_free(void *at)
-{
-    blocks -= at != NULL;
-    __real_free(at);
-}
 
 static const freeze_queue_limits limits = {.hardware = 8, .max = 3, .chunk = 0, .physical = 1};
 
@@ -39,22 +18,22 @@ static long life(long allow)
     freeze_queue_final last;
     allowed = allow;
     uint32_t answer = freeze_queue_new(&freezer, &limits, 64, 2);
-    if (answer == FREEZE_QUEUE_NO_MEMORY) {
+    if (answer == FREEZE_QUEUE_ERR_NO_MEMORY) {
         allowed = -1;
         return freezer.is_open ? -2 : allow;
     }
     long refused = -1;
     for (int i = 0; i < 2; i++)
-        if (freeze_queue_next_tag(&freezer, &tag[i]) == FREEZE_QUEUE_NO_MEMORY) {
+        if (freeze_queue_next_tag(&freezer, &tag[i]) == FREEZE_QUEUE_ERR_NO_MEMORY) {
             refused = allow;
-            if (tag[i].is_open || (i == 1 && freeze_queue_remove(&freezer, &last) != FREEZE_QUEUE_TAGS_OUT))
+            if (tag[i].is_open || (i == 1 && freeze_queue_remove(&freezer, &last) != FREEZE_QUEUE_ERR_TAGS_OUT))
                 return -2;
             allowed = -1; /* the tag waits still */
             if (freeze_queue_next_tag(&freezer, &tag[i]))
                 return -2;
         }
     allowed = -1;
-    if (freeze_queue_next_tag(&freezer, &(freeze_queue_tag){0}) != FREEZE_QUEUE_NO_TAG)
+    if (freeze_queue_next_tag(&freezer, &(freeze_queue_tag){0}) != FREEZE_QUEUE_ERR_NO_TAG)
         return -2;
     allowed = 0; /* from here on nothing needs memory */
     uint32_t depth, wrong = freeze_queue_try_enter(&tag[0], 0) || freeze_queue_leave(&tag[0], 0) ||
@@ -76,11 +55,11 @@ static int fills(void)
     if (freeze_queue_new(&freezer, &limits, 2, 3))
         return 1;
     long allow = 0;
-    for (uint32_t answer = FREEZE_QUEUE_NO_MEMORY; answer != FREEZE_QUEUE_OK; allow++) {
+    for (uint32_t answer = FREEZE_QUEUE_ERR_NO_MEMORY; answer != FREEZE_QUEUE_OK; allow++) {
         allowed = allow;
         answer = freeze_queue_pool_fill(&pool, &freezer, 3);
         allowed = -1;
-        if (answer != FREEZE_QUEUE_OK && answer != FREEZE_QUEUE_NO_MEMORY)
+        if (answer != FREEZE_QUEUE_OK && answer != FREEZE_QUEUE_ERR_NO_MEMORY)
             return 2;
     }
     return allow < 2 || freeze_queue_pool_empty(&pool, &freezer) || freeze_queue_remove(&freezer, &last);
@@ -97,7 +76,7 @@ static int one_place_twice(void)
     freeze_queue_free_freezer(&freezer);
     if (freeze_queue_new(&freezer, &limits, 1, 1) || freeze_queue_next_tag(&freezer, &tag))
         return 2;
-    if (freeze_queue_give_tag_back(&freezer, &old) != FREEZE_QUEUE_OTHER_QUEUE || freeze_queue_try_enter(&old, 0))
+    if (freeze_queue_give_tag_back(&freezer, &old) != FREEZE_QUEUE_ERR_OTHER_QUEUE || freeze_queue_try_enter(&old, 0))
         return 3;
     freeze_queue_free_tag(&old); /* entered */
     freeze_queue_free_tag(&old);
@@ -117,10 +96,10 @@ static int freed_tags(void)
     freeze_queue_free_tag(&tag);
     if (freeze_queue_start_freeze(&freezer, &depth) != FREEZE_QUEUE_OK || freeze_queue_poll_drained(&freezer))
         return 2;
-    if (freeze_queue_remove(&freezer, &last) != FREEZE_QUEUE_TAGS_OUT || !freezer.is_open)
+    if (freeze_queue_remove(&freezer, &last) != FREEZE_QUEUE_ERR_TAGS_OUT || !freezer.is_open)
         return 3;
     freeze_queue_free_freezer(&freezer);
-    return freeze_queue_remove(&freezer, &last) != FREEZE_QUEUE_CLOSED;
+    return freeze_queue_remove(&freezer, &last) != FREEZE_QUEUE_ERR_CLOSED;
 }
 
 int main(void)

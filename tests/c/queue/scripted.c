@@ -49,7 +49,7 @@ static uint32_t tries(freeze_queue_tag *tag, uint32_t slot)
 #define freeze_queue_depth(of, depth) freeze_queue_depth(under_lock(of, 0), depth)
 #define freeze_queue_limits_in_force(of, limits) freeze_queue_limits_in_force(under_lock(of, 0), limits)
 #define freeze_queue_try_enter tries
-#include "freeze_queue_wait.h"
+#include "freeze_queue_waits.h"
 
 static freeze_queue_waits waits;
 static const struct timespec soon = {1, 0};
@@ -135,10 +135,11 @@ static void nobody_waits(void)
     long before = locks;
     IS(freeze_queue_waits_enter(&waits, &tags[0], 0, NULL), OK);
     IS(freeze_queue_waits_try_enter(&waits, &tags[1], 1), OK);
+    IS(freeze_queue_waits_stay(&waits, &tags[0], 0, NULL), OK);
     IS(freeze_queue_waits_leave(&waits, &tags[0], 0), OK);
     IS(freeze_queue_waits_leave(&waits, &tags[1], 1), OK);
-    IS(freeze_queue_waits_leave(&waits, &tags[1], 1), NOT_ENTERED_TAG);
-    IS(freeze_queue_waits_enter(&waits, &tags[0], 9, NULL), SLOT);
+    IS(freeze_queue_waits_leave(&waits, &tags[1], 1), ERR_TAG_NOT_ENTERED);
+    IS(freeze_queue_waits_enter(&waits, &tags[0], 9, NULL), ERR_BAD_SLOT);
     TELLS(locks - before, 0);
     SHOWS(true, false);
 }
@@ -206,6 +207,25 @@ static void waits_for_the_thaw(void)
     leaves(0, false);
 }
 
+/* A tag that stays leaves for a freeze. Where it is the last it locks to tell that, and each waits for the thaw under one lock. */
+static void stays_until_a_freeze(void)
+{
+    IS(freeze_queue_waits_enter(&waits, &tags[0], 0, NULL), OK);
+    IS(freeze_queue_waits_enter(&waits, &tags[1], 1, NULL), OK);
+    IS(freeze_queue_waits_begin_freeze(&waits), OK);
+    SHOWS(false, false);
+    acts(NULL, NULL, NULL);
+    long before = locks;
+    IS(freeze_queue_waits_stay(&waits, &tags[1], 1, &soon), ERR_TIMED_OUT);
+    TELLS(locks - before, 1);
+    SHOWS(false, false);
+    acts(thaws_and_freezes, thaws, NULL);
+    IS(freeze_queue_waits_stay(&waits, &tags[0], 1, NULL), LIVE_AGAIN);
+    TELLS(have_acted(), true);
+    TELLS(tried_on, 1);
+    leaves(0, false);
+}
+
 /* The thaw is seen, and a freeze comes before the next try. */
 static void freezes_after_the_look(void) { after_unlock = begins_a_freeze; }
 static void thaws_and_is_frozen_later(void)
@@ -229,8 +249,8 @@ static void deadlines_pass(void)
 {
     begins_a_freeze();
     acts(wakes_by_itself, NULL, NULL);
-    IS(freeze_queue_waits_enter(&waits, &tags[0], 0, &soon), TIMED_OUT);
-    IS(freeze_queue_waits_leave(&waits, &tags[0], 0), NOT_ENTERED_TAG);
+    IS(freeze_queue_waits_enter(&waits, &tags[0], 0, &soon), ERR_TIMED_OUT);
+    IS(freeze_queue_waits_leave(&waits, &tags[0], 0), ERR_TAG_NOT_ENTERED);
     acts(thaws_untold, NULL, NULL); /* whoever tells of it comes later: a last look */
     IS(freeze_queue_waits_enter(&waits, &tags[0], 0, &soon), OK);
     acts(first_leaves_untold, NULL, NULL);
@@ -239,13 +259,13 @@ static void deadlines_pass(void)
     IS(freeze_queue_waits_enter(&waits, &tags[0], 0, NULL), OK);
     acts(NULL, NULL, NULL);
     long before = broadcasts;
-    IS(freeze_queue_waits_freeze(&waits, &soon), TIMED_OUT);
+    IS(freeze_queue_waits_freeze(&waits, &soon), ERR_TIMED_OUT);
     TELLS(broadcasts - before, 1); /* of those who wait to enter */
     TELLS(depth_now(), 0);
     SHOWS(true, false);
     IS(freeze_queue_waits_begin_freeze(&waits), OK);
     SHOWS(false, false);
-    IS(freeze_queue_waits_freeze(&waits, &soon), TIMED_OUT);
+    IS(freeze_queue_waits_freeze(&waits, &soon), ERR_TIMED_OUT);
     TELLS(depth_now(), 1);
     SHOWS(false, false);
     leaves(0, true);
@@ -274,24 +294,24 @@ static void changes(void)
     SHOWS(true, false);
     long before = freezes;
     next.max = 65;
-    IS(freeze_queue_waits_change(&waits, &next, NULL), ABOVE_HARDWARE);
+    IS(freeze_queue_waits_change(&waits, &next, NULL), ERR_ABOVE_HARDWARE);
     next.hardware = 65;
-    IS(freeze_queue_waits_change(&waits, &next, NULL), OTHER_HARDWARE);
+    IS(freeze_queue_waits_change(&waits, &next, NULL), ERR_OTHER_HARDWARE);
     TELLS(freezes - before, 0);
     /* a set that is refused, and a drain that comes too late: it is live again, with the limits that it had */
     next.hardware = 64;
     next.max = 6;
-    set_refuses = FREEZE_QUEUE_NOT_DRAINED;
-    IS(freeze_queue_waits_change(&waits, &next, NULL), NOT_DRAINED);
+    set_refuses = FREEZE_QUEUE_ERR_NOT_DRAINED;
+    IS(freeze_queue_waits_change(&waits, &next, NULL), ERR_NOT_DRAINED);
     SHOWS(true, false);
     IS(freeze_queue_waits_enter(&waits, &tags[0], 0, NULL), OK);
     acts(NULL, NULL, NULL);
-    IS(freeze_queue_waits_change(&waits, &next, &soon), TIMED_OUT);
+    IS(freeze_queue_waits_change(&waits, &next, &soon), ERR_TIMED_OUT);
     leaves(0, false);
     TELLS(max_now(), 5);
     TELLS(depth_now(), 0);
-    IS(freeze_queue_waits_mode(&waits, FREEZE_QUEUE_ATOMIC), OK);
-    IS(freeze_queue_waits_set(&waits, &next), NOT_FROZEN);
+    IS(freeze_queue_waits_mode(&waits, FREEZE_QUEUE_MODE_ATOMIC), OK);
+    IS(freeze_queue_waits_set(&waits, &next), ERR_NOT_FROZEN);
 }
 
 /* A change within a freeze ends its own freeze alone. */
@@ -312,10 +332,10 @@ static void the_greatest_depth(void)
 {
     for (uint32_t depth = 0; depth < FREEZE_QUEUE_MOST_DEPTH; depth++)
         begins_a_freeze();
-    IS(freeze_queue_waits_freeze(&waits, NULL), DEPTH_FULL);
-    IS(freeze_queue_waits_freeze(&waits, &soon), DEPTH_FULL);
-    IS(freeze_queue_waits_begin_freeze(&waits), DEPTH_FULL);
-    IS(freeze_queue_waits_change(&waits, &limits, NULL), DEPTH_FULL);
+    IS(freeze_queue_waits_freeze(&waits, NULL), ERR_DEPTH_FULL);
+    IS(freeze_queue_waits_freeze(&waits, &soon), ERR_DEPTH_FULL);
+    IS(freeze_queue_waits_begin_freeze(&waits), ERR_DEPTH_FULL);
+    IS(freeze_queue_waits_change(&waits, &limits, NULL), ERR_DEPTH_FULL);
     TELLS(depth_now(), FREEZE_QUEUE_MOST_DEPTH);
     SHOWS(false, true);
     for (uint32_t depth = 1; depth < FREEZE_QUEUE_MOST_DEPTH; depth++)
@@ -336,6 +356,7 @@ int main(void)
     waits_for_the_drain();
     two_wait_for_the_drain();
     waits_for_the_thaw();
+    stays_until_a_freeze();
     is_frozen_before_the_next_try();
     deadlines_pass();
     changes();
@@ -344,7 +365,7 @@ int main(void)
     for (int i = 0; i < 3; i++)
         IS(freeze_queue_give_tag_back(&freezer, &tags[i]), OK);
     IS(freeze_queue_remove(&freezer, &last), OK);
-    IS(freeze_queue_waits_begin_freeze(&waits), CLOSED);
+    IS(freeze_queue_waits_begin_freeze(&waits), ERR_CLOSED);
     SHOWS(false, false); /* no queue is live, or drained */
     freeze_queue_waits_destroy(&waits);
     printf("%s\n", failures ? "FAILED" : "as the script has it");

@@ -1,9 +1,11 @@
-/* Included before freeze_queue_wait.h or freeze_queue_pool.h: their locks and conditions are watched, with one thread and
+/* Included before freeze_queue_waits.h or freeze_queue_pool.h: their locks and conditions are watched, with one thread and
  * a script. Where a call would sleep, the next of the script acts as another thread would, and has to wake it; where one
  * would lock or unlock, others may act before or after. So each wake and each look is tried in an order that is the same
  * each time, and a wake that is lost is told at once. */
 #ifndef SCRIPTED_H
 #define SCRIPTED_H
+#include "../is.h"
+
 #include <errno.h>
 #include <pthread.h>
 #include <stdbool.h>
@@ -14,7 +16,6 @@
 
 typedef void (*scripted_act)(void);
 
-static int failures;
 static scripted_act script[8], before_lock, after_unlock; /* the script ends with NULL */
 static int next_act;
 static pthread_mutex_t *locked;   /* the one lock that is held */
@@ -26,16 +27,7 @@ static struct sleeper {
     struct sleeper *outer;
 } *asleep; /* the last one first */
 
-static void is(const char *what, uint64_t value, uint64_t want, int line)
-{
-    if (value == want)
-        return;
-    fprintf(stderr, "line %d: %s is %lu, not %lu\n", line, what, (unsigned long)value, (unsigned long)want);
-    failures++;
-}
-
 #define IS(call, want) is(#call, call, FREEZE_QUEUE_##want, __LINE__)
-#define TELLS(value, want) is(#value, (uint64_t)(value), want, __LINE__)
 
 static void need(bool holds, const char *what)
 {

@@ -15,13 +15,13 @@ static void gives(int which)
     freeze_queue_tag *tag = out[which];
     out[which] = NULL;
     need(tag != NULL, "nothing to give");
-    freeze_queue_pool_give(&pool, tag);
+    IS(freeze_queue_pool_give(&pool, tag), OK);
 }
 static void gives_first(void) { gives(0); }
 static void gives_second(void) { gives(1); }
 static void gives_first_untold(void)
 {
-    ((freeze_queue_pooled *)(void *)out[0])->is_out = 0;
+    ((freeze_queue_pooled *)(void *)out[0])->mark = 0;
     out[0] = NULL;
 }
 static void second_waits(void) { second = freeze_queue_pool_take_waiting(&pool, 0, NULL); }
@@ -65,11 +65,91 @@ static void each_tag_that_is_out_is_seen(const freeze_queue_limits *limits)
     for (uint32_t place = 0; place < FREEZE_QUEUE_MOST_TAGS; place++) {
         freeze_queue_tag *tag = freeze_queue_pool_take(&greatest, place);
         TELLS(tag == &greatest.tags[place].tag, true);
-        IS(freeze_queue_pool_empty(&greatest, &all), TAGS_OUT);
-        freeze_queue_pool_give(&greatest, tag);
+        IS(freeze_queue_pool_empty(&greatest, &all), ERR_TAGS_OUT);
+        IS(freeze_queue_pool_give(&greatest, tag), OK);
     }
     IS(freeze_queue_pool_empty(&greatest, &all), OK);
     IS(freeze_queue_remove(&all, &last), OK);
+}
+
+/* A tag that is given back twice is told, also if a call waits: then once more under the lock, and no other is woken for it. */
+static void gives_twice(void)
+{
+    freeze_queue_tag *tag = out[0];
+    gives(0);
+    IS(freeze_queue_pool_give(&pool, tag), ERR_TAG_NOT_OUT);
+}
+static void a_second_giving_is_told(void)
+{
+    takes_all();
+    freeze_queue_tag *tag = out[0];
+    gives_first();
+    IS(freeze_queue_pool_give(&pool, tag), ERR_TAG_NOT_OUT);
+    TELLS((out[0] = freeze_queue_pool_take(&pool, 0)) == tag, true);
+    acts(gives_twice, NULL, NULL);
+    takes_what_is_given(NULL);
+}
+
+/* ---- Looked into ---- */
+
+static void tags_in_flight_are_listed(void)
+{
+    freeze_queue_taken list[2] = {{9, 9, 9, 9}, {9, 9, 9, 9}};
+    TELLS(freeze_queue_pool_in_flight(&pool, list, 2), 0);
+    out[0] = freeze_queue_pool_take(&pool, 0); /* nobody watches yet */
+    uint64_t before = freeze_queue_pool_clock();
+    freeze_queue_pool_watch(&pool, true);
+    out[1] = freeze_queue_pool_take(&pool, 41);
+    TELLS(freeze_queue_pool_in_flight(&pool, list, 0), 2);
+    TELLS(list[0].place, 9);
+    TELLS(freeze_queue_pool_in_flight(&pool, list, 2), 2);
+    TELLS(list[0].place == 0 && list[0].since == 0 && list[0].slot == 0 && list[0].thread == 0, true);
+    TELLS(list[1].place == 1 && list[1].slot == 41 && list[1].thread == (uint64_t)(uintptr_t)pthread_self(), true);
+    TELLS(list[1].since >= before && list[1].since <= freeze_queue_pool_clock(), true);
+    gives_second();
+    TELLS(freeze_queue_pool_in_flight(&pool, list, 2), 1);
+    freeze_queue_pool_watch(&pool, false);
+    out[1] = freeze_queue_pool_take(&pool, 1);
+    TELLS(freeze_queue_pool_in_flight(&pool, list, 2), 2);
+    TELLS(list[1].place == 1 && list[1].since == 0 && list[1].thread == 0, true); /* not as it was noted before */
+    gives_first();
+    gives_second();
+}
+
+/* ---- The end ---- */
+
+static freeze_queue_waits waits;
+static void none_is_there(void) { TELLS(freeze_queue_pool_take_waiting(&pool, 1, NULL) == NULL, true); }
+static void the_pool_ends(void)
+{
+    TELLS(freeze_queue_waits_init(&waits, &freezer), 0);
+    takes_all();
+    acts(gives_first, none_is_there, NULL);
+    IS(freeze_queue_pool_end(&pool, &waits, &soon), ERR_TIMED_OUT);
+    TELLS(have_acted() && pool.count == 2 && !pool.is_ending, true);
+    TELLS((out[0] = freeze_queue_pool_take(&pool, 0)) == &pool.tags[0].tag, true);
+    acts(wakes_by_itself, gives_second, gives_first);
+    IS(freeze_queue_pool_end(&pool, &waits, NULL), OK);
+    TELLS(have_acted() && pool.count == 0 && locked == NULL, true);
+    IS(freeze_queue_pool_end(&pool, &waits, NULL), ERR_CLOSED);
+    TELLS(freeze_queue_pool_take(&pool, 0) == NULL && freeze_queue_pool_take_waiting(&pool, 0, NULL) == NULL, true);
+    IS(freeze_queue_pool_fill(&pool, &freezer, 2), ERR_OPEN);
+    freeze_queue_pool_destroy(&pool);
+    IS(freeze_queue_pool_fill(&pool, &freezer, 2), OK);
+    freeze_queue_pool_destroy(&pool); /* it hasn't ended */
+    takes_all();
+    gives_first();
+    gives_second();
+}
+
+static void pools_are_aligned(void)
+{
+    for (int i = 0; i < 8; i++) {
+        freeze_queue_pool *made = freeze_queue_pool_new();
+        TELLS(made != NULL && (uintptr_t)made % 128 == 0 && made->count == 0, true);
+        IS(freeze_queue_pool_empty(made, &freezer), ERR_CLOSED);
+        freeze_queue_pool_free(made);
+    }
 }
 
 int main(void)
@@ -98,6 +178,11 @@ int main(void)
     TELLS(pool.waiting, 0);
     acts(gives_first_untold, NULL, NULL); /* and once more, with a tag there by then */
     takes_what_is_given(&soon);
+    a_second_giving_is_told();
+    tags_in_flight_are_listed();
+    the_pool_ends();
+    pools_are_aligned();
+    freeze_queue_waits_destroy(&waits);
     IS(freeze_queue_pool_empty(&pool, &freezer), OK);
     IS(freeze_queue_remove(&freezer, &last), OK);
     each_tag_that_is_out_is_seen(&limits);

@@ -1,5 +1,5 @@
-/* Times a round of the queue (enter, read the limits, leave) and a change of its limits, beside the bare steps in C and
- * beside other guards of the same limits. speed THREADS ROUNDS CHANGES prints a line for each form,
+/* Times a round of the queue (enter, read the limits, leave; or stay with the limits that are known) and a change of its
+ * limits, beside the bare steps in C and beside other guards of the same limits. speed THREADS ROUNDS CHANGES prints a line for each form,
  * 'queue,FORM,THREADS,NANOSECONDS': the nanoseconds of a round by the clock. Of a form whose limits can change a second line
  * follows, 'change,FORM,THREADS,MEDIAN,NINETY_NINTH,NANOSECONDS': the microseconds of a change under load, with a pause of
  * 100 microseconds before each, and the nanoseconds of a round meanwhile. liburcu is there with -DWITH_URCU -lurcu-memb. */
@@ -76,6 +76,23 @@ static uint64_t by_waits(uint32_t number, long count)
         sum += limits_under(tag);
         need(!freeze_queue_is_refused(freeze_queue_waits_leave(&waits, tag, number)), "not left");
     }
+    return sum;
+}
+
+/* Entered once, and asked to stay after each request. */
+static uint64_t that_stays(uint32_t number, long count)
+{
+    freeze_queue_tag *tag = &tags[number].tag;
+    uint64_t sum = 0;
+    uint32_t answer = freeze_queue_waits_enter(&waits, tag, number, NULL);
+    for (uint64_t limits = limits_under(tag); count > 0; count--) {
+        sum += limits;
+        answer = freeze_queue_waits_stay(&waits, tag, number, NULL);
+        if (answer != FREEZE_QUEUE_OK)
+            limits = limits_under(tag);
+    }
+    need(!freeze_queue_is_refused(answer), "not entered");
+    need(!freeze_queue_is_refused(freeze_queue_waits_leave(&waits, tag, number)), "not left");
     return sum;
 }
 
@@ -183,6 +200,7 @@ static const struct form {
 } forms[] = {
     {"queue from C", at_the_queue, NULL},
     {"queue from C by the waits", by_waits, change_queue},
+    {"queue from C that stays", that_stays, change_queue},
     {"queue from C by a pool", by_the_pool, NULL},
     {"the bare steps in C", bare_steps, NULL},
     {"a bare count with membarrier", by_membarrier, change_by_membarrier},

@@ -68,11 +68,11 @@ static void one_freeze(long i, uint64_t *drained_here)
             abort();
     }
     *drained_here += answer == FREEZE_QUEUE_DRAINED;
-    if (i % 5 == 0 && freeze_queue_mode(&freezer, i % 2 ? FREEZE_QUEUE_ATOMIC : FREEZE_QUEUE_SLOTS))
+    if (i % 5 == 0 && freeze_queue_mode(&freezer, i % 2 ? FREEZE_QUEUE_MODE_ATOMIC : FREEZE_QUEUE_MODE_SLOTS))
         abort();
     if (freeze_queue_thaw(&freezer, &depth) != FREEZE_QUEUE_LIVE_AGAIN || depth != 0)
         abort();
-    if (i % 7 == 0 && freeze_queue_mode(&freezer, i % 2 ? FREEZE_QUEUE_SLOTS : FREEZE_QUEUE_ATOMIC))
+    if (i % 7 == 0 && freeze_queue_mode(&freezer, i % 2 ? FREEZE_QUEUE_MODE_SLOTS : FREEZE_QUEUE_MODE_ATOMIC))
         abort();
 }
 

@@ -113,7 +113,7 @@ int main(int argc, char **argv)
         need(freeze_queue_next_tag(&freezer, &callers[t].tag) == FREEZE_QUEUE_OK &&
                  pthread_create(&callers[t].thread, NULL, t == LEAVER ? leaves : tries, &callers[t]) == 0, "no thread");
     for (; i < freezes || !seen; i++) {
-        need(freeze_queue_mode(&freezer, i % 2 ? FREEZE_QUEUE_ATOMIC : FREEZE_QUEUE_SLOTS) == FREEZE_QUEUE_OK, "a mode");
+        need(freeze_queue_mode(&freezer, i % 2 ? FREEZE_QUEUE_MODE_ATOMIC : FREEZE_QUEUE_MODE_SLOTS) == FREEZE_QUEUE_OK, "a mode");
         one_freeze();
         seen = seen || all_are_seen();
         need(seen || time(NULL) - begun < most, "nobody is told by a try that is refused");

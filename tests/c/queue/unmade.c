@@ -82,11 +82,11 @@ static freeze_queue_freezer freezer;
 static freeze_queue_waits waits;
 static freeze_queue_pool pool;
 
-/* What waits are made of, in any order: a mutex, and two conditions of three steps each. */
+/* What waits are made of, in any order: a mutex, and three conditions of three steps each. */
 static void waits_are_made(void)
 {
     int refusals[4] = {0}; /* of mutexes, of attributes, of clocks, of conditions */
-    for (int allow = 0; allow < 7; allow++) {
+    for (int allow = 0; allow < 10; allow++) {
         allowed = allow;
         int refused = freeze_queue_waits_init(&waits, &freezer);
         TELLS(made, 0);
@@ -96,13 +96,13 @@ static void waits_are_made(void)
         refusals[2] += refused == EINVAL;
         refusals[3] += refused == EBUSY;
     }
-    TELLS(refusals[0] == 1 && refusals[1] == 2 && refusals[2] == 2 && refusals[3] == 2, true);
-    allowed = 7;
+    TELLS(refusals[0] == 1 && refusals[1] == 3 && refusals[2] == 3 && refusals[3] == 3, true);
+    allowed = 10;
     monotonic = 0;
     TELLS(freeze_queue_waits_init(&waits, &freezer), 0);
     TELLS(allowed, 0);
-    TELLS(monotonic, 2);
-    TELLS(made, 3);
+    TELLS(monotonic, 3);
+    TELLS(made, 4);
 }
 
 static void events_are_opened(void)
@@ -110,7 +110,7 @@ static void events_are_opened(void)
     for (allowed = 0; allowed < 2;) {
         int allow = allowed;
         TELLS(freeze_queue_waits_open_events(&waits), EMFILE);
-        TELLS(made, 3);
+        TELLS(made, 4);
         TELLS(waits.live_event == -1 && waits.drained_event == -1, true);
         allowed = allow + 1;
     }
@@ -118,7 +118,7 @@ static void events_are_opened(void)
     TELLS(waits.live_event >= 0 && waits.drained_event >= 0, true);
     TELLS(stays_here(waits.live_event) && stays_here(waits.drained_event), true);
     TELLS(never_waits(waits.live_event) && never_waits(waits.drained_event), true);
-    TELLS(made, 5);
+    TELLS(made, 6);
     freeze_queue_waits_destroy(&waits);
     TELLS(made, 0);
 }
@@ -128,7 +128,7 @@ static void an_event_has_the_number_0(void)
 {
     int input = fcntl(0, F_DUPFD_CLOEXEC, 3);
     for (int before = 0; before < 2; before++) {
-        allowed = 9;
+        allowed = 12;
         events_before_0 = before;
         TELLS(freeze_queue_waits_init(&waits, &freezer), 0);
         TELLS(freeze_queue_waits_open_events(&waits), 0);
@@ -146,7 +146,7 @@ static void a_pool_is_filled(void)
     freeze_queue_tag tag = {0};
     for (int allow = 0; allow < 4; allow++) {
         allowed = allow;
-        TELLS(freeze_queue_pool_fill(&pool, &freezer, 2), FREEZE_QUEUE_NO_MEMORY);
+        TELLS(freeze_queue_pool_fill(&pool, &freezer, 2), FREEZE_QUEUE_ERR_NO_MEMORY);
         TELLS(made, 0);
         TELLS(pool.count, 0);
         for (int i = 0; i < 2; i++) { /* the queue has all tags back */

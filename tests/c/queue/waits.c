@@ -1,7 +1,8 @@
 /* Waiting at a queue, call by call: deadlines that pass and that don't, nested freezes by several threads, two queues
  * frozen together, and the events. What is waited for comes about 20 milliseconds later, on another thread. */
 #define _POSIX_C_SOURCE 200809L
-#include "freeze_queue_wait.h"
+#include "freeze_queue_waits.h"
+#include "../is.h"
 
 #include <poll.h>
 #include <stdio.h>
@@ -9,18 +10,7 @@
 
 static const uint64_t SOON = 20000000, LONG = 20000000000; /* nanoseconds */
 
-static int failures;
-
-static void is(const char *call, uint64_t answer, uint64_t want, int line)
-{
-    if (answer == want)
-        return;
-    fprintf(stderr, "line %d: %s answers %lu, not %lu\n", line, call, (unsigned long)answer, (unsigned long)want);
-    failures++;
-}
-
 #define IS(call, want) is(#call, call, FREEZE_QUEUE_##want, __LINE__)
-#define TELLS(value, want) is(#value, value, want, __LINE__)
 
 static freeze_queue_limits limits = {.hardware = 64, .max = 8, .chunk = 0, .physical = 1};
 
@@ -104,12 +94,12 @@ static void freezes_with_deadlines(struct queue *queue)
     struct timespec soon = freeze_queue_deadline(SOON), past = {0, 0};
     IS(freeze_queue_waits_freeze(&queue->waits, &past), OK); /* nobody is in */
     IS(freeze_queue_waits_thaw(&queue->waits), LIVE_AGAIN);
-    IS(freeze_queue_waits_thaw(&queue->waits), NOT_FROZEN);
+    IS(freeze_queue_waits_thaw(&queue->waits), ERR_NOT_FROZEN);
     IS(freeze_queue_waits_enter(&queue->waits, &queue->tags[0], 0, &past), OK);
-    IS(freeze_queue_waits_enter(&queue->waits, &queue->tags[0], 0, NULL), ENTERED);
-    IS(freeze_queue_waits_enter(&queue->waits, &queue->tags[0], 9, NULL), SLOT);
-    IS(freeze_queue_waits_freeze(&queue->waits, &past), TIMED_OUT);
-    IS(freeze_queue_waits_freeze(&queue->waits, &soon), TIMED_OUT);
+    IS(freeze_queue_waits_enter(&queue->waits, &queue->tags[0], 0, NULL), ERR_ALREADY_ENTERED);
+    IS(freeze_queue_waits_enter(&queue->waits, &queue->tags[0], 9, NULL), ERR_BAD_SLOT);
+    IS(freeze_queue_waits_freeze(&queue->waits, &past), ERR_TIMED_OUT);
+    IS(freeze_queue_waits_freeze(&queue->waits, &soon), ERR_TIMED_OUT);
     TELLS(has_passed(&soon), true);
     TELLS(depth_of(queue), 0);
     IS(freeze_queue_waits_enter(&queue->waits, &queue->tags[1], 1, &past), OK); /* live again */
@@ -119,7 +109,7 @@ static void freezes_with_deadlines(struct queue *queue)
     IS(freeze_queue_waits_freeze(&queue->waits, &late), OK);
     IS(answer_of(&later), OK);
     TELLS(has_passed(&late), false);
-    IS(freeze_queue_waits_leave(&queue->waits, &queue->tags[0], 1), NOT_ENTERED_TAG);
+    IS(freeze_queue_waits_leave(&queue->waits, &queue->tags[0], 1), ERR_TAG_NOT_ENTERED);
 }
 
 /* The last tag leaves before the deadline, under the lock, and who told of it would come after the deadline: whoever waits
@@ -155,9 +145,9 @@ static void enters_with_deadlines(struct queue *queue)
     struct later later, other;
     struct timespec soon = freeze_queue_deadline(SOON);
     IS(freeze_queue_waits_try_enter(&queue->waits, &queue->tags[0], 0), NOT_ENTERED);
-    IS(freeze_queue_waits_enter(&queue->waits, &queue->tags[0], 0, &soon), TIMED_OUT);
+    IS(freeze_queue_waits_enter(&queue->waits, &queue->tags[0], 0, &soon), ERR_TIMED_OUT);
     TELLS(has_passed(&soon), true);
-    IS(freeze_queue_waits_leave(&queue->waits, &queue->tags[0], 0), NOT_ENTERED_TAG);
+    IS(freeze_queue_waits_leave(&queue->waits, &queue->tags[0], 0), ERR_TAG_NOT_ENTERED);
     begin(&later, queue, thaws, SOON);
     begin(&other, queue, second_enters, 0);
     struct timespec late = freeze_queue_deadline(LONG);
@@ -176,7 +166,7 @@ static void nested(struct queue *queue)
     begin(&second, queue, freezes, 0);
     while (depth_of(queue) < 2) {}
     struct timespec soon = freeze_queue_deadline(SOON);
-    IS(freeze_queue_waits_freeze(&queue->waits, &soon), TIMED_OUT);
+    IS(freeze_queue_waits_freeze(&queue->waits, &soon), ERR_TIMED_OUT);
     TELLS(depth_of(queue), 2);
     begin(&enters, queue, second_enters, 0);
     begin(&leaves, queue, first_leaves, SOON);
@@ -194,10 +184,39 @@ static void nested(struct queue *queue)
     IS(freeze_queue_waits_leave(&queue->waits, &queue->tags[1], 0), OK);
     IS(freeze_queue_waits_enter(&queue->waits, &queue->tags[0], 0, NULL), OK);
     begin(&enters, queue, second_enters, SOON / 2);
-    IS(freeze_queue_waits_freeze(&queue->waits, &deadline), TIMED_OUT);
+    IS(freeze_queue_waits_freeze(&queue->waits, &deadline), ERR_TIMED_OUT);
     IS(answer_of(&enters), OK);
     IS(freeze_queue_waits_leave(&queue->waits, &queue->tags[0], 0), OK);
     IS(freeze_queue_waits_leave(&queue->waits, &queue->tags[1], 0), OK);
+}
+
+static uint32_t first_stays(struct queue *queue) { return freeze_queue_waits_stay(&queue->waits, &queue->tags[0], 1, NULL); }
+
+/* A tag stays in a live queue. In a frozen one it leaves, and as the last wakes who freezes; then it waits for the thaw, or has
+ * left where that is late. */
+static void stays(struct queue *queue)
+{
+    struct later freezing, staying;
+    struct timespec past = {0, 0}, late = freeze_queue_deadline(LONG);
+    IS(freeze_queue_waits_stay(&queue->waits, &queue->tags[0], 0, NULL), ERR_TAG_NOT_ENTERED);
+    IS(freeze_queue_waits_enter(&queue->waits, &queue->tags[0], 0, NULL), OK);
+    IS(freeze_queue_waits_stay(&queue->waits, &queue->tags[0], 9, NULL), ERR_BAD_SLOT);
+    IS(freeze_queue_waits_stay(&queue->waits, &queue->tags[0], 0, &past), OK);
+    begin(&freezing, queue, freezes, 0);
+    while (depth_of(queue) < 1) {}
+    begin(&staying, queue, first_stays, SOON);
+    IS(answer_of(&freezing), OK);
+    IS(freeze_queue_waits_thaw(&queue->waits), LIVE_AGAIN);
+    IS(answer_of(&staying), LIVE_AGAIN);
+    TELLS(has_passed(&late), false);
+    IS(freeze_queue_waits_enter(&queue->waits, &queue->tags[1], 1, NULL), OK);
+    IS(freeze_queue_waits_begin_freeze(&queue->waits), OK);
+    IS(freeze_queue_waits_stay(&queue->waits, &queue->tags[1], 1, &past), ERR_TIMED_OUT); /* not the last */
+    TELLS(freeze_queue_waits_is_drained(&queue->waits), false);
+    IS(freeze_queue_waits_stay(&queue->waits, &queue->tags[0], 0, &past), ERR_TIMED_OUT);
+    TELLS(freeze_queue_waits_is_drained(&queue->waits), true);
+    IS(freeze_queue_waits_leave(&queue->waits, &queue->tags[0], 0), ERR_TAG_NOT_ENTERED);
+    IS(freeze_queue_waits_thaw(&queue->waits), LIVE_AGAIN);
 }
 
 /* The calls of waits whose freezer is closed. */
@@ -207,16 +226,17 @@ static void closed(void)
     uint32_t depth = 7;
     freeze_queue_limits told = {7, 7, 7, 7};
     TELLS((uint64_t)freeze_queue_waits_init(&none.waits, &none.freezer), 0);
-    IS(freeze_queue_waits_enter(&none.waits, &none.tags[0], 0, NULL), CLOSED);
-    IS(freeze_queue_waits_leave(&none.waits, &none.tags[0], 0), CLOSED);
-    IS(freeze_queue_waits_freeze(&none.waits, NULL), CLOSED);
-    IS(freeze_queue_waits_begin_freeze(&none.waits), CLOSED);
-    IS(freeze_queue_waits_set(&none.waits, &limits), CLOSED);
-    IS(freeze_queue_waits_thaw(&none.waits), CLOSED);
-    IS(freeze_queue_waits_change(&none.waits, &limits, NULL), CLOSED);
-    IS(freeze_queue_waits_mode(&none.waits, 0), CLOSED);
-    IS(freeze_queue_waits_depth(&none.waits, &depth), CLOSED);
-    IS(freeze_queue_waits_limits(&none.waits, &told), CLOSED);
+    IS(freeze_queue_waits_enter(&none.waits, &none.tags[0], 0, NULL), ERR_CLOSED);
+    IS(freeze_queue_waits_leave(&none.waits, &none.tags[0], 0), ERR_CLOSED);
+    IS(freeze_queue_waits_stay(&none.waits, &none.tags[0], 0, NULL), ERR_CLOSED);
+    IS(freeze_queue_waits_freeze(&none.waits, NULL), ERR_CLOSED);
+    IS(freeze_queue_waits_begin_freeze(&none.waits), ERR_CLOSED);
+    IS(freeze_queue_waits_set(&none.waits, &limits), ERR_CLOSED);
+    IS(freeze_queue_waits_thaw(&none.waits), ERR_CLOSED);
+    IS(freeze_queue_waits_change(&none.waits, &limits, NULL), ERR_CLOSED);
+    IS(freeze_queue_waits_mode(&none.waits, 0), ERR_CLOSED);
+    IS(freeze_queue_waits_depth(&none.waits, &depth), ERR_CLOSED);
+    IS(freeze_queue_waits_limits(&none.waits, &told), ERR_CLOSED);
     TELLS(freeze_queue_waits_is_drained(&none.waits), false);
     TELLS(depth == 7 && told.max == 7, true);
     freeze_queue_waits_destroy(&none.waits);
@@ -228,18 +248,18 @@ static void changes(struct queue *queue)
     struct timespec past = {0, 0};
     other.max = 65;
     IS(freeze_queue_waits_enter(&queue->waits, &queue->tags[0], 0, NULL), OK);
-    IS(freeze_queue_waits_change(&queue->waits, &other, NULL), ABOVE_HARDWARE); /* at once, though a tag is in */
+    IS(freeze_queue_waits_change(&queue->waits, &other, NULL), ERR_ABOVE_HARDWARE); /* at once, though a tag is in */
     other = (freeze_queue_limits){.hardware = 65, .max = 1, .chunk = 0, .physical = 1};
-    IS(freeze_queue_waits_change(&queue->waits, &other, NULL), OTHER_HARDWARE);
+    IS(freeze_queue_waits_change(&queue->waits, &other, NULL), ERR_OTHER_HARDWARE);
     other.hardware = 64;
-    IS(freeze_queue_waits_set(&queue->waits, &other), NOT_FROZEN);
-    IS(freeze_queue_waits_mode(&queue->waits, 2), MODE);
-    IS(freeze_queue_waits_mode(&queue->waits, FREEZE_QUEUE_ATOMIC), OK);
-    IS(freeze_queue_waits_change(&queue->waits, &other, &past), TIMED_OUT);
+    IS(freeze_queue_waits_set(&queue->waits, &other), ERR_NOT_FROZEN);
+    IS(freeze_queue_waits_mode(&queue->waits, 2), ERR_BAD_MODE);
+    IS(freeze_queue_waits_mode(&queue->waits, FREEZE_QUEUE_MODE_ATOMIC), OK);
+    IS(freeze_queue_waits_change(&queue->waits, &other, &past), ERR_TIMED_OUT);
     IS(freeze_queue_limits_of(&queue->tags[0], &told), OK);
     TELLS(told.max, 8);
     IS(freeze_queue_waits_begin_freeze(&queue->waits), OK);
-    IS(freeze_queue_waits_set(&queue->waits, &other), NOT_DRAINED);
+    IS(freeze_queue_waits_set(&queue->waits, &other), ERR_NOT_DRAINED);
     IS(freeze_queue_waits_thaw(&queue->waits), LIVE_AGAIN);
     IS(freeze_queue_waits_leave(&queue->waits, &queue->tags[0], 0), OK);
     IS(freeze_queue_waits_change(&queue->waits, &other, NULL), OK);
@@ -343,6 +363,7 @@ int main(int argc, char **argv)
     enters_with_deadlines(&queues[0]);
     nested(&queues[0]);
     looks_after_the_deadline(&queues[0]);
+    stays(&queues[0]);
     closed();
     changes(&queues[0]);
 #if defined(__linux__)

@@ -13,6 +13,7 @@
 typedef struct freeze_queue_waits {
     pthread_rwlock_t lock;
     uint32_t depth; /* of the control's thread alone, which holds the lock while it isn't 0 */
+    int drained_event;
 } freeze_queue_waits;
 
 typedef struct freeze_queue_pool {
@@ -78,7 +79,7 @@ static inline uint32_t freeze_queue_waits_enter(freeze_queue_waits *waits, freez
 {
     (void)tag, (void)slot;
     return pthread_rwlock_clockrdlock(&waits->lock, CLOCK_MONOTONIC, deadline) == 0 ? FREEZE_QUEUE_OK
-                                                                                    : FREEZE_QUEUE_TIMED_OUT;
+                                                                                    : FREEZE_QUEUE_ERR_TIMED_OUT;
 }
 
 static inline uint32_t freeze_queue_waits_leave(freeze_queue_waits *waits, freeze_queue_tag *tag, uint32_t slot)
@@ -103,27 +104,35 @@ static inline uint32_t peer_limits_of(const freeze_queue_tag *tag, freeze_queue_
     return FREEZE_QUEUE_OK;
 }
 
-#define freeze_queue_pool_take_waiting(pool, hint, deadline) ((void)(deadline), &(pool)->tag)
+#define freeze_queue_pool_take_waiting(pool, hint, deadline) ((void)(deadline), (void)(hint), &(pool)->tag)
 #define freeze_queue_pool_give(pool, tag) ((void)(tag))
 #define freeze_queue_limits_of peer_limits_of
 
 /* ---- The control ---- */
 
-static inline uint32_t freeze_queue_waits_freeze(freeze_queue_waits *waits, const struct timespec *deadline)
+/* Where others wait in poll for the drain, this waits for it. */
+static inline uint32_t freeze_queue_waits_begin_freeze(freeze_queue_waits *waits)
 {
-    (void)deadline;
 #ifdef RWLOCK
     if (waits->depth == 0)
         pthread_rwlock_wrlock(&waits->lock);
 #endif
     waits->depth++;
-    return FREEZE_QUEUE_OK;
+    return FREEZE_QUEUE_DRAINED;
+}
+
+static inline bool freeze_queue_waits_is_drained(const freeze_queue_waits *waits) { return waits->depth > 0; }
+
+static inline int freeze_queue_waits_open_events(freeze_queue_waits *waits)
+{
+    waits->drained_event = -1;
+    return 0;
 }
 
 static inline uint32_t freeze_queue_waits_thaw(freeze_queue_waits *waits)
 {
     if (waits->depth == 0)
-        return FREEZE_QUEUE_NOT_FROZEN;
+        return FREEZE_QUEUE_ERR_NOT_FROZEN;
     waits->depth--;
 #ifdef RWLOCK
     if (waits->depth == 0)
@@ -136,15 +145,6 @@ static inline uint32_t freeze_queue_waits_set(freeze_queue_waits *waits, const f
 {
     (void)waits;
     return peer_new(limits);
-}
-
-static inline uint32_t freeze_queue_waits_change(freeze_queue_waits *waits, const freeze_queue_limits *limits,
-                                                 const struct timespec *deadline)
-{
-    (void)freeze_queue_waits_freeze(waits, deadline);
-    uint32_t refused = freeze_queue_waits_set(waits, limits);
-    (void)freeze_queue_waits_thaw(waits);
-    return refused;
 }
 
 static inline uint32_t freeze_queue_waits_depth(const freeze_queue_waits *waits, uint32_t *depth)
@@ -160,6 +160,6 @@ static inline uint32_t freeze_queue_waits_limits(const freeze_queue_waits *waits
     return FREEZE_QUEUE_OK;
 }
 
-#define freeze_queue_waits_mode(waits, mode) ((mode) <= FREEZE_QUEUE_ATOMIC ? FREEZE_QUEUE_OK : FREEZE_QUEUE_MODE)
+#define freeze_queue_waits_mode(waits, mode) ((mode) <= FREEZE_QUEUE_MODE_ATOMIC ? FREEZE_QUEUE_OK : FREEZE_QUEUE_ERR_BAD_MODE)
 
 #endif

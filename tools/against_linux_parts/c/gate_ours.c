@@ -20,9 +20,9 @@ static void released(bool is_so)
 static bool begin(void)
 {
     uint64_t words[8] = {0};
-    uint32_t start = has_word(3, "atomic") ? PERCPU_GATE_ATOMIC : has_word(3, "dead") ? PERCPU_GATE_DEAD : PERCPU_GATE_SLOTS;
+    uint32_t start = has_word(3, "atomic") ? PERCPU_GATE_START_ATOMIC : has_word(3, "dead") ? PERCPU_GATE_START_DEAD : PERCPU_GATE_START_SLOTS;
     bool is_small = is_start(3) && number(1) <= MOST && number(2) <= MOST;
-    uint32_t answer = is_small ? percpu_gate_new(&control, number(1), number(2), start, words) : PERCPU_GATE_SIZE;
+    uint32_t answer = is_small ? percpu_gate_new(&control, number(1), number(2), start, words) : PERCPU_GATE_ERR_BAD_SIZE;
     slots = number(1);
     passes = answer ? 0 : number(2);
     memset(held, 0, sizeof held);
@@ -78,8 +78,8 @@ static bool of_pass(void)
 /* Whether the call is refused, as the kernel's rules name it or by its text. */
 static bool is_refusal(uint32_t answer)
 {
-    if (answer == PERCPU_GATE_ALREADY_DEAD || answer == PERCPU_GATE_NOT_DEAD || answer == PERCPU_GATE_NOT_ZERO)
-        printf(answer == PERCPU_GATE_ALREADY_DEAD ? "already dead" : answer == PERCPU_GATE_NOT_DEAD ? "not dead" : "not zero");
+    if (answer == PERCPU_GATE_ERR_ALREADY_DEAD || answer == PERCPU_GATE_ERR_NOT_DEAD || answer == PERCPU_GATE_ERR_NOT_ZERO)
+        printf(answer == PERCPU_GATE_ERR_ALREADY_DEAD ? "already dead" : answer == PERCPU_GATE_ERR_NOT_DEAD ? "not dead" : "not zero");
     else if (answer >= 16)
         refused(answer);
     return answer >= 16;

@@ -32,8 +32,8 @@ static bool begin(void)
     memset(is_waiting, 0, sizeof is_waiting);
     memset(has_waiter, 0, sizeof has_waiter);
     freeze_queue_limits limits = limits_at(hardware, 4);
-    uint32_t answer = number(1) > 64 || number(2) > TAGS ? FREEZE_QUEUE_SIZE : freeze_queue_new(&freezer, &limits, slots, tags);
-    is_there = !answer && limits.max; /* a maximum of 0 asks for the hardware's here */
+    uint32_t answer = number(1) > 64 || number(2) > TAGS ? FREEZE_QUEUE_ERR_BAD_SIZE : freeze_queue_new(&freezer, &limits, slots, tags);
+    is_there = !answer && limits.max && limits.physical; /* 0 asks for the hardware's, or for one sector, here */
     if (!is_there) {
         tags = 0;
         refused(answer);
@@ -85,7 +85,7 @@ static bool of_tag(void)
         else
             printf("left");
     } else if (is_in[tag]) {
-        refused(FREEZE_QUEUE_ENTERED);
+        refused(FREEZE_QUEUE_ERR_ALREADY_ENTERED);
     } else if ((answer = entered(tag, slot, is("look"))) >= 16) {
         refused(answer);
     } else if (is("enter")) {
@@ -140,8 +140,8 @@ static void wait_drained(void)
 static void set(void)
 {
     freeze_queue_limits limits = limits_at(hardware, 1);
-    uint32_t answer = limits.max ? freeze_queue_set(&freezer, &limits) : FREEZE_QUEUE_HARDWARE_RANGE;
-    if (answer == FREEZE_QUEUE_NOT_DRAINED || answer == FREEZE_QUEUE_NOT_FROZEN)
+    uint32_t answer = limits.max && limits.physical ? freeze_queue_set(&freezer, &limits) : FREEZE_QUEUE_ERR_HARDWARE_RANGE;
+    if (answer == FREEZE_QUEUE_ERR_NOT_DRAINED || answer == FREEZE_QUEUE_ERR_NOT_FROZEN)
         printf("not drained");
     else if (answer)
         refused(answer);
@@ -153,7 +153,7 @@ static void set(void)
 static void froze_or_thawed(void)
 {
     uint32_t depth, answer = (is("freeze") ? freeze_queue_start_freeze : freeze_queue_thaw)(&freezer, &depth);
-    if (answer == FREEZE_QUEUE_NOT_FROZEN) {
+    if (answer == FREEZE_QUEUE_ERR_NOT_FROZEN) {
         printf("not frozen");
     } else if (answer >= 16) {
         refused(answer);
@@ -179,7 +179,7 @@ static void of_freezer(void)
     } else if (is("set")) {
         set();
     } else if (is("mode")) {
-        uint32_t answer = freeze_queue_mode(&freezer, has_word(1, "slots") ? FREEZE_QUEUE_SLOTS : FREEZE_QUEUE_ATOMIC);
+        uint32_t answer = freeze_queue_mode(&freezer, has_word(1, "slots") ? FREEZE_QUEUE_MODE_SLOTS : FREEZE_QUEUE_MODE_ATOMIC);
         if (answer)
             refused(answer);
         else

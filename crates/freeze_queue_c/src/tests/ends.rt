@@ -134,7 +134,7 @@ fn tags_that_nobody_asked_for(rt: HostRuntime) {
 fn a_tag_that_is_in_is_not_taken_back(rt: HostRuntime) {
     let (mut freezer, mut tag) = of_one_queue(&rt, rt.alloc(), 1);
     assert!(rt; enter(&freezer, &mut tag) == 0);
-    assert!(rt; freeze_queue_give_tag_back(&mut freezer, &mut tag) == 35);
+    assert!(rt; freeze_queue_give_tag_back(&mut freezer, &mut tag) == 48);
     assert!(rt; freeze_queue_leave(&mut tag, 1) == 0);
     freeze_queue_free_tag(&mut tag);
     freeze_queue_free_freezer(&mut freezer);
@@ -144,7 +144,7 @@ fn a_tag_that_is_in_is_not_taken_back(rt: HostRuntime) {
 fn a_tag_of_another_queue(rt: HostRuntime) {
     let (mut first, mut tag) = of_one_queue(&rt, rt.alloc(), 1);
     let (mut second, mut other) = of_one_queue(&rt, rt.alloc(), 2);
-    assert!(rt; freeze_queue_give_tag_back(&mut second, &mut tag) == 37);
+    assert!(rt; freeze_queue_give_tag_back(&mut second, &mut tag) == 38);
     assert!(rt; freeze_queue_try_enter(&mut tag, 0) == 0);
     assert!(rt; freeze_queue_leave(&mut tag, 0) == 0);
     freeze_queue_free_tag(&mut tag);
@@ -177,10 +177,10 @@ fn sizes(rt: HostRuntime) {
         counter: 5,
         drawn: 6,
     };
-    assert!(rt; freeze_queue_new_numbered(&mut freezer, &number, &LIMITS, 0, 2) == 38);
-    assert!(rt; freeze_queue_new_numbered(&mut freezer, &number, &LIMITS, 65, 2) == 38);
-    assert!(rt; freeze_queue_new_numbered(&mut freezer, &number, &LIMITS, 2, 0) == 38);
-    assert!(rt; freeze_queue_new_numbered(&mut freezer, &number, &LIMITS, 2, 64) == 38);
+    assert!(rt; freeze_queue_new_numbered(&mut freezer, &number, &LIMITS, 0, 2) == 35);
+    assert!(rt; freeze_queue_new_numbered(&mut freezer, &number, &LIMITS, 65, 2) == 35);
+    assert!(rt; freeze_queue_new_numbered(&mut freezer, &number, &LIMITS, 2, 0) == 35);
+    assert!(rt; freeze_queue_new_numbered(&mut freezer, &number, &LIMITS, 2, 64) == 35);
     assert!(rt; freeze_queue_new_numbered(&mut freezer, &number, &LIMITS, 64, 63) == 0);
     assert!(rt; freeze_queue_new_numbered(&mut freezer, &number, &LIMITS, 64, 63) == 33);
     for _ in 0..63u32 {

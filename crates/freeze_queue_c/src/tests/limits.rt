@@ -27,7 +27,8 @@ fn limits(hardware: u32, max: u32, chunk: u32, physical: u32) -> PlainLimits {
     }
 }
 
-/// Set while the queue is drained, and told from then on; 0 asks for as many sectors as the hardware takes.
+/// Set while the queue is drained, and told from then on; 0 asks for as many sectors as the hardware takes, for no chunk, and
+/// for a physical block of one sector.
 #[test]
 fn set_and_told(rt: HostRuntime) {
     let (mut freezer, mut tag) = opened(rt);
@@ -48,6 +49,11 @@ fn set_and_told(rt: HostRuntime) {
     assert!(rt; freeze_queue_try_enter(&mut tag, 1) == 0);
     assert!(rt; freeze_queue_limits_of(&mut tag, &mut told) == 0);
     assert!(rt; told == limits(16, 16, 7, 8));
+    assert!(rt; freeze_queue_leave(&mut tag, 1) == 0);
+    assert!(rt; freeze_queue_start_freeze(&mut freezer, &mut depth) == 4);
+    assert!(rt; freeze_queue_set(&mut freezer, &limits(16, 0, 0, 0)) == 0);
+    assert!(rt; freeze_queue_limits_in_force(&mut freezer, &mut told) == 0);
+    assert!(rt; told == limits(16, 16, 0, 1));
     close(&mut freezer, &mut tag);
     assert!(rt; freeze_queue_limits_in_force(&mut freezer, &mut told) == 32);
 }
@@ -80,7 +86,7 @@ fn limits_of_a_new_queue(rt: HostRuntime) {
     assert!(rt;
         freeze_queue_new_numbered(&mut freezer, &NUMBER, &limits(8, 0, 65_536, 1), 65, 2) == 26
     );
-    assert!(rt; freeze_queue_new_numbered(&mut freezer, &NUMBER, &limits(8, 0, 0, 0), 65, 2) == 28);
+    assert!(rt; freeze_queue_new_numbered(&mut freezer, &NUMBER, &limits(8, 0, 0, 6), 65, 2) == 28);
     assert!(rt;
         freeze_queue_new_numbered(&mut freezer, &NUMBER, &limits(65_535, 0, 0, 1), 1, 1) == 0
     );
@@ -100,8 +106,8 @@ fn first_pieces(rt: HostRuntime) {
     assert!(rt; piece == 7);
     assert!(rt; freeze_queue_first_piece(&limits(16, 0, 0, 1), 8_589_934_591, 40, &mut piece) == 0);
     assert!(rt; piece == 16);
-    assert!(rt; freeze_queue_first_piece(&LIMITS, 8_589_934_592, 1, &mut piece) == 42);
-    assert!(rt; freeze_queue_first_piece(&LIMITS, 3, 0, &mut piece) == 42);
+    assert!(rt; freeze_queue_first_piece(&LIMITS, 8_589_934_592, 1, &mut piece) == 51);
+    assert!(rt; freeze_queue_first_piece(&LIMITS, 3, 0, &mut piece) == 51);
     assert!(rt; freeze_queue_first_piece(&limits(16, 17, 0, 1), 3, 0, &mut piece) == 25);
     assert!(rt; piece == 16);
 }

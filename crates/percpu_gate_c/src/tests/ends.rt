@@ -5,7 +5,7 @@ ghost use Rattle.percpu_gate_c.specs.Life.{NumbersTellOn};
 
 use super::WORDS;
 use crate::control_calls::{
-    percpu_gate_control_is_zero, percpu_gate_kill, percpu_gate_releases, percpu_gate_resurrect,
+    percpu_gate_control_is_zero, percpu_gate_kill, percpu_gate_release_count, percpu_gate_resurrect,
 };
 use crate::control_handle::ControlHandle;
 use crate::gate_number::GateNumber;
@@ -91,7 +91,7 @@ fn a_whole_life(rt: HostRuntime) {
     assert!(rt; put(&control, &mut pass) == 1);
     assert!(rt; percpu_gate_retire(&mut control, &mut pass) == 0);
     assert!(rt; percpu_gate_put(&mut pass, 0, 1) == 32);
-    assert!(rt; percpu_gate_releases(&mut control, &mut releases) == 0);
+    assert!(rt; percpu_gate_release_count(&mut control, &mut releases) == 0);
     assert!(rt; releases == 1);
     assert!(rt; percpu_gate_exit(&mut control, &mut last) == 0);
     assert!(rt; (last.dead, last.kills, last.releases) == (true, 1, 1));
@@ -152,7 +152,7 @@ fn passes_that_nobody_asked_for(rt: HostRuntime) {
 fn a_pass_that_holds_is_not_retired(rt: HostRuntime) {
     let (mut control, mut pass) = of_one_gate(&rt, rt.alloc(), 1);
     assert!(rt; take(&control, &mut pass) == 0);
-    assert!(rt; percpu_gate_retire(&mut control, &mut pass) == 40);
+    assert!(rt; percpu_gate_retire(&mut control, &mut pass) == 66);
     assert!(rt; percpu_gate_put(&mut pass, 0, 1) == 0);
     percpu_gate_free_pass(&mut pass);
     percpu_gate_free_control(&mut control);
@@ -162,7 +162,7 @@ fn a_pass_that_holds_is_not_retired(rt: HostRuntime) {
 fn a_pass_of_another_gate(rt: HostRuntime) {
     let (mut first, mut pass) = of_one_gate(&rt, rt.alloc(), 1);
     let (mut second, mut other) = of_one_gate(&rt, rt.alloc(), 2);
-    assert!(rt; percpu_gate_retire(&mut second, &mut pass) == 41);
+    assert!(rt; percpu_gate_retire(&mut second, &mut pass) == 38);
     assert!(rt; percpu_gate_try_get_live(&mut pass, 0) == 0);
     assert!(rt; percpu_gate_kill(&mut second) == 1);
     assert!(rt; percpu_gate_put(&mut pass, 0, 1) == 0);
@@ -209,7 +209,7 @@ fn the_greatest_gate(rt: HostRuntime) {
         assert!(rt; percpu_gate_next_pass(&mut control, &mut pass) == 0);
         percpu_gate_free_pass(&mut pass);
     }
-    assert!(rt; percpu_gate_next_pass(&mut control, &mut pass) == 43);
+    assert!(rt; percpu_gate_next_pass(&mut control, &mut pass) == 39);
     assert!(rt; percpu_gate_exit(&mut control, &mut last) == 22);
     percpu_gate_free_control(&mut control);
 }
@@ -220,7 +220,7 @@ fn no_pass_takes_no_share(rt: HostRuntime) {
     let (mut control, mut pass) = of_one_gate(&rt, rt.alloc(), 1);
     let mut last = NOT_YET;
     assert!(rt; percpu_gate_retire(&mut control, &mut pass) == 0);
-    assert!(rt; percpu_gate_next_pass(&mut control, &mut pass) == 43);
+    assert!(rt; percpu_gate_next_pass(&mut control, &mut pass) == 39);
     assert!(rt; percpu_gate_exit(&mut control, &mut last) == 0);
 }
 

@@ -1,7 +1,7 @@
 //! Handles that are freed: the gate stays as it was, for each handle that is left.
 use super::{NUMBER, WORDS};
 use crate::control_calls::{
-    percpu_gate_control_is_zero, percpu_gate_kill, percpu_gate_releases, percpu_gate_resurrect,
+    percpu_gate_control_is_zero, percpu_gate_kill, percpu_gate_release_count, percpu_gate_resurrect,
 };
 use crate::control_handle::ControlHandle;
 use crate::kill_steps::{
@@ -77,7 +77,7 @@ fn a_freed_pass_leaves_the_shared_word(rt: HostRuntime) {
         let is_zero = percpu_gate_is_zero(&mut left);
         assert!(rt; is_zero == (held == 0));
         let mut releases = 7;
-        percpu_gate_releases(&mut control, &mut releases);
+        percpu_gate_release_count(&mut control, &mut releases);
         assert!(rt; releases == 0);
         percpu_gate_free_pass(&mut left);
         percpu_gate_free_control(&mut control);

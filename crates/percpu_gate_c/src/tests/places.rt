@@ -1,6 +1,6 @@
 //! The places of arguments, which no contract has: each call that takes several numbers, with another in each place.
 use super::{NUMBER, WORDS, opened};
-use crate::control_calls::{percpu_gate_kill, percpu_gate_store_word, percpu_gate_words};
+use crate::control_calls::{percpu_gate_all_words, percpu_gate_kill, percpu_gate_store_word};
 use crate::control_handle::ControlHandle;
 use crate::kill_steps::percpu_gate_phase;
 use crate::life::{
@@ -21,7 +21,7 @@ fn slots_passes_start(rt: HostRuntime) {
     assert!(rt; percpu_gate_phase(&mut control) == 1);
     assert!(rt; percpu_gate_next_pass(&mut control, &mut first) == 0);
     assert!(rt; percpu_gate_next_pass(&mut control, &mut second) == 0);
-    assert!(rt; percpu_gate_next_pass(&mut control, &mut third) == 43);
+    assert!(rt; percpu_gate_next_pass(&mut control, &mut third) == 39);
     assert!(rt; percpu_gate_try_get(&mut first, 2) == 0);
     assert!(rt; percpu_gate_try_get(&mut second, 3) == 34);
     percpu_gate_free_pass(&mut first);
@@ -54,7 +54,7 @@ fn word_and_value(rt: HostRuntime) {
     assert!(rt; percpu_gate_kill(&mut control) == 0);
     assert!(rt; percpu_gate_put(&mut pass, 0, 1) == 1);
     assert!(rt; percpu_gate_store_word(&mut control, 3, 5) == 0);
-    assert!(rt; percpu_gate_words(&mut control, &mut words) == 0);
+    assert!(rt; percpu_gate_all_words(&mut control, &mut words) == 0);
     assert!(rt; words == [7, 1, 2, 5, 4, 5, 6, 9]);
     percpu_gate_free_pass(&mut pass);
     percpu_gate_free_control(&mut control);

@@ -9,7 +9,7 @@
 //! A [`CompletionQueue`] goes the other way: its [`Collector`] gives a [`Duty`] for each request, which goes with the
 //! request and is used up when its completion is told: what is left of it is a [`Receipt`], by which a thread shows that it
 //! told. So each is collected once at most. A [`SpareQueue`] holds what isn't in use; what is known of it is what its type
-//! keeps, and that its one [`Taker`] took so many, and who puts back put so many ([`PutCount`]).
+//! keeps, and that its one [`Taker`] took so many from it, and each thread that puts back put so many into it ([`PutCount`]).
 //!
 //! `specs/Requests.antt` and `specs/Completions.antt` have the rules, which hold at each moment and which each step
 //! keeps; `specs/Parts.antt` what those who take part know, and `specs/Numbers.antt` what draws are. The tests in

@@ -9,7 +9,8 @@
 //!   with its request. Whoever ends the request leaves with the tag. `try_enter` and `leave` are one counting
 //!   call of the gate each: no lock, and nothing that all submitters write, where each names a slot of its own
 //!   (in the other [`Mode`] they share one count). `enter` counts itself among those who wait only once it has
-//!   been refused some times.
+//!   been refused some times. A busy thread stays entered between two requests: `stay_or_enter` looks once whether a
+//!   freeze has begun, and leaves, waits and enters again only then. It leaves before it sleeps for any other reason.
 //! - **Frozen.** The [`Freezer`] counts freezes. The first kills the gate: no tag enters from then on, but by
 //!   `try_enter_frozen`, to look at what is under way. The last tag to leave wakes those who wait for the drain. `freeze`
 //!   starts and waits; who freezes several queues calls `start_freeze` on each, and then `wait_drained` on each.
@@ -30,9 +31,9 @@ mod remove;
 mod shared;
 
 pub use crate::erased::queue_core::{
-    Final, FreezeFault, LIMIT_WORDS, LimitFault, Limits, MOST_DEPTH, MOST_TAGS, Memory, Mode, Put, Tag,
+    Final, FreezeFault, LIMIT_WORDS, LimitFault, Limits, MOST_DEPTH, MOST_TAGS, Memory, Mode, Put, Stay, Tag,
 };
-pub use enter::Enter;
+pub use enter::{Enter, StayOrEnter};
 pub use freezer::Freezer;
 pub use queue::{BlockQueue, NewQueue};
 pub use remove::RemoveFault;

@@ -12,6 +12,7 @@ use std::fmt;
 /// # Ok::<(), Box<dyn std::error::Error>>(())
 /// ```
 #[derive(Clone, Copy, Debug, PartialEq, Eq, Hash)]
+#[non_exhaustive]
 pub enum EnterError {
     /// The tag is of another queue.
     OtherQueue,
@@ -32,6 +33,7 @@ pub enum EnterError {
 /// # Ok::<(), Box<dyn std::error::Error>>(())
 /// ```
 #[derive(Clone, Copy, Debug, PartialEq, Eq, Hash)]
+#[non_exhaustive]
 pub enum TryEnterError {
     /// The tag is of another queue.
     OtherQueue,
@@ -39,7 +41,8 @@ pub enum TryEnterError {
     StillEntered,
     /// The queue's device is gone ([`Frozen::mark_dying`](crate::Frozen::mark_dying)).
     Dying,
-    /// The queue is frozen. A try is counted for a moment, and holds the drain off meanwhile: wait for the thaw.
+    /// The queue is frozen, drained or not. (Each such try is counted for a moment and holds the drain off, so wait for the
+    /// thaw.)
     Frozen,
 }
 
@@ -56,6 +59,7 @@ pub enum TryEnterError {
 /// # Ok::<(), Box<dyn std::error::Error>>(())
 /// ```
 #[derive(Clone, Copy, Debug, PartialEq, Eq, Hash)]
+#[non_exhaustive]
 pub enum EnterTimeoutError {
     /// The tag is of another queue.
     OtherQueue,
@@ -90,13 +94,41 @@ impl EnterError {
 /// # Ok::<(), Box<dyn std::error::Error>>(())
 /// ```
 #[derive(Clone, Copy, Debug, PartialEq, Eq, Hash)]
+#[non_exhaustive]
 pub enum EnterFrozenError {
     /// The tag is of another queue.
     OtherQueue,
     /// The tag's last request was forgotten (`mem::forget`), and has entered for ever.
     StillEntered,
-    /// The queue is frozen and drained.
+    /// The queue is frozen and drained: no request is in flight.
     Drained,
+}
+
+/// Why a request doesn't stay entered.
+///
+/// ```
+/// # use freeze_queue::{Limits, Queue, StayError};
+/// # use std::{thread, time::Duration};
+/// let queue = Queue::new(Limits::of_hardware(64), 1, 1)?;
+/// let mut tag = queue.next_tag(0)?;
+/// let mut request = queue.enter(&mut tag)?;
+/// thread::scope(|threads| {
+///     threads.spawn(|| queue.freeze().map(drop));
+///     let why = loop {
+///         match request.stay() {
+///             Ok(entered) => request = entered,
+///             Err(why) => break why,
+///         }
+///     };
+///     assert_eq!(why, StayError::Frozen); // it has left, so the freeze goes on
+/// });
+/// # Ok::<(), Box<dyn std::error::Error>>(())
+/// ```
+#[derive(Clone, Copy, Debug, PartialEq, Eq, Hash)]
+#[non_exhaustive]
+pub enum StayError {
+    /// The queue is frozen, or its device is gone.
+    Frozen,
 }
 
 texts! {
@@ -109,7 +141,10 @@ texts! {
         OtherQueue => "the tag is of another queue",
         StillEntered => "the tag has entered",
         Dying => "the queue's device is gone",
-        Frozen => "the tag isn't entered",
+        Frozen => "the queue is frozen",
+    }
+    StayError {
+        Frozen => "the queue is frozen",
     }
     EnterTimeoutError {
         OtherQueue => "the tag is of another queue",
@@ -120,6 +155,6 @@ texts! {
     EnterFrozenError {
         OtherQueue => "the tag is of another queue",
         StillEntered => "the tag has entered",
-        Drained => "the tag isn't entered",
+        Drained => "the queue is frozen and drained",
     }
 }

@@ -1,4 +1,5 @@
 //! Why a queue isn't frozen.
+use super::{LimitsError, SetError};
 use std::error::Error;
 use std::fmt;
 
@@ -13,6 +14,7 @@ use std::fmt;
 /// # Ok::<(), Box<dyn std::error::Error>>(())
 /// ```
 #[derive(Clone, Copy, Debug, PartialEq, Eq, Hash)]
+#[non_exhaustive]
 pub enum FreezeError {
     /// 1,000 freezes aren't thawed yet.
     DepthFull,
@@ -31,6 +33,7 @@ pub enum FreezeError {
 /// # Ok::<(), Box<dyn std::error::Error>>(())
 /// ```
 #[derive(Clone, Copy, Debug, PartialEq, Eq, Hash)]
+#[non_exhaustive]
 pub enum TryFreezeError {
     /// 1,000 freezes aren't thawed yet.
     DepthFull,
@@ -53,6 +56,7 @@ pub enum TryFreezeError {
 /// # Ok::<(), Box<dyn std::error::Error>>(())
 /// ```
 #[derive(Clone, Copy, Debug, PartialEq, Eq, Hash)]
+#[non_exhaustive]
 pub enum FreezeTimeoutError {
     /// 1,000 freezes aren't thawed yet.
     DepthFull,
@@ -62,24 +66,60 @@ pub enum FreezeTimeoutError {
     TimedOut,
 }
 
-impl FreezeError {
-    /// Of who waits without a deadline.
-    pub(crate) fn without_end(why: FreezeTimeoutError) -> FreezeError {
+/// Why [`Queue::update`](crate::Queue::update) sets nothing.
+///
+/// ```
+/// # use freeze_queue::{Limits, Queue, UpdateError};
+/// let queue = Queue::new(Limits::of_hardware(64), 1, 1)?;
+/// let refused = queue.update(|_| Limits::of_hardware(32));
+/// assert_eq!(refused, Err(UpdateError::OtherHardware));
+/// # Ok::<(), Box<dyn std::error::Error>>(())
+/// ```
+#[derive(Clone, Copy, Debug, PartialEq, Eq, Hash)]
+#[non_exhaustive]
+pub enum UpdateError {
+    /// The limits are refused.
+    Limits(LimitsError),
+    /// `hardware` isn't the queue's.
+    OtherHardware,
+    /// 1,000 freezes aren't thawed yet.
+    DepthFull,
+    /// The queue was frozen 2^40 times.
+    WornOut,
+}
+
+impl From<FreezeError> for UpdateError {
+    fn from(why: FreezeError) -> UpdateError {
         match why {
-            FreezeTimeoutError::DepthFull => FreezeError::DepthFull,
-            FreezeTimeoutError::WornOut => FreezeError::WornOut,
-            FreezeTimeoutError::TimedOut => unreachable!("a bug of freeze-queue: no deadline has passed"),
+            FreezeError::DepthFull => UpdateError::DepthFull,
+            FreezeError::WornOut => UpdateError::WornOut,
         }
     }
 }
 
-impl TryFreezeError {
-    /// Of who doesn't wait.
-    pub(crate) fn at_once(why: FreezeTimeoutError) -> TryFreezeError {
+impl From<SetError> for UpdateError {
+    fn from(why: SetError) -> UpdateError {
         match why {
-            FreezeTimeoutError::DepthFull => TryFreezeError::DepthFull,
-            FreezeTimeoutError::WornOut => TryFreezeError::WornOut,
-            FreezeTimeoutError::TimedOut => TryFreezeError::NotDrained,
+            SetError::Limits(why) => UpdateError::Limits(why),
+            SetError::OtherHardware => UpdateError::OtherHardware,
+        }
+    }
+}
+
+impl From<FreezeError> for TryFreezeError {
+    fn from(why: FreezeError) -> TryFreezeError {
+        match why {
+            FreezeError::DepthFull => TryFreezeError::DepthFull,
+            FreezeError::WornOut => TryFreezeError::WornOut,
+        }
+    }
+}
+
+impl From<FreezeError> for FreezeTimeoutError {
+    fn from(why: FreezeError) -> FreezeTimeoutError {
+        match why {
+            FreezeError::DepthFull => FreezeTimeoutError::DepthFull,
+            FreezeError::WornOut => FreezeTimeoutError::WornOut,
         }
     }
 }
@@ -95,5 +135,13 @@ texts! {
         DepthFull => "1000 freezes aren't thawed yet",
         WornOut => "the queue was frozen 2^40 times",
         TimedOut => "the deadline has passed",
+    }
+}
+
+texts_or_limits! {
+    UpdateError {
+        OtherHardware => "a hardware limit that isn't the queue's",
+        DepthFull => "1000 freezes aren't thawed yet",
+        WornOut => "the queue was frozen 2^40 times",
     }
 }

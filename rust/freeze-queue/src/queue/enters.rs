@@ -2,15 +2,9 @@
 use super::Queue;
 use crate::enter_async::EnterAsync;
 use crate::entered::Entered;
-use crate::erased::queue_core::{Entry, Put};
 use crate::errors::{EnterError, EnterFrozenError, EnterTimeoutError, TryEnterError};
-use crate::handed_back::HandedBack;
-use crate::limits::Limits;
-use crate::owned::OwnedEntered;
 use crate::tag::Tag;
-use crate::waits::Seen;
-use std::sync::Arc;
-use std::time::{Duration, Instant};
+use std::time::Duration;
 
 impl Queue {
     /// Enters, and waits for that while the queue is frozen. Who waits for a thaw of his own never comes in: a thread
@@ -35,8 +29,9 @@ impl Queue {
     /// ```
     #[inline]
     pub fn enter<'e>(&'e self, tag: &'e mut Tag) -> Result<Entered<'e>, EnterError> {
-        self.in_or_waits(tag)?;
-        Ok(Entered::of(self, tag))
+        let (queue, tag) = (self.shared(), tag.state_of(self.shared()).ok_or(EnterError::OtherQueue)?);
+        queue.in_or_waits(tag)?;
+        Ok(Entered::of(queue, tag))
     }
 
     /// Enters unless the queue is frozen. Linux: `blk_queue_enter` with `BLK_MQ_REQ_NOWAIT`.
@@ -58,8 +53,9 @@ impl Queue {
     /// ```
     #[inline]
     pub fn try_enter<'e>(&'e self, tag: &'e mut Tag) -> Result<Entered<'e>, TryEnterError> {
-        self.in_at_once(tag)?;
-        Ok(Entered::of(self, tag))
+        let (queue, tag) = (self.shared(), tag.state_of(self.shared()).ok_or(TryEnterError::OtherQueue)?);
+        queue.in_at_once(tag)?;
+        Ok(Entered::of(queue, tag))
     }
 
     /// Enters, and waits for that so long at most while the queue is frozen. It tries before it looks at the clock, so one
@@ -83,10 +79,9 @@ impl Queue {
     /// ```
     #[inline]
     pub fn enter_timeout<'e>(&'e self, tag: &'e mut Tag, patience: Duration) -> Result<Entered<'e>, EnterTimeoutError> {
-        if let Err(why) = self.in_at_once(tag) {
-            self.waits_until(tag, why, Instant::now().checked_add(patience))?;
-        }
-        Ok(Entered::of(self, tag))
+        let (queue, tag) = (self.shared(), tag.state_of(self.shared()).ok_or(EnterTimeoutError::OtherQueue)?);
+        queue.in_by_then(tag, patience)?;
+        Ok(Entered::of(queue, tag))
     }
 
     /// Enters a queue that may be frozen, to look at what is under way, unless it is drained. Until it leaves it holds the
@@ -108,20 +103,9 @@ impl Queue {
     /// # Ok::<(), Box<dyn std::error::Error>>(())
     /// ```
     pub fn try_enter_frozen<'e>(&'e self, tag: &'e mut Tag) -> Result<Entered<'e>, EnterFrozenError> {
-        if tag.queue_number() != self.number() {
-            return Err(EnterFrozenError::OtherQueue);
-        }
-        if tag.erased.entered() {
-            return Err(EnterFrozenError::StillEntered);
-        }
-        let slot = tag.slot();
-        match self.erased.try_enter_frozen(&mut tag.erased, slot) {
-            Entry::Entered => Ok(Entered::of(self, tag)),
-            Entry::Refused(put) => {
-                self.dropped(put);
-                Err(EnterFrozenError::Drained)
-            }
-        }
+        let (queue, tag) = (self.shared(), tag.state_of(self.shared()).ok_or(EnterFrozenError::OtherQueue)?);
+        queue.in_to_look(tag)?;
+        Ok(Entered::of(queue, tag))
     }
 
     /// Enters, by a future that waits while the queue is frozen, on any executor: a thaw wakes it. One that is dropped
@@ -143,141 +127,6 @@ impl Queue {
     /// # Ok::<(), Box<dyn std::error::Error>>(())
     /// ```
     pub fn enter_async<'e>(&'e self, tag: &'e mut Tag) -> EnterAsync<'e> {
-        EnterAsync::of(self, tag)
-    }
-
-    /// Enters as [`enter`](Queue::enter) does, with a tag that goes along with its request: the request may end on any
-    /// thread.
-    ///
-    /// # Errors
-    ///
-    /// Those of `enter`. They hand the tag back.
-    ///
-    /// # Examples
-    ///
-    /// ```
-    /// # use freeze_queue::{Limits, Queue};
-    /// # use std::{sync::Arc, thread};
-    /// let queue = Arc::new(Queue::new(Limits::of_hardware(64), 1, 1)?);
-    /// let request = queue.enter_owned(queue.next_tag(0)?)?;
-    /// let tag = thread::spawn(move || request.leave()).join().unwrap();
-    /// queue.give_back(tag)?;
-    /// # Ok::<(), Box<dyn std::error::Error>>(())
-    /// ```
-    #[expect(clippy::result_large_err, reason = "a refusal hands the tag back")]
-    pub fn enter_owned(self: &Arc<Self>, mut tag: Tag) -> Result<OwnedEntered, HandedBack<Tag, EnterError>> {
-        match self.in_or_waits(&mut tag) {
-            Ok(()) => Ok(OwnedEntered::of(Arc::clone(self), tag)),
-            Err(reason) => Err(HandedBack { value: tag, reason }),
-        }
-    }
-
-    /// Enters as [`try_enter`](Queue::try_enter) does, with a tag that goes along with its request.
-    ///
-    /// # Errors
-    ///
-    /// Those of `try_enter`. They hand the tag back.
-    ///
-    /// # Examples
-    ///
-    /// ```
-    /// # use freeze_queue::{Limits, Queue, TryEnterError};
-    /// # use std::sync::Arc;
-    /// let queue = Arc::new(Queue::new(Limits::of_hardware(64), 1, 1)?);
-    /// let frozen = queue.freeze()?;
-    /// let refused = queue.try_enter_owned(queue.next_tag(0)?).unwrap_err();
-    /// assert_eq!(refused.reason, TryEnterError::Frozen);
-    /// drop(frozen);
-    /// let request = queue.try_enter_owned(refused.value)?;
-    /// assert_eq!(request.limits().max, 64);
-    /// # Ok::<(), Box<dyn std::error::Error>>(())
-    /// ```
-    #[expect(clippy::result_large_err, reason = "a refusal hands the tag back")]
-    pub fn try_enter_owned(self: &Arc<Self>, mut tag: Tag) -> Result<OwnedEntered, HandedBack<Tag, TryEnterError>> {
-        match self.in_at_once(&mut tag) {
-            Ok(()) => Ok(OwnedEntered::of(Arc::clone(self), tag)),
-            Err(reason) => Err(HandedBack { value: tag, reason }),
-        }
-    }
-
-    /// The tag enters, or why it doesn't.
-    #[inline]
-    pub(crate) fn in_at_once(&self, tag: &mut Tag) -> Result<(), TryEnterError> {
-        if tag.queue_number() != self.number() {
-            return Err(TryEnterError::OtherQueue);
-        }
-        if tag.erased.entered() {
-            return Err(TryEnterError::StillEntered);
-        }
-        let slot = tag.slot();
-        match self.erased.try_enter(&mut tag.erased, slot) {
-            Entry::Entered => Ok(()),
-            Entry::Refused(put) => Err(self.not_in(put)),
-        }
-    }
-
-    /// Why a try was refused, whose count was dropped again and that answered so.
-    #[cold]
-    fn not_in(&self, put: Put) -> TryEnterError {
-        self.dropped(put);
-        if self.is_dying() { TryEnterError::Dying } else { TryEnterError::Frozen }
-    }
-
-    #[inline]
-    fn in_or_waits(&self, tag: &mut Tag) -> Result<(), EnterError> {
-        match self.in_at_once(tag) {
-            Ok(()) => Ok(()),
-            Err(why) => self.waits_until(tag, why, None).map_err(EnterError::without_end),
-        }
-    }
-
-    /// The tag enters by the deadline, which it couldn't at once.
-    #[cold]
-    fn waits_until(
-        &self,
-        tag: &mut Tag,
-        why: TryEnterError,
-        deadline: Option<Instant>,
-    ) -> Result<(), EnterTimeoutError> {
-        let mut why = why;
-        loop {
-            match why {
-                TryEnterError::OtherQueue => return Err(EnterTimeoutError::OtherQueue),
-                TryEnterError::StillEntered => return Err(EnterTimeoutError::StillEntered),
-                TryEnterError::Dying => return Err(EnterTimeoutError::Dying),
-                TryEnterError::Frozen => {}
-            }
-            match self.waits.until_live(deadline) {
-                Some(Seen::Live) => {}
-                Some(Seen::Dying) => return Err(EnterTimeoutError::Dying),
-                None => return Err(EnterTimeoutError::TimedOut),
-            }
-            match self.in_at_once(tag) {
-                Ok(()) => return Ok(()),
-                Err(again) => why = again,
-            }
-        }
-    }
-
-    /// The limits in force, under a tag of this queue that has entered.
-    #[inline]
-    pub(crate) fn limits_under(&self, tag: &mut Tag) -> Limits {
-        self.erased.limits(&mut tag.erased).into()
-    }
-
-    /// A tag of this queue that has entered leaves.
-    #[inline]
-    pub(crate) fn leave(&self, tag: &mut Tag) {
-        let slot = tag.slot();
-        let put = self.erased.leave(&mut tag.erased, slot);
-        self.dropped(put);
-    }
-
-    /// A count was dropped: where it was the last of a freeze, those are woken who wait for the drain.
-    #[inline]
-    fn dropped(&self, put: Put) {
-        if put == Put::Last {
-            self.waits.tell_drained();
-        }
+        EnterAsync::of(self.shared(), tag)
     }
 }

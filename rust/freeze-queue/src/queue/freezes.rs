@@ -1,10 +1,12 @@
 //! The queue is frozen.
 use super::Queue;
-use crate::erased::queue_core as erased;
-use crate::errors::{FreezeError, FreezeTimeoutError, SetError, TryFreezeError};
-use crate::excluded::excluded;
-use crate::frozen::Frozen;
-use std::time::{Duration, Instant};
+use crate::drained::FreezeAsync;
+use crate::errors::{FreezeError, FreezeTimeoutError, TryFreezeError, UpdateError};
+use crate::freezing::{Freezing, OwnedFreezing};
+use crate::frozen::{Frozen, OwnedFrozen};
+use crate::limits::Limits;
+use crate::shared::Share;
+use std::time::Duration;
 
 impl Queue {
     /// Freezes the queue, and waits until each request that is under way has left. Freezes nest: each is thawed where its
@@ -21,14 +23,106 @@ impl Queue {
     /// # use freeze_queue::{Limits, Queue};
     /// # let queue = Queue::new(Limits::of_hardware(64), 1, 1)?;
     /// let frozen = queue.freeze()?;
-    /// frozen.set(Limits { max: 8, ..queue.limits() })?;
+    /// frozen.set(queue.limits().with_max(8))?;
     /// drop(frozen); // thaws
     /// # assert_eq!((queue.limits().max, queue.depth()), (8, 0));
     /// # Ok::<(), Box<dyn std::error::Error>>(())
     /// ```
     pub fn freeze(&self) -> Result<Frozen<'_>, FreezeError> {
-        self.waits.freeze(&self.erased, None).map_err(FreezeError::without_end)?;
-        Ok(Frozen::of(self))
+        Ok(self.begin_freeze()?.wait())
+    }
+
+    /// Freezes the queue as [`freeze`](Queue::freeze) does, by a freeze with a share of it, which borrows nothing.
+    ///
+    /// # Errors
+    ///
+    /// As `freeze` returns.
+    ///
+    /// # Examples
+    ///
+    /// ```
+    /// # use freeze_queue::{Limits, OwnedFrozen, Queue};
+    /// /// A service that is told to freeze by one message, and to thaw by another.
+    /// struct Service {
+    ///     queue: Queue,
+    ///     frozen: Option<OwnedFrozen>,
+    /// }
+    ///
+    /// let mut service = Service { queue: Queue::new(Limits::of_hardware(64), 1, 1)?, frozen: None };
+    /// service.frozen = Some(service.queue.freeze_owned()?);
+    /// assert_eq!(service.queue.depth(), 1);
+    /// service.frozen = None;
+    /// assert_eq!(service.queue.depth(), 0);
+    /// # Ok::<(), Box<dyn std::error::Error>>(())
+    /// ```
+    pub fn freeze_owned(&self) -> Result<OwnedFrozen, FreezeError> {
+        Ok(self.begin_freeze_owned()?.wait())
+    }
+
+    /// Begins a freeze: no request enters from then on, and those in flight drain. A caller that freezes several queues
+    /// begins each, and then waits for each. Linux: `blk_freeze_queue_start`.
+    ///
+    /// # Errors
+    ///
+    /// [`FreezeError::DepthFull`] or [`FreezeError::WornOut`].
+    ///
+    /// # Examples
+    ///
+    /// ```
+    /// # use freeze_queue::{Limits, Queue};
+    /// # let (one, other) = (Queue::new(Limits::of_hardware(64), 1, 1)?, Queue::new(Limits::of_hardware(64), 1, 1)?);
+    /// let begun = [one.begin_freeze()?, other.begin_freeze()?]; // both drain at once
+    /// let frozen = begun.map(|freezing| freezing.wait());
+    /// # assert!(one.is_drained() && other.is_drained());
+    /// # drop(frozen);
+    /// # Ok::<(), Box<dyn std::error::Error>>(())
+    /// ```
+    pub fn begin_freeze(&self) -> Result<Freezing<'_>, FreezeError> {
+        Freezing::begin(Share::Borrowed(self.shared()))
+    }
+
+    /// Begins a freeze as [`begin_freeze`](Queue::begin_freeze) does, with a share of the queue: it borrows nothing.
+    ///
+    /// # Errors
+    ///
+    /// As `begin_freeze` returns.
+    ///
+    /// # Examples
+    ///
+    /// ```
+    /// # use freeze_queue::{Limits, Queue};
+    /// # use std::thread;
+    /// # let queue = Queue::new(Limits::of_hardware(64), 1, 1)?;
+    /// let freezing = queue.begin_freeze_owned()?;
+    /// thread::spawn(move || drop(freezing.wait())).join().unwrap();
+    /// assert_eq!(queue.depth(), 0);
+    /// # Ok::<(), Box<dyn std::error::Error>>(())
+    /// ```
+    pub fn begin_freeze_owned(&self) -> Result<OwnedFreezing, FreezeError> {
+        Freezing::begin(self.share())
+    }
+
+    /// Freezes the queue by a future, which the call that leaves last wakes. Nothing is done before it is polled; dropping it
+    /// thaws. Once it was polled the queue stays frozen while the future is there, also if nobody polls it again.
+    ///
+    /// It returns as [`freeze`](Queue::freeze) does.
+    ///
+    /// ```
+    /// # use freeze_queue::{FreezeError, Limits, Queue};
+    /// # use std::{future::Future, pin::pin, task::{Context, Poll, Waker}};
+    /// async fn halve(queue: &Queue) -> Result<(), FreezeError> {
+    ///     let frozen = queue.freeze_async().await?;
+    ///     let limits = frozen.limits();
+    ///     frozen.set(limits.with_max(limits.max / 2)).expect("they are limits");
+    ///     Ok(())
+    /// }
+    /// # let queue = Queue::new(Limits::of_hardware(64), 1, 1)?;
+    /// # let done = pin!(halve(&queue)).poll(&mut Context::from_waker(Waker::noop()));
+    /// # assert_eq!((done, queue.limits().max, queue.depth()), (Poll::Ready(Ok(())), 32, 0));
+    /// # Ok::<(), Box<dyn std::error::Error>>(())
+    /// ```
+    pub fn freeze_async(&self) -> FreezeAsync<'_> {
+        FreezeAsync::of(self)
     }
 
     /// Freezes the queue where no request is under way; else it leaves it as it was. Meanwhile requests are refused for a
@@ -51,8 +145,8 @@ impl Queue {
     /// # Ok::<(), Box<dyn std::error::Error>>(())
     /// ```
     pub fn try_freeze(&self) -> Result<Frozen<'_>, TryFreezeError> {
-        self.waits.freeze(&self.erased, Some(Instant::now())).map_err(TryFreezeError::at_once)?;
-        Ok(Frozen::of(self))
+        let freezing = self.begin_freeze()?;
+        if freezing.is_drained() { Ok(freezing.wait()) } else { Err(TryFreezeError::NotDrained) }
     }
 
     /// Freezes the queue, and waits so long at most until each request that is under way has left. Where they haven't, it
@@ -75,22 +169,42 @@ impl Queue {
     /// # Ok::<(), Box<dyn std::error::Error>>(())
     /// ```
     pub fn freeze_timeout(&self, patience: Duration) -> Result<Frozen<'_>, FreezeTimeoutError> {
-        self.waits.freeze(&self.erased, Instant::now().checked_add(patience))?;
-        Ok(Frozen::of(self))
+        self.begin_freeze()?.wait_timeout(patience).map_err(|_thawed| FreezeTimeoutError::TimedOut)
     }
 
-    /// Sets limits that were checked, under a freeze that has drained the queue.
-    pub(crate) fn store_limits(&self, limits: erased::Limits) -> Result<(), SetError> {
-        let mut held = self.waits.lock();
-        if limits.hw() != held.freezer.limits().hw() {
-            return Err(SetError::OtherHardware);
+    /// Sets the limits that `change` makes of those in force, under a freeze of its own, and returns them.
+    ///
+    /// No set is lost, as in `fetch_update` of std's atomics. `change` runs before the freeze, so a slow one holds nobody up. The
+    /// limits that it saw are then compared with those in force, and set in the same hold of the lock. If another call has set
+    /// others meanwhile, the queue is thawed, and `change` is called again. It may update, freeze and enter this queue too.
+    ///
+    /// Limits that are refused freeze nothing, and neither does a `change` that panics.
+    ///
+    /// # Errors
+    ///
+    /// [`UpdateError`] has each. Then nothing is set.
+    ///
+    /// # Examples
+    ///
+    /// ```
+    /// # use freeze_queue::{Limits, LimitsError, Queue, UpdateError};
+    /// # let queue = Queue::new(Limits::of_hardware(64), 1, 1)?;
+    /// let halved = queue.update(|limits| limits.with_max(limits.max / 2))?;
+    /// assert_eq!((halved.max, queue.limits().max), (32, 32));
+    /// let refused = queue.update(|limits| limits.with_max(65));
+    /// assert_eq!(refused, Err(UpdateError::Limits(LimitsError::AboveHardware)));
+    /// # Ok::<(), Box<dyn std::error::Error>>(())
+    /// ```
+    pub fn update(&self, mut change: impl FnMut(Limits) -> Limits) -> Result<Limits, UpdateError> {
+        loop {
+            let seen = self.limits();
+            let limits = change(seen).checked().map_err(UpdateError::Limits)?;
+            if limits.hw() != seen.hardware {
+                return Err(UpdateError::OtherHardware);
+            }
+            if self.freeze()?.replace(seen, limits) {
+                return Ok(limits.into());
+            }
         }
-        held.freezer.set(&self.erased, limits).unwrap_or_else(|fault| excluded("set", fault));
-        Ok(())
-    }
-
-    /// Ends a freeze.
-    pub(crate) fn thaw(&self) {
-        self.waits.thaw(&self.erased);
     }
 }

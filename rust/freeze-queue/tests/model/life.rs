@@ -1,12 +1,15 @@
 //! A few queues live beside their models.
+use super::line::{At, Freezes};
 use super::plain::{self, Plain};
 use super::refusals::{agrees, in_time, look, waiting};
 use super::shared::{Chance, Woken};
 use super::some_limits;
 use freeze_queue::{
-    EnterAsync, EnterError, Entered, Final, FreezeError, FreezeTimeoutError, Frozen, GiveBackError, HandedBack, Limits,
-    NextTagError, OwnedEntered, Piece, Queue, RemoveError, SetError, SlotError, Tag, TryEnterError, TryFreezeError,
+    EnterAny, EnterAsync, EnterError, EnterOwnedAsync, Entered, Final, FreezeError, FreezeTimeoutError, Frozen,
+    GiveBackError, HandedBack, Limits, NextTagError, OwnedEntered, Piece, Queue, RemoveError, SetError, SlotError, Tag,
+    TryEnterError, TryFreezeError,
 };
+use std::collections::VecDeque;
 use std::mem;
 use std::pin::Pin;
 use std::sync::Arc;
@@ -16,33 +19,46 @@ use std::time::Duration;
 const SEATS: usize = 16;
 
 /// A tag, in the forms that the crate has. One that stays where it is for ever is used by what borrows it.
-enum Seated<'q> {
+pub enum Seated<'q> {
     Free(Tag),
     Owned(OwnedEntered),
     Borrowed(Entered<'q>),
     Enters(EnterAsync<'q>, Arc<Woken>),
+    OwnedEnters(EnterOwnedAsync, Arc<Woken>),
+    Any(EnterAny<'q>, At, Arc<Woken>),
 }
 
 /// Who sits, and of which queue.
-struct Seat<'q> {
-    queue: usize,
+pub struct Seat<'q> {
+    pub queue: usize,
     /// A request of it was forgotten.
-    forgotten: bool,
-    seated: Seated<'q>,
+    pub forgotten: bool,
+    pub seated: Seated<'q>,
 }
 
 pub struct Life<'q, 'c> {
-    chance: &'c mut Chance,
-    queues: &'q [(Arc<Queue>, Plain)],
-    plains: Vec<Plain>,
-    seats: [Option<Seat<'q>>; SEATS],
+    pub chance: &'c mut Chance,
+    pub queues: &'q [(Arc<Queue>, Plain)],
+    pub plains: Vec<Plain>,
+    pub seats: [Option<Seat<'q>>; SEATS],
     frozen: Vec<(usize, Frozen<'q>)>,
+    pub freezing: Vec<(usize, Freezes<'q>)>,
+    /// Which seats wait for a tag of each queue, in order of arrival.
+    pub lines: [VecDeque<usize>; 3],
 }
 
 impl<'q, 'c> Life<'q, 'c> {
     pub fn of(chance: &'c mut Chance, queues: &'q [(Arc<Queue>, Plain)]) -> Life<'q, 'c> {
         let plains = queues.iter().map(|(_, plain)| plain.clone()).collect();
-        Life { chance, queues, plains, seats: Default::default(), frozen: vec![] }
+        Life {
+            chance,
+            queues,
+            plains,
+            seats: Default::default(),
+            frozen: vec![],
+            freezing: vec![],
+            lines: Default::default(),
+        }
     }
 
     /// So many calls; then all is let go, and what the models are by then.
@@ -53,6 +69,9 @@ impl<'q, 'c> Life<'q, 'c> {
         for s in 0..SEATS {
             self.let_go(s);
         }
+        while !self.freezing.is_empty() {
+            self.give_up_freezing();
+        }
         while !self.frozen.is_empty() {
             self.thaw();
         }
@@ -61,7 +80,7 @@ impl<'q, 'c> Life<'q, 'c> {
 
     fn call(&mut self) {
         let (q, s) = (self.chance.below(3) as usize, self.chance.below(16) as usize);
-        match self.chance.below(40) {
+        match self.chance.below(50) {
             0..=4 => self.give(q, s),
             5 | 6 => self.give_back(q, s),
             7..=12 => self.enter(q, s),
@@ -76,6 +95,13 @@ impl<'q, 'c> Life<'q, 'c> {
             37 => super::cut(self.chance),
             38 if self.chance.one_in(10) => self.let_go(s),
             39 if self.chance.one_in(40) => self.mark_dying(q),
+            40 | 41 => self.enter_any(q, s),
+            42 | 43 => self.try_any(q, s),
+            44 => self.enter_owned_by_future(s),
+            45 => self.begin_freeze(q),
+            46 | 47 => self.go_on_freezing(),
+            48 => self.give_up_freezing(),
+            49 => self.update(q),
             _ => {}
         }
     }
@@ -90,7 +116,7 @@ impl<'q, 'c> Life<'q, 'c> {
         match self.queues[q].0.next_tag(slot) {
             Err(NextTagError::NoSlot) => assert!(slot >= plain.slots),
             Err(NextTagError::NoTag) => assert_eq!((slot < plain.slots, plain.waiting), (true, 0)),
-            Err(NextTagError::NoMemory) => panic!("there is memory"),
+            Err(other) => panic!("{other}"),
             Ok(tag) => {
                 assert!(slot < plain.slots && plain.waiting > 0 && tag.slot() == slot);
                 assert_eq!(tag.queue_number(), self.queues[q].0.number());
@@ -110,8 +136,7 @@ impl<'q, 'c> Life<'q, 'c> {
         match self.queues[q].0.give_back(tag) {
             Ok(()) => {
                 assert_eq!(want, Ok(()));
-                let plain = &mut self.plains[q];
-                (plain.waiting, plain.out) = (plain.waiting + 1, plain.out - 1);
+                self.goes_home(q);
             }
             Err(HandedBack { value, reason }) => {
                 assert_eq!(want, Err(reason));
@@ -121,7 +146,7 @@ impl<'q, 'c> Life<'q, 'c> {
     }
 
     /// Why a tag doesn't enter at once.
-    fn refusal(&self, q: usize, seat: &Seat<'q>) -> Option<TryEnterError> {
+    pub fn refusal(&self, q: usize, seat: &Seat<'q>) -> Option<TryEnterError> {
         let plain = &self.plains[q];
         if seat.queue != q {
             Some(TryEnterError::OtherQueue)
@@ -178,7 +203,7 @@ impl<'q, 'c> Life<'q, 'c> {
         let (limits, pieces, at) = match &mut seat.seated {
             Seated::Owned(r) => (*r.limits(), r.pieces(start, 50).map(Iterator::collect), r.use_slot(slot)),
             Seated::Borrowed(r) => (*r.limits(), r.pieces(start, 50).map(Iterator::collect), r.use_slot(slot)),
-            Seated::Free(_) | Seated::Enters(..) => return,
+            _ => return,
         };
         let pieces: Vec<Piece> = pieces.unwrap();
         assert_eq!((limits, at), (plain.limits, used));
@@ -236,6 +261,10 @@ impl<'q, 'c> Life<'q, 'c> {
 
     fn poll(&mut self, s: usize) {
         let Some(mut seat) = self.seats[s].take() else { return };
+        if matches!(seat.seated, Seated::Any(..) | Seated::OwnedEnters(..)) {
+            self.poll_owned(s, seat);
+            return;
+        }
         let why = self.refusal(seat.queue, &seat);
         if let Seated::Enters(entering, woken) = &mut seat.seated {
             *woken = Arc::default();
@@ -296,10 +325,13 @@ impl<'q, 'c> Life<'q, 'c> {
     }
 
     /// Each future that waits at a queue was woken, and its waker let go.
-    fn all_woken(&self, q: usize) {
+    pub fn all_woken(&self, q: usize) {
         for seat in self.seats.iter().flatten().filter(|seat| seat.queue == q) {
-            if let Seated::Enters(_, woken) = &seat.seated {
-                assert_eq!(Arc::strong_count(woken), 1);
+            match &seat.seated {
+                Seated::Enters(_, woken) | Seated::OwnedEnters(_, woken) | Seated::Any(_, At::Has, woken) => {
+                    assert_eq!(Arc::strong_count(woken), 1);
+                }
+                _ => {}
             }
         }
     }
@@ -309,6 +341,7 @@ impl<'q, 'c> Life<'q, 'c> {
         self.frozen.swap_remove(which).1.mark_dying();
         self.plains[q].dying = true;
         self.all_woken(q);
+        self.all_sent_away(q);
     }
 
     fn set(&mut self) {
@@ -335,16 +368,27 @@ impl<'q, 'c> Life<'q, 'c> {
         if self.chance.one_in(2) { queue.switch_to_atomic() } else { queue.switch_to_slots() }
     }
 
-    /// Drops whatever stands at a seat: a request leaves, and the tag is out for ever.
+    /// Drops whatever stands at a seat: a request leaves, and a tag that isn't borrowed for ever goes home.
     fn let_go(&mut self, s: usize) {
         let Some(seat) = self.seats[s].take() else { return };
         if matches!(seat.seated, Seated::Owned(_) | Seated::Borrowed(_)) {
             self.plains[seat.queue].leaves();
         }
+        let has_tag = match &seat.seated {
+            Seated::Free(_) => !seat.forgotten,
+            Seated::Owned(_) | Seated::OwnedEnters(..) | Seated::Any(_, At::Has, _) => true,
+            Seated::Borrowed(_) | Seated::Enters(..) | Seated::Any(..) => false,
+        };
+        let q = seat.queue;
+        self.lines[q].retain(|waits| *waits != s);
+        drop(seat);
+        if has_tag {
+            self.goes_home(q);
+        }
     }
 }
 
-fn is_free(seat: &mut Seat<'_>) -> bool {
+pub fn is_free(seat: &mut Seat<'_>) -> bool {
     matches!(seat.seated, Seated::Free(_))
 }
 

@@ -60,7 +60,7 @@ pub fn refusal(limits: &Limits) -> Option<LimitsError> {
 
 /// As a queue keeps them.
 pub fn kept(limits: Limits) -> Limits {
-    Limits { max: if limits.max == 0 { limits.hardware } else { limits.max }, ..limits }
+    limits.with_max(if limits.max == 0 { limits.hardware } else { limits.max })
 }
 
 /// Whether so many sectors from start on are within the reach there, told sector by sector.

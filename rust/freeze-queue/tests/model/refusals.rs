@@ -30,7 +30,7 @@ pub fn waiting(why: TryEnterError) -> EnterError {
         TryEnterError::OtherQueue => EnterError::OtherQueue,
         TryEnterError::StillEntered => EnterError::StillEntered,
         TryEnterError::Dying => EnterError::Dying,
-        TryEnterError::Frozen => panic!("who waits for a thaw of his own never comes in"),
+        other => panic!("a thread that waits for a thaw of its own never enters: {other}"),
     }
 }
 
@@ -41,5 +41,6 @@ pub fn in_time(why: TryEnterError) -> EnterTimeoutError {
         TryEnterError::StillEntered => EnterTimeoutError::StillEntered,
         TryEnterError::Dying => EnterTimeoutError::Dying,
         TryEnterError::Frozen => EnterTimeoutError::TimedOut,
+        other => panic!("{other}"),
     }
 }

@@ -1,7 +1,7 @@
 //! What tests of several files have in common.
 #![allow(dead_code, reason = "each file uses a part")]
 
-use freeze_queue::Limits;
+use freeze_queue::{Limits, Queue, Tag};
 use std::env;
 use std::future::Future;
 use std::pin::pin;
@@ -12,7 +12,19 @@ use std::task::{Context, Poll, Wake, Waker};
 use std::thread::{self, Thread};
 use std::time::{Duration, Instant};
 
-pub const LIMITS: Limits = Limits { hardware: 64, max: 32, chunk: 128, physical: 8 };
+pub const LIMITS: Limits = Limits::of_hardware(64).with_max(32).with_chunk(128).with_physical(8);
+
+/// A queue with these limits.
+pub fn queue(slots: u32, tags: u32) -> Queue {
+    Queue::new(LIMITS, slots, tags).unwrap()
+}
+
+/// A queue of two slots and two tags, with its first tag.
+pub fn with_tag() -> (Queue, Tag) {
+    let queue = queue(2, 2);
+    let tag = queue.next_tag(0).unwrap();
+    (queue, tag)
+}
 
 /// A number that the environment tells.
 pub fn told(name: &str, otherwise: u64) -> u64 {

@@ -51,7 +51,7 @@ impl Control {
     /// ```
     #[must_use]
     pub fn releases(&self) -> u64 {
-        self.erased.borrow().releases()
+        self.erased.borrow().releases() + self.of_retired
     }
 
     /// Where the gate stands.

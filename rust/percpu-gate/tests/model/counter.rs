@@ -5,7 +5,7 @@ use percpu_gate::{Phase, Start};
 #[derive(Clone, Debug, Default)]
 pub struct Counter {
     pub slots: u32,
-    /// Passes that were not given yet, and that were given and not retired.
+    /// Passes that aren't out, new or retired, and those that are.
     pub waiting: u32,
     pub out: u32,
     pub held: u64,

@@ -20,7 +20,7 @@ returns-clause-taken g c =
     let here = c.into_parts-position.result.0 in
     let at : IsAcceptedAt g.J.Run.script c.args.completion.number here = subst (IsAcceptedAt g.J.Run.script c.args.completion.number) (sym c.into_parts-position.ensures.position) c.into_parts-position.ensures.request in
     record {
-      stands = subst (λ (s : Meant). Stands s c.complete.new.self.replies c.complete.new.self.disk) (c.script.ensures ∙ c.hall.invariant.its_script) c.complete.ensures.stands;
+      stands = subst (λ (s : Meant). Stands s c.complete.new.self.replies c.complete.new.self.disk) (c.script.ensures ∙ c.hall.invariant.0.its_script) c.complete.ensures.stands;
       lines = ap length c.complete.ensures.taken ∙ length-set c.args.desk.now.replies here (Some c.in_ok-answer.answer.text.items);
       awaited = λ given collected awaited.
           subst (λ replies. AreAwaited g.J.Run.script replies given (collected ++ c.args.completion.number ∷ [])) (sym c.complete.ensures.taken)

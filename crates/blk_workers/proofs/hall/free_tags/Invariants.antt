@@ -4,4 +4,4 @@ use Rattle.blk_workers.proofs.hall.free_tags.Given as goal
 abbrev pub invariant-loop-tag : goal.invariant-loop-tag
 invariant-loop-tag g l =
     (goal.iterator-loop-tag g).can_next l.tag-iterator × (goal.iterator-loop-tag g).is_finite l.tag-iterator
-    × (l.count ≡ length l.yielded)
+    × (l.count ≡ record { queue = l.free.id; count = length l.yielded })

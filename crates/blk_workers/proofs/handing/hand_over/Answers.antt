@@ -13,7 +13,7 @@ use Rattle.blk_workers.proofs.handing.hand_over.Goals as goal
 
 pub submit-requires-clause-may_take : goal.submit-requires-clause-may_take
 submit-requires-clause-may_take g c =
-    subst (λ (s : Meant). MayTakeRequest s c.args.desk.now.replies c.args.accepted.request) (sym (c.script.ensures ∙ c.hall.invariant.its_script)) c.requires.ready.may_take
+    subst (λ (s : Meant). MayTakeRequest s c.args.desk.now.replies c.args.accepted.request) (sym (c.script.ensures ∙ c.hall.invariant.0.its_script)) c.requires.ready.may_take
 
 pub new-job-requires : goal.new-job-requires
 new-job-requires g c =
@@ -26,14 +26,14 @@ new-job-requires g c =
       entered = c.entered-tag.ensures.entered;
       limits = c.args.accepted.limits;
       told = c.entered-tag.ensures.told;
-      may_tell = ap (λ (d : DutyFacts). d.queue) c.duty-duty.ensures.duty ∙ c.hall.invariant.its_completions;
+      may_tell = ap (λ (d : DutyFacts). d.queue) c.duty-duty.ensures.duty ∙ c.hall.invariant.1.its_completions;
       numbered = record {
         accepted = subst (λ p. is_some (accepted_at script p) ≡ true) (sym c.len-position.ensures) (ap is_some ready.may_take.accepted);
         count = ap (accepted_before script) c.len-position.ensures ∙ sym ready.number ∙ sym (ap (λ (d : DutyFacts). d.number) c.duty-duty.ensures.duty);
       };
       due = subst (λ p. IsDue script p c.args.accepted.limits found) (sym c.len-position.ensures)
           (due_at script here c.args.accepted.request c.args.accepted.limits found ready.may_take.accepted ready.limits
-          (subst (λ (s : Meant). found ≡ found_at s here c.args.accepted.request) (c.script.ensures ∙ c.hall.invariant.its_script) c.in_ok-found.ensures.found));
+          (subst (λ (s : Meant). found ≡ found_at s here c.args.accepted.request) (c.script.ensures ∙ c.hall.invariant.0.its_script) c.in_ok-found.ensures.found));
     }
 
 pub returns-clause-handed_over : goal.returns-clause-handed_over
@@ -48,7 +48,7 @@ returns-clause-handed_over g c =
     let given = c.duty-duty.ensures.collector in
     let replies : length c.submit.new.self.replies ≡ length old + 1 = ap length c.in_ok-found.ensures.owed ∙ length-append old (None ∷ []) in
     record {
-      stands = subst (λ (s : Meant). Stands s c.submit.new.self.replies c.submit.new.self.disk) (c.script.ensures ∙ c.hall.invariant.its_script) c.in_ok-found.ensures.stands;
+      stands = subst (λ (s : Meant). Stands s c.submit.new.self.replies c.submit.new.self.disk) (c.script.ensures ∙ c.hall.invariant.0.its_script) c.in_ok-found.ensures.stands;
       lines = replies;
       all = record {
         pushes = ap (λ (s : SourceFacts). s.queue) c.push.ensures ∙ handed.pushes;

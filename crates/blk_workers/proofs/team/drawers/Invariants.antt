@@ -5,4 +5,4 @@ use Rattle.blk_workers.proofs.team.drawers.Given as goal
 abbrev pub invariant-loop-worker : goal.invariant-loop-worker
 invariant-loop-worker g l =
     (l.source ≡ record l.initial.source { parts = l.initial.source.parts - l._worker })
-    × (length l.drawers.items ≡ l._worker) × All (IsNewDrawer g.L.QueueName.id l.numbers_each) l.drawers.items
+    × (length l.drawers.items ≡ l._worker) × All (IsNewDrawer g.L.QueueNames.requests l.numbers_each) l.drawers.items

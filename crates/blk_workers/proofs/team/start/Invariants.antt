@@ -9,5 +9,5 @@ decreases-loop-drawer g l = vec_len l.drawers
 
 abbrev pub invariant-loop-drawer : goal.invariant-loop-drawer
 invariant-loop-drawer g l =
-    (length l.drawers.items + length l.started.items ≡ length l.initial.drawers.items) × All (IsNewDrawer g.L.QueueName.id (accepted_in_all g.J.Run.script + 1)) l.drawers.items
+    (length l.drawers.items + length l.started.items ≡ length l.initial.drawers.items) × All (IsNewDrawer g.L.QueueNames.requests (accepted_in_all g.J.Run.script + 1)) l.drawers.items
     × (length l.initial.drawers.items ≤ vec_capacity l.started) × (l.slot < l.slots)

@@ -5,7 +5,7 @@ use Rattle.blk_workers.specs.Progress.{IsNewDrawer}
 use Rattle.blk_workers.proofs.team.take_drawer.Goals as goal
 
 pub returns-clause-one : goal.returns-clause-one
-returns-clause-one g c = (All-pop (IsNewDrawer g.L.QueueName.id (accepted_in_all g.J.Run.script + 1)) c.args.drawers.now.items c.pop.new.self.items c.pop.result c.pop.ensures.items c.requires).1
+returns-clause-one g c = (All-pop (IsNewDrawer g.L.QueueNames.requests (accepted_in_all g.J.Run.script + 1)) c.args.drawers.now.items c.pop.new.self.items c.pop.result c.pop.ensures.items c.requires).1
 
 pub returns-clause-rest : goal.returns-clause-rest
-returns-clause-rest g c = (All-pop (IsNewDrawer g.L.QueueName.id (accepted_in_all g.J.Run.script + 1)) c.args.drawers.now.items c.pop.new.self.items c.pop.result c.pop.ensures.items c.requires).0
+returns-clause-rest g c = (All-pop (IsNewDrawer g.L.QueueNames.requests (accepted_in_all g.J.Run.script + 1)) c.args.drawers.now.items c.pop.new.self.items c.pop.result c.pop.ensures.items c.requires).0

@@ -1,7 +1,7 @@
 use Rattle.std.proofs.Common.{◌≡◌, ◌∙◌, sym, ap, ◌<◌, ◌∷◌, ◌++◌, [], All, arith, length, subst}
 use Rattle.std.proofs.lemmas.List.{length-append}
 use Rattle.std.proofs.lemmas.List.Elements.{All-push}
-use Rattle.run_queues.specs.Parts.{DrawerFacts, after_draw}
+use Rattle.run_queues.specs.Parts.{CountFacts, DrawerFacts, after_draw, one_more}
 use Rattle.script_meaning.specs.Requests.{accepted_in_all}
 use Rattle.run_desk.proofs.Numbering.{few_accepted, number_below}
 use Rattle.blk_workers.proofs.FewNumbers.{few_increasing}
@@ -19,14 +19,14 @@ loop-preserved g c =
     let drew = c.in-Ok.ensures.drawn ∙ ap (λ item. let d : DrawerFacts = after_draw (λ j. j.duty.number) item c.loop.drawer in record d { room = c.draw.new.drawer.room }) c.in-Some-drawn.is in
     let longer : c.draw.new.drawer.drawn ≡ c.loop.drawer.drawn ++ job.duty.number ∷ [] = ap (λ (d : DrawerFacts). d.drawn) drew in
     let less = number_below g.J.Run.script job.duty.number job.position c.serve.ensures.request in
-    let one_more = ap length longer ∙ length-append c.loop.drawer.drawn (job.duty.number ∷ []) in (
+    let by_one = ap length longer ∙ length-append c.loop.drawer.drawn (job.duty.number ∷ []) in (
       tt,
       tt,
       ap (λ (d : DrawerFacts). d.queue) drew ∙ c.loop.invariant.2,
       omega (arith, c.loop.invariant.3, c.in-Ok.ensures.room),
       subst (All (λ n. n < bound)) (sym longer) (All-push (λ n. n < bound) c.loop.drawer.drawn job.duty.number c.loop.invariant.4 less),
-      omega (arith, c.add.ensures, c.loop.invariant.5, one_more),
-      omega (arith, c.serve.ensures.tag, c.loop.invariant.6, one_more),
+      omega (arith, c.add.ensures, c.loop.invariant.5, by_one),
+      c.serve.ensures.tag ∙ ap one_more c.loop.invariant.6 ∙ ap (λ n. record { queue = g.L.QueueNames.free_tags; count = n }) (sym by_one),
       c.draw.ensures.increasing,
     )
 
@@ -40,11 +40,11 @@ add-requires-clause-room g c =
     let less = number_below script job.duty.number job.position c.serve.ensures.request in
     let below = subst (All (λ n. n < bound)) (sym longer) (All-push (λ n. n < bound) c.loop.drawer.drawn job.duty.number c.loop.invariant.4 less) in
     let few = few_increasing bound c.draw.new.drawer.drawn c.draw.ensures.increasing below in
-    let one_more = ap length longer ∙ length-append c.loop.drawer.drawn (job.duty.number ∷ []) in
-    omega (arith, c.loop.invariant.5, one_more, few, few_accepted script, c.hall.invariant.few_lines)
+    let by_one = ap length longer ∙ length-append c.loop.drawer.drawn (job.duty.number ∷ []) in
+    omega (arith, c.loop.invariant.5, by_one, few, few_accepted script, c.hall.invariant.0.few_lines)
 
 pub serve-requires-clause-room : goal.serve-requires-clause-room
 serve-requires-clause-room g c =
     let script = g.J.Run.script in
     let few = few_increasing (accepted_in_all script) c.loop.drawer.drawn c.loop.invariant.7 c.loop.invariant.4 in
-    omega (arith, c.loop.invariant.6, few, few_accepted script, c.hall.invariant.few_lines)
+    omega (arith, ap (λ (t : CountFacts). t.count) c.loop.invariant.6, few, few_accepted script, c.hall.invariant.0.few_lines)

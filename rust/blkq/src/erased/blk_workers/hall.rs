@@ -18,21 +18,21 @@ pub(crate) struct Queues {
     free_tags: SpareQueue<FreeTag>,
 }
 
-// A queue of free tags, and the right to take them.
-type FreeTags = (SpareQueue<FreeTag>, Taker<FreeTag>);
+// A queue of free tags, the right to take them, and the count of those that were put there.
+type FreeTags = (SpareQueue<FreeTag>, Taker<FreeTag>, PutCount<FreeTag>);
 
 // A queue of these tags, all of which are put there, with the right to take them.
 //
 // # Preconditions
 //
 // - `AreFreeTags(run.queue, tags)`: there are tags, which are this queue's, and none is entered.
-// - `count` is 0.
-fn free_tags(tags: Vec<Tag>, count: &mut PutCount<FreeTag>) -> Result<FreeTags, AllocError> {
+fn free_tags(tags: Vec<Tag>) -> Result<FreeTags, AllocError> {
     let (free, taker) = SpareQueue::new(tags.len())?;
+    let mut count = free.put_count();
     for tag in tags {
-        free.put(count, FreeTag::new(Box::try_from_value(tag)?));
+        free.put(&mut count, FreeTag::new(Box::try_from_value(tag)?));
     }
-    Ok((free, taker))
+    Ok((free, taker, count))
 }
 
 // A run's queues, the right to push requests, and the right to take free tags.
@@ -54,14 +54,14 @@ impl Queues {
         workers: u32,
     ) -> Result<NewQueues, RunFault> {
         let (requests, source) = RequestQueue::new(tags.len(), workers as usize)?;
-        let (free_tags, taker) = free_tags(tags, &mut PutCount::new())?;
+        let (free_tags, taker, _all) = free_tags(tags)?;
         let queues = Queues { queue, requests, completions, free_tags };
         Ok((queues, source, taker))
     }
 }
 
 /// What a run's threads stand on: the runtime, the allocator, the checked script, what holds the run at its points, and the run's
-/// queues. `J` is the run, `C` its queue of completions, `L` its queue of requests, `R` the runtime's type, `S` the stall's.
+/// queues. `J` is the run, `C` its queue of completions, `L` its queues of requests and free tags, `R` the runtime's type, `S` the stall's.
 ///
 /// The type keeps that the script and the queues are those which its parameters name, that the queue has a slot and the
 /// script's hardware, and that the script's lines are few enough to be numbered.
@@ -80,10 +80,10 @@ impl<'a, S> Hall<'a, S> {
     ///
     /// # Preconditions
     ///
-    /// - `IsHall(run.script, run.queue, requests.id, completions.id, checked, queues.queue, queues.requests.id,
-    ///   queues.completions.id)`: these are the script, the queue that requests enter, and the queues of requests and
-    ///   completions of a run of that script, in which the queue has the script's hardware and a slot, and the lines
-    ///   are few enough to be numbered.
+    /// - `IsHall(run.script, run.queue, checked, queues.queue)`: these are the script and the queue of a run of that
+    ///   script, in which the queue has the script's hardware and a slot, and the lines are few enough to be numbered.
+    /// - `HasQueues(requests.requests, completions.id, requests.free_tags, queues.requests.id, queues.completions.id,
+    ///   queues.free_tags.id)`: these are the run's queues of requests, completions and free tags.
     pub(crate) fn new(checked: &'a Checked<'a>, stall: &'a S, queues: &'a Queues) -> Hall<'a, S> {
         Hall {
             checked,

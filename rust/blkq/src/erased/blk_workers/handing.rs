@@ -36,7 +36,8 @@ pub(crate) struct Accepted {
 //
 // # Preconditions
 //
-// - `taker + 1` is less than `2^64`.
+// - `taker` belongs to `requests.free_tags`.
+// - `taker.count + 1` is less than `2^64`.
 fn entered<S>(hall: &Hall<'_, S>, taker: &mut Taker<FreeTag>, limits: Limits) -> Box<Tag> {
     let mut tag = hall.free_tags.take(taker).into_tag();
     loop {
@@ -52,14 +53,15 @@ fn entered<S>(hall: &Hall<'_, S>, taker: &mut Taker<FreeTag>, limits: Limits) ->
 ///
 /// # Preconditions
 ///
-/// - `AreHandedOver(run.script, requests.id, completions.id, desk.replies.len(), desk.replies, ends.source,
+/// - `AreHandedOver(run.script, requests.requests, completions.id, desk.replies.len(), desk.replies, ends.source,
 ///   ends.collector)`: the requests that were accepted before a position are pushed to their queue, each with the
 ///   duty to tell its completion at that of completions, and the replies to those whose completions weren't
 ///   collected are owed.
 /// - `Stands(run.script, desk.replies, desk.disk)`: as many lines of the script are taken as there are replies.
 /// - `IsReady(run.script, desk.replies, accepted)`: the next line is this accepted request, which may join those
 ///   that are owed, and has this number and these limits.
-/// - `ends.taker + 1` is less than `2^64`.
+/// - `ends.taker.queue` is `requests.free_tags`.
+/// - `ends.taker.count + 1` is less than `2^64`.
 pub(crate) fn hand_over<S: Stall>(
     hall: &Hall<'_, S>,
     desk: &mut Desk,

@@ -138,7 +138,7 @@ pub(crate) struct CompletedJob {
 }
 
 impl CompletedJob {
-    /// Leaves the queue on a slot, and shows that the completion was told.
+    /// Leaves the queue on a slot, once, and shows that the completion was told.
     ///
     /// # Preconditions
     ///

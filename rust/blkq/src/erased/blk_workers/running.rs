@@ -28,15 +28,16 @@ struct Inputs<'a, S> {
 //
 // # Preconditions
 //
-// - `IsHall(run.script, run.queue, requests.id, completions.id, inputs.checked, queues.queue, queues.requests.id,
-//   queues.completions.id)`: these are the script, the queue that requests enter, and the queues of requests and
-//   completions of a run of that script, in which the queue has the script's hardware and a slot, and the lines
-//   are few enough to be numbered.
+// - `IsHall(run.script, run.queue, inputs.checked, queues.queue)`: these are the script and the queue of a run of
+//   that script, in which the queue has the script's hardware and a slot, and the lines are few enough to be
+//   numbered.
+// - `HasQueues(requests.requests, completions.id, requests.free_tags, queues.requests.id, queues.completions.id,
+//   queues.free_tags.id)`: these are the run's queues of requests, completions and free tags.
 // - `IsAt(run.script, run.queue, 0, submitter)`: the lines before a position are taken, and the freezer is in step
 //   with the script's queue: live exactly where the script's depth is 0, and with its limits.
-// - `AreNewEnds(requests.id, completions.id, 0, ends.source, ends.collector)`: the ends of both queues before the
-//   first request.
-// - `ends.taker` is 0.
+// - `AreNewEnds(requests.requests, completions.id, 0, ends.source, ends.collector)`: the ends of both queues
+//   before the first request.
+// - `ends.taker` is `none_counted(requests.free_tags)`.
 // - `inputs.config.workers` is at most `ends.source.room`.
 fn run_in<S: Stall>(
     inputs: &Inputs<'_, S>,

@@ -83,15 +83,17 @@ impl Submitter {
     }
 
     // Hands over the accepted request of the next line. Also where it fails, nothing of the right to push changes but how much
-    // was pushed (`kept`), so `lead` can still put end marks. For each request that is accepted one tag is taken (`tags`).
+    // was pushed (`source`), so `lead` can still put end marks. For each request that is accepted one tag is taken (`tags`).
     //
     // # Preconditions
     //
-    // - `HasTaken(run.script, run.queue, requests.id, completions.id, self.desk.replies.len(), self, ends.source,
-    //   ends.collector)`: the lines before a position are taken, and what was accepted of them is handed over.
+    // - `HasTaken(run.script, run.queue, requests.requests, completions.id, self.desk.replies.len(), self,
+    //   ends.source, ends.collector)`: the lines before a position are taken, and what was accepted of them is handed
+    //   over.
     // - `IsRequestNext(run.script, self.desk.replies.len(), request)`: the next line is this accepted request, and few
     //   lines stand before it.
-    // - `ends.taker` is `self.accepted`.
+    // - `HasCounted(requests.free_tags, self.accepted, ends.taker)`: as many spares of this queue were taken, or put
+    //   back.
     fn submit<S: Stall>(&mut self, hall: &Hall<'_, S>, ends: &mut Ends, request: Request) -> Result<(), RunFault> {
         let accepted = Accepted { request, number: self.accepted, limits: self.state.limits() };
         self.make_way(hall, &mut ends.collector)?;
@@ -146,11 +148,13 @@ impl Submitter {
     //
     // # Preconditions
     //
-    // - `HasTaken(run.script, run.queue, requests.id, completions.id, self.desk.replies.len(), self, ends.source,
-    //   ends.collector)`: the lines before a position are taken, and what was accepted of them is handed over.
+    // - `HasTaken(run.script, run.queue, requests.requests, completions.id, self.desk.replies.len(), self,
+    //   ends.source, ends.collector)`: the lines before a position are taken, and what was accepted of them is handed
+    //   over.
     // - `self.desk.replies.len()` is less than `run.script.lines.len()`.
     // - `accepted_at(run.script, self.desk.replies.len())` is `None`.
-    // - `ends.taker` is `self.accepted`.
+    // - `HasCounted(requests.free_tags, self.accepted, ends.taker)`: as many spares of this queue were taken, or put
+    //   back.
     fn reply_to<S: Stall>(&mut self, hall: &Hall<'_, S>, ends: &mut Ends) -> Result<(), RunFault> {
         let line = &hall.checked.script().lines()[self.desk.replies.len()];
         let mut next = self.state;
@@ -165,15 +169,17 @@ impl Submitter {
         }
     }
 
-    // Takes the next line. `kept`: of the right to push nothing changes but how much was pushed. So `lead` can put end marks also
+    // Takes the next line. `source`: of the right to push nothing changes but how much was pushed. So `lead` can put end marks also
     // where this fails, and where it doesn't, `gather` finds the parts, the lists and their room as they were.
     //
     // # Preconditions
     //
-    // - `HasTaken(run.script, run.queue, requests.id, completions.id, self.desk.replies.len(), self, ends.source,
-    //   ends.collector)`: the lines before a position are taken, and what was accepted of them is handed over.
+    // - `HasTaken(run.script, run.queue, requests.requests, completions.id, self.desk.replies.len(), self,
+    //   ends.source, ends.collector)`: the lines before a position are taken, and what was accepted of them is handed
+    //   over.
     // - `self.desk.replies.len()` is less than `run.script.lines.len()`.
-    // - `ends.taker` is `self.accepted`.
+    // - `HasCounted(requests.free_tags, self.accepted, ends.taker)`: as many spares of this queue were taken, or put
+    //   back.
     fn take_next<S: Stall>(&mut self, hall: &Hall<'_, S>, ends: &mut Ends) -> Result<(), RunFault> {
         match hall.checked.request(self.desk.replies.len()) {
             Some(request) => self.submit(hall, ends, request),
@@ -181,16 +187,22 @@ impl Submitter {
         }
     }
 
-    /// Takes all lines, and drains the queue at the end. `kept` is as at `submit`.
+    /// Takes all lines, and drains the queue at the end; where a line fails, it takes no more and drains the queue too. `source` is as at `submit`.
     ///
     /// # Preconditions
     ///
-    /// - `HasTaken(run.script, run.queue, requests.id, completions.id, 0, self, ends.source, ends.collector)`: the
-    ///   lines before a position are taken, and what was accepted of them is handed over.
-    /// - `ends.taker` is `self.accepted`.
+    /// - `HasTaken(run.script, run.queue, requests.requests, completions.id, 0, self, ends.source, ends.collector)`:
+    ///   the lines before a position are taken, and what was accepted of them is handed over.
+    /// - `HasCounted(requests.free_tags, self.accepted, ends.taker)`: as many spares of this queue were taken, or put
+    ///   back.
     pub(crate) fn submit_all<S: Stall>(&mut self, hall: &Hall<'_, S>, ends: &mut Ends) -> Result<(), RunFault> {
-        for _position in 0..hall.checked.script().lines().len() {
-            self.take_next(hall, ends)?;
+        for position in 0..hall.checked.script().lines().len() {
+            if let Err(why) = self.take_next(hall, ends) {
+                // What is under way ends: every tag leaves. Completions aren't waited for, since one brought no answer.
+                freeze(&mut self.freezer, hall.queue, position + 1);
+                hall.stall.at(self.accepted, Point::Drained);
+                return Err(why);
+            }
         }
         self.drain(hall, &mut ends.collector)
     }

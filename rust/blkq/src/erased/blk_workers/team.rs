@@ -17,7 +17,7 @@ use crate::erased::thread::{self, JoinHandle, Scope, TrySpawn};
 ///
 /// # Preconditions
 ///
-/// - `source` belongs to `requests.id`.
+/// - `source` belongs to `requests.requests`.
 /// - `source.parts` is `all_parts`.
 pub(crate) fn drawers<S>(
     hall: &Hall<'_, S>,
@@ -38,7 +38,7 @@ pub(crate) fn drawers<S>(
 //
 // # Preconditions
 //
-// - `All(IsNewDrawer(requests.id, accepted_in_all(run.script) + 1), drawers)`.
+// - `All(IsNewDrawer(requests.requests, accepted_in_all(run.script) + 1), drawers)`.
 fn take_drawer(drawers: &mut Vec<Drawer<Job>>) -> Option<Drawer<Job>> {
     drawers.pop()
 }
@@ -47,16 +47,20 @@ fn take_drawer(drawers: &mut Vec<Drawer<Job>>) -> Option<Drawer<Job>> {
 //
 // # Preconditions
 //
-// - `source` belongs to `requests.id`.
+// - `source` belongs to `requests.requests`.
 fn push_end_marks<S>(hall: &Hall<'_, S>, source: &mut Source<Job>, started: usize) {
     for _worker in 0..started {
         hall.requests.end(source);
     }
 }
 
-// Waits for workers that were ended. What a thread hands back is let go only where it is joined: the scope would wait too, but
-// leak it, which `tools/sweep_refusals` would see.
-fn dismiss(started: &mut Vec<JoinHandle<FinishedWorker>>) {
+// Waits for workers that were ended. `_source` is for the contract alone: an end mark was pushed by it for each of them. What a
+// thread hands back is let go only where it is joined: the scope would wait too, but leak it, which `tools/sweep_refusals` would see.
+//
+// # Preconditions
+//
+// - `_source.marks` is `started.len()`.
+fn dismiss(_source: &Source<Job>, started: &mut Vec<JoinHandle<FinishedWorker>>) {
     while let Some(worker) = started.pop() {
         drop(worker.join());
     }
@@ -67,11 +71,12 @@ fn dismiss(started: &mut Vec<JoinHandle<FinishedWorker>>) {
 //
 // # Preconditions
 //
-// - `AreNewEnds(requests.id, completions.id, workers, ends.source, ends.collector)`: the ends of both queues
+// - `AreNewEnds(requests.requests, completions.id, workers, ends.source, ends.collector)`: the ends of both queues
 //   before the first request.
 // - `IsAt(run.script, run.queue, 0, submitter)`: the lines before a position are taken, and the freezer is in step
 //   with the script's queue: live exactly where the script's depth is 0, and with its limits.
-// - `ends.taker` is 0.
+// - `ends.taker` is `none_counted(requests.free_tags)`.
+// - `started.len()` is `workers`.
 fn lead<S: Stall>(
     hall: &Hall<'_, S>,
     mut submitter: Submitter,
@@ -79,12 +84,13 @@ fn lead<S: Stall>(
     started: &mut Vec<JoinHandle<FinishedWorker>>,
     workers: usize,
 ) -> Result<Submitter, RunFault> {
+    debug_assert!(started.len() == workers);
     let submitted = submitter.submit_all(hall, ends);
     push_end_marks(hall, &mut ends.source, workers);
     match submitted {
         Ok(()) => Ok(submitter),
         Err(why) => {
-            dismiss(started);
+            dismiss(&ends.source, started);
             Err(why)
         }
     }
@@ -95,9 +101,9 @@ fn lead<S: Stall>(
 //
 // # Preconditions
 //
-// - `AreOut(requests.id, started.len(), source)`: so many workers are to come back, each of which has a part of
-//   the right to push, and there is room for their lists.
-fn gather<S>(hall: &Hall<'_, S>, source: &mut Source<Job>, mut started: Vec<JoinHandle<FinishedWorker>>) {
+// - `AreOut(requests.requests, started.len(), source)`: so many workers are to come back, each of which has a part
+//   of the right to push and an end mark to take, and there is room for their lists.
+fn gather<S>(hall: &Hall<'_, S>, source: &mut Source<Job>, started: &mut Vec<JoinHandle<FinishedWorker>>) {
     while let Some(worker) = started.pop() {
         let back = worker.join();
         let taken_back = hall.requests.gather(source, back.into_drawer());
@@ -110,7 +116,7 @@ fn gather<S>(hall: &Hall<'_, S>, source: &mut Source<Job>, mut started: Vec<Join
 //
 // # Preconditions
 //
-// - `All(IsNewDrawer(requests.id, accepted_in_all(run.script) + 1), drawers)`.
+// - `All(IsNewDrawer(requests.requests, accepted_in_all(run.script) + 1), drawers)`.
 // - `started.len()` is 0.
 // - `drawers.len()` is at most `vec_capacity(started)`.
 fn start<'scope, 'env, S: Stall>(
@@ -133,49 +139,49 @@ fn start<'scope, 'env, S: Stall>(
     started
 }
 
-// Submits and collects while the workers work that were started, ends them, and takes back what they drew. `Thread`
-// where fewer were started than there are to be: then they are ended at once. 32 is `MOST_WORKERS` (`AreDrawers` has the same
-// number). Any number below `all_parts`, which is 2^32, would do: the source has to keep a part (`AreOut`).
+// Submits and collects while the workers work that were started, ends each of them, also where the run fails, and takes back what
+// they drew. `Thread` where fewer were started than there are to be: then they are ended at once. 32 is `MOST_WORKERS`
+// (`AreDrawers` has the same number). Any number below `all_parts`, which is 2^32, would do: the source has to keep a part
+// (`AreOut`).
 //
 // # Preconditions
 //
 // - `IsAt(run.script, run.queue, 0, submitter)`: the lines before a position are taken, and the freezer is in step
 //   with the script's queue: live exactly where the script's depth is 0, and with its limits.
-// - `AreNewEnds(requests.id, completions.id, workers, ends.source, ends.collector)`: the ends of both queues
+// - `AreNewEnds(requests.requests, completions.id, workers, ends.source, ends.collector)`: the ends of both queues
 //   before the first request.
-// - `ends.taker` is 0.
+// - `ends.taker` is `none_counted(requests.free_tags)`.
 // - `workers` is at least 1.
 // - `workers` is at most 32.
 // - `started.len()` is at most `workers`.
 fn lead_and_gather<S: Stall>(
     hall: &Hall<'_, S>,
     submitter: Submitter,
-    mut ends: Ends,
-    mut started: Vec<JoinHandle<FinishedWorker>>,
+    ends: &mut Ends,
+    started: &mut Vec<JoinHandle<FinishedWorker>>,
     workers: usize,
-) -> Result<(Submitter, Source<Job>), RunFault> {
+) -> Result<Submitter, RunFault> {
     debug_assert!(0 < workers);
     debug_assert!(workers <= 32);
     debug_assert!(started.len() <= workers);
     if started.len() < workers {
         push_end_marks(hall, &mut ends.source, started.len());
-        dismiss(&mut started);
+        dismiss(&ends.source, started);
         return Err(RunFault::Thread);
     }
-    let submitter = lead(hall, submitter, &mut ends, &mut started, workers)?;
-    let Ends { mut source, collector: _, taker: _ } = ends;
-    gather(hall, &mut source, started);
-    Ok((submitter, source))
+    let submitter = lead(hall, submitter, ends, started, workers)?;
+    gather(hall, &mut ends.source, started);
+    Ok(submitter)
 }
 
 /// Starts the workers, submits and collects, ends them, and takes back what they drew.
 ///
 /// # Preconditions
 ///
-/// - `AreAtStart(run.script, run.queue, requests.id, completions.id, drawers.len(), submitter, ends.source,
+/// - `AreAtStart(run.script, run.queue, requests.requests, completions.id, drawers.len(), submitter, ends.source,
 ///   ends.collector, drawers)`: before the first line: this submitter with its ends, and a right to draw for each
 ///   of some workers.
-/// - `ends.taker` is 0.
+/// - `ends.taker` is `none_counted(requests.free_tags)`.
 pub(crate) fn with_workers<S: Stall>(
     hall: &Hall<'_, S>,
     submitter: Submitter,
@@ -185,7 +191,10 @@ pub(crate) fn with_workers<S: Stall>(
     let workers = drawers.len();
     let no_handles: Vec<JoinHandle<FinishedWorker>> = Vec::try_with_room(workers)?;
     thread::scope(move |scope| -> Result<(Submitter, Source<Job>), RunFault> {
-        let started = start(scope, hall, drawers, no_handles);
-        lead_and_gather(hall, submitter, ends, started, workers)
+        let mut ends = ends;
+        let mut started = start(scope, hall, drawers, no_handles);
+        let submitter = lead_and_gather(hall, submitter, &mut ends, &mut started, workers)?;
+        let Ends { source, collector: _, taker: _ } = ends;
+        Ok((submitter, source))
     })
 }

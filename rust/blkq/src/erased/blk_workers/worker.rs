@@ -20,10 +20,11 @@ pub(crate) struct FinishedWorker {
 impl FinishedWorker {
     /// # Preconditions
     ///
-    /// - `drawer` belongs to `requests.id`.
+    /// - `drawer` belongs to `requests.requests`.
     /// - `drawer.drained` is `true`.
     /// - `receipts` is `drawer.drawn.len()`.
-    /// - `tags` is `drawer.drawn.len()`.
+    /// - `HasCounted(requests.free_tags, drawer.drawn.len(), tags)`: as many spares of this queue were taken, or put
+    ///   back.
     fn new(drawer: Drawer<Job>, receipts: ReceiptCount, tags: PutCount<FreeTag>) -> FinishedWorker {
         FinishedWorker { drawer, receipts, tags }
     }
@@ -41,7 +42,8 @@ impl FinishedWorker {
 // # Preconditions
 //
 // - `slot` is less than `run.queue.gate.slots`.
-// - `tags + 1` is less than `2^64`.
+// - `tags` belongs to `requests.free_tags`.
+// - `tags.count + 1` is less than `2^64`.
 fn serve<S: Stall>(hall: &Hall<'_, S>, slot: u32, tags: &mut PutCount<FreeTag>, job: Job) -> Receipt<Completion> {
     let number = job.number();
     hall.stall.at(number, Point::Drawn);
@@ -59,11 +61,11 @@ fn serve<S: Stall>(hall: &Hall<'_, S>, slot: u32, tags: &mut PutCount<FreeTag>, 
 /// # Preconditions
 ///
 /// - `slot` is less than `run.queue.gate.slots`.
-/// - `IsNewDrawer(requests.id, accepted_in_all(run.script) + 1, drawer)`: the right to draw, before the first
+/// - `IsNewDrawer(requests.requests, accepted_in_all(run.script) + 1, drawer)`: the right to draw, before the first
 ///   request, with room for so many.
 pub(crate) fn work<S: Stall>(hall: &Hall<'_, S>, slot: u32, mut drawer: Drawer<Job>) -> FinishedWorker {
     let mut receipts = ReceiptCount::new();
-    let mut tags = PutCount::new();
+    let mut tags = hall.free_tags.put_count();
     loop {
         let Ok(drawn) = hall.requests.draw(&mut drawer) else { unreachable!() };
         let Some(job) = drawn else {

@@ -1,9 +1,9 @@
 // Erased from crates/run_queues/src/spares.rt by tools/erase: edit that file.
 //! The queue of what isn't in use.
 
+use crate::erased::crossbeam_queue::Pass;
 use crate::erased::fallible::AllocError;
 use crate::erased::run_queues::ruled_queue::RuledQueue;
-use std::marker::PhantomData;
 
 /// A queue of things that threads take and put back. What is known of one is what its type keeps: a type of which
 /// every value is free and belongs to one owner is the rule of a queue of free things of that owner.
@@ -13,21 +13,14 @@ pub struct SpareQueue<T> {
 
 /// The right to take from a queue of spare things, which comes with the queue and which one thread has.
 pub struct Taker<T> {
+    seat: Pass<T>,
     taken: u64,
-    of: PhantomData<T>,
 }
 
-/// How many a thread put back, of what can't be had but from one who took it.
+/// How many a thread put back into a queue, of what can't be had but from a caller that took it.
 pub struct PutCount<T> {
+    seat: Pass<T>,
     put: u64,
-    of: PhantomData<T>,
-}
-
-impl<T> PutCount<T> {
-    /// None so far.
-    pub fn new() -> PutCount<T> {
-        PutCount { put: 0, of: PhantomData }
-    }
 }
 
 impl<T> SpareQueue<T> {
@@ -38,9 +31,8 @@ impl<T> SpareQueue<T> {
     /// - `room` is at least 1.
     pub fn new(room: usize) -> Result<(SpareQueue<T>, Taker<T>), AllocError> {
         debug_assert!(0 < room);
-        let (line, _seat) = RuledQueue::new(room)?;
-        let taker = Taker { taken: 0, of: PhantomData };
-        Ok((SpareQueue { line }, taker))
+        let (line, seat) = RuledQueue::new(room)?;
+        Ok((SpareQueue { line }, Taker { seat, taken: 0 }))
     }
 
     /// How many it has room for.
@@ -48,14 +40,19 @@ impl<T> SpareQueue<T> {
         self.line.ring.capacity()
     }
 
+    /// A count of what a thread puts back here: none so far.
+    pub fn put_count(&self) -> PutCount<T> {
+        PutCount { seat: self.line.ring.pass(), put: 0 }
+    }
+
     /// Puts one back behind those that are there, and waits while there is no room. It is counted.
     ///
     /// # Preconditions
     ///
-    /// - `count + 1` is less than `2^64`.
+    /// - `count` belongs to `self.id`.
+    /// - `count.count + 1` is less than `2^64`.
     pub fn put(&self, count: &mut PutCount<T>, item: T) {
-        let mut seat = self.line.ring.pass();
-        self.line.push_as(&mut seat, item);
+        self.line.push_as(&mut count.seat, item);
         count.put += 1;
     }
 
@@ -63,10 +60,10 @@ impl<T> SpareQueue<T> {
     ///
     /// # Preconditions
     ///
-    /// - `taker + 1` is less than `2^64`.
+    /// - `taker` belongs to `self.id`.
+    /// - `taker.count + 1` is less than `2^64`.
     pub fn take(&self, taker: &mut Taker<T>) -> T {
-        let mut seat = self.line.ring.pass();
         taker.taken += 1;
-        self.line.pop_as(&mut seat)
+        self.line.pop_as(&mut taker.seat)
     }
 }

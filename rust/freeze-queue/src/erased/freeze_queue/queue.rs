@@ -1,10 +1,10 @@
 // Erased from crates/freeze_queue/src/queue.rt by tools/erase: edit that file.
 //! The queue: what tags enter and leave, and where threads wait for it.
 
-use crate::erased::freeze_queue::enter::Enter;
+use crate::erased::freeze_queue::enter::{Enter, StayOrEnter};
 use crate::erased::freeze_queue::freezer::Freezer;
 use crate::erased::percpu_core::SLOT_LIMIT;
-use crate::erased::queue_core::{self, Entry, Limits, MOST_TAGS, Memory, Put, Tag};
+use crate::erased::queue_core::{self, Entry, Limits, MOST_TAGS, Memory, Put, Stay, Tag};
 use crate::erased::wait_queue::WaitQueue;
 
 /// A queue, its freezer and its tags.
@@ -142,6 +142,50 @@ impl BlockQueue {
         debug_assert!(slot < self.slots());
         debug_assert!(tag.entered());
         self.tell(self.core.leave(tag, slot))
+    }
+
+    /// Stays entered between two requests, for the price of one load, unless the queue is frozen: then it leaves, and the
+    /// last to leave wakes those who wait for the drain. Where it stays, its limits are those that it has. Linux: the
+    /// requests that a plug keeps, each with its reference of `q_usage_counter` (block/blk-mq.c).
+    ///
+    /// A thread that stays and then sleeps holds up every freeze, so it leaves before it waits.
+    ///
+    /// # Preconditions
+    ///
+    /// - `tag` belongs to `self`.
+    /// - `slot` is less than `self.slots()`.
+    /// - `tag.entered()` is `true`.
+    #[inline]
+    pub fn stay(&self, tag: &mut Tag, slot: u32) -> Stay {
+        debug_assert!(slot < self.slots());
+        debug_assert!(tag.entered());
+        match self.core.stay(tag, slot) {
+            Stay::Stayed => Stay::Stayed,
+            Stay::Left(put) => Stay::Left(self.tell(put)),
+        }
+    }
+
+    /// Stays entered between two requests, for the price of one load, unless the queue is frozen: then it leaves, waits until
+    /// the queue thaws, and enters again. The answer says whether the limits may differ from those before.
+    ///
+    /// A thread that stays and then sleeps holds up every freeze, so it leaves before it waits.
+    ///
+    /// # Preconditions
+    ///
+    /// - `tag` belongs to `self`.
+    /// - `slot` is less than `self.slots()`.
+    /// - `tag.entered()` is `true`.
+    #[inline]
+    pub fn stay_or_enter(&self, tag: &mut Tag, slot: u32) -> StayOrEnter {
+        debug_assert!(slot < self.slots());
+        debug_assert!(tag.entered());
+        match self.stay(tag, slot) {
+            Stay::Stayed => StayOrEnter::Stayed,
+            Stay::Left(_) => {
+                self.enter(tag, slot);
+                StayOrEnter::EnteredAgain
+            }
+        }
     }
 
     /// The limits in force, for an entered tag: the same at each call until it leaves, in whichever threads the

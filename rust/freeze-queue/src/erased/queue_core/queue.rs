@@ -6,7 +6,7 @@ use crate::erased::percpu_core::SLOT_LIMIT;
 use crate::erased::percpu_gate::{Gate, Memory, Pass, Put, Start};
 use crate::erased::queue_core::freezer::Freezer;
 use crate::erased::queue_core::limit_words::LIMIT_WORDS;
-use crate::erased::queue_core::tag::{Entry, Tag};
+use crate::erased::queue_core::tag::{Entry, Stay, Tag};
 use crate::erased::queue_limits::Limits;
 use alloc::vec::Vec;
 
@@ -111,6 +111,27 @@ impl BlockQueue {
         debug_assert!(slot < self.slots());
         debug_assert!(tag.entered());
         tag.put(&self.gate, slot)
+    }
+
+    /// Stays entered between two requests, for the price of one load, unless the queue is frozen: then it leaves. Where it
+    /// stays, its limits are those that it has. Where its drop was the last, the freezer is to be woken. Linux: the
+    /// requests that a plug keeps, each with its reference of `q_usage_counter` (block/blk-mq.c).
+    ///
+    /// A thread that stays and then sleeps holds up every freeze, so it leaves before it waits.
+    ///
+    /// # Preconditions
+    ///
+    /// - `tag` belongs to `self`.
+    /// - `slot` is less than `self.slots()`.
+    /// - `tag.entered()` is `true`.
+    #[inline]
+    pub fn stay(&self, tag: &mut Tag, slot: u32) -> Stay {
+        debug_assert!(slot < self.slots());
+        debug_assert!(tag.entered());
+        if tag.is_dying(&self.gate) {
+            return Stay::Left(self.leave(tag, slot));
+        }
+        Stay::Stayed
     }
 
     /// The limits in force, for an entered tag: the same at each call until it leaves, in whichever threads the

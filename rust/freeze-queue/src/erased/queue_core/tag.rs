@@ -14,6 +14,16 @@ pub enum Entry {
     Refused(Put),
 }
 
+/// What a tag that wants to stay entered is answered.
+#[derive(Clone, Copy, Debug, PartialEq, Eq)]
+pub enum Stay {
+    /// The queue is live: the tag is entered still, with the limits that it has.
+    Stayed,
+    /// The queue is frozen, so the tag has left, and dropping its reference was answered so: where it was the last, the
+    /// queue is drained, and the freezer is to be woken.
+    Left(Put),
+}
+
 /// The right to have one request under way in one queue. Linux: a request's tag (block/blk-mq-tag.c).
 ///
 /// It moves between threads with its request. One that is dropped while it is entered keeps the queue from
@@ -72,6 +82,18 @@ impl Tag {
             Tried::Given => Entry::Entered,
             Tried::Refused(put) => Entry::Refused(put),
         }
+    }
+
+    /// Whether the gate was killed and isn't revived yet, at one load.
+    ///
+    /// # Preconditions
+    ///
+    /// - `self.queue.gate` is `gate`.
+    /// - `self.entered()` is `true`.
+    #[inline]
+    pub(crate) fn is_dying(&mut self, gate: &Gate<LIMIT_WORDS>) -> bool {
+        debug_assert!(self.entered());
+        self.pass.is_dying(gate)
     }
 
     /// Drops it.

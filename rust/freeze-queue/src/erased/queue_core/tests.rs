@@ -3,10 +3,10 @@
 //! one slot after the other and answers what was counted on each.
 
 use crate::erased::fallible::Fail;
-use crate::erased::percpu_gate::{Control, Gate, Phase};
+use crate::erased::percpu_gate::{Control, Gate, Phase, Put};
 use crate::erased::queue_core::limit_words::LIMIT_WORDS;
 use crate::erased::queue_core::queue::BlockQueue;
-use crate::erased::queue_core::tag::{Entry, Tag};
+use crate::erased::queue_core::tag::{Entry, Stay, Tag};
 use crate::erased::queue_limits::Limits;
 
 /// Enters on slot 1, looks in on slot 3, and leaves on slot 2 after each.
@@ -25,6 +25,22 @@ fn count(queue: &BlockQueue, tag: &mut Tag) {
     let _put = queue.leave(tag, 2);
 }
 
+/// Enters on slot 1, and stays on slot 3 once the gate is marked dead: it leaves there.
+///
+/// # Preconditions
+///
+/// - `tag` belongs to `queue`.
+/// - `control` belongs to `queue.gate`.
+/// - `queue.slots()` is 4.
+/// - `tag.entered()` is `false`.
+fn stay_in_dead(queue: &BlockQueue, control: &mut Control<LIMIT_WORDS>, tag: &mut Tag) {
+    debug_assert!(queue.slots() == 4);
+    debug_assert!(!tag.entered());
+    assert_eq!(queue.try_enter(tag, 1), Entry::Entered);
+    assert_eq!(control.mark_dead(&queue.gate), Ok(4));
+    assert_eq!(queue.stay(tag, 3), Stay::Left(Put::NotLast));
+}
+
 /// What was counted on the next slot that a kill closes, if there is one.
 ///
 /// # Preconditions
@@ -37,17 +53,17 @@ fn next_delta(control: &mut Control<LIMIT_WORDS>, gate: &Gate<LIMIT_WORDS>) -> O
     }
 }
 
-/// An entering and a look count up on their slot, and a leave counts down on its own.
+/// An entering and a look count up on their slot, and a leave and a stay count down on their own.
 #[test]
 fn each_count_is_on_its_slot() -> Result<(), Fail> {
     let (queue, freezer, mut tags) = BlockQueue::new(Limits::start(8)?, 4, 1)?;
     let mut tag = tags.pop().ok_or("a tag")?;
     count(&queue, &mut tag);
     let mut control = freezer.into_control();
-    assert_eq!(control.mark_dead(&queue.gate), Ok(4));
+    stay_in_dead(&queue, &mut control, &mut tag);
     assert_eq!(next_delta(&mut control, &queue.gate), Some(0));
-    assert_eq!(next_delta(&mut control, &queue.gate), Some(1));
+    assert_eq!(next_delta(&mut control, &queue.gate), Some(2));
     assert_eq!(next_delta(&mut control, &queue.gate), Some(-2));
-    assert_eq!(next_delta(&mut control, &queue.gate), Some(1));
+    assert_eq!(next_delta(&mut control, &queue.gate), Some(0));
     Ok(())
 }

@@ -41,6 +41,31 @@ pub fn submit(
     }
 }
 
+/// The commands for the next request of a thread whose tag is in. It stays for that, with the limits that it was told, unless a
+/// freeze has begun: then it leaves, waits for the thaw and enters again. A busy thread submits for the price of a
+/// load by this. It leaves before it waits for anything else, since a thread that stays and then sleeps holds up every freeze.
+///
+/// # Preconditions
+///
+/// - `tag` belongs to `queue`.
+/// - `slot` is less than `queue.slots()`.
+/// - `tag.entered()` is `true`.
+/// - `start` is less than `2^32`.
+pub fn submit_next(
+    queue: &BlockQueue,
+    tag: &mut Tag,
+    slot: u32,
+    start: u64,
+    count: u32,
+) -> Result<Vec<Command>, AllocError> {
+    debug_assert!(slot < queue.slots());
+    debug_assert!(tag.entered());
+    debug_assert!(start < 1 << 32);
+    let _answer = queue.stay_or_enter(tag, slot);
+    let limits = queue.limits(tag);
+    commands(&limits, start, count)
+}
+
 /// Enters, and waits until the limits in force are these. A tag that enters after a change of limits may find that the freezer
 /// has gone on: so what it is told is compared, and where it differs the tag leaves and enters again.
 ///

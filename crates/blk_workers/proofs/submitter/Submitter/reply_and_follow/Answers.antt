@@ -11,8 +11,8 @@ use Rattle.blk_workers.proofs.submitter.Submitter.reply_and_follow.Goals as goal
 
 pub follow-requires-clause-hardware : goal.follow-requires-clause-hardware
 follow-requires-clause-hardware g c =
-    ap (λ (q : Queue). q.limits.hardware) c.requires.next.queue.is ∙ hardware_at g.J.Run.script (length c.args.self.now.desk.replies + 1) ∙ sym c.hall.invariant.hardware
-    ∙ sym (ap (λ (q : QueueFacts). q.hardware) c.hall.invariant.its_queue)
+    ap (λ (q : Queue). q.limits.hardware) c.requires.next.queue.is ∙ hardware_at g.J.Run.script (length c.args.self.now.desk.replies + 1) ∙ sym c.hall.invariant.0.hardware
+    ∙ sym (ap (λ (q : QueueFacts). q.hardware) c.hall.invariant.0.its_queue)
 
 pub returns : goal.returns
 returns g c =
@@ -20,21 +20,25 @@ returns g c =
     let refused : accepted_at g.J.Run.script here ≡ None = c.requires.next.refused in
     let replied = c.in_ok-reply_now.ensures.replied in
     let desk = c.reply_now.new.desk in
+    let follows : IsFollowing g.J.Run.queue (here + 1) c.follow.new.freezer =
+    subst (λ (q : QueueFacts). IsFollowing q (here + 1) c.follow.new.freezer) c.hall.invariant.0.its_queue
+    (subst (λ n. IsFollowing c.hall.inside.queue.now n c.follow.new.freezer) (c.len-kills.ensures ∙ replied.lines) c.follow.ensures.follows)
+    in
     record {
       passed = record {
         at = record {
-          stands = subst (λ (s : Meant). Stands s desk.replies desk.disk) (c.script.ensures ∙ c.hall.invariant.its_script) replied.stands;
+          stands = subst (λ (s : Meant). Stands s desk.replies desk.disk) (c.script.ensures ∙ c.hall.invariant.0.its_script) replied.stands;
           lines = replied.lines;
           state = c.requires.next.queue;
-          freezer =
-              subst (λ (q : QueueFacts). IsFollowing q (here + 1) c.follow.new.freezer) c.hall.invariant.its_queue
-              (subst (λ n. IsFollowing c.hall.inside.queue.now n c.follow.new.freezer) (c.len-kills.ensures ∙ replied.lines) c.follow.ensures.follows);
+          freezer = follows;
           in_step = c.follow.ensures.in_step;
           counted = record { is = c.requires.before.counted.is ∙ sym (counts_line g.J.Run.script here refused); few = omega (arith, c.requires.before.counted.few) };
         };
         accepted = refl;
         awaited =
-            subst (λ (s : Meant). StaysAwaited s c.args.self.now.desk.replies desk.replies) (c.script.ensures ∙ c.hall.invariant.its_script) replied.awaited;
+            subst (λ (s : Meant). StaysAwaited s c.args.self.now.desk.replies desk.replies) (c.script.ensures ∙ c.hall.invariant.0.its_script) replied.awaited;
       };
+      follows = follows;
+      kills = c.follow.ensures.kills;
       memory = tt;
     }

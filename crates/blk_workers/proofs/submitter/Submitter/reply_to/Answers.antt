@@ -42,7 +42,7 @@ reply_and_follow-requires-in-Replied-clause-before g c =
 pub reply_and_follow-requires-clause-next : goal.reply_and_follow-requires-clause-next
 reply_and_follow-requires-clause-next g c =
     let came = came_to g.J.Run.script g.J.Run.script (length c.args.self.now.desk.replies) c.len.result c.lines.result.now c.index-lines-len.result c.args.self.now.state c.take.new.self (Drained c.in-Drained.reply) refl
-    (c.lines.ensures ∙ ap (λ (s : Meant). s.lines) (c.script.ensures ∙ c.hall.invariant.its_script)) c.len.ensures c.requires.more c.index-lines-len.is c.requires.taken.at.state c.in-Drained.ensures.outcome c.take.ensures.after c.take.ensures.counts in
+    (c.lines.ensures ∙ ap (λ (s : Meant). s.lines) (c.script.ensures ∙ c.hall.invariant.0.its_script)) c.len.ensures c.requires.more c.index-lines-len.is c.requires.taken.at.state c.in-Drained.ensures.outcome c.take.ensures.after c.take.ensures.counts in
     let same = sym c.drain.ensures.drained.collected.lines in
     record {
       refused = subst (λ p. accepted_at g.J.Run.script p ≡ None) same (accepted_there g.J.Run.script (length c.args.self.now.desk.replies) c.index-lines-len.result c.args.self.now.state c.take.new.self (Drained c.in-Drained.reply) came);
@@ -53,13 +53,13 @@ reply_and_follow-requires-clause-next g c =
 pub reply_and_follow-requires-in-Replied-clause-passes : goal.reply_and_follow-requires-in-Replied-clause-passes
 reply_and_follow-requires-in-Replied-clause-passes g c =
     let came = came_to g.J.Run.script g.J.Run.script (length c.args.self.now.desk.replies) c.len.result c.lines.result.now c.index-lines-len.result c.args.self.now.state c.take.new.self (Replied c.in-Replied.reply) refl
-    (c.lines.ensures ∙ ap (λ (s : Meant). s.lines) (c.script.ensures ∙ c.hall.invariant.its_script)) c.len.ensures c.requires.more c.index-lines-len.is c.requires.taken.at.state c.in-Replied.ensures.outcome c.take.ensures.after c.take.ensures.counts in
+    (c.lines.ensures ∙ ap (λ (s : Meant). s.lines) (c.script.ensures ∙ c.hall.invariant.0.its_script)) c.len.ensures c.requires.more c.index-lines-len.is c.requires.taken.at.state c.in-Replied.ensures.outcome c.take.ensures.after c.take.ensures.counts in
     inl (drains_there g.J.Run.script (length c.args.self.now.desk.replies) c.index-lines-len.result c.args.self.now.state c.take.new.self (Replied c.in-Replied.reply) came)
 
 pub reply_and_follow-requires-in-Replied-clause-next : goal.reply_and_follow-requires-in-Replied-clause-next
 reply_and_follow-requires-in-Replied-clause-next g c =
     let came = came_to g.J.Run.script g.J.Run.script (length c.args.self.now.desk.replies) c.len.result c.lines.result.now c.index-lines-len.result c.args.self.now.state c.take.new.self (Replied c.in-Replied.reply) refl
-    (c.lines.ensures ∙ ap (λ (s : Meant). s.lines) (c.script.ensures ∙ c.hall.invariant.its_script)) c.len.ensures c.requires.more c.index-lines-len.is c.requires.taken.at.state c.in-Replied.ensures.outcome c.take.ensures.after c.take.ensures.counts in
+    (c.lines.ensures ∙ ap (λ (s : Meant). s.lines) (c.script.ensures ∙ c.hall.invariant.0.its_script)) c.len.ensures c.requires.more c.index-lines-len.is c.requires.taken.at.state c.in-Replied.ensures.outcome c.take.ensures.after c.take.ensures.counts in
     record {
       refused = accepted_there g.J.Run.script (length c.args.self.now.desk.replies) c.index-lines-len.result c.args.self.now.state c.take.new.self (Replied c.in-Replied.reply) came;
       reply = reply_replied g.J.Run.script (length c.args.self.now.desk.replies) c.index-lines-len.result c.args.self.now.state c.take.new.self c.in-Replied.reply came;
@@ -69,7 +69,7 @@ reply_and_follow-requires-in-Replied-clause-next g c =
 pub returns-in_ok-drain-in-Drained-clause-taken : goal.returns-in_ok-drain-in-Drained-clause-taken
 returns-in_ok-drain-in-Drained-clause-taken g c =
     let came = came_to g.J.Run.script g.J.Run.script (length c.args.self.now.desk.replies) c.len.result c.lines.result.now c.index-lines-len.result c.args.self.now.state c.take.new.self (Drained c.in-Drained.reply) refl
-    (c.lines.ensures ∙ ap (λ (s : Meant). s.lines) (c.script.ensures ∙ c.hall.invariant.its_script)) c.len.ensures c.requires.more c.index-lines-len.is c.requires.taken.at.state c.in-Drained.ensures.outcome c.take.ensures.after c.take.ensures.counts in
+    (c.lines.ensures ∙ ap (λ (s : Meant). s.lines) (c.script.ensures ∙ c.hall.invariant.0.its_script)) c.len.ensures c.requires.more c.index-lines-len.is c.requires.taken.at.state c.in-Drained.ensures.outcome c.take.ensures.after c.take.ensures.counts in
     let here = length c.args.self.now.desk.replies in
     let same = sym (counts_line g.J.Run.script here (accepted_there g.J.Run.script (length c.args.self.now.desk.replies) c.index-lines-len.result c.args.self.now.state c.take.new.self (Drained c.in-Drained.reply) came)) in
     let handed = c.requires.taken.handed_over in
@@ -93,7 +93,7 @@ returns-in_ok-drain-in-Drained-clause-taken g c =
 pub returns-in-Replied-clause-taken : goal.returns-in-Replied-clause-taken
 returns-in-Replied-clause-taken g c =
     let came = came_to g.J.Run.script g.J.Run.script (length c.args.self.now.desk.replies) c.len.result c.lines.result.now c.index-lines-len.result c.args.self.now.state c.take.new.self (Replied c.in-Replied.reply) refl
-    (c.lines.ensures ∙ ap (λ (s : Meant). s.lines) (c.script.ensures ∙ c.hall.invariant.its_script)) c.len.ensures c.requires.more c.index-lines-len.is c.requires.taken.at.state c.in-Replied.ensures.outcome c.take.ensures.after c.take.ensures.counts in
+    (c.lines.ensures ∙ ap (λ (s : Meant). s.lines) (c.script.ensures ∙ c.hall.invariant.0.its_script)) c.len.ensures c.requires.more c.index-lines-len.is c.requires.taken.at.state c.in-Replied.ensures.outcome c.take.ensures.after c.take.ensures.counts in
     let here = length c.args.self.now.desk.replies in
     let same = sym (counts_line g.J.Run.script here (accepted_there g.J.Run.script (length c.args.self.now.desk.replies) c.index-lines-len.result c.args.self.now.state c.take.new.self (Replied c.in-Replied.reply) came)) in
     let handed = c.requires.taken.handed_over in

@@ -33,5 +33,5 @@ returns-clause-taken g c =
           few = omega (arith, way.accepted, counted.few);
         };
       };
-      handed_over = subst (λ n. AreHandedOver script g.L.QueueName.id g.C.QueueName.id (n + 1) c.hand_over.new.desk.replies source collector) way.lines over.all;
+      handed_over = subst (λ n. AreHandedOver script g.L.QueueNames.requests g.C.QueueName.id (n + 1) c.hand_over.new.desk.replies source collector) way.lines over.all;
     }

@@ -1,0 +1,8 @@
+-- The answer to a race.
+use Rattle.std.specs.Prelude.{◌≡◌, ℕ, List, Err}
+use Rattle.line_text.specs.declared.fault.ParseFault.{ParseFault}
+use Rattle.races_run.specs.Answer.{IsAnswer}
+
+-- the input means no race, and this is the line of its first fault
+abbrev pub IsRefusedAt : List ℕ → ℕ → Type 0
+IsRefusedAt input line = (fault : ParseFault) × IsAnswer input (Err fault) × (line ≡ fault.line)

@@ -1,0 +1,124 @@
+//! The calls of the page.
+//!
+//! Each has `room` for the answer and writes the answer's length to `size`: a page whose room was too short calls again with more.
+//! It writes to `line` the line of a fault, and else 0.
+ghost use Rattle.std.specs.Prelude.{◌≡◌, ◌≢◌, [], ◌∷◌, Contains};
+ghost use Rattle.browser.specs.Handed.{Hands};
+ghost use Rattle.browser.specs.Race as race;
+ghost use Rattle.browser.specs.Schedule as schedule;
+ghost use Rattle.browser.specs.Script as script;
+ghost use Rattle.gate_replay.specs.Shown.{EndsSo};
+ghost use Rattle.gate_replay.specs.declared.replay.Replayed.TheVariants.{Stuck, Whole};
+ghost use Rattle.races_run.specs.Answer as outcomes;
+
+use crate::fault_lines::{NO_MEMORY, REFUSED, STOPPED, hand_fault, line_of, status_of};
+use crate::handing::hand;
+use crate::script::script_text;
+use gate_replay::{Replayed, replay_text};
+use races_run::{Fault, outcomes_text};
+use std::alloc::Global;
+
+/// Answers a script, as it runs on one thread.
+///
+/// Status 0 comes with the answer's text; 2 if the input is no script, and 3 if requests overlap, with the fault's line; 4 if
+/// memory is refused.
+#[unsafe(no_mangle)]
+pub extern "C" fn browser_script(
+    alloc: Global,
+    input: &[u8],
+    room: &mut [u8],
+    size: &mut usize,
+    line: &mut u32,
+) -> u32
+    ensures answered { result ≡ 0 → script.IsAnsweredBy input.now (λ text. Hands text room.old room.new size.new) }
+    ensures refused { result ≡ 2 → script.IsRefusedAt input.now line.new }
+    ensures overlaps { result ≡ 3 → script.OverlapsAt input.now line.new }
+    ensures statuses { Contains (0 ∷ 2 ∷ 3 ∷ 4 ∷ []) result }
+    ensures no_line { Contains (0 ∷ 4 ∷ []) result → line.new ≡ 0 }
+{
+    match script_text(alloc, input) {
+        Ok(text) => {
+            *size = hand(text.as_slice(), room);
+            *line = 0;
+            0
+        }
+        Err(fault) => {
+            *size = hand_fault(alloc, &fault, room);
+            *line = line_of(&fault);
+            status_of(&fault)
+        }
+    }
+}
+
+/// Replays a schedule.
+///
+/// Status 0 comes with the text of a replay that took every step, and 3 with the text of one that stopped at a step that isn't
+/// enabled; 2 if the input is no schedule, with the fault's line; 4 if memory is refused.
+#[unsafe(no_mangle)]
+pub extern "C" fn browser_replay(
+    alloc: Global,
+    input: &[u8],
+    room: &mut [u8],
+    size: &mut usize,
+    line: &mut u32,
+) -> u32
+    ensures whole { result ≡ 0 → EndsSo input.now Whole (λ text. Hands text room.old room.new size.new) }
+    ensures stuck { result ≡ 3 → EndsSo input.now Stuck (λ text. Hands text room.old room.new size.new) }
+    ensures refused { result ≡ 2 → schedule.IsRefusedAt input.now line.new }
+    ensures statuses { Contains (0 ∷ 2 ∷ 3 ∷ 4 ∷ []) result }
+    ensures no_line { result ≢ 2 → line.new ≡ 0 }
+{
+    match replay_text(alloc, input) {
+        Ok(replay) => {
+            *size = hand(replay.text(), room);
+            *line = 0;
+            match replay.ended() {
+                Replayed::Whole => 0,
+                Replayed::Stuck => STOPPED,
+            }
+        }
+        Err(fault) => {
+            *size = hand_fault(alloc, &fault, room);
+            *line = line_of(&fault);
+            status_of(&fault)
+        }
+    }
+}
+
+/// Answers a race with all its outcomes.
+///
+/// Status 0 comes with the text of the outcomes; 2 if the input is no race, with the fault's line; 4 if memory is refused.
+#[unsafe(no_mangle)]
+pub extern "C" fn browser_race(
+    alloc: Global,
+    input: &[u8],
+    room: &mut [u8],
+    size: &mut usize,
+    line: &mut u32,
+) -> u32
+    ensures answered { result ≡ 0 → outcomes.IsAnsweredBy input.now (λ text. Hands text room.old room.new size.new) }
+    ensures refused { result ≡ 2 → race.IsRefusedAt input.now line.new }
+    ensures statuses { Contains (0 ∷ 2 ∷ 4 ∷ []) result }
+    ensures no_line { result ≢ 2 → line.new ≡ 0 }
+{
+    match outcomes_text(alloc, input) {
+        Ok(text) => {
+            *size = hand(text.as_slice(), room);
+            *line = 0;
+            0
+        }
+        Err(fault) => {
+            *size = hand_fault(alloc, &fault, room);
+            match fault {
+                Fault::Parse(refused) => {
+                    *line = refused.line;
+                    REFUSED
+                }
+                _ => {
+                    *line = 0;
+                    NO_MEMORY
+                }
+            }
+        }
+    }
+}

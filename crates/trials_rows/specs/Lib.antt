@@ -1,0 +1,2 @@
+-- Changes: what is read after a change of limits.
+pub mod Changes

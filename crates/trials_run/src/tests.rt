@@ -1,3 +1,0 @@
-//! What threads hand to one another in a run, and runs.
-mod queues;
-mod runs;

@@ -1,0 +1,202 @@
+//! Waiting for a tag, in line.
+use crate::body::Body;
+use crate::enter_owned_async::EnterOwnedAsync;
+use crate::errors::{EnterAnyError, EnterAnyTimeoutError};
+use crate::line::{Notify, Turn};
+use crate::owned::OwnedEntered;
+use crate::shared::{Shared, bring_home};
+use crate::sync;
+use crate::tag::Tag;
+use crate::threads;
+use crate::waits::Held;
+use std::fmt;
+use std::mem;
+use std::pin::Pin;
+use std::task::{Context, Poll};
+use std::time::Instant;
+
+/// How one comes to a tag that found none.
+enum Joined {
+    /// One came home meanwhile.
+    Has(Body),
+    /// It is in line, by this number.
+    Waits(u64),
+}
+
+/// Joins the line, unless a tag is home: then nobody is in line.
+fn join(queue: &Shared, held: &mut Held, notify: Notify) -> Result<Joined, (EnterAnyError, Notify)> {
+    if held.is_dying {
+        return Err((EnterAnyError::Dying, notify));
+    }
+    if held.line.is_empty() {
+        if let Some(tag) = queue.places.take_or_ask() {
+            return Ok(Joined::Has(tag));
+        }
+    }
+    held.line.join(notify).map(Joined::Waits).map_err(|notify| (EnterAnyError::NoMemory, notify))
+}
+
+/// The tag on the slot of this thread.
+fn on_slot_of_thread(queue: &Shared, mut tag: Body) -> Tag {
+    tag.state.slot = queue.slot_of(threads::hint().0);
+    Tag::of(tag)
+}
+
+/// The thread waits in line until it has a tag, or until the deadline.
+#[cold]
+pub(crate) fn wait_for_tag(queue: &Shared, deadline: Option<Instant>) -> Result<Tag, EnterAnyTimeoutError> {
+    let notify = Notify::Thread(sync::current());
+    let mut held = queue.waits.lock();
+    let number = match join(queue, &mut held, notify) {
+        Ok(Joined::Has(tag)) => return Ok(on_slot_of_thread(queue, tag)),
+        Ok(Joined::Waits(number)) => number,
+        Err((why, _)) => return Err(why.into()),
+    };
+    loop {
+        drop(held);
+        let in_time = park(deadline);
+        held = queue.waits.lock();
+        match held.line.look(number, &mut None) {
+            Turn::Has(tag) => return Ok(on_slot_of_thread(queue, tag)),
+            Turn::SentAway => return Err(EnterAnyError::Dying.into()),
+            Turn::Waits if in_time => {}
+            Turn::Waits => {
+                held.line.go(number);
+                return Err(EnterAnyTimeoutError::TimedOut);
+            }
+        }
+    }
+}
+
+/// Sleeps until the thread is woken, perhaps for nothing; whether that was before the deadline.
+fn park(deadline: Option<Instant>) -> bool {
+    let Some(deadline) = deadline else {
+        sync::park();
+        return true;
+    };
+    let left = deadline.saturating_duration_since(Instant::now());
+    sync::park_timeout(left);
+    Instant::now() < deadline
+}
+
+/// The future of [`Queue::enter_any_async`](crate::Queue::enter_any_async).
+///
+/// ```
+/// use freeze_queue::{Limits, Queue};
+/// use std::future::Future;
+/// use std::pin::pin;
+/// use std::task::{Context, Poll, Waker};
+///
+/// let queue = Queue::new(Limits::of_hardware(64), 1, 1)?;
+/// let request = queue.enter_any()?;
+/// let mut entering = pin!(queue.enter_any_async());
+/// let mut context = Context::from_waker(Waker::noop());
+/// assert!(entering.as_mut().poll(&mut context).is_pending());
+/// drop(request); // hands its tag over, and wakes
+/// assert!(matches!(entering.poll(&mut context), Poll::Ready(Ok(_))));
+/// # Ok::<(), Box<dyn std::error::Error>>(())
+/// ```
+#[must_use = "a future does nothing unless it is polled"]
+pub struct EnterAny<'q> {
+    queue: &'q Shared,
+    at: At,
+}
+
+/// How far a future has come.
+enum At {
+    Begin,
+    /// In line, by this number.
+    Line(u64),
+    /// With a tag, it waits for the thaw.
+    Entering(EnterOwnedAsync),
+    End,
+}
+
+impl<'q> EnterAny<'q> {
+    pub(crate) fn of(queue: &'q Shared) -> EnterAny<'q> {
+        EnterAny { queue, at: At::Begin }
+    }
+
+    /// The future of the tag, once there is one.
+    fn tag(&mut self, context: &Context<'_>) -> Poll<Result<&mut EnterOwnedAsync, EnterAnyError>> {
+        let tag = match self.at {
+            At::Begin => self.join_line(context),
+            At::Line(number) => self.look(number, context),
+            At::Entering(_) => Poll::Pending,
+            At::End => panic!("it isn't polled once it is done"),
+        };
+        match tag {
+            Poll::Ready(Ok(tag)) => {
+                self.at = At::Entering(EnterOwnedAsync::of(on_slot_of_thread(self.queue, tag), true));
+            }
+            Poll::Ready(Err(why)) => return Poll::Ready(Err(why)),
+            Poll::Pending => {}
+        }
+        match &mut self.at {
+            At::Entering(entering) => Poll::Ready(Ok(entering)),
+            _ => Poll::Pending,
+        }
+    }
+
+    fn join_line(&mut self, context: &Context<'_>) -> Poll<Result<Body, EnterAnyError>> {
+        if let Some(tag) = self.queue.try_any() {
+            return Poll::Ready(Ok(tag));
+        }
+        let notify = Notify::Task(context.waker().clone()); // before the lock, since it is somebody's code
+        let joined = join(self.queue, &mut self.queue.waits.lock(), notify);
+        match joined {
+            Ok(Joined::Has(tag)) => Poll::Ready(Ok(tag)),
+            Ok(Joined::Waits(number)) => {
+                self.at = At::Line(number);
+                Poll::Pending
+            }
+            Err((why, _)) => Poll::Ready(Err(why)),
+        }
+    }
+
+    fn look(&mut self, number: u64, context: &Context<'_>) -> Poll<Result<Body, EnterAnyError>> {
+        let mut waker = Some(context.waker().clone());
+        let turn = self.queue.waits.lock().line.look(number, &mut waker);
+        match turn {
+            Turn::Has(tag) => Poll::Ready(Ok(tag)),
+            Turn::Waits => Poll::Pending,
+            Turn::SentAway => Poll::Ready(Err(EnterAnyError::Dying)),
+        }
+    }
+}
+
+impl Future for EnterAny<'_> {
+    type Output = Result<OwnedEntered, EnterAnyError>;
+
+    fn poll(self: Pin<&mut Self>, context: &mut Context<'_>) -> Poll<Self::Output> {
+        let this = self.get_mut();
+        let done = match this.tag(context) {
+            Poll::Ready(Ok(entering)) => {
+                Pin::new(entering).poll(context).map_err(|refused| EnterAnyError::of_free(refused.reason))
+            }
+            Poll::Ready(Err(why)) => Poll::Ready(Err(why)),
+            Poll::Pending => Poll::Pending,
+        };
+        if done.is_ready() {
+            this.at = At::End;
+        }
+        done
+    }
+}
+
+impl Drop for EnterAny<'_> {
+    fn drop(&mut self) {
+        let At::Line(number) = mem::replace(&mut self.at, At::End) else { return };
+        let (tag, notify) = self.queue.waits.lock().line.go(number);
+        if let Some(tag) = tag {
+            bring_home(tag);
+        }
+        drop(notify);
+    }
+}
+
+impl fmt::Debug for EnterAny<'_> {
+    fn fmt(&self, f: &mut fmt::Formatter<'_>) -> fmt::Result {
+        f.debug_struct("EnterAny").field("is_done", &matches!(self.at, At::End)).finish_non_exhaustive()
+    }
+}

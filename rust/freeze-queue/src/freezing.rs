@@ -1,0 +1,149 @@
+//! A freeze that was begun, and may not be drained yet.
+use crate::drained::Drained;
+use crate::errors::FreezeError;
+use crate::frozen::Frozen;
+use crate::shared::Share;
+use std::fmt;
+use std::time::{Duration, Instant};
+
+/// A freeze that is thawed where this is dropped.
+pub(crate) struct Freeze<'q> {
+    pub(crate) queue: Share<'q>,
+    /// It isn't thawed any more, since the device is gone.
+    is_for_ever: bool,
+}
+
+impl Freeze<'_> {
+    pub(crate) fn is_drained(&self) -> bool {
+        self.queue.waits.lock().freezer.poll_drained(&self.queue.erased)
+    }
+
+    /// Never thaws it, and sends those away that wait to enter. A waker may panic by that.
+    pub(crate) fn mark_dying(mut self) {
+        self.is_for_ever = true; // before a waker is called
+        self.queue.waits.mark_dying(self.queue.shares());
+    }
+}
+
+impl Drop for Freeze<'_> {
+    fn drop(&mut self) {
+        if !self.is_for_ever {
+            self.queue.waits.thaw(&self.queue.erased, self.queue.shares());
+        }
+    }
+}
+
+/// A freeze that was begun ([`Queue::begin_freeze`](crate::Queue::begin_freeze)): no request enters, and those in flight drain.
+///
+/// Dropping it thaws this freeze. [`OwnedFreezing`] has a share of its queue, and goes wherever its holder does.
+///
+/// ```
+/// use freeze_queue::{Limits, Queue, TryEnterError};
+///
+/// let queue = Queue::new(Limits::of_hardware(64), 1, 2)?;
+/// let (mut tag, mut other) = (queue.next_tag(0)?, queue.next_tag(0)?);
+/// let request = queue.enter(&mut tag)?;
+/// let freezing = queue.begin_freeze()?;
+/// assert_eq!(queue.try_enter(&mut other).unwrap_err(), TryEnterError::Frozen);
+/// assert!(!freezing.is_drained());
+/// drop(request);
+/// freezing.wait().set(queue.limits().with_max(8))?;
+/// # Ok::<(), Box<dyn std::error::Error>>(())
+/// ```
+#[must_use = "a freeze is thawed where it is dropped"]
+pub struct Freezing<'q> {
+    freeze: Freeze<'q>,
+}
+
+/// A freeze that was begun, with a share of its queue ([`Queue::begin_freeze_owned`](crate::Queue::begin_freeze_owned)).
+pub type OwnedFreezing = Freezing<'static>;
+
+impl<'q> Freezing<'q> {
+    pub(crate) fn begin(queue: Share<'q>) -> Result<Freezing<'q>, FreezeError> {
+        queue.waits.begin_freeze(&queue.erased, queue.shares())?;
+        Ok(Freezing { freeze: Freeze { queue, is_for_ever: false } })
+    }
+
+    /// Whether each request has left, at a moment of the call. Once it is so it stays so until the last thaw. Linux:
+    /// `percpu_ref_is_zero` in `blk_mq_freeze_queue_wait`.
+    ///
+    /// ```
+    /// # use freeze_queue::{Limits, Queue};
+    /// # let queue = Queue::new(Limits::of_hardware(64), 1, 1)?;
+    /// assert!(queue.begin_freeze()?.is_drained());
+    /// # Ok::<(), Box<dyn std::error::Error>>(())
+    /// ```
+    #[must_use]
+    pub fn is_drained(&self) -> bool {
+        self.freeze.is_drained()
+    }
+
+    /// Waits until each request has left. Linux: `blk_mq_freeze_queue_wait`.
+    ///
+    /// ```
+    /// # use freeze_queue::{Limits, Queue};
+    /// # let queue = Queue::new(Limits::of_hardware(64), 1, 1)?;
+    /// let frozen = queue.begin_freeze()?.wait();
+    /// assert!(queue.is_drained());
+    /// # Ok::<(), Box<dyn std::error::Error>>(())
+    /// ```
+    pub fn wait(self) -> Frozen<'q> {
+        self.freeze.queue.waits.until_drained(&self.freeze.queue.erased, None);
+        Frozen::of(self.freeze)
+    }
+
+    /// Waits this long at most until each request has left. Linux: `blk_mq_freeze_queue_wait_timeout`.
+    ///
+    /// # Errors
+    ///
+    /// If a request is in flight still, the freeze comes back.
+    ///
+    /// # Examples
+    ///
+    /// ```
+    /// # use freeze_queue::{Limits, Queue};
+    /// # use std::time::Duration;
+    /// # let queue = Queue::new(Limits::of_hardware(64), 1, 1)?;
+    /// # let mut tag = queue.next_tag(0)?;
+    /// let request = queue.enter(&mut tag)?;
+    /// let freezing = queue.begin_freeze()?.wait_timeout(Duration::ZERO).unwrap_err();
+    /// drop(request);
+    /// assert!(freezing.wait_timeout(Duration::ZERO).is_ok());
+    /// # Ok::<(), Box<dyn std::error::Error>>(())
+    /// ```
+    pub fn wait_timeout(self, patience: Duration) -> Result<Frozen<'q>, Freezing<'q>> {
+        let deadline = Instant::now().checked_add(patience);
+        if self.freeze.queue.waits.until_drained(&self.freeze.queue.erased, deadline) {
+            Ok(Frozen::of(self.freeze))
+        } else {
+            Err(self)
+        }
+    }
+
+    /// Waits by a future until each request has left: the call that leaves last wakes it. Dropping the future thaws.
+    ///
+    /// ```
+    /// # use freeze_queue::{FreezeError, Limits, Queue};
+    /// # use std::{future::Future, pin::pin, task::{Context, Poll, Waker}};
+    /// async fn halve(queue: &Queue) -> Result<(), FreezeError> {
+    ///     let freezing = queue.begin_freeze()?; // no request enters from now on
+    ///     let frozen = freezing.drained().await;
+    ///     let limits = frozen.limits();
+    ///     frozen.set(limits.with_max(limits.max / 2)).expect("they are limits");
+    ///     Ok(())
+    /// }
+    /// # let queue = Queue::new(Limits::of_hardware(64), 1, 1)?;
+    /// # let done = pin!(halve(&queue)).poll(&mut Context::from_waker(Waker::noop()));
+    /// # assert_eq!((done, queue.limits().max, queue.depth()), (Poll::Ready(Ok(())), 32, 0));
+    /// # Ok::<(), Box<dyn std::error::Error>>(())
+    /// ```
+    pub fn drained(self) -> Drained<'q> {
+        Drained::of(self.freeze)
+    }
+}
+
+impl fmt::Debug for Freezing<'_> {
+    fn fmt(&self, f: &mut fmt::Formatter<'_>) -> fmt::Result {
+        f.debug_struct("Freezing").field("queue", &self.freeze.queue.number).finish_non_exhaustive()
+    }
+}

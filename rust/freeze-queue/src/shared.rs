@@ -1,0 +1,241 @@
+//! What a queue, its tags and its freezes have a share of.
+use crate::body::{Body, TagState};
+use crate::erased::queue_core::{self, BlockQueue, Entry, Put, Stay};
+use crate::errors::{EnterError, EnterFrozenError, EnterTimeoutError, SetError, TryEnterError};
+use crate::excluded::excluded;
+use crate::limits::Limits;
+use crate::places::Places;
+use crate::threads;
+use crate::waits::{Held, Seen, Waits};
+use std::mem;
+use std::num::NonZeroU64;
+use std::ops::Deref;
+use std::sync::Arc;
+use std::task::{Context, Waker};
+use std::time::{Duration, Instant};
+
+/// A queue: what each request reads, and nobody writes, and the lock for the rest.
+pub(crate) struct Shared {
+    /// No other queue has it.
+    pub(crate) number: NonZeroU64,
+    pub(crate) erased: BlockQueue,
+    /// One for each tag.
+    pub(crate) places: Places,
+    pub(crate) waits: Waits,
+}
+
+impl Shared {
+    /// The tag enters, or why it doesn't.
+    #[inline]
+    pub(crate) fn in_at_once(&self, tag: &mut TagState) -> Result<(), TryEnterError> {
+        if tag.erased.entered() {
+            return Err(TryEnterError::StillEntered);
+        }
+        match self.erased.try_enter(&mut tag.erased, tag.slot) {
+            Entry::Entered => Ok(()),
+            Entry::Refused(put) => Err(self.not_in(put)),
+        }
+    }
+
+    /// Why a try was refused, whose count was dropped again and that answered so.
+    #[cold]
+    fn not_in(&self, put: Put) -> TryEnterError {
+        self.dropped(put);
+        if self.waits.is_dying() { TryEnterError::Dying } else { TryEnterError::Frozen }
+    }
+
+    /// The tag enters a queue that may be frozen, or why it doesn't.
+    pub(crate) fn in_to_look(&self, tag: &mut TagState) -> Result<(), EnterFrozenError> {
+        if tag.erased.entered() {
+            return Err(EnterFrozenError::StillEntered);
+        }
+        match self.erased.try_enter_frozen(&mut tag.erased, tag.slot) {
+            Entry::Entered => Ok(()),
+            Entry::Refused(put) => {
+                self.dropped(put);
+                Err(EnterFrozenError::Drained)
+            }
+        }
+    }
+
+    #[inline]
+    pub(crate) fn in_or_waits(&self, tag: &mut TagState) -> Result<(), EnterError> {
+        match self.in_at_once(tag) {
+            Ok(()) => Ok(()),
+            Err(why) => self.waits_until(tag, why, None).map_err(EnterError::without_end),
+        }
+    }
+
+    /// The tag enters within this time.
+    #[inline]
+    pub(crate) fn in_by_then(&self, tag: &mut TagState, patience: Duration) -> Result<(), EnterTimeoutError> {
+        match self.in_at_once(tag) {
+            Ok(()) => Ok(()),
+            Err(why) => self.waits_until(tag, why, Instant::now().checked_add(patience)),
+        }
+    }
+
+    /// The tag enters, or doesn't; none if it waits, and the context's waker is noted. If cloning that waker panics, nothing
+    /// has changed: a later poll tries again.
+    pub(crate) fn in_or_noted(&self, tag: &mut TagState, context: &Context<'_>) -> Option<Result<(), EnterError>> {
+        loop {
+            match self.in_at_once(tag) {
+                Ok(()) => return Some(Ok(())),
+                Err(TryEnterError::OtherQueue) => return Some(Err(EnterError::OtherQueue)),
+                Err(TryEnterError::StillEntered) => return Some(Err(EnterError::StillEntered)),
+                Err(TryEnterError::Dying) => return Some(Err(EnterError::Dying)),
+                Err(TryEnterError::Frozen) => {}
+            }
+            let mut waker = Some(context.waker().clone()); // before the lock, since it is somebody's code
+            let seen = self.waits.lock().seen_or_noted(tag.number, &mut waker);
+            tag.is_noted |= seen.is_none();
+            match seen {
+                Some(Seen::Live) => {}
+                Some(Seen::Dying) => return Some(Err(EnterError::Dying)),
+                None => return None, // here the waker that was noted before is dropped, which may panic as well
+            }
+        }
+    }
+
+    /// No future waits with this tag any more: the waker that one left, if it did.
+    #[inline]
+    pub(crate) fn forget_waker(&self, tag: &mut TagState) -> Option<Waker> {
+        if mem::take(&mut tag.is_noted) { self.waits.lock().seats.forget(tag.number) } else { None }
+    }
+
+    /// The tag enters by the deadline, which it couldn't at once.
+    #[cold]
+    pub(crate) fn waits_until(
+        &self,
+        tag: &mut TagState,
+        why: TryEnterError,
+        deadline: Option<Instant>,
+    ) -> Result<(), EnterTimeoutError> {
+        let mut why = why;
+        loop {
+            match why {
+                TryEnterError::OtherQueue => return Err(EnterTimeoutError::OtherQueue),
+                TryEnterError::StillEntered => return Err(EnterTimeoutError::StillEntered),
+                TryEnterError::Dying => return Err(EnterTimeoutError::Dying),
+                TryEnterError::Frozen => {}
+            }
+            match self.waits.until_live(deadline) {
+                Some(Seen::Live) => {}
+                Some(Seen::Dying) => return Err(EnterTimeoutError::Dying),
+                None => return Err(EnterTimeoutError::TimedOut),
+            }
+            match self.in_at_once(tag) {
+                Ok(()) => return Ok(()),
+                Err(again) => why = again,
+            }
+        }
+    }
+
+    /// The limits in force, under a tag of this queue that has entered.
+    #[inline]
+    pub(crate) fn limits_under(&self, tag: &mut TagState) -> Limits {
+        self.erased.limits(&mut tag.erased).into()
+    }
+
+    /// Sets limits that were checked, under a freeze that has drained the queue.
+    pub(crate) fn store_limits(&self, limits: queue_core::Limits) -> Result<(), SetError> {
+        let mut held = self.waits.lock();
+        if limits.hw() != held.freezer.limits().hw() {
+            return Err(SetError::OtherHardware);
+        }
+        self.set(&mut held, limits);
+        Ok(())
+    }
+
+    /// Sets such limits in place of those seen before, in one hold of the lock; or nothing, if others are in force by now.
+    pub(crate) fn replace_limits(&self, seen: Limits, limits: queue_core::Limits) -> bool {
+        let mut held = self.waits.lock();
+        let is_so_still = Limits::from(held.freezer.limits()) == seen;
+        if is_so_still {
+            self.set(&mut held, limits);
+        }
+        is_so_still
+    }
+
+    fn set(&self, held: &mut Held, limits: queue_core::Limits) {
+        held.freezer.set(&self.erased, limits).unwrap_or_else(|fault| excluded("set", fault));
+    }
+
+    /// A tag of this queue that has entered leaves.
+    #[inline]
+    pub(crate) fn leave(&self, tag: &mut TagState) {
+        let put = self.erased.leave(&mut tag.erased, tag.slot);
+        self.dropped(put);
+    }
+
+    /// Whether a tag of this queue that has entered stays entered. If not, it has left: the caller tells of the dropped count.
+    #[inline]
+    pub(crate) fn stays(&self, tag: &mut TagState) -> Stay {
+        self.erased.stay(&mut tag.erased, tag.slot)
+    }
+
+    /// A count was dropped: if it was the last of a freeze, those are woken that wait for the drain.
+    #[inline]
+    pub(crate) fn dropped(&self, put: Put) {
+        if put == Put::Last {
+            self.waits.tell_drained();
+        }
+    }
+
+    /// A tag that is home, for a request on the slot of this thread.
+    #[inline]
+    pub(crate) fn try_any(&self) -> Option<Body> {
+        let (thread, from) = threads::hint();
+        let (number, mut tag) = self.places.try_take(from)?;
+        threads::note(thread, number);
+        tag.state.slot = self.slot_of(thread);
+        Some(tag)
+    }
+
+    /// The slot of a thread, by its number.
+    #[inline]
+    pub(crate) fn slot_of(&self, thread: u32) -> u32 {
+        let slots = self.erased.slots();
+        if thread < slots { thread } else { thread % slots }
+    }
+}
+
+/// A tag comes home: into its place, or to the first in line.
+#[inline]
+pub(crate) fn bring_home(tag: Body) {
+    let place = tag.place;
+    if let Some(tag) = place.put_unless_asked(tag) {
+        hand_over(tag);
+    }
+}
+
+/// A tag comes home that is asked for, or whose queue was dropped.
+#[cold]
+pub(crate) fn hand_over(tag: Body) {
+    let shared = Arc::clone(&tag.shared);
+    shared.waits.hand_over(tag);
+}
+
+/// A queue that is borrowed, or that a freeze has a share of.
+pub(crate) enum Share<'q> {
+    Borrowed(&'q Shared),
+    Own(Arc<Shared>),
+}
+
+impl Share<'_> {
+    /// How many shares it counts for, of those that a queue knows of.
+    pub(crate) fn shares(&self) -> u32 {
+        u32::from(matches!(self, Share::Own(_)))
+    }
+}
+
+impl Deref for Share<'_> {
+    type Target = Shared;
+
+    fn deref(&self) -> &Shared {
+        match self {
+            Share::Borrowed(shared) => shared,
+            Share::Own(shared) => shared,
+        }
+    }
+}

@@ -1,0 +1,99 @@
+//! Requests with a tag of their own: what goes from thread to thread, each way to enter, and a refusal with its tag.
+use freeze_queue::{
+    Drained, EnterAny, EnterAsync, EnterError, EnterFrozenError, EnterOwnedAsync, EnterTimeoutError, Entered,
+    FreezeAsync, Freezing, Frozen, HandedBack, OwnedEntered, Queue, Tag, TryFreezeError,
+};
+use std::error::Error;
+use std::pin::Pin;
+use std::sync::Arc;
+use std::task::{Context, Poll, Waker};
+use std::thread;
+use std::time::Duration;
+
+mod shared;
+use shared::{LIMITS, queue, with_tag};
+
+/// What goes from thread to thread, and is looked at by several.
+#[test]
+fn threads_share() {
+    fn is_shared<T: Send + Sync>() {}
+    is_shared::<Queue>();
+    is_shared::<Tag>();
+    is_shared::<Entered<'_>>();
+    is_shared::<OwnedEntered>();
+    is_shared::<Frozen<'_>>();
+    is_shared::<Freezing<'_>>();
+    is_shared::<Drained<'_>>();
+    is_shared::<FreezeAsync<'_>>();
+    is_shared::<EnterAsync<'_>>();
+    is_shared::<EnterOwnedAsync>();
+    is_shared::<EnterAny<'_>>();
+    is_shared::<HandedBack<Tag, EnterError>>();
+}
+
+/// A refusal goes into a box of any error, with its tag, and comes out again.
+#[test]
+fn a_refusal_in_a_box_keeps_its_tag() {
+    fn enters(queue: &Queue, tag: Tag) -> Result<OwnedEntered, Box<dyn Error + Send + Sync>> {
+        Ok(queue.enter_owned(tag)?)
+    }
+    let ((here, tag), there) = (with_tag(), queue(1, 1));
+    let refused = enters(&there, tag).unwrap_err().downcast::<HandedBack<Tag, EnterError>>().unwrap();
+    assert_eq!((refused.reason, refused.to_string()), (EnterError::OtherQueue, "the tag is of another queue".into()));
+    drop(enters(&here, refused.value).unwrap());
+    assert!(here.next_tag(0).is_ok() && here.next_tag(0).is_ok());
+    let other = here.next_tag(0).unwrap();
+    drop(enters(&there, other).unwrap_err()); // and its tag goes home
+    here.remove().unwrap();
+}
+
+/// The pieces of a request end on several threads: the last one leaves.
+#[test]
+fn the_last_piece_leaves() {
+    let queue = queue(1, 1);
+    let request = Arc::new(queue.enter_any().unwrap());
+    let pieces: Vec<_> = request.pieces(0, 128).unwrap().map(|piece| (piece, Arc::clone(&request))).collect();
+    assert_eq!(pieces.len(), 4);
+    drop(request);
+    for (piece, request) in pieces {
+        assert_eq!(queue.try_freeze().unwrap_err(), TryFreezeError::NotDrained);
+        thread::spawn(move || assert!(piece.sectors <= request.limits().max)).join().unwrap();
+    }
+    assert!(queue.try_freeze().is_ok());
+    queue.remove().unwrap();
+}
+
+/// The owned forms: each way to enter, and what each refuses.
+#[test]
+fn the_owned_forms() {
+    let queue = queue(1, 1);
+    let tag = queue.enter_owned_timeout(queue.next_tag(0).unwrap(), Duration::ZERO).unwrap().leave();
+    let request = queue.try_enter_frozen_owned(tag).unwrap();
+    let freezing = queue.begin_freeze().unwrap();
+    assert!(!freezing.is_drained());
+    let refused = queue.enter_owned_timeout(request.leave(), Duration::from_millis(1)).unwrap_err();
+    assert_eq!(refused.reason, EnterTimeoutError::TimedOut);
+    let refused = queue.try_enter_frozen_owned(refused.value).unwrap_err();
+    assert_eq!(refused.reason, EnterFrozenError::Drained);
+    let mut entering = queue.enter_owned_async(refused.value);
+    let mut context = Context::from_waker(Waker::noop());
+    assert!(Pin::new(&mut entering).poll(&mut context).is_pending());
+    drop(freezing);
+    let Poll::Ready(Ok(request)) = Pin::new(&mut entering).poll(&mut context) else { panic!("it is live") };
+    let other = Queue::new(LIMITS, 1, 1).unwrap();
+    let refused = other.enter_owned_timeout(request.leave(), Duration::MAX).unwrap_err();
+    assert_eq!(refused.reason, EnterTimeoutError::OtherQueue);
+    let refused = other.try_enter_frozen_owned(refused.value).unwrap_err();
+    assert_eq!(refused.reason, EnterFrozenError::OtherQueue);
+    let mut entering = other.enter_owned_async(refused.value);
+    let Poll::Ready(Err(refused)) = Pin::new(&mut entering).poll(&mut context) else { panic!("it is another's") };
+    assert_eq!(refused.reason, EnterError::OtherQueue);
+    queue.freeze().unwrap().mark_dying();
+    let mut entering = queue.enter_owned_async(refused.value);
+    let Poll::Ready(Err(refused)) = Pin::new(&mut entering).poll(&mut context) else { panic!("it is gone") };
+    assert_eq!(refused.reason, EnterError::Dying);
+    let refused = queue.enter_owned_timeout(refused.value, Duration::MAX).unwrap_err();
+    assert_eq!(refused.reason, EnterTimeoutError::Dying);
+    queue.give_back(refused.value).unwrap();
+    queue.remove().unwrap();
+}

@@ -1,0 +1,338 @@
+//! Wakers that panic, as after their executor was shut down: each call that wakes or drops one leaves its queue as it
+//! should be. (A waker that panics as it is cloned is one by hand, so this test has `unsafe`.)
+#![allow(unsafe_code)]
+
+use freeze_queue::{EnterAnyError, EnterAsync, EnterError, Entered, Queue, Tag};
+use std::cell::Cell;
+use std::mem;
+use std::panic::{AssertUnwindSafe, catch_unwind, panic_any};
+use std::pin::Pin;
+use std::ptr;
+use std::sync::Arc;
+use std::task::{Context, Poll, RawWaker, RawWakerVTable, Wake, Waker};
+use std::thread;
+use std::time::Duration;
+
+mod shared;
+use shared::{LIMITS, Woken, until};
+
+/// Wakes by a panic.
+struct Panics;
+
+impl Wake for Panics {
+    fn wake(self: Arc<Self>) {
+        panic!("as the test wants");
+    }
+}
+
+/// What a panic carries that panics again where it is dropped.
+struct PanicsAgain;
+
+impl Drop for PanicsAgain {
+    fn drop(&mut self) {
+        panic!("as the test wants, again");
+    }
+}
+
+struct PanicsTwice;
+
+impl Wake for PanicsTwice {
+    fn wake(self: Arc<Self>) {
+        panic_any(PanicsAgain);
+    }
+}
+
+/// Its last share panics as it is dropped.
+struct PanicsAtItsEnd;
+
+impl Wake for PanicsAtItsEnd {
+    fn wake(self: Arc<Self>) {
+        mem::forget(self);
+    }
+}
+
+impl Drop for PanicsAtItsEnd {
+    fn drop(&mut self) {
+        panic!("as the test wants");
+    }
+}
+
+thread_local! {
+    static CLONE_PANICS: Cell<bool> = const { Cell::new(false) };
+}
+
+/// A waker of nobody, whose clone panics while `CLONE_PANICS` is set.
+fn clone_panics() -> Waker {
+    const TABLE: RawWakerVTable = RawWakerVTable::new(cloned, |_| {}, |_| {}, |_| {});
+
+    fn cloned(_: *const ()) -> RawWaker {
+        assert!(!CLONE_PANICS.get(), "as the test wants");
+        RawWaker::new(ptr::null(), &TABLE)
+    }
+
+    // SAFETY: the table does nothing with the pointer, and each call of it may come from any thread.
+    unsafe { Waker::new(ptr::null(), &TABLE) }
+}
+
+fn panics<T>(call: impl FnOnce() -> T) -> bool {
+    catch_unwind(AssertUnwindSafe(call)).is_err()
+}
+
+fn polled<'e>(future: &mut EnterAsync<'e>, waker: &Waker) -> Poll<Result<Entered<'e>, EnterError>> {
+    Pin::new(future).poll(&mut Context::from_waker(waker))
+}
+
+fn with_tags(tags: u32) -> (Queue, Vec<Tag>) {
+    let queue = Queue::new(LIMITS, 1, tags).unwrap();
+    let all = (0..tags).map(|_| queue.next_tag(0).unwrap()).collect();
+    (queue, all)
+}
+
+/// A freeze whose deadline passes thaws, and wakes the futures that came meanwhile: the panic goes on, with all woken.
+#[test]
+fn a_waker_panics_as_a_late_freeze_thaws() {
+    for _ in 0..100 {
+        let (queue, mut tags) = with_tags(3);
+        let (mut last, woken) = (tags.pop().unwrap(), Arc::<Woken>::default());
+        let request = queue.enter(&mut last).unwrap();
+        let mut entering: Vec<_> = tags.iter_mut().map(|tag| queue.enter_async(tag)).collect();
+        let wakers = [Waker::from(Arc::new(Panics)), Waker::from(Arc::clone(&woken))];
+        let (are_noted, late) = thread::scope(|threads| {
+            let freezes = threads.spawn(|| queue.freeze_timeout(Duration::from_millis(50)).map(drop));
+            until("it is frozen, or was", || queue.depth() == 1 || freezes.is_finished());
+            let polls: Vec<_> = entering.iter_mut().zip(&wakers).map(|(one, waker)| polled(one, waker)).collect();
+            (polls.iter().all(Poll::is_pending), freezes.join())
+        });
+        drop((request, entering));
+        assert!(queue.depth() == 0 && queue.enter(&mut last).is_ok());
+        if are_noted {
+            assert!(late.is_err() && woken.times() == 1);
+            return;
+        }
+    }
+    panic!("no future came while it was frozen");
+}
+
+/// Two wakers panic, and what the panics carry panics again where it is dropped: one goes on, and the third is woken.
+#[test]
+fn panics_that_carry_panics() {
+    let (queue, mut tags) = with_tags(3);
+    let woken = Arc::<Woken>::default();
+    let wakers = [Arc::new(PanicsTwice).into(), Arc::new(PanicsTwice).into(), Waker::from(Arc::clone(&woken))];
+    let frozen = queue.freeze().unwrap();
+    let mut entering: Vec<_> = tags.iter_mut().map(|tag| queue.enter_async(tag)).collect();
+    for (future, waker) in entering.iter_mut().zip(&wakers) {
+        assert!(polled(future, waker).is_pending());
+    }
+    let carried = catch_unwind(AssertUnwindSafe(|| drop(frozen))).unwrap_err();
+    assert!(carried.is::<PanicsAgain>() && woken.times() == 1 && queue.depth() == 0);
+    mem::forget(carried);
+}
+
+/// The clone of a waker panics: the future waits by the waker that was noted before, is woken, and enters.
+#[test]
+fn the_clone_of_a_waker_panics() {
+    let (queue, mut tags) = with_tags(1);
+    let woken = Arc::<Woken>::default();
+    let frozen = queue.freeze().unwrap();
+    let mut entering = queue.enter_async(&mut tags[0]);
+    let bad = clone_panics();
+    CLONE_PANICS.set(true);
+    assert!(panics(|| polled(&mut entering, &bad)));
+    assert!(polled(&mut entering, &Waker::from(Arc::clone(&woken))).is_pending());
+    assert!(panics(|| polled(&mut entering, &bad)));
+    assert_eq!(Arc::strong_count(&woken), 2, "the earlier one is still noted");
+    CLONE_PANICS.set(false);
+    drop(frozen);
+    assert_eq!((woken.times(), Arc::strong_count(&woken)), (1, 1));
+    assert!(matches!(polled(&mut entering, &bad), Poll::Ready(Ok(_))));
+}
+
+/// As above, but the future is dropped after the panic: no waker of it stays.
+#[test]
+fn a_future_is_dropped_after_the_clone_of_a_waker_panicked() {
+    let (queue, mut tags) = with_tags(1);
+    let woken = Arc::<Woken>::default();
+    let frozen = queue.freeze().unwrap();
+    let mut entering = queue.enter_async(&mut tags[0]);
+    assert!(polled(&mut entering, &Waker::from(Arc::clone(&woken))).is_pending());
+    CLONE_PANICS.set(true);
+    assert!(panics(|| polled(&mut entering, &clone_panics())));
+    CLONE_PANICS.set(false);
+    drop(entering);
+    assert_eq!(Arc::strong_count(&woken), 1, "it isn't noted any more");
+    drop(frozen);
+    assert_eq!(woken.times(), 0);
+}
+
+/// The drop of a waker panics: as another is noted, as its future is dropped, and as its tag is given back.
+#[test]
+fn the_drop_of_a_waker_panics() {
+    let (queue, mut tags) = with_tags(2);
+    let (woken, last_share) = (Arc::<Woken>::default(), || Waker::from(Arc::new(PanicsAtItsEnd)));
+    let frozen = queue.freeze().unwrap();
+    let (mut tag, mut other) = (tags.pop().unwrap(), tags.pop().unwrap());
+    let mut entering = queue.enter_async(&mut other);
+    let last = last_share();
+    assert!(polled(&mut entering, &last).is_pending());
+    drop(last);
+    assert!(panics(|| polled(&mut entering, &Waker::from(Arc::clone(&woken)))), "the earlier one is dropped");
+    assert_eq!(Arc::strong_count(&woken), 2, "and the later one noted");
+    drop(entering);
+    assert_eq!(Arc::strong_count(&woken), 1);
+    let mut entering = queue.enter_async(&mut other);
+    let last = last_share();
+    assert!(polled(&mut entering, &last).is_pending());
+    drop(last);
+    assert!(panics(move || drop(entering)));
+    let mut entering = queue.enter_async(&mut other);
+    let last = last_share();
+    assert!(polled(&mut entering, &last).is_pending());
+    drop(last);
+    mem::forget(entering);
+    let mut entering = queue.enter_async(&mut other);
+    assert!(panics(|| polled(&mut entering, &Waker::from(Arc::clone(&woken)))), "the forgotten one's is dropped");
+    assert_eq!(Arc::strong_count(&woken), 2);
+    drop(entering);
+    assert_eq!(Arc::strong_count(&woken), 1);
+    let mut entering = queue.enter_async(&mut other);
+    let last = last_share();
+    assert!(polled(&mut entering, &last).is_pending());
+    drop(last);
+    mem::forget(entering);
+    assert!(panics(|| queue.give_back(other).is_ok()));
+    assert!(queue.next_tag(0).is_ok(), "it was given back");
+    drop(frozen);
+    assert!(queue.enter(&mut tag).is_ok());
+}
+
+/// A waker panics that the drain wakes: the request has left, its tag is home, the others are woken, and the panic goes on.
+#[test]
+fn a_waker_of_the_drain_panics() {
+    for way in 0..3 {
+        let queue = Queue::new(LIMITS, 1, 1).unwrap();
+        let request = queue.enter_any().unwrap();
+        let woken = Arc::<Woken>::default();
+        let wakers = [Waker::from(Arc::new(Panics)), Waker::from(Arc::clone(&woken))];
+        let mut all: Vec<_> = (0..2).map(|_| queue.begin_freeze().unwrap().drained()).collect();
+        for (future, waker) in all.iter_mut().zip(&wakers) {
+            assert!(Pin::new(future).poll(&mut Context::from_waker(waker)).is_pending());
+        }
+        match way {
+            0 => assert!(panics(|| drop(request))),
+            1 => assert!(panics(|| request.leave().slot())),
+            _ => assert!(panics(move || {
+                let _request = request;
+                panic!("as the test wants");
+            })),
+        }
+        assert_eq!((woken.times(), queue.is_drained()), (1, true));
+        for future in &mut all {
+            assert!(Pin::new(future).poll(&mut Context::from_waker(Waker::noop())).is_ready());
+        }
+        drop(all);
+        queue.remove().unwrap();
+    }
+}
+
+/// A waker panics of a future in line: the tag was handed over, and the next is served after it.
+#[test]
+fn a_waker_in_line_panics() {
+    let queue = Queue::new(LIMITS, 1, 1).unwrap();
+    let request = queue.enter_any().unwrap();
+    let woken = Arc::<Woken>::default();
+    let wakers = [Waker::from(Arc::new(Panics)), Waker::from(Arc::clone(&woken))];
+    let mut line = [queue.enter_any_async(), queue.enter_any_async()];
+    for (future, waker) in line.iter_mut().zip(&wakers) {
+        assert!(Pin::new(future).poll(&mut Context::from_waker(waker)).is_pending());
+    }
+    assert!(panics(|| drop(request)));
+    assert_eq!(woken.times(), 0);
+    let [first, second] = &mut line;
+    let polled = Pin::new(first).poll(&mut Context::from_waker(Waker::noop()));
+    assert!(matches!(polled, Poll::Ready(Ok(_))));
+    drop(polled);
+    assert_eq!(woken.times(), 1);
+    assert!(Pin::new(second).poll(&mut Context::from_waker(Waker::noop())).is_ready());
+    drop(line);
+    queue.remove().unwrap();
+}
+
+/// Wakers in line panic as the device goes: each other is woken, and the queue stays frozen.
+#[test]
+fn a_waker_in_line_panics_as_the_device_goes() {
+    let queue = Queue::new(LIMITS, 1, 1).unwrap();
+    let _held = queue.next_tag(0).unwrap();
+    let woken = Arc::<Woken>::default();
+    let wakers = [Waker::from(Arc::new(Panics)), Waker::from(Arc::clone(&woken)), Waker::from(Arc::new(Panics))];
+    let mut line = [queue.enter_any_async(), queue.enter_any_async(), queue.enter_any_async()];
+    for (future, waker) in line.iter_mut().zip(&wakers) {
+        assert!(Pin::new(future).poll(&mut Context::from_waker(waker)).is_pending());
+    }
+    let frozen = queue.freeze_owned().unwrap();
+    assert!(panics(|| frozen.mark_dying()));
+    assert_eq!((woken.times(), queue.depth(), queue.is_dying()), (1, 1, true));
+    for mut future in line {
+        let polled = Pin::new(&mut future).poll(&mut Context::from_waker(Waker::noop()));
+        assert!(matches!(polled, Poll::Ready(Err(EnterAnyError::Dying))));
+    }
+}
+
+/// The clone of a waker panics in line and at the drain: the future stays where it was, and goes on.
+#[test]
+fn the_clone_of_a_waker_panics_in_line() {
+    let queue = Queue::new(LIMITS, 1, 1).unwrap();
+    let request = queue.enter_any().unwrap();
+    let (bad, woken) = (clone_panics(), Arc::<Woken>::default());
+    let good = Waker::from(Arc::clone(&woken));
+    let (mut entering, mut drained) = (queue.enter_any_async(), queue.begin_freeze().unwrap().drained());
+    CLONE_PANICS.set(true);
+    for waker in [&bad, &good, &bad] {
+        let mut context = Context::from_waker(waker);
+        let is_bad = !waker.will_wake(&good);
+        assert_eq!(panics(|| assert!(Pin::new(&mut entering).poll(&mut context).is_pending())), is_bad);
+        assert_eq!(panics(|| assert!(Pin::new(&mut drained).poll(&mut context).is_pending())), is_bad);
+    }
+    CLONE_PANICS.set(false);
+    drop(request);
+    assert_eq!(woken.times(), 2);
+    assert!(Pin::new(&mut drained).poll(&mut Context::from_waker(&bad)).is_ready());
+    assert!(matches!(Pin::new(&mut entering).poll(&mut Context::from_waker(&bad)), Poll::Ready(Ok(_))));
+}
+
+/// A request that leaves in a stay, as the last of a freeze that a future waits for, leaves once if that future's waker panics.
+#[test]
+fn a_waker_of_the_drain_panics_in_a_stay() {
+    let stays: [fn(Entered<'_>); 2] = [|request| drop(request.stay()), |request| drop(request.stay_or_enter())];
+    for stay in stays {
+        let queue = Queue::new(LIMITS, 1, 1).unwrap();
+        let mut tag = queue.next_tag(0).unwrap();
+        let request = queue.enter(&mut tag).unwrap();
+        let mut freezing = Box::pin(queue.freeze_async());
+        let waker = Waker::from(Arc::new(Panics));
+        assert!(freezing.as_mut().poll(&mut Context::from_waker(&waker)).is_pending());
+        assert!(catch_unwind(AssertUnwindSafe(|| stay(request))).is_err());
+        assert!(queue.is_drained(), "it has left once, and no more");
+        drop(freezing);
+        drop(queue.enter(&mut tag).unwrap());
+        drop(queue.try_freeze().unwrap());
+        queue.give_back(tag).unwrap();
+        assert_eq!(queue.remove().unwrap().kills, 3);
+    }
+}
+
+/// A request that a panic drops hands its tag to a waker that panics too: the first panic goes on, and the tag is handed over.
+#[test]
+fn a_waker_panics_while_its_thread_unwinds() {
+    let queue = Queue::new(LIMITS, 1, 1).unwrap();
+    let (mut waits, panics) = (queue.enter_any_async(), Waker::from(Arc::new(Panics)));
+    let first = catch_unwind(AssertUnwindSafe(|| {
+        let _request = queue.enter_any().unwrap();
+        assert!(Pin::new(&mut waits).poll(&mut Context::from_waker(&panics)).is_pending());
+        panic_any(7);
+    }));
+    assert_eq!(first.unwrap_err().downcast_ref(), Some(&7));
+    assert!(Pin::new(&mut waits).poll(&mut Context::from_waker(Waker::noop())).is_ready());
+    drop(waits);
+    queue.remove().unwrap();
+}

@@ -1,0 +1,348 @@
+//! A queue that guards a value: `&T` under a request, `&mut T` under a freeze, and T back. Run under the thread sanitizer, and by Miri, too.
+use freeze_queue::guarded::{OwnedEntered, Queue};
+use freeze_queue::{
+    EnterAnyError, EnterAnyTimeoutError, EnterError, FreezeTimeoutError, Limits, NewError, RemoveError,
+    TryEnterAnyError, TryEnterError, TryFreezeError,
+};
+use std::env;
+use std::future::Future;
+use std::mem;
+use std::panic::{AssertUnwindSafe, catch_unwind};
+use std::sync::atomic::{AtomicU64, Ordering::Relaxed};
+use std::sync::{Arc, mpsc};
+use std::task::{Context, Poll, Waker};
+use std::thread;
+use std::time::Duration;
+
+fn queue<T>(value: T) -> Queue<T> {
+    Queue::new(value, Limits::of_hardware(64), 2, 4).unwrap()
+}
+
+fn rounds(usual: u64) -> u64 {
+    if cfg!(miri) {
+        20
+    } else {
+        env::var("FREEZE_QUEUE_ROUNDS").map_or(usual, |it| it.parse::<u64>().unwrap().min(usual))
+    }
+}
+
+/// Counts how often it is dropped.
+#[derive(Debug)]
+struct Dropped(Arc<AtomicU64>);
+
+impl Drop for Dropped {
+    fn drop(&mut self) {
+        self.0.fetch_add(1, Relaxed);
+    }
+}
+
+/// Settings that belong together, and a place for each tag that its request alone writes.
+struct Device {
+    first: u64,
+    settings: Vec<u64>,
+    served: AtomicU64,
+}
+
+impl Device {
+    fn change(&mut self, to: u64) {
+        self.first = to;
+        self.settings = vec![to; 1 + usize::try_from(to % 7).unwrap()];
+    }
+
+    fn serve(&self) {
+        assert!(!self.settings.is_empty() && self.settings.iter().all(|it| *it == self.first));
+        self.served.fetch_add(1, Relaxed);
+    }
+}
+
+/// Waits for each thread by a join, which the sanitizer sees.
+fn join(threads: Vec<thread::JoinHandle<()>>) {
+    for thread in threads {
+        thread.join().unwrap();
+    }
+}
+
+/// Requests see each change whole, though a change frees what they read before.
+#[test]
+fn requests_beside_changes() {
+    let queue = Arc::new(queue(Device { first: 0, settings: vec![0], served: AtomicU64::new(0) }));
+    let (rounds, changes) = (rounds(20_000), rounds(2_000));
+    let mut threads = Vec::new();
+    for slot in [0, 1, 0] {
+        let (queue, mut tag) = (Arc::clone(&queue), queue.next_tag(slot).unwrap());
+        threads.push(thread::spawn(move || {
+            (0..rounds).for_each(|_| queue.enter(&mut tag).unwrap().serve());
+            queue.give_back(tag).unwrap();
+        }));
+    }
+    for freezer in 0..2 {
+        let queue = Arc::clone(&queue);
+        threads.push(thread::spawn(move || {
+            for change in 0..changes {
+                queue.freeze().unwrap().lock().change(2 * change + freezer);
+            }
+        }));
+    }
+    join(threads);
+    let (device, last) = Arc::into_inner(queue).unwrap().remove().unwrap();
+    assert_eq!(device.served.into_inner(), 3 * rounds);
+    assert!(last.kills <= 2 * changes + 1);
+}
+
+/// Freezes nest: each of them adds to a plain number, and no sum is lost.
+#[test]
+fn nested_freezes_have_the_value_in_turn() {
+    let (queue, rounds) = (Arc::new(queue(0_u64)), rounds(2_000));
+    let outer = queue.freeze().unwrap();
+    let adds =
+        |queue: Arc<Queue<u64>>| thread::spawn(move || (0..rounds).for_each(|_| *queue.freeze().unwrap().lock() += 1));
+    let threads = (0..3).map(|_| adds(Arc::clone(&queue))).collect();
+    (0..rounds).for_each(|_| *outer.lock() += 1);
+    join(threads);
+    drop(outer);
+    assert_eq!(Arc::into_inner(queue).unwrap().into_inner(), 4 * rounds);
+}
+
+#[test]
+fn each_call_lends_the_value() {
+    let queue = queue(String::from("disk"));
+    let mut tag = queue.next_tag(0).unwrap();
+    assert_eq!(*queue.enter(&mut tag).unwrap(), "disk");
+    assert_eq!(*queue.try_enter(&mut tag).unwrap(), "disk");
+    assert_eq!(*queue.try_enter_frozen(&mut tag).unwrap(), "disk");
+    let request = queue.enter_timeout(&mut tag, Duration::ZERO).unwrap();
+    assert_eq!((request.len(), request.request().limits().max), (4, 64));
+    assert_eq!(queue.try_freeze().unwrap_err(), TryFreezeError::NotDrained);
+    assert_eq!(queue.freeze_timeout(Duration::ZERO).unwrap_err(), FreezeTimeoutError::TimedOut);
+    assert_eq!(format!("{request:?}"), "Entered(\"disk\")");
+    drop(request);
+    let frozen = queue.try_freeze().unwrap();
+    assert_eq!(queue.try_enter(&mut tag).unwrap_err(), TryEnterError::Frozen);
+    frozen.lock().push('s');
+    frozen.set(Limits::of_hardware(64).with_max(8)).unwrap();
+    assert_eq!(format!("{:?}", frozen.lock()), "Locked(\"disks\")");
+    drop(frozen);
+    assert_eq!(*queue.enter(&mut tag).unwrap(), "disks");
+    queue.freeze_timeout(Duration::ZERO).unwrap().mark_dying();
+    assert_eq!(queue.enter(&mut tag).unwrap_err(), EnterError::Dying);
+    let refused = queue.remove().unwrap_err();
+    assert_eq!(refused.reason, RemoveError::TagsOut);
+    refused.value.give_back(tag).unwrap();
+    assert_eq!(refused.value.remove().unwrap().0, "disks");
+}
+
+/// Who panics under a freeze leaves the value as it stands, and thaws; who panics under a request leaves.
+#[test]
+fn panics_in_the_middle() {
+    let queue = queue(vec![1]);
+    let mut tag = queue.next_tag(0).unwrap();
+    let changes = catch_unwind(AssertUnwindSafe(|| {
+        let frozen = queue.freeze().unwrap();
+        let mut value = frozen.lock();
+        value.push(2);
+        panic!("halfway");
+    }));
+    assert!(changes.is_err());
+    let reads = catch_unwind(AssertUnwindSafe(|| {
+        let request = queue.enter(&mut tag).unwrap();
+        assert_eq!(*request, [1, 2]);
+        panic!("in flight");
+    }));
+    assert!(reads.is_err());
+    queue.try_freeze().unwrap().lock().push(3);
+    assert_eq!(*queue.enter(&mut tag).unwrap(), [1, 2, 3]);
+}
+
+/// A request that was forgotten holds each change off, for ever, and a freeze that was forgotten each request.
+#[test]
+fn what_is_forgotten_stays() {
+    let dropped = Arc::new(AtomicU64::new(0));
+    let kept = queue(Dropped(Arc::clone(&dropped)));
+    let mut tag = kept.next_tag(0).unwrap();
+    mem::forget(kept.enter(&mut tag).unwrap());
+    assert_eq!(kept.try_freeze().unwrap_err(), TryFreezeError::NotDrained);
+    let value = kept.into_inner();
+    assert_eq!(dropped.load(Relaxed), 0);
+    let kept = queue(value);
+    let mut tag = kept.next_tag(0).unwrap();
+    mem::forget(kept.freeze().unwrap());
+    assert_eq!(kept.try_enter(&mut tag).unwrap_err(), TryEnterError::Frozen);
+    drop(kept.freeze().unwrap().lock());
+    let leaked: &Queue<Dropped> = Box::leak(Box::new(kept));
+    mem::forget(leaked.freeze().unwrap().lock());
+    assert_eq!(dropped.load(Relaxed), 0);
+}
+
+/// Each end of a queue drops its value once.
+#[test]
+fn the_value_is_dropped_once() {
+    let dropped = Arc::new(AtomicU64::new(0));
+    let value = || Dropped(Arc::clone(&dropped));
+    drop(queue(value()));
+    assert_eq!(dropped.load(Relaxed), 1);
+    let refused = Queue::new(value(), Limits::of_hardware(64), 65, 1).unwrap_err();
+    assert_eq!(refused.reason, NewError::Size);
+    drop(refused);
+    assert_eq!(dropped.load(Relaxed), 2);
+    drop(queue(value()).into_inner());
+    assert_eq!(dropped.load(Relaxed), 3);
+    let refused = {
+        let queue = queue(value());
+        let _out = queue.next_tag(0).unwrap();
+        queue.remove().unwrap_err()
+    };
+    assert_eq!(dropped.load(Relaxed), 3);
+    drop(refused);
+    assert_eq!(dropped.load(Relaxed), 4);
+    drop(queue(value()).remove().unwrap());
+    *queue(value()).freeze().unwrap().lock() = value();
+    assert_eq!(dropped.load(Relaxed), 7);
+}
+
+/// A request with its value crosses threads, and leaves on the other.
+#[test]
+fn a_request_ends_on_another_thread() {
+    let queue: &'static Queue<AtomicU64> = Box::leak(Box::new(queue(AtomicU64::new(7))));
+    let tag = Box::leak(Box::new(queue.next_tag(0).unwrap()));
+    let request = queue.enter(tag).unwrap();
+    join(vec![thread::spawn(move || assert_eq!(request.fetch_add(1, Relaxed), 7))]);
+    assert_eq!(*queue.try_freeze().unwrap().lock().get_mut(), 8);
+}
+
+/// Any tag, and a tag that goes along: each lends the value, and the tag is free again.
+#[test]
+fn requests_with_tags_of_their_own() {
+    let queue = Arc::new(Queue::new(vec![7, 8], Limits::of_hardware(64), 1, 1).unwrap());
+    let request = queue.enter_any().unwrap();
+    assert_eq!(
+        (request[0], request.request().limits().max, format!("{request:?}")),
+        (7, 64, "EnteredAny([7, 8])".into())
+    );
+    assert_eq!(queue.try_enter_any().unwrap_err(), TryEnterAnyError::NoTag);
+    assert_eq!(queue.try_freeze().unwrap_err(), TryFreezeError::NotDrained);
+    drop(request);
+    let request = queue.enter_owned(queue.next_tag(0).unwrap()).unwrap();
+    assert_eq!(
+        (request.len(), request.request().limits().max, format!("{request:?}")),
+        (2, 64, "OwnedEntered([7, 8])".into())
+    );
+    let ends = thread::spawn(move || (request[1], request.leave()));
+    let (read, tag) = ends.join().unwrap();
+    assert_eq!((read, Arc::strong_count(&queue)), (8, 1));
+    let frozen = queue.freeze().unwrap();
+    frozen.lock().push(9);
+    drop((frozen, queue.give_back(tag)));
+    assert_eq!(*queue.try_enter_any().unwrap(), [7, 8, 9]);
+}
+
+/// A request that stays reads the value as it is; one that had to enter again, as it was changed meanwhile.
+#[test]
+fn a_request_stays() {
+    let queue = queue(vec![1]);
+    let mut tag = queue.next_tag(0).unwrap();
+    let request = queue.enter(&mut tag).unwrap().stay_or_enter().unwrap();
+    assert_eq!(*request, [1]);
+    thread::scope(|threads| {
+        let changes = threads.spawn(|| queue.freeze().unwrap().lock().push(2));
+        while queue.as_queue().depth() == 0 && !changes.is_finished() {
+            thread::yield_now();
+        }
+        assert_eq!(*request, [1]);
+        assert_eq!(*request.stay_or_enter().unwrap(), [1, 2]);
+    });
+    queue.freeze().unwrap().mark_dying();
+    assert_eq!(queue.enter(&mut tag).unwrap_err(), EnterError::Dying);
+}
+
+/// An owned request keeps the queue and its value; the value is dropped with the last share, after the request has left.
+#[test]
+fn an_owned_request_keeps_the_value() {
+    let dropped = Arc::new(AtomicU64::new(0));
+    let queue = Arc::new(queue(Dropped(Arc::clone(&dropped))));
+    let request = queue.enter_owned(queue.next_tag(0).unwrap()).unwrap();
+    assert!(Arc::into_inner(queue).is_none(), "the request has a share");
+    assert_eq!((dropped.load(Relaxed), Arc::strong_count(&request.0)), (0, 2));
+    drop(request);
+    assert_eq!(dropped.load(Relaxed), 1);
+}
+
+/// A request that waits by a future, and a freeze that does, lend the value as others do.
+#[test]
+fn futures_lend_the_value() {
+    fn now<F: Future>(future: F) -> F::Output {
+        let mut context = std::task::Context::from_waker(std::task::Waker::noop());
+        match std::pin::pin!(future).poll(&mut context) {
+            std::task::Poll::Ready(done) => done,
+            std::task::Poll::Pending => panic!("nobody is waited for"),
+        }
+    }
+    let queue = queue(String::from("disk"));
+    let mut tag = queue.next_tag(0).unwrap();
+    assert_eq!(*now(queue.enter_async(&mut tag)).unwrap(), "disk");
+    now(queue.freeze_async()).unwrap().lock().push('s');
+    assert_eq!(*now(queue.enter_any_async()).unwrap(), "disks");
+}
+
+/// Requests of a service with a share of the queue, with any tag: other threads end them, and each tag is home at the end.
+#[test]
+fn requests_with_any_tag_that_other_threads_end() {
+    let (queue, rounds) = (Arc::new(queue(AtomicU64::new(0))), rounds(2_000));
+    let (mut threads, mut completers) = (Vec::new(), Vec::new());
+    for _ in 0..2 {
+        let (sent, requests) = mpsc::channel::<OwnedEntered<AtomicU64>>();
+        let entered = Arc::clone(&queue);
+        threads.push(thread::spawn(move || {
+            (0..rounds).for_each(|_| sent.send(entered.enter_any_owned().unwrap()).unwrap());
+        }));
+        completers.push(thread::spawn(move || {
+            for served in requests {
+                served.fetch_add(1, Relaxed);
+            }
+        }));
+    }
+    for _ in 0..rounds / 100 {
+        drop(queue.freeze().unwrap());
+    }
+    join(threads);
+    join(completers);
+    let all: Vec<_> = (0..4).map(|_| queue.try_enter_any_owned().unwrap()).collect();
+    assert_eq!(queue.try_enter_any_owned().unwrap_err(), TryEnterAnyError::NoTag);
+    let late = queue.enter_any_owned_timeout(Duration::ZERO);
+    assert_eq!(late.unwrap_err(), EnterAnyTimeoutError::TimedOut);
+    let mut waits = Box::pin(queue.enter_any_owned_async());
+    let mut context = Context::from_waker(Waker::noop());
+    assert!(waits.as_mut().poll(&mut context).is_pending());
+    drop(all);
+    let Poll::Ready(Ok(request)) = waits.as_mut().poll(&mut context) else { panic!("it was handed a tag") };
+    drop((request, waits));
+    let (served, _) = Arc::into_inner(queue).unwrap().remove().unwrap();
+    assert_eq!(served.into_inner(), 2 * rounds);
+}
+
+/// The calls that forward: limits, a freeze in two steps, a freeze with a share, and requests with a tag of their own.
+#[test]
+fn freezes_with_a_share_and_in_steps() {
+    let queue = Arc::new(queue(7));
+    assert_eq!(queue.update(|limits| limits.with_max(8)).unwrap(), queue.limits());
+    let request = queue.try_enter_owned(queue.next_tag(0).unwrap()).unwrap();
+    let freezing = queue.begin_freeze().unwrap().wait_timeout(Duration::ZERO).unwrap_err();
+    assert!(!freezing.is_drained());
+    let late = queue.enter_any_timeout(Duration::ZERO);
+    assert_eq!(late.unwrap_err(), EnterAnyTimeoutError::TimedOut);
+    let refused = queue.try_enter_owned(request.leave()).unwrap_err();
+    assert_eq!(refused.reason, TryEnterError::Frozen);
+    *freezing.wait().lock() += 1;
+    let owned = queue.freeze_owned().unwrap();
+    *owned.lock() += 1;
+    let mut waits = Box::pin(queue.enter_owned_async(refused.value));
+    let mut context = Context::from_waker(Waker::noop());
+    assert!(waits.as_mut().poll(&mut context).is_pending());
+    owned.set(queue.limits().with_chunk(8)).unwrap();
+    drop(owned);
+    let Poll::Ready(Ok(request)) = waits.as_mut().poll(&mut context) else { panic!("it is live") };
+    assert_eq!((*request, request.request().limits().chunk), (9, 8));
+    drop((request, waits));
+    queue.freeze_owned().unwrap().mark_dying();
+    assert_eq!(queue.enter_any().unwrap_err(), EnterAnyError::Dying);
+    assert_eq!(Arc::into_inner(queue).unwrap().remove().unwrap().0, 9);
+}

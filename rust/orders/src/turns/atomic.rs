@@ -1,0 +1,105 @@
+//! Std's atomic numbers, by turns: each step is sequentially consistent, whatever order it asks for.
+
+use super::thread::step;
+use std::sync::atomic::{self, Ordering, Ordering::SeqCst};
+
+macro_rules! atomics {
+    ($($name:ident: $number:ty;)+) => {$(
+        /// As std's.
+        #[derive(Debug, Default)]
+        pub struct $name(atomic::$name);
+
+        impl $name {
+            /// As std's.
+            #[must_use]
+            pub const fn new(value: $number) -> $name {
+                $name(atomic::$name::new(value))
+            }
+
+            /// As std's.
+            #[track_caller]
+            pub fn load(&self, _order: Ordering) -> $number {
+                step("load");
+                self.0.load(SeqCst)
+            }
+
+            /// As std's.
+            #[track_caller]
+            pub fn store(&self, value: $number, _order: Ordering) {
+                step("store");
+                self.0.store(value, SeqCst);
+            }
+
+            /// As std's.
+            #[track_caller]
+            pub fn swap(&self, value: $number, _order: Ordering) -> $number {
+                step("swap");
+                self.0.swap(value, SeqCst)
+            }
+
+            /// As std's.
+            #[track_caller]
+            pub fn fetch_and(&self, bits: $number, _order: Ordering) -> $number {
+                step("fetch_and");
+                self.0.fetch_and(bits, SeqCst)
+            }
+
+            /// As std's.
+            #[track_caller]
+            pub fn fetch_or(&self, bits: $number, _order: Ordering) -> $number {
+                step("fetch_or");
+                self.0.fetch_or(bits, SeqCst)
+            }
+
+            /// As std's.
+            ///
+            /// # Errors
+            ///
+            /// As std's.
+            #[track_caller]
+            pub fn compare_exchange(
+                &self,
+                old: $number,
+                new: $number,
+                _done: Ordering,
+                _not: Ordering,
+            ) -> Result<$number, $number> {
+                step("compare_exchange");
+                self.0.compare_exchange(old, new, SeqCst, SeqCst)
+            }
+        }
+    )+};
+}
+
+atomics! {
+    AtomicBool: bool;
+    AtomicU32: u32;
+    AtomicU64: u64;
+    AtomicUsize: usize;
+}
+
+macro_rules! sums {
+    ($($name:ident: $number:ty;)+) => {$(
+        impl $name {
+            /// As std's.
+            #[track_caller]
+            pub fn fetch_add(&self, more: $number, _order: Ordering) -> $number {
+                step("fetch_add");
+                self.0.fetch_add(more, SeqCst)
+            }
+
+            /// As std's.
+            #[track_caller]
+            pub fn fetch_sub(&self, less: $number, _order: Ordering) -> $number {
+                step("fetch_sub");
+                self.0.fetch_sub(less, SeqCst)
+            }
+        }
+    )+};
+}
+
+sums! {
+    AtomicU32: u32;
+    AtomicU64: u64;
+    AtomicUsize: usize;
+}

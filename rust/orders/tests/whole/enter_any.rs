@@ -1,0 +1,1 @@
+../../../freeze-queue/src/enter_any.rs

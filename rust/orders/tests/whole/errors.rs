@@ -1,0 +1,1 @@
+../../../freeze-queue/src/errors.rs

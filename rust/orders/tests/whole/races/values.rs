@@ -1,0 +1,79 @@
+//! A value that a queue guards: no request reads it while a freeze changes it, and no two freezes change it at once.
+use super::race;
+use crate::guarded::Queue;
+use crate::{Limits, Tag};
+use orders::turns::pause;
+use std::sync::Mutex;
+use std::sync::atomic::{AtomicU32, Ordering::SeqCst};
+
+/// It counts the threads that are at it, by numbers that are no turns.
+#[derive(Default)]
+struct Value {
+    readers: AtomicU32,
+    writers: u32,
+    changes: u32,
+}
+
+impl Value {
+    fn is_read(&self) {
+        let seen = self.changes;
+        self.readers.fetch_add(1, SeqCst);
+        pause();
+        assert_eq!((self.writers, self.changes), (0, seen), "it changes under a request");
+        self.readers.fetch_sub(1, SeqCst);
+    }
+
+    fn is_changed(&mut self) {
+        self.writers += 1;
+        pause();
+        assert_eq!((*self.readers.get_mut(), self.writers), (0, 1), "it is lent twice");
+        self.changes += 1;
+        self.writers -= 1;
+    }
+}
+
+struct Parts {
+    queue: Queue<Value>,
+    tags: Vec<Mutex<Tag>>,
+}
+
+fn parts() -> Parts {
+    let queue = Queue::new(Value::default(), Limits::of_hardware(64), 1, 2).unwrap();
+    let tags = (0..2).map(|_| Mutex::new(queue.next_tag(0).unwrap())).collect();
+    Parts { queue, tags }
+}
+
+fn reads(parts: &Parts, tag: usize) {
+    parts.queue.enter(&mut parts.tags[tag].lock().unwrap()).unwrap().is_read();
+}
+
+fn changes(parts: &Parts) {
+    parts.queue.freeze().unwrap().lock().is_changed();
+}
+
+fn changed(parts: Parts, times: u32) {
+    assert_eq!(parts.queue.into_inner().changes, times);
+}
+
+#[test]
+fn two_read_and_one_changes() {
+    let acts: [fn(&Parts); 3] = [|it| reads(it, 0), |it| reads(it, 1), changes];
+    race("two that read a value and one that changes it", 3, parts, &acts, |it| changed(it, 1));
+}
+
+#[test]
+fn one_reads_and_two_change() {
+    let acts: [fn(&Parts); 3] = [|it| reads(it, 0), changes, changes];
+    race("one that reads a value and two that change it", 3, parts, &acts, |it| changed(it, 2));
+}
+
+/// A look in at a frozen queue that isn't drained reads too.
+#[test]
+fn one_looks_in_and_one_changes() {
+    fn looks(parts: &Parts) {
+        if let Ok(request) = parts.queue.try_enter_frozen(&mut parts.tags[0].lock().unwrap()) {
+            request.is_read();
+        }
+    }
+    race("a look in at a value beside a change", 6, parts, &[looks, changes], |it| changed(it, 1));
+}

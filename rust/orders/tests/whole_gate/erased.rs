@@ -1,0 +1,11 @@
+//! The erased gate of the crate beside this one, by links, over a table whose steps are turns.
+pub mod atomic_table;
+
+mod gate {
+    pub mod fallible;
+    pub mod percpu_core;
+    pub mod percpu_gate;
+    pub mod percpu_words;
+}
+
+pub use gate::{fallible, percpu_core, percpu_gate, percpu_words};

@@ -1,0 +1,1 @@
+../../whole/erased/atomic_table.rs

@@ -1,0 +1,1 @@
+../../../percpu-gate/src/outcomes.rs

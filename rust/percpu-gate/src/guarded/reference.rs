@@ -1,0 +1,104 @@
+//! References that lend a value.
+use super::pass::Pass;
+use super::value::Value;
+use crate::GetError;
+use alloc::sync::Arc;
+use core::fmt;
+use core::ops::Deref;
+
+/// A reference: while it is there, the value holds still. Dropping it puts it.
+///
+/// ```
+/// use percpu_gate::{Start, guarded::Gate};
+/// use std::sync::Arc;
+///
+/// let mut gate = Gate::new(String::from("disk"), 1, 1, Start::Slots, Arc::new(|| {}))?;
+/// let pass = gate.next_pass(0)?;
+/// let request = pass.try_get_live()?;
+/// gate.kill()?;
+/// assert_eq!(request.len(), 4);
+/// # Ok::<(), Box<dyn std::error::Error>>(())
+/// ```
+#[must_use = "a reference is put where it is dropped"]
+pub struct Reference<'p, T> {
+    reference: crate::Reference<'p>,
+    /// Of the gate of this reference. (No `&T`: it would be there still while the drop puts the reference.)
+    value: &'p Value<T>,
+}
+
+impl<'p, T> Reference<'p, T> {
+    #[inline]
+    pub(super) fn of(reference: crate::Reference<'p>, value: &'p Value<T>) -> Reference<'p, T> {
+        Reference { reference, value }
+    }
+
+    /// Takes one reference more, as [`Reference::try_clone`](crate::Reference::try_clone) does.
+    ///
+    /// # Errors
+    ///
+    /// [`GetError::HeldFull`].
+    pub fn try_clone(&self) -> Result<Reference<'p, T>, GetError> {
+        Ok(Reference::of(self.reference.try_clone()?, self.value))
+    }
+}
+
+impl<T> Deref for Reference<'_, T> {
+    type Target = T;
+
+    #[inline]
+    fn deref(&self) -> &T {
+        self.value.shared(&self.reference)
+    }
+}
+
+impl<T: fmt::Debug> fmt::Debug for Reference<'_, T> {
+    fn fmt(&self, f: &mut fmt::Formatter<'_>) -> fmt::Result {
+        f.debug_tuple("Reference").field(&**self).finish()
+    }
+}
+
+/// A reference that has its pass: it may end on another thread. Dropping it puts it and drops the pass; [`put`](OwnedReference::put) gives
+/// the pass back.
+///
+/// ```
+/// use percpu_gate::{Start, guarded::Gate};
+/// use std::sync::Arc;
+///
+/// let mut gate = Gate::new(vec![1, 2, 3], 1, 1, Start::Slots, Arc::new(|| {}))?;
+/// let request = gate.next_pass(0)?.into_reference_live()?;
+/// assert_eq!(request.iter().sum::<i32>(), 6);
+/// let pass = request.put();
+/// # Ok::<(), Box<dyn std::error::Error>>(())
+/// ```
+#[must_use = "a reference is put where it is dropped"]
+pub struct OwnedReference<T> {
+    reference: crate::OwnedReference,
+    /// Of the gate of this reference.
+    value: Arc<Value<T>>,
+}
+
+impl<T> OwnedReference<T> {
+    pub(super) fn of(reference: crate::OwnedReference, value: Arc<Value<T>>) -> OwnedReference<T> {
+        OwnedReference { reference, value }
+    }
+
+    /// Puts the reference, and gives the pass back.
+    pub fn put(self) -> Pass<T> {
+        Pass::of(self.reference.put(), self.value)
+    }
+}
+
+impl<T> Deref for OwnedReference<T> {
+    type Target = T;
+
+    #[inline]
+    fn deref(&self) -> &T {
+        self.value.shared(&self.reference)
+    }
+}
+
+impl<T: fmt::Debug> fmt::Debug for OwnedReference<T> {
+    fn fmt(&self, f: &mut fmt::Formatter<'_>) -> fmt::Result {
+        f.debug_tuple("OwnedReference").field(&**self).finish()
+    }
+}

@@ -1,0 +1,109 @@
+//! A run drains as often as its script asks, which no contract says. It writes the text that one thread does, whatever overlaps and
+//! however its threads are scheduled. trials_rows has the other tests of runs, which the proved build passes too.
+
+use blkq::erased::blk_script::{Checked, parse, push_disk, run_alone};
+use blkq::erased::blk_workers::{Config, NoStall, Point, Stall, run_checked};
+use std::fmt::Write;
+use std::sync::atomic::{AtomicU32, Ordering::SeqCst};
+use std::{hint, thread};
+
+/// A script with a line of each kind.
+const MIXED: &str = "blkq 1\ndisk 16 hw 8\nwrite 0 4 01\nread 8 4\nset max_sectors 3\nread 0 4\nfreeze\nfreeze\nread 0 1\n\
+    set chunk_sectors 2\nthaw\nthaw\nthaw\nwrite 4 9 0203\nread 0 2\nstat\nread 3 12\nwrite 15 2 ff\nmode atomic\nremove\nread 0 1\n";
+
+/// Runs a script on this many workers, with this many tags: it writes the text that one thread does.
+fn agrees(text: &str, workers: u32, tags: u32, stall: &impl Stall) {
+    let script = parse(text.as_bytes()).expect("a script");
+    let checked = Checked::of(&script).expect("no overlap");
+    let config = Config::new(workers, 3, tags).expect("within the limits");
+    let ran = run_checked(&checked, config, stall).expect("memory and threads");
+    let mut out = ran.replies;
+    push_disk(&mut out, &ran.disk).expect("memory");
+    let wanted = run_alone(&script).expect("memory");
+    assert_eq!(
+        String::from_utf8_lossy(&out),
+        String::from_utf8_lossy(&wanted),
+        "{workers} workers, {tags} tags:\n{text}"
+    );
+}
+
+#[test]
+fn mixed_lines() {
+    for (workers, tags) in [(1, 1), (2, 1), (4, 16), (32, 63)] {
+        agrees(MIXED, workers, tags, &NoStall);
+    }
+}
+
+/// Notes after how many requests each drain came: a digit for each.
+#[derive(Default)]
+struct Drains(AtomicU32);
+
+impl Stall for Drains {
+    fn at(&self, number: u32, point: Point) {
+        if point == Point::Drained {
+            self.0.store(self.0.load(SeqCst) * 10 + number, SeqCst);
+        }
+    }
+}
+
+/// Each ordered request drains the queue, and so does the end; of version 1 only the end does. `Drained` is passed also if a line
+/// or the end finds the queue frozen, and not by a setting, which doesn't drain then.
+#[test]
+fn as_many_drains_as_are_ordered() {
+    for (text, wanted) in [
+        ("blkq 2\ndisk 4 hw 4\nwrite 0 2 01\nwrite 1 2 02\nwrite 0 1 03\nread 1 1\n", 134),
+        ("blkq 2\ndisk 8 hw 8\nread 0 4\nread 2 4\nwrite 6 1 ff\nread 6 2\n", 34),
+        ("blkq 1\ndisk 4 hw 4\nread 0 4\nread 0 4\n", 2),
+        ("blkq 1\ndisk 4 hw 4\nread 0 4\nfreeze\nset max_sectors 2\nstat\n", 111),
+    ] {
+        let drains = Drains::default();
+        agrees(text, 2, 2, &drains);
+        assert_eq!(drains.0.into_inner(), wanted, "{text}");
+    }
+}
+
+/// A script of requests that overlap as they look random.
+fn overlapping(seed: &mut u32) -> String {
+    let mut text = String::from("blkq 2\ndisk 8 hw 3\n");
+    for line in 1..=12 {
+        *seed = seed.wrapping_mul(1_664_525).wrapping_add(1_013_904_223);
+        let (start, count) = (*seed >> 29, (*seed >> 26) % 3 + 1);
+        if *seed >> 25 & 1 == 0 {
+            writeln!(text, "read {start} {count}").expect("a text");
+        } else {
+            writeln!(text, "write {start} {count} {line:02x}").expect("a text");
+        }
+    }
+    text
+}
+
+#[test]
+fn whatever_overlaps() {
+    let mut seed = 7;
+    for _ in 0..2_000 {
+        agrees(&overlapping(&mut seed), 4, 5, &NoStall);
+    }
+}
+
+/// Spins at points for turns that look random, and yields at one of eight.
+struct Dallies(AtomicU32);
+
+impl Stall for Dallies {
+    fn at(&self, _number: u32, _point: Point) {
+        let seed = self.0.fetch_add(2_654_435_769, SeqCst);
+        for _ in 0..(seed >> 16) % 512 {
+            hint::spin_loop();
+        }
+        if seed >> 29 == 0 {
+            thread::yield_now();
+        }
+    }
+}
+
+#[test]
+fn whatever_the_schedule() {
+    let dallies = Dallies(AtomicU32::new(1));
+    for _ in 0..2_000 {
+        agrees(MIXED, 4, 3, &dallies);
+    }
+}

@@ -1,0 +1,179 @@
+//! A thread that waits at a queue is woken, once, by what it waits for. How a freezer is shared, and two queues that are frozen
+//! together.
+
+use blkq::erased::freeze_queue::{BlockQueue, Enter, FreezeFault, Freezer, Limits, Put, SharedFreezer, Tag};
+use std::sync::atomic::{AtomicU64, Ordering::SeqCst};
+use std::thread;
+use std::time::Duration;
+
+#[path = "shared/turns.rs"]
+mod turns;
+use turns::{PATIENCE, insist, pass_turn, wait_for};
+
+/// How long the other thread is given to fall asleep.
+const PAUSE: Duration = Duration::from_millis(20);
+
+/// A queue of one slot for a device of 8 sectors, its freezer and its tag.
+fn with_one_tag() -> (BlockQueue, Freezer, Tag) {
+    let (queue, freezer, mut tags) = BlockQueue::new(Limits::start(8).expect("limits"), 1, 1).expect("memory");
+    (queue, freezer, tags.swap_remove(0))
+}
+
+/// The same, and the tag has entered.
+fn with_one_entered() -> (BlockQueue, Freezer, Tag) {
+    let (queue, freezer, mut tag) = with_one_tag();
+    assert_eq!(queue.try_enter(&mut tag, 0), Enter::Entered);
+    (queue, freezer, tag)
+}
+
+#[test]
+fn the_last_leaver_wakes_the_freezer() {
+    let (queue, mut freezer, mut tag) = with_one_entered();
+    assert_eq!(freezer.start_freeze(&queue), Ok(1));
+    let (frozen, put) = thread::scope(|scope| {
+        let freezes = scope.spawn(|| freezer.freeze(&queue));
+        thread::sleep(PAUSE);
+        let put = queue.leave(&mut tag, 0);
+        (freezes.join().expect("a freeze that ends"), put)
+    });
+    assert_eq!((frozen, put), (Ok(2), Put::Last));
+}
+
+/// Thaws, under the lock.
+fn thaw(shared: &SharedFreezer<'_>) -> Result<u32, FreezeFault> {
+    let mut guard = shared.lock();
+    let pair = &mut *guard;
+    pair.freezer.thaw(pair.queue)
+}
+
+#[test]
+fn the_last_thaw_wakes_submitters() {
+    let (queue, mut freezer, mut tag) = with_one_tag();
+    assert_eq!(freezer.freeze(&queue), Ok(1));
+    let shared = SharedFreezer::new(freezer, &queue);
+    thread::scope(|scope| {
+        scope.spawn(|| queue.enter(&mut tag, 0));
+        thread::sleep(PAUSE);
+        insist(thaw(&shared) == Ok(0), "a thaw is refused");
+    });
+    assert_eq!(queue.leave(&mut tag, 0), Put::NotLast);
+    assert_eq!(shared.into_inner().freezer.depth(), 0);
+}
+
+/// Reads the depth under the lock, until the queue is frozen.
+fn wait_until_frozen(shared: &SharedFreezer<'_>) {
+    for turn in 0..PATIENCE {
+        if shared.lock().freezer.depth() > 0 {
+            return;
+        }
+        pass_turn(turn);
+    }
+    insist(false, "the queue is never frozen");
+}
+
+/// While a shared freezer waits for a drain other threads read its depth, also the one with the tag that it waits for.
+#[test]
+fn the_depth_is_read_while_a_freeze_waits() {
+    let (queue, freezer, mut tag) = with_one_entered();
+    let shared = SharedFreezer::new(freezer, &queue);
+    let (frozen, put) = thread::scope(|scope| {
+        let freezes = scope.spawn(|| shared.freeze().map(|guard| guard.freezer.depth()));
+        wait_until_frozen(&shared);
+        let put = queue.leave(&mut tag, 0);
+        (freezes.join().expect("a freeze that ends"), put)
+    });
+    assert_eq!((frozen, put), (Ok(1), Put::Last));
+}
+
+/// A thaw by another thread ends the wait for a drain, which is refused then.
+#[test]
+fn a_thaw_ends_the_wait_for_a_drain() {
+    let (queue, freezer, _tag) = with_one_entered();
+    let shared = SharedFreezer::new(freezer, &queue);
+    let (frozen, thawed) = thread::scope(|scope| {
+        let freezes = scope.spawn(|| shared.freeze().map(|guard| guard.freezer.depth()));
+        wait_until_frozen(&shared);
+        thread::sleep(PAUSE);
+        let thawed = thaw(&shared);
+        (freezes.join().expect("a freeze that ends"), thawed)
+    });
+    assert_eq!((frozen, thawed), (Err(FreezeFault::NotFrozen), Ok(0)));
+}
+
+/// A wait for the drain of a live queue is refused.
+#[test]
+fn a_live_queue_is_not_waited_for() {
+    let (queue, mut freezer, _tag) = with_one_tag();
+    assert_eq!(freezer.wait_drained(&queue), Err(FreezeFault::NotFrozen));
+    let shared = SharedFreezer::new(freezer, &queue);
+    assert_eq!(shared.wait_drained().err(), Some(FreezeFault::NotFrozen));
+}
+
+/// To share a freezer, to lock it and to take it back changes nothing, and it stays the freezer of its queue.
+#[test]
+fn a_shared_freezer_is_as_it_was() {
+    let (queue, mut freezer, mut tag) = with_one_tag();
+    let narrow = Limits::new(8, 4, 0).expect("limits");
+    let shown = |freezer: &Freezer| (freezer.depth(), freezer.limits());
+    assert_eq!([freezer.start_freeze(&queue), freezer.start_freeze(&queue)], [Ok(1), Ok(2)]);
+    assert_eq!(freezer.set(&queue, narrow), Ok(()));
+    let shared = SharedFreezer::new(freezer, &queue);
+    for _ in 0..2 {
+        assert_eq!(shown(&shared.lock().freezer), (2, narrow));
+    }
+    let mut pair = shared.into_inner();
+    assert_eq!(shown(&pair.freezer), (2, narrow));
+    assert_eq!([pair.freezer.thaw(pair.queue), pair.freezer.thaw(pair.queue)], [Ok(1), Ok(0)]);
+    assert_eq!(queue.try_enter(&mut tag, 0), Enter::Entered);
+    assert_eq!(queue.limits(&mut tag), narrow);
+}
+
+/// Two queues that are frozen together are drained each by its own tag, here the one that was frozen first before the other.
+#[test]
+fn the_first_frozen_drains_first() {
+    let mut both = [with_one_entered(), with_one_entered()];
+    for (queue, freezer, _) in &mut both {
+        assert_eq!(freezer.start_freeze(queue), Ok(1));
+        assert!(!freezer.poll_drained(queue));
+    }
+    let [(first, freezer, tag), (second, other_freezer, other_tag)] = &mut both;
+    assert_eq!(first.leave(tag, 0), Put::Last);
+    assert!(freezer.poll_drained(first));
+    assert!(!other_freezer.poll_drained(second));
+    assert_eq!(second.leave(other_tag, 0), Put::Last);
+    assert!(other_freezer.poll_drained(second));
+}
+
+/// The same if the one that was frozen last drains first, while the freezer waits for the other.
+#[test]
+fn the_last_frozen_drains_first() {
+    let (first, mut freezer, mut tag) = with_one_entered();
+    let (second, mut other_freezer, mut other_tag) = with_one_entered();
+    let frozen = AtomicU64::new(0);
+    let (drained, left) = thread::scope(|scope| {
+        let freezes = scope.spawn(|| {
+            insist(freezer.start_freeze(&first) == Ok(1), "a freeze is refused");
+            insist(other_freezer.start_freeze(&second) == Ok(1), "a freeze is refused");
+            frozen.store(1, SeqCst);
+            [freezer.wait_drained(&first), other_freezer.wait_drained(&second)]
+        });
+        wait_for(&frozen, 1);
+        let left = [second.leave(&mut other_tag, 0), first.leave(&mut tag, 0)];
+        (freezes.join().expect("waits that end"), left)
+    });
+    assert_eq!((drained, left), ([Ok(()); 2], [Put::Last; 2]));
+}
+
+#[test]
+fn faults_have_texts() {
+    let texts = [
+        (FreezeFault::DepthFull, "depth full"),
+        (FreezeFault::NotFrozen, "not frozen"),
+        (FreezeFault::NotDrained, "not drained"),
+        (FreezeFault::TagsOut(2), "2 tags out"),
+        (FreezeFault::WornOut, "worn out"),
+    ];
+    for (fault, text) in texts {
+        assert_eq!(fault.to_string(), text);
+    }
+}

@@ -1,0 +1,315 @@
+/* The control's socket: one thread takes lines from every controller that is connected, and answers each in order. It never
+ * waits but in poll, so a drain, a flush or a controller that hangs holds up nobody else. */
+#define NBDKIT_API_VERSION 2
+#include "service.h"
+#include <errno.h>
+#include <nbdkit-plugin.h>
+#include <poll.h>
+#include <stdlib.h>
+#include <string.h>
+#include <sys/eventfd.h>
+#include <sys/socket.h>
+#include <sys/stat.h>
+#include <sys/un.h>
+#include <unistd.h>
+
+enum { CONTROLLERS = 64, OTHERS = 4, PAUSE = 100 /* milliseconds */ };
+
+static controller controllers[CONTROLLERS];
+static int listening = -1, ending = -1;
+static struct stat bound; /* the socket in its folder */
+static pthread_t thread;
+static bool runs;
+
+static int refuse_control(const char *what)
+{
+    nbdkit_error("control=%s: %s: %s", blkq.control, what, strerror(errno));
+    return -1;
+}
+
+controller *next_controller(controller *after)
+{
+    controller *next = after == NULL ? controllers : after + 1;
+    while (next < controllers + CONTROLLERS && next->at < 0)
+        next++;
+    return next < controllers + CONTROLLERS ? next : NULL;
+}
+
+/* ---- Replies ---- */
+
+/* Adds bytes to a reply. A controller whose reply has no memory is let go: its connection is cut. */
+static void reply_with(controller *to, const char *bytes, size_t length)
+{
+    char *longer = to->at < 0 ? NULL : realloc(to->reply, to->length + length);
+    if (longer == NULL) {
+        if (to->at >= 0)
+            shutdown(to->at, SHUT_RDWR);
+        return;
+    }
+    memcpy(longer + to->length, bytes, length);
+    to->reply = longer;
+    to->length += length;
+}
+
+void say(controller *to, const char *text)
+{
+    reply_with(to, text, strlen(text));
+    reply_with(to, "\n", 1);
+}
+
+void say_all(controller *to, char *text, size_t length)
+{
+    reply_with(to, text, length);
+    free(text);
+}
+
+/* Sends as much of a reply as its controller takes now. Whether its connection is still there. */
+static bool send_reply(controller *to)
+{
+    while (to->sent < to->length) {
+        ssize_t sent = send(to->at, to->reply + to->sent, to->length - to->sent, MSG_NOSIGNAL | MSG_DONTWAIT);
+        if (sent < 0)
+            return errno == EAGAIN || errno == EINTR;
+        to->sent += (size_t)sent;
+    }
+    free(to->reply);
+    to->reply = NULL;
+    to->length = to->sent = 0;
+    return true;
+}
+
+/* ---- Controllers ---- */
+
+static void let_go(controller *one)
+{
+    forget_controller(one);
+    close(one->at);
+    free(one->reply);
+    *one = (controller){.at = -1};
+}
+
+/* Does the first whole line of those that came, and keeps the rest. Whether there was one. */
+static bool do_next_line(controller *from)
+{
+    char line[LINE_MOST], *end = memchr(from->line, '\n', from->filled);
+    if (end == NULL)
+        return false;
+    size_t length = (size_t)(end - from->line);
+    memcpy(line, from->line, length);
+    from->filled -= length + 1;
+    memmove(from->line, end + 1, from->filled);
+    if (length > 0 && line[length - 1] == '\r')
+        length--;
+    for (size_t i = 0; i < length; i++)
+        if (line[i] == '\0')
+            line[i] = '?'; /* of no word */
+    line[length] = '\0';
+    run_line(from, line);
+    return true;
+}
+
+/* Goes as far as it can: with the line that isn't answered yet, the reply, and then the next lines. Whether the controller
+ * stays. One that sends a longer line than there are doesn't, nor does one that has ended and has its replies; the part of
+ * a line that one leaves behind is never run. */
+static bool serve_controller(controller *one)
+{
+    do {
+        if (one->stage != IDLE)
+            go_on(one);
+        if (!send_reply(one))
+            return false;
+        if (one->stage != IDLE || one->length > 0)
+            return true;
+    } while (do_next_line(one));
+    return !one->has_ended && one->filled < LINE_MOST;
+}
+
+/* Takes the bytes that a controller sent. Whether it is still there. */
+static bool hear(controller *one)
+{
+    ssize_t came = recv(one->at, one->line + one->filled, LINE_MOST - one->filled, MSG_DONTWAIT);
+    if (came < 0)
+        return errno == EINTR || errno == EAGAIN;
+    one->filled += (size_t)came;
+    one->has_ended = came == 0;
+    one->heard = now();
+    return true;
+}
+
+/* A controller that hung up gives up its lines, but for those that came whole and wait for nothing. */
+static void attend(controller *one, short events)
+{
+    bool stays = true;
+    if (events & POLLIN)
+        stays = hear(one);
+    stays = stays && serve_controller(one);
+    if (!stays || (events & (POLLHUP | POLLERR | POLLNVAL)))
+        let_go(one);
+}
+
+/* The events to look for: lines, while none waits to be answered; room for a reply. A hang-up is told always. */
+static short events_of(const controller *one)
+{
+    if (one->length > 0)
+        return POLLOUT;
+    return one->stage == IDLE && !one->has_ended ? POLLIN : 0;
+}
+
+/* A place for a controller; where each is taken the one that is idle longest and holds no freeze has to go. */
+static controller *find_place(void)
+{
+    controller *longest = NULL;
+    for (controller *one = controllers; one < controllers + CONTROLLERS; one++) {
+        if (one->at < 0)
+            return one;
+        if (!holds_any(one) && (longest == NULL || one->heard < longest->heard))
+            longest = one;
+    }
+    if (longest != NULL)
+        let_go(longest);
+    return longest;
+}
+
+static void admit(void)
+{
+    static const char busy[] = "busy\n";
+    int at = accept4(listening, NULL, NULL, SOCK_CLOEXEC);
+    if (at < 0) {
+        if (errno != EINTR && errno != EAGAIN && errno != ECONNABORTED)
+            poll(NULL, 0, PAUSE); /* out of descriptors or memory */
+        return;
+    }
+    controller *place = find_place();
+    if (place == NULL) {
+        (void)!send(at, busy, sizeof busy - 1, MSG_NOSIGNAL | MSG_DONTWAIT);
+        close(at);
+        return;
+    }
+    *place = (controller){.at = at, .heard = now()};
+}
+
+/* ---- The thread ---- */
+
+/* Whether any controller is in a stage. */
+static bool any_is(stage stage)
+{
+    for (const controller *one = controllers; one < controllers + CONTROLLERS; one++)
+        if (one->at >= 0 && one->stage == stage)
+            return true;
+    return false;
+}
+
+static void *serve_control(void *nothing)
+{
+    for (;;) {
+        int drained = any_is(DRAINING) ? blkq.waits.drained_event : -1;
+        struct pollfd all[OTHERS + CONTROLLERS] = {
+            {ending, POLLIN, 0}, {listening, POLLIN, 0}, {drained, POLLIN, 0}, {flush_event(), POLLIN, 0}};
+        for (int i = 0; i < CONTROLLERS; i++)
+            all[OTHERS + i] = (struct pollfd){controllers[i].at, events_of(&controllers[i]), 0};
+        if (poll(all, OTHERS + CONTROLLERS, end_leases()) < 0 && errno != EINTR)
+            return nothing;
+        if (all[0].revents != 0)
+            return nothing;
+        eventfd_t flushed;
+        if (all[3].revents != 0)
+            (void)eventfd_read(flush_event(), &flushed);
+        for (int i = 0; i < CONTROLLERS; i++)
+            if (controllers[i].at >= 0)
+                attend(&controllers[i], all[OTHERS + i].revents);
+        if (all[1].revents != 0)
+            admit();
+    }
+}
+
+/* ---- Begun and ended ---- */
+
+/* Whether a server answers at an address. */
+static bool is_answered(const struct sockaddr_un *address)
+{
+    int at = socket(AF_UNIX, SOCK_STREAM | SOCK_CLOEXEC | SOCK_NONBLOCK, 0);
+    bool is_refused = connect(at, (const struct sockaddr *)address, sizeof *address) != 0 && errno == ECONNREFUSED;
+    if (at >= 0)
+        close(at);
+    return !is_refused;
+}
+
+/* Binds a socket whose owner alone may connect, since a controller can stop every client. One that a dead server left goes. */
+static int bind_at(int at, const struct sockaddr_un *address)
+{
+    struct stat found;
+    mode_t before = umask(0077);
+    int failed = bind(at, (const struct sockaddr *)address, sizeof *address);
+    bool is_taken = failed != 0 && errno == EADDRINUSE;
+    if (is_taken && lstat(blkq.control, &found) == 0 && S_ISSOCK(found.st_mode) && !is_answered(address) &&
+        unlink(blkq.control) == 0)
+        failed = bind(at, (const struct sockaddr *)address, sizeof *address);
+    else if (is_taken)
+        errno = EADDRINUSE;
+    umask(before);
+    return failed;
+}
+
+int bind_control(void)
+{
+    struct sockaddr_un address = {.sun_family = AF_UNIX};
+    for (controller *one = controllers; one < controllers + CONTROLLERS; one++)
+        one->at = -1;
+    if (blkq.control == NULL)
+        return 0;
+    if (strlen(blkq.control) >= sizeof address.sun_path) {
+        errno = ENAMETOOLONG;
+        return refuse_control("path");
+    }
+    strcpy(address.sun_path, blkq.control);
+    int at = socket(AF_UNIX, SOCK_STREAM | SOCK_CLOEXEC | SOCK_NONBLOCK, 0);
+    if (at < 0)
+        return refuse_control("socket");
+    if (bind_at(at, &address) != 0) {
+        refuse_control("bind");
+        close(at);
+        return -1;
+    }
+    listening = at;
+    if (stat(blkq.control, &bound) != 0)
+        return refuse_control("stat");
+    return listen(at, CONTROLLERS) == 0 ? 0 : refuse_control("listen");
+}
+
+int start_control(void)
+{
+    if (blkq.control == NULL)
+        return 0;
+    ending = eventfd(0, EFD_CLOEXEC);
+    if (ending < 0)
+        return refuse_control("eventfd");
+    errno = pthread_create(&thread, NULL, serve_control, NULL);
+    runs = errno == 0;
+    return runs ? 0 : refuse_control("thread");
+}
+
+/* Removes the socket unless another stands at its path now. */
+static void unbind_control(void)
+{
+    struct stat found;
+    close(listening);
+    if (lstat(blkq.control, &found) == 0 && found.st_dev == bound.st_dev && found.st_ino == bound.st_ino)
+        unlink(blkq.control);
+    listening = -1;
+}
+
+void end_control(void)
+{
+    if (runs) {
+        eventfd_write(ending, 1);
+        pthread_join(thread, NULL);
+        runs = false;
+    }
+    for (controller *one = next_controller(NULL); one != NULL; one = next_controller(one))
+        let_go(one);
+    if (ending >= 0)
+        close(ending);
+    ending = -1;
+    if (listening >= 0)
+        unbind_control();
+}

@@ -1,0 +1,120 @@
+/* The queue of the plays of orders.c and orders_pool.c, over the stand-in for the proved part: its calls are steps of the
+ * scheduler (orders.h), each with what it answers. */
+#ifndef ORDERS_QUEUE_H
+#define ORDERS_QUEUE_H
+#define _GNU_SOURCE
+#include <stddef.h>
+#include <stdlib.h>
+
+/* What the stand-in allocates goes with its run. */
+static char block[1 << 14];
+static size_t taken;
+static void *takes_bytes(size_t size)
+{
+    void *at = block + taken;
+    taken += (size + 15) / 16 * 16;
+    return taken <= sizeof block ? at : NULL;
+}
+static void lets_go(void *at) { (void)at; }
+#define malloc takes_bytes
+#define free lets_go
+#include "freeze_queue_mock.c"
+#undef malloc
+#undef free
+
+#include "orders.h"
+
+/* A try counts for a moment where it is refused, so another may be the last to leave meanwhile. */
+static uint32_t tries(freeze_queue_tag *tag, uint32_t slot, bool frozen_too, int line)
+{
+    step(line);
+    uint32_t answer = enter(tag, slot, frozen_too);
+    if (answer != FREEZE_QUEUE_NOT_ENTERED)
+        return (uint32_t)saw(answer);
+    struct queue *queue = ((struct tag *)tag->at)->queue;
+    bool counts = !queue->told;
+    queue->entered += counts;
+    step(line);
+    queue->entered -= counts;
+    return (uint32_t)saw(tells(queue) ? FREEZE_QUEUE_NOT_ENTERED_LAST : FREEZE_QUEUE_NOT_ENTERED);
+}
+
+/* Staying looks once, and leaves by a step of its own. */
+static uint32_t stays(freeze_queue_tag *tag, uint32_t slot, int line)
+{
+    step(line);
+    if (((struct tag *)tag->at)->queue->depth == 0)
+        return (uint32_t)saw(FREEZE_QUEUE_OK);
+    step(line);
+    return (uint32_t)saw(freeze_queue_stay(tag, slot));
+}
+
+static uint64_t saw_limits(uint32_t answer, const freeze_queue_limits *limits)
+{
+    if (answer == FREEZE_QUEUE_OK)
+        saw((uint64_t)limits->max << 32 | limits->chunk);
+    return saw(answer);
+}
+
+/* A lock that a freeze opens when it begins, for a thread that begins later. */
+static pthread_mutex_t gate;
+static uint32_t opens_gate(void)
+{
+    if (holds(&gate))
+        locks[place_of(&gate)].owner = -1;
+    return 0;
+}
+
+#define OF_FREEZER(call) (step(__LINE__), (uint32_t)saw(call))
+#define freeze_queue_try_enter(tag, slot) tries(tag, slot, false, __LINE__)
+#define freeze_queue_try_enter_frozen(tag, slot) tries(tag, slot, true, __LINE__)
+#define freeze_queue_stay(tag, slot) stays(tag, slot, __LINE__)
+#define freeze_queue_leave(tag, slot) OF_FREEZER(freeze_queue_leave(tag, slot))
+#define freeze_queue_start_freeze(of, depth) OF_FREEZER(opens_gate() + freeze_queue_start_freeze(of, depth))
+#define freeze_queue_poll_drained(of) (bool)OF_FREEZER(freeze_queue_poll_drained(of))
+#define freeze_queue_set(of, limits) OF_FREEZER(freeze_queue_set(of, limits))
+#define freeze_queue_thaw(of, depth) OF_FREEZER(freeze_queue_thaw(of, depth))
+#define freeze_queue_limits_in_force(of, limits) (uint32_t)saw_limits(freeze_queue_limits_in_force(of, limits), limits)
+#define freeze_queue_give_tag_back(of, tag) OF_FREEZER(freeze_queue_give_tag_back(of, tag))
+#define freeze_queue_remove(of, last) OF_FREEZER(freeze_queue_remove(of, last))
+#include "freeze_queue_pool.h"
+
+static freeze_queue_freezer freezer;
+static freeze_queue_waits waits;
+static freeze_queue_tag tags[3];
+static const struct timespec soon = {1, 0};
+static int entered; /* requests that entered and left */
+
+static void need(bool holds, const char *what)
+{
+    if (!holds)
+        fail(what);
+}
+
+#define NEED(holds) need(holds, "not " #holds)
+
+static struct queue *the_queue(void) { return freezer.at; }
+
+/* A queue, frozen so often, with three tags. */
+static void begin_at(uint32_t depth)
+{
+    const freeze_queue_limits limits = {.hardware = 64, .max = 8, .chunk = 8};
+    const struct queue_number number = {1, 1};
+    taken = 0;
+    freezer = (freeze_queue_freezer){0};
+    if (freeze_queue_new_numbered(&freezer, &number, &limits, 4, 3) || freeze_queue_waits_init(&waits, &freezer))
+        abort();
+    for (int i = 0; i < 3; i++) {
+        tags[i] = (freeze_queue_tag){0};
+        if (freeze_queue_next_tag(&freezer, &tags[i]))
+            abort();
+    }
+    the_queue()->depth = depth;
+    the_queue()->told = depth > 0;
+    the_queue()->kills = the_queue()->releases = depth > 0;
+    entered = 0;
+    watch(&waits.inside, sizeof waits.inside + sizeof waits.is_dying);
+    watch(&the_queue()->limits, sizeof(struct queue) - offsetof(struct queue, limits));
+    watch(&entered, sizeof entered);
+}
+#endif

@@ -1,0 +1,240 @@
+/* The end of a queue, and changes of one field, by a script on one thread (scripted.h): each wake, each look, and what is
+ * done under the lock. */
+#define _POSIX_C_SOURCE 200809L
+#include "freeze_queue.h"
+#include "scripted.h"
+
+#include <poll.h>
+
+static freeze_queue_freezer freezer;
+
+/* The freezer's calls, under the lock alone. */
+static freeze_queue_freezer *under_lock(freeze_queue_freezer *of)
+{
+    need(locked != NULL, "a call of the freezer is made without the lock");
+    return of;
+}
+
+#define freeze_queue_start_freeze(of, depth) freeze_queue_start_freeze(under_lock(of), depth)
+#define freeze_queue_poll_drained(of) freeze_queue_poll_drained(under_lock(of))
+#define freeze_queue_set(of, limits) freeze_queue_set(under_lock(of), limits)
+#define freeze_queue_thaw(of, depth) freeze_queue_thaw(under_lock(of), depth)
+#define freeze_queue_depth(of, depth) freeze_queue_depth(under_lock(of), depth)
+#define freeze_queue_limits_in_force(of, limits) freeze_queue_limits_in_force(under_lock(of), limits)
+#define freeze_queue_next_tag(of, tag) freeze_queue_next_tag(under_lock(of), tag)
+#define freeze_queue_give_tag_back(of, tag) freeze_queue_give_tag_back(under_lock(of), tag)
+#define freeze_queue_remove(of, last) freeze_queue_remove(under_lock(of), last)
+#include "freeze_queue_waits.h"
+
+static freeze_queue_waits waits;
+static freeze_queue_tag tags[3];
+static const struct timespec soon = {1, 0};
+static freeze_queue_final last;
+
+static bool is_readable(int event)
+{
+    struct pollfd polled = {.fd = event, .events = POLLIN};
+    return poll(&polled, 1, 0) == 1;
+}
+
+static uint32_t depth_now(void)
+{
+    uint32_t depth = UINT32_MAX;
+    IS(freeze_queue_waits_depth(&waits, &depth), OK);
+    return depth;
+}
+
+static freeze_queue_limits limits_now(void)
+{
+    freeze_queue_limits limits = {0, 0, 0, 0};
+    IS(freeze_queue_waits_limits(&waits, &limits), OK);
+    return limits;
+}
+
+static void begins(void)
+{
+    const freeze_queue_limits limits = {.hardware = 64};
+    IS(freeze_queue_new(&freezer, &limits, 2, 3), OK);
+    TELLS(freeze_queue_waits_init(&waits, &freezer) || freeze_queue_waits_open_events(&waits), false);
+    for (int i = 0; i < 3; i++)
+        IS(freeze_queue_waits_next_tag(&waits, &tags[i]), OK);
+    IS(freeze_queue_waits_next_tag(&waits, &tags[0]), ERR_OPEN);
+}
+
+/* ---- What acts while another call sleeps ---- */
+
+static void begins_a_freeze(void) { need(freeze_queue_waits_begin_freeze(&waits) < 16, "no freeze begins"); }
+static void thaws(void) { IS(freeze_queue_waits_thaw(&waits), LIVE_AGAIN); }
+static void thaws_one(void) { IS(freeze_queue_waits_thaw(&waits), OK); }
+static void dies(void) { IS(freeze_queue_waits_mark_dying(&waits), OK); }
+static void second_is_answered(void) { IS(freeze_queue_waits_enter(&waits, &tags[1], 0, NULL), ERR_DYING); }
+static void first_leaves(void) { IS(freeze_queue_waits_leave(&waits, &tags[0], 0), OK); }
+static void first_is_back(void) { IS(freeze_queue_waits_give_tag_back(&waits, &tags[0]), OK); }
+static void second_is_back(void) { IS(freeze_queue_waits_give_tag_back(&waits, &tags[1]), OK); }
+static void third_is_back(void) { IS(freeze_queue_waits_give_tag_back(&waits, &tags[2]), OK); }
+static void freezes(void) { IS(freeze_queue_waits_freeze(&waits, NULL), OK); }
+
+/* ---- A dying queue ---- */
+
+/* Both calls that wait are answered by one mark, and later ones at once, whatever the deadline. */
+static void waiting_calls_are_answered(void)
+{
+    begins();
+    begins_a_freeze();
+    TELLS(freeze_queue_waits_is_dying(&waits), false);
+    acts(second_is_answered, dies, NULL);
+    IS(freeze_queue_waits_enter(&waits, &tags[0], 0, NULL), ERR_DYING);
+    TELLS(have_acted() && freeze_queue_waits_is_dying(&waits), true);
+    TELLS(is_readable(waits.live_event) && is_readable(waits.drained_event), true);
+    acts(NULL, NULL, NULL);
+    IS(freeze_queue_waits_enter(&waits, &tags[2], 1, NULL), ERR_DYING);
+    IS(freeze_queue_waits_enter(&waits, &tags[2], 1, &soon), ERR_DYING);
+    IS(freeze_queue_waits_try_enter(&waits, &tags[2], 1), ERR_DYING);
+    IS(freeze_queue_waits_try_enter(&waits, &tags[2], 9), ERR_BAD_SLOT);
+}
+
+/* The last thaw ends the freeze before it, and never the one of the mark, which stands once for two marks. */
+static void stays_frozen(void)
+{
+    dies();
+    TELLS(depth_now(), 2);
+    thaws_one();
+    IS(freeze_queue_waits_thaw(&waits), ERR_NOT_FROZEN);
+    TELLS(depth_now(), 1);
+    IS(freeze_queue_waits_freeze(&waits, &soon), OK);
+    TELLS(depth_now(), 2);
+    thaws_one();
+    IS(freeze_queue_waits_enter(&waits, &tags[0], 0, NULL), ERR_DYING);
+}
+
+/* The end comes back when the last tag is back, not before. */
+static void ends_with_the_last_tag(void)
+{
+    acts(first_is_back, second_is_back, NULL);
+    IS(freeze_queue_waits_end(&waits, &last, &soon), ERR_TIMED_OUT);
+    TELLS(have_acted() && freezer.is_open, true);
+    acts(wakes_by_itself, third_is_back, NULL);
+    IS(freeze_queue_waits_end(&waits, &last, NULL), OK);
+    TELLS(have_acted() && !freezer.is_open && locked == NULL, true);
+    TELLS(last.dead && last.kills == 1 && last.releases == 1, true);
+}
+
+/* The last tag comes back while the end sleeps, and nobody has notified it by its deadline: it looks once more. */
+static void third_is_back_untold(void)
+{
+    locked = &waits.lock;
+    IS(freeze_queue_give_tag_back(&freezer, &tags[2]), OK);
+    locked = NULL;
+}
+static void the_end_looks_after_its_deadline(void)
+{
+    begins();
+    first_is_back();
+    second_is_back();
+    acts(third_is_back_untold, NULL, NULL);
+    IS(freeze_queue_waits_end(&waits, &last, &soon), OK);
+    TELLS(have_acted() && !freezer.is_open, true);
+}
+
+/* A request in flight holds the end off, and so does a freeze that sleeps, also when each tag is back. */
+static void first_leaves_for_good(void)
+{
+    first_leaves();
+    first_is_back();
+    second_is_back();
+    third_is_back();
+}
+static void ends(void)
+{
+    IS(freeze_queue_waits_end(&waits, &last, NULL), OK);
+    TELLS(last.kills == 1 && !freezer.is_open, true);
+}
+static void a_freeze_holds_the_end_off(void)
+{
+    begins();
+    IS(freeze_queue_waits_enter(&waits, &tags[0], 0, NULL), OK);
+    acts(freezes, first_leaves_for_good, NULL);
+    ends();
+    TELLS(have_acted(), true);
+}
+
+/* As many freezes as there may be: the mark is refused, and nobody is told that the queue dies. */
+static void the_greatest_depth(void)
+{
+    begins();
+    for (uint32_t depth = 0; depth < FREEZE_QUEUE_MOST_DEPTH; depth++)
+        begins_a_freeze();
+    acts(NULL, NULL, NULL);
+    IS(freeze_queue_waits_mark_dying(&waits), ERR_DEPTH_FULL);
+    IS(freeze_queue_waits_end(&waits, &last, NULL), ERR_DEPTH_FULL);
+    TELLS(freeze_queue_waits_is_dying(&waits), false);
+    IS(freeze_queue_waits_enter(&waits, &tags[0], 0, &soon), ERR_TIMED_OUT);
+    for (uint32_t depth = 1; depth < FREEZE_QUEUE_MOST_DEPTH; depth++)
+        thaws_one();
+    thaws();
+}
+
+/* ---- Changes of one field ---- */
+
+static uint32_t doubles_chunk(freeze_queue_limits *limits, void *argument)
+{
+    need(locked == &waits.lock, "limits change without the lock");
+    limits->chunk = limits->chunk ? 2 * limits->chunk : 1;
+    return *(uint32_t *)argument;
+}
+
+static uint32_t adds_to_max(freeze_queue_limits *limits, void *argument)
+{
+    (void)argument;
+    limits->max++;
+    return FREEZE_QUEUE_OK;
+}
+
+static uint32_t answer_of_all = FREEZE_QUEUE_OK;
+
+static void fields_change(void)
+{
+    uint32_t refuses = 77;
+    acts(NULL, NULL, NULL);
+    IS(freeze_queue_waits_update(&waits, doubles_chunk, &answer_of_all, NULL), OK);
+    TELLS(limits_now().chunk == 1 && limits_now().max == 64 && depth_now() == 0, true);
+    TELLS(freeze_queue_waits_update(&waits, doubles_chunk, &refuses, NULL), 77);
+    TELLS(limits_now().chunk == 1 && depth_now() == 0, true);
+    IS(freeze_queue_waits_update(&waits, adds_to_max, NULL, NULL), ERR_ABOVE_HARDWARE);
+    TELLS(limits_now().max == 64 && depth_now() == 0, true);
+    IS(freeze_queue_waits_enter(&waits, &tags[0], 0, NULL), OK);
+    IS(freeze_queue_waits_update(&waits, doubles_chunk, &answer_of_all, &soon), ERR_TIMED_OUT);
+    TELLS(limits_now().chunk == 1 && depth_now() == 0, true);
+}
+
+/* Two changes wait for one drain: the second reads what the first has set. */
+static void leaves_and_doubles(void)
+{
+    first_leaves();
+    IS(freeze_queue_waits_update(&waits, doubles_chunk, &answer_of_all, NULL), OK);
+}
+static void two_changes(void)
+{
+    acts(leaves_and_doubles, NULL, NULL);
+    IS(freeze_queue_waits_update(&waits, doubles_chunk, &answer_of_all, NULL), OK);
+    TELLS(have_acted(), true);
+    TELLS(limits_now().chunk, 4);
+    TELLS(depth_now() == 0 && is_readable(waits.live_event), true);
+}
+
+int main(void)
+{
+    waiting_calls_are_answered();
+    stays_frozen();
+    ends_with_the_last_tag();
+    the_end_looks_after_its_deadline();
+    a_freeze_holds_the_end_off();
+    the_greatest_depth();
+    fields_change();
+    two_changes();
+    for (int i = 0; i < 3; i++)
+        IS(freeze_queue_waits_give_tag_back(&waits, &tags[i]), OK);
+    IS(freeze_queue_waits_end(&waits, &last, NULL), OK);
+    printf("%s\n", failures ? "FAILED" : "as the script has it");
+    return failures != 0;
+}

@@ -1,0 +1,190 @@
+"""Copies of a disk that clients write to, and blkqctl: copies.py FILTER NAME tries one thing."""
+
+import os
+import signal
+import struct
+import subprocess
+import sys
+import threading
+import time
+from contextlib import closing
+
+import nbd
+
+from controls import depth_of, in_force, slow, soon
+from server import Server
+from tries import MIB, run
+
+BLKQCTL = os.path.join(os.path.dirname(__file__), "..", "..", "services", "nbd", "blkqctl")
+WRITERS, TRIES, BLOCK, SIZE = 4, 20, 4096, 32 * MIB
+
+
+def blkqctl(server, *words, status=0, **more):
+    """What blkqctl prints, which has to end with this status."""
+    found = subprocess.run([sys.executable, BLKQCTL, server.control_path, *words], stdout=subprocess.PIPE,
+                           stderr=subprocess.PIPE, timeout=60, check=False, **more)
+    assert found.returncode == status, (words, found)
+    return found.stdout.decode()
+
+
+# ---- Consistent copies ----
+
+
+class Writer(threading.Thread):
+    """Writes a number at a place near the disk's beginning, and only then the same number at one near its end: at each moment the
+    second is as large as the first, or one behind. A copy of which that isn't so is torn."""
+
+    def __init__(self, server, number):
+        super().__init__()
+        self.client, self.places, self.enough = server.client(), (number * BLOCK, SIZE - (number + 1) * BLOCK), False
+        self.written = 0
+
+    def run(self):
+        while not self.enough:
+            self.written += 1
+            for place in self.places:
+                self.client.pwrite(struct.pack("<Q", self.written) * (BLOCK // 8), place)
+
+    def is_torn_in(self, copy):
+        first, second = (copy[place : place + BLOCK] for place in self.places)
+        numbers = [struct.unpack("<Q", block[:8])[0] for block in (first, second)]
+        is_whole = all(block == struct.pack("<Q", number) * (BLOCK // 8) for block, number in zip((first, second), numbers))
+        return not (is_whole and numbers[0] - 1 <= numbers[1] <= numbers[0])
+
+
+def torn_copies(served, copy):
+    """How many of twenty copies are torn, while four clients write."""
+    torn = 0
+    with Server(served, "size=32M") as server:
+        with open(server.disk, "wb") as disk:  # with no holes, which a copy would skip
+            disk.write(bytes(4 * WRITERS * BLOCK).ljust(SIZE, b"x"))
+            disk.seek(SIZE - WRITERS * BLOCK)
+            disk.write(bytes(WRITERS * BLOCK))
+        writers = [Writer(server, number) for number in range(WRITERS)]
+        for writer in writers:
+            writer.start()
+        try:
+            for _ in range(TRIES):
+                before = [writer.written for writer in writers]
+                soon(lambda: all(it.written > 10 + was for it, was in zip(writers, before)), "a writer hangs")
+                copy(server, server.disk, server.path("copy"))
+                with open(server.path("copy"), "rb") as file:
+                    copied = file.read()
+                torn += any(writer.is_torn_in(copied) for writer in writers)
+        finally:
+            for writer in writers:
+                writer.enough = True
+                writer.join()
+    return torn
+
+
+def consistent(served):
+    """Twenty copies under a quiesce are whole."""
+    torn = torn_copies(served, lambda server, disk, copy: blkqctl(server, "quiesce", "--", "cp", "--reflink=auto", disk, copy))
+    assert torn == 0, f"{torn} of {TRIES} copies are torn"
+
+
+def torn(served):
+    """Most of twenty plain copies are torn, so the try above would see it."""
+    found = torn_copies(served, lambda server, disk, copy: run("cp", "--reflink=auto", disk, copy))
+    assert found > TRIES // 2, f"{found} of {TRIES} copies are torn"
+
+
+# ---- blkqctl ----
+
+
+def commands(served):
+    """Each command, its output and its status."""
+    with Server(served, "size=1M", "hardware_sectors=64") as server, closing(server.control()) as control:
+        assert blkqctl(server, "set", "max_sectors", "8", "chunk_sectors", "16") == "ok\n"
+        assert in_force(control) == {"max": 8, "chunk": 16, "physical": 1}
+        blkqctl(server, "set", "max_sectors", "65", status=1)
+        blkqctl(server, "set", "max_sectors", status=1)
+        assert blkqctl(server, "mode", "atomic") == "ok\n"
+        assert blkqctl(server, "stat").startswith("stat reads 0 writes 0 ")
+        assert blkqctl(server, "metrics").endswith("# EOF\n")
+        assert len(blkqctl(server, "watch", "-n", "0.1", "-c", "2").splitlines()) == 3
+        assert on_a_terminal(server, "watch", "-n", "0.1", "-c", "3").count(b"\x1b[H\x1b[2Jtime ") == 3
+        assert blkqctl(server, "quiesce", "--keep") == "depth 1\n"
+        assert blkqctl(server, "freeze", "--lease", "60") == "depth 2\n"
+        assert depth_of(server) == 2
+        assert blkqctl(server, "thaw", "all") == "depth 0\n"
+        for words in (["freeze"], ["thaw"], ["freeze", "--lease", "1", "--keep"], ["stat", "--", "true"], ["freeze", "--"],
+                      ["mode", "quick"], []):
+            blkqctl(server, *words, status=2)
+        assert "exit status" in blkqctl(server, "--help")
+    gone = subprocess.run([sys.executable, BLKQCTL, "/nowhere", "stat"], stderr=subprocess.PIPE, check=False)
+    assert gone.returncode == 3 and gone.stderr == b"blkqctl: /nowhere: No such file or directory\n"
+
+
+def on_a_terminal(server, *words):
+    """The output of blkqctl on a terminal."""
+    leader, follower = os.openpty()
+    with subprocess.Popen([sys.executable, BLKQCTL, server.control_path, *words], stdout=follower) as running:
+        os.close(follower)
+        output = b""
+        try:
+            while more := os.read(leader, 4096):
+                output += more
+        except OSError:  # Linux's end of a terminal
+            pass
+        os.close(leader)
+    assert running.returncode == 0
+    return output
+
+
+def around(served):
+    """A freeze around a command: its status, and the thaw however it ends; a freeze that is lost on the way is told."""
+    with Server(served, "size=1M") as server, closing(server.control()) as control:
+        for command, status in ((["true"], 0), (["sh", "-c", "exit 7"], 7), (["sh", "-c", "kill -9 $$"], 137),
+                                (["no-such-program"], 127), (["/"], 126)):
+            blkqctl(server, "freeze", "--", *command, status=status)
+            assert depth_of(server) == 0, command
+        asking = ["sh", "-c", f"{sys.executable} {BLKQCTL} {server.control_path} stat"]
+        assert " depth 1 " in blkqctl(server, "quiesce", "--", *asking)
+        blkqctl(server, "freeze", "--lease", "1", "--", "sleep", "1.5", status=125)
+        with Sleeping(server) as losing:
+            control.need("thaw all", "depth 0")
+            losing.process.terminate()
+            assert losing.process.wait(20) == 125
+        for number, status in ((signal.SIGTERM, 143), (signal.SIGKILL, -9)):
+            with Sleeping(server) as ended:
+                ended.process.send_signal(number)
+                assert ended.process.wait(20) == status
+            soon(lambda: depth_of(server) == 0, "the freeze stays")
+
+
+class Sleeping:
+    """blkqctl with a freeze around a sleep, which has begun."""
+
+    def __init__(self, server):
+        sleep = ["sh", "-c", "echo begun && exec sleep 5"]
+        command = [sys.executable, BLKQCTL, server.control_path, "freeze", "--", *sleep]
+        self.process = subprocess.Popen(command, stdout=subprocess.PIPE, stderr=subprocess.DEVNULL)
+        assert self.process.stdout.readline() == b"begun\n"
+        assert depth_of(server) == 1
+
+    def __enter__(self):
+        return self
+
+    def __exit__(self, *_):
+        self.process.wait(20)
+        self.process.stdout.close()
+
+
+def in_time(served):
+    """A drain that takes too long is given up, and leaves nothing behind."""
+    with slow(served, 3) as server:
+        client = server.client()
+        cookie = client.aio_pread(nbd.Buffer(512), 0)
+        time.sleep(0.2)
+        given_up = subprocess.run([sys.executable, BLKQCTL, "--timeout", "0.5", server.control_path, "quiesce", "--", "true"],
+                                  stderr=subprocess.DEVNULL, check=False)
+        assert given_up.returncode == 125
+        soon(lambda: depth_of(server) == 0, "the drain goes on")
+        while not client.aio_command_completed(cookie):
+            client.poll(100)
+
+
+if __name__ == "__main__":
+    globals()[sys.argv[2]](sys.argv[1])

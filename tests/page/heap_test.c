@@ -1,0 +1,172 @@
+/* The heap of the page's module over an arena of this program: blocks beside one another in random calls, refusals at the bound, and
+ * the product of 128 bits against the compiler's own. The last line is 'N passed, M failed'. */
+#include "heap.h"
+
+#include <sanitizer/asan_interface.h>
+#include <stdio.h>
+#include <stdlib.h>
+#include <string.h>
+
+#define ARENA_PAGES 256
+#define LIVE 400
+#define CALLS 200000
+
+__extension__ typedef unsigned __int128 wide;
+wide product_of(wide x, wide y);
+
+static _Alignas(65536) byte arena[ARENA_PAGES * PAGE_BYTES];
+static word there;
+static int passed, failed;
+
+byte *first_byte(void)
+{
+    return arena;
+}
+
+word pages(void)
+{
+    return there;
+}
+
+byte *end_of_pages(void)
+{
+    return arena + there * PAGE_BYTES;
+}
+
+/* What isn't added yet may not be touched. */
+word add_pages(word count)
+{
+    word before = there;
+    if (count > ARENA_PAGES - there)
+        return NO_PAGES;
+    ASAN_UNPOISON_MEMORY_REGION(end_of_pages(), count * PAGE_BYTES);
+    there += count;
+    return before;
+}
+
+static void check(const char *name, int is_so)
+{
+    passed += is_so;
+    failed += !is_so;
+    if (!is_so)
+        printf("FAILED: %s\n", name);
+}
+
+static unsigned long long seed = 1;
+
+static word random_below(word count)
+{
+    seed = seed * 6364136223846793005ULL + 1442695040888963407ULL;
+    return (seed >> 33) % count;
+}
+
+static word random_size(void)
+{
+    return random_below(1ULL << (1 + random_below(14)));
+}
+
+typedef struct {
+    byte *block;
+    word size;
+    byte filled;
+} live;
+
+static live blocks[LIVE];
+
+static void fill(live *it, byte *block, word size)
+{
+    *it = (live){block, size, (byte)random_below(256)};
+    memset(block, it->filled, size);
+}
+
+/* Whether a block has what was written to it, in the first bytes. */
+static int is_kept(const live *it, const byte *block, word size)
+{
+    for (word at = 0; at < size; at++)
+        if (block[at] != it->filled)
+            return 0;
+    return 1;
+}
+
+static int is_aligned(const byte *block)
+{
+    return (word)block % 16 == 0;
+}
+
+/* One call on one of the blocks: a new one, a freed one, or one of another size. Whether all is as it should be. */
+static int is_right_after_a_call(live *it)
+{
+    word size = random_size();
+    if (!it->block) {
+        allocation new = rattle_alloc(size, 8);
+        if (new.is_there)
+            fill(it, new.block, size);
+        return !new.is_there || is_aligned(new.block);
+    }
+    if (!is_kept(it, it->block, it->size))
+        return 0;
+    if (random_below(2)) {
+        rattle_dealloc(it->block);
+        it->block = 0;
+        return 1;
+    }
+    allocation new = rattle_realloc(it->block, it->size, size, 8);
+    if (!new.is_there)
+        return is_kept(it, it->block, it->size);
+    int is_right = is_aligned(new.block) && is_kept(it, new.block, size < it->size ? size : it->size);
+    fill(it, new.block, size);
+    return is_right;
+}
+
+static void random_calls(void)
+{
+    int are_right = 1;
+    for (int call = 0; call < CALLS; call++)
+        are_right &= is_right_after_a_call(&blocks[random_below(LIVE)]);
+    check("blocks keep their bytes beside others", are_right);
+    check("freed blocks are used again", there < ARENA_PAGES);
+}
+
+static void refusals(void)
+{
+    check("an alignment above 16 is refused", !rattle_alloc(8, 64).is_there);
+    check("a block of 2^63 bytes is refused", !rattle_alloc(1ULL << 63, 8).is_there);
+    check("a block of all bytes is refused", !rattle_alloc(~0ULL, 8).is_there);
+    check("a block larger than the arena is refused", !rattle_alloc(ARENA_PAGES * PAGE_BYTES, 8).is_there);
+    check("the page's room is refused alike", room(ARENA_PAGES * PAGE_BYTES) == 0);
+    check("a small one is there after that", rattle_alloc(8, 8).is_there);
+    word before = there;
+    bound(there * PAGE_BYTES);
+    int count = 0;
+    while (count < 1000 && rattle_alloc(60000, 8).is_there)
+        count++;
+    check("the bound is kept", count < 1000 && there == before);
+    bound((there + 3) * PAGE_BYTES);
+    check("a higher bound lets it grow, by less than it would like to", rattle_alloc(100000, 8).is_there && there <= before + 3);
+    check("and no further", !rattle_alloc(200000, 8).is_there);
+}
+
+static void products(void)
+{
+    int are_right = 1;
+    for (int call = 0; call < CALLS; call++) {
+        word part[4];
+        for (int at = 0; at < 4; at++) {
+            word high = random_below(1ULL << 31) << 33, low = random_below(1ULL << 31) << 2;
+            part[at] = random_below(4) ? high ^ low ^ random_below(8) : ~0ULL;
+        }
+        wide x = (wide)part[0] << 64 | part[1], y = (wide)part[2] << 64 | part[3];
+        are_right &= product_of(x, y) == x * y;
+    }
+    check("a product of 128 bits is the compiler's", are_right);
+}
+
+int main(void)
+{
+    ASAN_POISON_MEMORY_REGION(arena, sizeof(arena));
+    random_calls();
+    refusals();
+    products();
+    printf("%d passed, %d failed\n", passed, failed);
+    return failed > 0;
+}

@@ -1,0 +1,56 @@
+"""The page, put together: the template with the style sheet, the scripts, the examples and the module."""
+
+import base64
+import gzip
+import json
+import os
+import re
+
+from page_parts.sums import read
+from pictures.svg import FONT, rules
+
+HERE = os.path.dirname(os.path.realpath(__file__))
+EXAMPLES = f"{os.path.dirname(os.path.dirname(HERE))}/examples"
+# Each uses those before it.
+SCRIPTS = ("texts", "gate", "schedule", "svg", "lanes", "running", "legend", "stepping", "answers", "address", "page")
+
+
+def packed(module):
+    """A module's bytes, compressed, as letters."""
+    return base64.b64encode(gzip.compress(module, 9, mtime=0)).decode()
+
+
+def menu():
+    """The examples in the order of the menu: each one's file, its text, and what it shows."""
+    lines = [it for it in read(f"{HERE}/examples.txt").splitlines() if it and not it.startswith("#")]
+    pairs = [it.split(" ", 1) for it in lines]
+    return [{"name": name, "shows": shows, "text": read(f"{EXAMPLES}/{name}")} for name, shows in pairs]
+
+
+def colours():
+    """The colours of the drawings, which are those of tools/picture: of a light page, and of a dark one."""
+    text = f"svg text {{ font-family: {FONT}; white-space: pre }} svg polyline {{ fill: none }}"
+    light, dark = (re.sub(r"^\.|(?<=\} )\.", "svg .", rules(which), flags=re.MULTILINE) for which in (0, 1))
+    return f"{text}\n{light}\n@media (prefers-color-scheme: dark) {{\n{dark}\n}}"
+
+
+def assembled(module, sums):
+    """The page with a packed module, which was made of sources with these sums."""
+    style = f"{colours()}\n{read(f'{HERE}/page.css').strip()}"
+    scripts = "\n".join(read(f"{HERE}/{name}.js").strip() for name in SCRIPTS)
+    parts = {
+        "/*STYLE*/": style,
+        "/*MADE-OF*/": json.dumps(sums, indent=0),
+        "/*WORKER*/": read(f"{HERE}/worker.js").strip(),
+        "/*EXAMPLES*/": json.dumps(menu()).replace("</", "<\\/"),
+        "/*MODULE*/": module,
+        "/*SCRIPTS*/": scripts,
+    }
+    return re.sub("|".join(map(re.escape, parts)), lambda it: parts[it[0]], read(f"{HERE}/page.html"))
+
+
+def module_in(page):
+    """The packed module of a page, and the sums of the sources that it was made of."""
+    module = re.search(r'^const MODULE = "([A-Za-z0-9+/=]*)";$', page, re.MULTILINE)[1]
+    sums = re.search(r'<script type="application/json" id="made-of">(.*?)</script>', page, re.DOTALL)[1]
+    return module, json.loads(sums)

@@ -1,0 +1,114 @@
+// A schedule, step by step: the lanes, the gate at a step, and what the step is.
+
+const MOST_STEPS = 600;
+const MOST_PASSES = 16;
+
+// An element with its properties and children.
+function element(tag, properties = {}, children = []) {
+  const made = Object.assign(document.createElement(tag), properties);
+  made.append(...children);
+  return made;
+}
+
+// The rows of the table of a gate between two steps: the name and the value of each word, and what each actor holds.
+function gateShown(state) {
+  const shared = [...marksOf(state), countShown(state)].join(" ");
+  const slots = state.slots.map((slot, at) => [`slot ${at}`, slotShown(slot)]);
+  const words = state.words.map((word, at) => [`word ${at}`, word]);
+  const actors = ["c", ...state.passes.keys()].map((actor) => [actorName(actor), standing(actor, state).words || "holds nothing"]);
+  return [["shared word", shared], ["front", String(state.front)], ...slots, ...words, ...actors];
+}
+
+class Stepping {
+  constructor(find, onStep) {
+    Object.assign(this, { find, onStep, count: 0, step: 0 });
+    find("first").onclick = () => this.goTo(0);
+    find("back").onclick = () => this.goTo(this.step - 1);
+    find("next").onclick = () => this.goTo(this.step + 1);
+    find("last").onclick = () => this.goTo(this.count);
+    find("step").oninput = () => this.goTo(Number(find("step").value));
+  }
+
+  hide() {
+    this.schedule = undefined;
+    this.find("steps").hidden = true;
+  }
+
+  // Shows a schedule, at a step or at its end.
+  show(name, schedule, step = -1) {
+    const { find } = this;
+    this.schedule = schedule;
+    this.count = Math.min(schedule.rows.length, MOST_STEPS);
+    find("steps").hidden = false;
+    const some = this.count < schedule.rows.length ? `, the first ${this.count} of ${counted(schedule.rows.length, "step")}` : "";
+    find("steps-head").textContent = `Step by step: ${name}${some}`;
+    find("step").max = this.count;
+    find("legend").replaceChildren(...legendOf(schedule.rows));
+    this.draw(name, schedule);
+    this.goTo(step >= 0 ? step : this.count);
+  }
+
+  draw(name, schedule) {
+    const lanes = this.find("lanes");
+    const isDrawn = schedule.rows.length <= MOST_STEPS && schedule.start.passes.length <= MOST_PASSES;
+    if (!isDrawn) {
+      this.drawing = undefined;
+      lanes.textContent = `Lanes are drawn up to ${MOST_STEPS} steps and ${MOST_PASSES} passes; this schedule has ${schedule.rows.length} and ${schedule.start.passes.length}.`;
+      return;
+    }
+    this.drawing = new Lanes(name, schedule);
+    lanes.innerHTML = this.drawing.drawn();
+    const [now, later] = ["now-line", "later"].map((name) => document.createElementNS("http://www.w3.org/2000/svg", "rect"));
+    now.setAttribute("class", "now-line");
+    later.setAttribute("class", "later");
+    lanes.firstElementChild.append(later, now);
+    Object.assign(this, { now, later });
+  }
+
+  // Goes to the gate as it is after so many steps.
+  goTo(step) {
+    if (!this.schedule) return;
+    this.step = Math.max(0, Math.min(step, this.count));
+    const { find } = this;
+    find("step").value = this.step;
+    find("step").setAttribute("aria-valuetext", `step ${this.step} of ${this.count}`);
+    find("first").disabled = find("back").disabled = this.step === 0;
+    find("next").disabled = find("last").disabled = this.step === this.count;
+    find("caption").textContent = this.caption();
+    find("caption").className = this.step > 0 && this.schedule.rows[this.step - 1].isStuck ? "fault" : "";
+    this.showGate();
+    if (this.drawing) this.markRow();
+    this.onStep(this.step);
+  }
+
+  caption() {
+    if (this.step === 0) return `Before the first of ${counted(this.count, "step")}`;
+    const { step, reply } = this.schedule.rows[this.step - 1];
+    return `Step ${this.step} of ${this.count}: ${step.actor === "c" ? "the control" : actorName(step.actor)}: ${step.text} → ${withBias(reply)}`;
+  }
+
+  showGate() {
+    const before = this.step > 0 ? gateShown(this.schedule.stateAfter(this.step - 1)) : [];
+    const rows = gateShown(this.schedule.stateAfter(this.step)).map(([name, now], index) => {
+      const old = before[index]?.[1] ?? "";
+      const isChanged = this.step > 0 && old !== now;
+      const cells = [element("th", { scope: "row", textContent: name }), element("td", { textContent: now })];
+      return element("tr", { className: isChanged ? "changed" : "" }, [...cells, element("td", { textContent: isChanged ? old : "" })]);
+    });
+    this.find("state").tBodies[0].replaceChildren(...rows);
+  }
+
+  // Frames the step's row in the lanes, and fades the later ones.
+  markRow() {
+    const [lanes, wide] = [this.find("lanes"), this.drawing.wide];
+    const place = (box, y, high) => {
+      Object.entries({ x: 3, y, width: wide - 6, height: Math.max(0, high), rx: 6 }).forEach(([name, value]) => box.setAttribute(name, value));
+    };
+    const middle = this.drawing.yOf(this.step - 1);
+    const end = this.drawing.yOf(this.drawing.schedule.rows.length) - 14;
+    place(this.now, middle - 16, this.step ? 32 : 0);
+    place(this.later, middle + 31, end - middle - 31);
+    const lane = this.step ? this.drawing.lanes.get(this.drawing.laneOf(this.schedule.rows[this.step - 1].step)) : undefined;
+    lanes.scrollTo(lane ? lane.middle - lanes.clientWidth / 2 : 0, middle - lanes.clientHeight / 2);
+  }
+}
