@@ -1,4 +1,4 @@
-//! The crate freeze-queue itself, by links to its files, over locks, conditions, atomic numbers and parked threads that take turns: every
+//! The crate freeze-queue itself, by its own files, over locks, conditions, atomic numbers and parked threads that take turns: every
 //! order of three threads' steps, within a bound of switches. No wake is lost in any, and no value is lent twice.
 //!
 //! The files name what threads wait by through `crate::sync`, which is std's there, and the turns here.
@@ -14,32 +14,56 @@
 
 extern crate alloc;
 
-mod body;
-mod drained;
-mod drains;
-mod enter_any;
-mod enter_async;
-mod enter_owned_async;
-mod entered;
 mod erased;
-mod errors;
-mod excluded;
-mod freezing;
-mod frozen;
-mod guarded;
-mod handed_back;
-mod limits;
-mod line;
-mod locked;
-mod outcomes;
-mod owned;
-mod pieces;
-mod places;
-mod queue;
-mod seats;
-mod shared;
-mod tag;
-mod waits;
+
+/// The erased files of both crates, over a table whose steps are turns.
+#[path = "../../../percpu-gate/src/erased"]
+mod erased_gate {
+    pub mod fallible;
+    pub mod percpu_core;
+    pub mod percpu_gate;
+    pub mod percpu_words;
+}
+#[path = "../../../freeze-queue/src/erased"]
+mod erased_queue {
+    pub mod queue_core;
+    pub mod queue_limits;
+}
+
+/// The files of freeze-queue, where they are.
+#[path = "../../../freeze-queue/src"]
+mod files {
+    pub(crate) mod body;
+    pub(crate) mod drained;
+    pub(crate) mod drains;
+    pub(crate) mod enter_any;
+    pub(crate) mod enter_async;
+    pub(crate) mod enter_owned_async;
+    pub(crate) mod entered;
+    pub(crate) mod errors;
+    pub(crate) mod excluded;
+    pub(crate) mod freezing;
+    pub(crate) mod frozen;
+    pub(crate) mod guarded;
+    pub(crate) mod handed_back;
+    pub(crate) mod limits;
+    pub(crate) mod line;
+    pub(crate) mod locked;
+    pub(crate) mod outcomes;
+    pub(crate) mod owned;
+    pub(crate) mod pieces;
+    pub(crate) mod places;
+    pub(crate) mod queue;
+    pub(crate) mod seats;
+    pub(crate) mod shared;
+    pub(crate) mod tag;
+    pub(crate) mod waits;
+}
+
+use files::{
+    body, drained, drains, enter_any, enter_async, enter_owned_async, entered, errors, excluded, freezing, frozen,
+    guarded, handed_back, limits, line, locked, outcomes, owned, pieces, places, queue, seats, shared, tag, waits,
+};
 
 mod sync {
     pub(crate) use orders::turns::{AtomicBool, Condvar, Mutex, MutexGuard, Thread, current, park, pause as yield_now};

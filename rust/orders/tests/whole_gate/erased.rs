@@ -1,11 +1,5 @@
-//! The erased gate of the crate beside this one, by links, over a table whose steps are turns.
+//! The erased gate of the crate beside this one, over a table whose steps are turns.
+#[path = "../whole/erased/atomic_table.rs"]
 pub mod atomic_table;
 
-mod gate {
-    pub mod fallible;
-    pub mod percpu_core;
-    pub mod percpu_gate;
-    pub mod percpu_words;
-}
-
-pub use gate::{fallible, percpu_core, percpu_gate, percpu_words};
+pub use crate::erased_gate::{fallible, percpu_core, percpu_gate, percpu_words};

@@ -1,1 +1,0 @@
-../../../freeze-queue/src/body.rs

@@ -1,1 +1,0 @@
-../../../freeze-queue/src/enter_async.rs

@@ -1,1 +1,0 @@
-../../../freeze-queue/src/enter_owned_async.rs

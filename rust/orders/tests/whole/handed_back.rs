@@ -1,1 +1,0 @@
-../../../freeze-queue/src/handed_back.rs

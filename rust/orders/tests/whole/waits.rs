@@ -1,1 +1,0 @@
-../../../freeze-queue/src/waits.rs

@@ -1,1 +1,0 @@
-../../whole/erased/atomic_table.rs

@@ -1,1 +1,0 @@
-../../../percpu-gate/src/errors.rs
