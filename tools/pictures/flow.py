@@ -7,7 +7,7 @@ from pictures.svg import Page, Wrong, take_lines, width_of
 from sources.rattle import Crate
 
 SIZE, SMALL, LEADING = 13, 12, 16
-EDGE, TOP, PAD, DOWN, ROUND = 16, 84, 10, 36, 24
+EDGE, TOP, BARE, PAD, DOWN, ROUND = 16, 84, 48, 10, 36, 24
 LEAST_ACROSS = 40
 
 # The fill of each kind of box.
@@ -50,7 +50,7 @@ class Arrow:
 
 
 class Table:
-    """docs/pictures/script_flow.txt or freeze_flow.txt, read."""
+    """docs/pictures/script_flow.txt or another table of its form, read."""
 
     def __init__(self, text):
         self.title, self.lanes, self.boxes, self.arrows = "", {}, {}, []
@@ -96,7 +96,7 @@ class Table:
             for box in (box for box in boxes if box.column == column):
                 box.x, box.wide = x, wide
             x += wide + self.across(column)
-        y = TOP
+        y = TOP if self.lanes else BARE
         for row in range(rows + 1):
             high = max((box.height() for box in boxes if box.row == row), default=0)
             for box in (box for box in boxes if box.row == row):

@@ -64,10 +64,10 @@ def standing(actor, state):
 
 
 class Lanes:
-    def __init__(self, name, schedule):
-        self.name, self.schedule = name, schedule
+    def __init__(self, title, name, schedule):
+        self.title, self.name, self.schedule = title, name, schedule
         self.states = [schedule.start] + [row.state for row in schedule.rows]
-        self.page = Page(f"{name} as lanes", self.told())
+        self.page = Page(title, self.told())
         self.actors = ["c", *range(len(schedule.start.passes))]
         self.place()
 
@@ -91,7 +91,7 @@ class Lanes:
         for key, name, texts in self.shown_words():
             self.words[key] = Column(name, x, max(width_of(text, MIDDLE) for text in [*texts, name]) + 14)
             x = self.words[key].end + GAP
-        self.wide = x - GAP + EDGE
+        self.wide = max(x - GAP, EDGE + width_of(self.title, 15) + 14 + width_of(self.name, MIDDLE)) + EDGE
 
     def lane_of(self, step):
         """The lane of a step's actor; where there is no such actor, the control's."""
@@ -135,7 +135,8 @@ class Lanes:
         return self.page.made(self.wide, last + 58)
 
     def draw_heads(self, last):
-        self.page.text(EDGE, 24, self.name, "ink", 15, bold=True)
+        self.page.text(EDGE, 24, self.title, "ink", 15, bold=True)
+        self.page.text(EDGE + width_of(self.title, 15) + 14, 24, self.name, "dim", MIDDLE)
         for column in self.lanes.values():
             self.page.box(column.x, TOP - 22, column.wide, last - TOP + 8, "panel", round_by=6)
             self.page.text(column.middle, TOP - 6, column.name, "ink", SIZE, "middle", True)
@@ -240,5 +241,5 @@ class Lanes:
         self.wide = max(self.wide, x)
 
 
-def draw(name, schedule):
-    return Lanes(name, schedule).drawn()
+def draw(title, name, schedule):
+    return Lanes(title, name, schedule).drawn()

@@ -1,22 +1,62 @@
-"""The crates as layers, from crates.txt: each stands above all that it stands on, so that whoever reads upwards meets no
-crate before those below it. A line leads down to what a crate stands on; it is left out where another crate between the two
-leads there already."""
+"""The crates as layers, from crates.txt: each is above all crates that it depends on, and has the colour of its group. A line leads down
+to what a crate depends on; it is left out if another crate between the two leads there already."""
+
+from itertools import groupby
 
 from pictures.svg import Page, Wrong, width_of
 from sources.crates import lines_in
 
-SIZE, SMALL = 13, 11
+SIZE, SMALL = 13, 12
 HIGH, DOWN, EDGE, TOP, BETWEEN, BEND = 30, 40, 16, 56, 18, 10
 
 
-class Crates:
-    """The lines of crates.txt."""
+# The colour of each group of crates.txt, by the group's name.
+ROOMS = {
+    "Limits and disk": "room-limits",
+    "The gate": "room-gate",
+    "The queue": "room-queue",
+    "The script": "room-script",
+    "A script's run, a schedule's replay": "room-run",
+    "The program": "room-program",
+    "For C": "room-others",
+    "For a page in a browser": "room-others",
+    "For users": "room-others",
+    "Tests of the crates below them": "ground",
+}
+# What the legend says of each colour.
+NAMES = {
+    "room-limits": "limits, disk",
+    "room-gate": "gate",
+    "room-queue": "queue",
+    "room-script": "script",
+    "room-run": "run, replay, races",
+    "room-program": "program",
+    "room-others": "C, browser, users",
+    "ground": "tests",
+}
 
-    def __init__(self, text):
+
+def rooms_of(text):
+    """The colour of each crate, by the group that it is in."""
+    found, room = {}, None
+    for line in text.splitlines():
+        if line.startswith("#"):
+            room = ROOMS.get(line.lstrip("# "), room)
+        elif line.strip():
+            found[line.split(":")[0].split()[0]] = room
+    if None in found.values():
+        raise Wrong("a group of crates has no colour")
+    return found
+
+
+class Crates:
+    """The lines of crates.txt; programs are at the top."""
+
+    def __init__(self, text, programs):
+        self.rooms, self.programs = rooms_of(text), programs
         lines = list(lines_in(text))
         names = {line.name for line in lines}
         self.below = {line.name: [crate for crate in line.libraries if crate in names] for line in lines}
-        self.static = {line.name for line in lines if line.kind}
         self.all_below = {}
         for name in self.below:
             self.find_below(name, ())
@@ -47,7 +87,10 @@ class Crates:
         level = {}
         for name in order:
             level[name] = 1 + max((level[crate] for crate in self.below[name]), default=-1)
+        top = max(level.values())
         for name in reversed(order):
+            if name in self.programs:
+                level[name] = top
             if self.above[name]:
                 level[name] = min(level[crate] for crate in self.above[name]) - 1
         return level
@@ -175,23 +218,35 @@ def draw_lines(page, rows, y_of):
                 page.line([start, (port(lower, lower.up, upper), y_of(lower.level))], "dim", 1.2)
 
 
-def draw_crate(page, node, crates, programs, y):
-    x = node.x - node.wide / 2
-    is_test = node.name.startswith("trials_")
-    fill = "hold" if node.name in programs else "owe" if node.name in crates.static else "ground" if is_test else "panel"
+def draw_crate(page, node, crates, y):
+    x, fill = node.x - node.wide / 2, crates.rooms[node.name]
+    is_test = fill == "ground"
     page.box(x, y, node.wide, HIGH, fill, "dim", 6, is_test)
-    page.text(node.x, y + 19.5, node.name, "dim" if is_test else "ink", SIZE, "middle")
+    page.text(node.x, y + 19.5, node.name, "dim" if is_test else "ink", SIZE, "middle", node.name in crates.programs)
+
+
+def draw_legend(page, y, most):
+    """The colours with their names, in lines as wide as the crates: the lowest line."""
+    x = EDGE
+    for fill, _ in groupby(ROOMS.values()):
+        words = NAMES[fill]
+        if x + 24 + width_of(words, SMALL) > most:
+            x, y = EDGE, y + 20
+        page.box(x, y - 11, 18, 14, fill, "dim", 3, fill == "ground")
+        page.text(x + 24, y, words, "dim", SMALL)
+        x += 24 + width_of(words, SMALL) + 20
+    return y
 
 
 def draw(text, programs):
     """The picture; programs are the names of the crates that are one."""
-    crates = Crates(text)
+    crates = Crates(text, programs)
     rows = nodes_of(crates)
     put_in_order(rows)
     put_in_place(rows)
     told = "; ".join(f"{name} on {', '.join(below)}" for name, below in crates.below.items() if below)
-    page = Page("The crates, each above those that it stands on", told)
-    page.text(EDGE, 28, "The crates, each above those that it stands on", "ink", 15, bold=True)
+    page = Page("The crates, each above those that it depends on", told)
+    page.text(EDGE, 28, "The crates, each above those that it depends on", "ink", 15, bold=True)
 
     def y_of(level):
         return TOP + (len(rows) - 1 - level) * (HIGH + DOWN)
@@ -200,11 +255,6 @@ def draw(text, programs):
     for row in rows:
         for node in row:
             if node.name:
-                draw_crate(page, node, crates, programs, y_of(node.level))
-    x, y = EDGE, y_of(0) + HIGH + 34
-    for fill, words in (("panel", "library"), ("hold", "program"), ("owe", "library for C"), ("ground", "tests alone")):
-        page.box(x, y - 11, 22, 14, fill, "dim", 3, fill == "ground")
-        page.text(x + 30, y, words, "dim", SMALL)
-        x += 30 + width_of(words, SMALL) + 24
+                draw_crate(page, node, crates, y_of(node.level))
     wide = max(node.x + node.wide / 2 for row in rows for node in row) + EDGE
-    return page.made(max(wide, x), y + 14)
+    return page.made(wide, draw_legend(page, y_of(0) + HIGH + 34, wide - EDGE) + 14)

@@ -7,7 +7,9 @@ import re
 from pictures.svg import Page, Wrong, take_lines, width_of
 
 SIZE, SMALL, LEADING = 14, 13, 18
-EDGE, TOP, PAD, GAP, COLUMN = 16, 66, 12, 14, 384
+EDGE, TOP, PAD, GAP = 16, 66, 12, 14
+# The width of a column, by how many there are.
+COLUMNS = {1: 640, 2: 384, 3: 268}
 
 # The fill of each kind of box.
 FILLS = {"proved": "fresh", "tested": "hold", "trusted": "owe"}
@@ -15,23 +17,23 @@ PATH = re.compile(r"\b(?:crates|rust|tools|docs|tests|examples)/[\w./]*\w|\b(?:c
 
 
 class Box:
-    """A box over some columns: its head, and the lines below it."""
+    """A box over some columns of a width: its head, and the lines below it."""
 
-    def __init__(self, kind, begin, end, head, lines):
-        self.kind, self.begin, self.end, self.head, self.lines = kind, begin, end, head, lines
+    def __init__(self, kind, begin, end, head, lines, column):
+        self.kind, self.begin, self.end, self.head, self.lines, self.column = kind, begin, end, head, lines, column
 
     def height(self):
         return LEADING * (1 + len(self.lines)) + 2 * PAD - 4
 
     def left(self):
-        return EDGE + self.begin * (COLUMN + GAP)
+        return EDGE + self.begin * (self.column + GAP)
 
     def wide(self):
-        return (self.end - self.begin + 1) * (COLUMN + GAP) - GAP
+        return (self.end - self.begin + 1) * (self.column + GAP) - GAP
 
 
 class Table:
-    """docs/pictures/trusted.txt, read."""
+    """docs/pictures/trusted.txt or trusted_base.txt, read."""
 
     def __init__(self, text, root):
         self.title, self.columns, self.rows = "", [], []
@@ -50,7 +52,8 @@ class Table:
                 self.rows.append([])
             case [kind, columns, head, *lines] if kind in FILLS and self.rows:
                 begin, end = (int(number) for number in columns.split())
-                self.rows[-1].append(Box(kind, begin, end, head, [line for line in lines if line]))
+                lines = [line for line in lines if line]
+                self.rows[-1].append(Box(kind, begin, end, head, lines, COLUMNS[len(self.columns)]))
             case _:
                 raise ValueError
 
@@ -90,9 +93,10 @@ def draw(text, root):
     table = Table(text, root)
     page = Page(table.title, told(table))
     page.text(EDGE, 28, table.title, "ink", 15, bold=True)
-    wide = 2 * EDGE + len(table.columns) * (COLUMN + GAP) - GAP
+    column = COLUMNS[len(table.columns)]
+    wide = 2 * EDGE + len(table.columns) * (column + GAP) - GAP
     for at, name in enumerate(table.columns):
-        page.text(EDGE + at * (COLUMN + GAP) + COLUMN / 2, TOP - 10, name, "dim", SIZE, "middle", True)
+        page.text(EDGE + at * (column + GAP) + column / 2, TOP - 10, name, "dim", SIZE, "middle", True)
     y = TOP
     for row in table.rows:
         high = max(box.height() for box in row)
