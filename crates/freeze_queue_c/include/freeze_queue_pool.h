@@ -6,10 +6,11 @@
  * takes a tag, enters with it, moves between threads, leaves with it and gives it back. Threads that end what they begin may
  * keep a tag each, which is a little quicker.
  *
- * A pool holds the tags of one queue, at most 63, each with a mark that says whether it is out. To take a tag is to find a
- * mark that isn't set and to set it, by one atomic step. To give it back is to clear the mark, by one more, which is the
- * call's last access to the pool. A search begins at a place of the thread's own (hint: its slot), so a thread finds the tag
- * again that it gave back, and writes no line that others write. A thread that finds no tag may wait for one.
+ * A pool holds the tags of one queue, at most 63, each with a mark that says whether it is out. The marks lie in words, up
+ * to 32 of them, each on a line of its own. To take a tag is to find a mark in a word that isn't set and to set it, by one
+ * atomic step. To give it back is to clear the mark, by one more, which is the call's last access to the pool. A search looks
+ * at each word once, so its time doesn't grow with the tags that are out. It begins at a place of the thread's own (hint: its
+ * slot), so a thread finds the tag again that it gave back. A thread that finds no tag may wait for one.
  *
  *     freeze_queue_tag *tag = freeze_queue_pool_take(&pool, slot);
  *     if (tag == NULL)
@@ -22,12 +23,20 @@
  *
  * Order: what a thread did before it gave a tag back is seen by the thread that takes the tag next.
  *
+ * The end, while threads wait for a tag, or for a thaw with one. A thread that is answered ERR_DYING gives its tag back; a
+ * thread that gets no tag takes none any more:
+ *
+ *     answer = freeze_queue_waits_mark_dying(&waits);
+ *     answer = freeze_queue_pool_end(&pool, &waits, NULL);
+ *     ..                                  (join the threads that take tags, and the ones that freeze)
+ *     answer = freeze_queue_waits_end(&waits, &last, NULL);
+ *     freeze_queue_pool_destroy(&pool);
+ *
  * If a drain hangs, freeze_queue_pool_in_flight lists the tags that are out; a pool that is watched notes for each since
  * when, on which slot and by which thread. A pool that isn't watched pays one look at a flag for that.
  *
  * Preconditions:
- *  - a pool is all zero before it is filled, as freeze_queue_pool_new makes it. It lies at a multiple of 128 bytes, which
- *    malloc doesn't promise, and isn't moved or copied while it is filled;
+ *  - a pool is all zero before it is filled, as freeze_queue_pool_new makes it. It isn't moved or copied while it is filled;
  *  - a thread gives back only tags that this pool gave, each after its leave;
  *  - freeze_queue_pool_fill and freeze_queue_pool_empty are calls of the freezer: under the lock of its waits, one at a
  *    time. No thread takes a tag before the first, or during the second or after it. freeze_queue_pool_end is made without
@@ -46,24 +55,39 @@ extern "C" {
 
 /* ---- Internal: what a pool has ---- */
 
-/* A tag, its mark (0: in the pool, 1: out, 2: out while a call waits for a tag), and what was noted when it was taken, with
- * 128 bytes for themselves. */
+/* The words of the greatest pool, and the mark of a word while a call waits for one of its tags. */
+enum { FREEZE_QUEUE_POOL_WORDS = 32 };
+#define FREEZE_QUEUE_POOL_AWAITED ((uint64_t)1 << 63)
+
+/* Marks, each of a tag that is out (or that a full pool would have), on 128 bytes of their own. */
+typedef struct freeze_queue_pool_word {
+    uint64_t marks;
+} __attribute__((aligned(128))) freeze_queue_pool_word;
+
+/* A tag, where its mark is, what its word was when it was taken, and what was noted then, with 128 bytes for themselves. */
 typedef struct freeze_queue_pooled {
     freeze_queue_tag tag;
-    uint32_t mark;
-    uint32_t slot;
+    uint64_t *word;
+    uint64_t mark;
+    uint64_t marks;
     uint64_t since;
     uint64_t thread;
+    uint32_t slot;
 } __attribute__((aligned(128))) freeze_queue_pooled;
 
-/* The tags, in the pool or out, of which there are count (0: it isn't filled); since when it is watched (0: it isn't); and,
- * under the lock, the calls that wait, and whether the pool ends. */
+/* The words, the last of them and the bits of its number; the tags, in the pool or out, of which there are count (0: it isn't
+ * filled); since when it is watched (0: it isn't); and, under the lock, the calls that wait, and whether the pool ends. The tag
+ * of place p has mark p >> bits of word p & last. */
 typedef struct freeze_queue_pool {
-    freeze_queue_pooled tags[FREEZE_QUEUE_MOST_TAGS];
-    uint32_t count __attribute__((aligned(128)));
-    uint64_t watched_since;
-    uint32_t waiting __attribute__((aligned(128)));
+    freeze_queue_pool_word *words;
+    freeze_queue_pooled *tags;
+    uint32_t count;
+    uint32_t last;
+    uint32_t bits;
     uint32_t is_ending;
+    uint64_t watched_since;
+    char apart[128];
+    uint32_t waiting;
     pthread_mutex_t lock;
     pthread_cond_t given_back;
 } freeze_queue_pool;
@@ -89,10 +113,10 @@ static inline uint64_t freeze_queue_pool_clock(void)
     return (uint64_t)now.tv_sec * 1000000000 + (uint64_t)now.tv_nsec + 1;
 }
 
-/* Changes the mark of a place, and returns whether this call did. */
-static inline bool freeze_queue_pool_marks(freeze_queue_pooled *pooled, uint32_t from, uint32_t to)
+/* Changes the marks of a word from those that a call has seen, and returns whether it did; if not, it has seen them anew. */
+static inline bool freeze_queue_pool_marks(uint64_t *word, uint64_t *seen, uint64_t marks)
 {
-    return __atomic_compare_exchange_n(&pooled->mark, &from, to, false, __ATOMIC_SEQ_CST, __ATOMIC_SEQ_CST);
+    return __atomic_compare_exchange_n(word, seen, marks, false, __ATOMIC_SEQ_CST, __ATOMIC_SEQ_CST);
 }
 
 /* Notes when a tag was taken, by which hint and by which thread. */
@@ -103,53 +127,72 @@ static inline void freeze_queue_pool_notes(freeze_queue_pooled *pooled, uint32_t
     __atomic_store_n(&pooled->since, freeze_queue_pool_clock(), __ATOMIC_RELAXED);
 }
 
-/* Takes the tag of a place, if it is in the pool. */
-static inline bool freeze_queue_pool_takes_place(freeze_queue_pool *pool, uint32_t place, uint32_t hint)
+/* Takes a tag that a call has seen in the pool, if its word is still as it was then. */
+static inline bool freeze_queue_pool_takes(freeze_queue_pool *pool, freeze_queue_pooled *pooled, uint64_t *seen, uint32_t hint)
 {
-    freeze_queue_pooled *pooled = &pool->tags[place];
-    if (__atomic_load_n(&pooled->mark, __ATOMIC_SEQ_CST) != 0 || !freeze_queue_pool_marks(pooled, 0, 1))
+    const uint64_t marks = *seen | pooled->mark;
+    if (marks == *seen || !freeze_queue_pool_marks(pooled->word, seen, marks))
         return false;
+    pooled->marks = marks;
     if (__builtin_expect(__atomic_load_n(&pool->watched_since, __ATOMIC_RELAXED) != 0, 0))
         freeze_queue_pool_notes(pooled, hint);
     return true;
 }
 
-/* Marks a tag that is out as one that a call waits for, and returns whether it is out. Under the lock. */
-static inline bool freeze_queue_pool_awaits(freeze_queue_pooled *pooled)
+/* Takes a tag of a word, the first from a mark on that is in the pool; NULL if each is out. */
+static inline freeze_queue_tag *freeze_queue_pool_takes_of(freeze_queue_pool *pool, uint32_t word, uint32_t mark, uint32_t hint)
 {
-    uint32_t mark;
-    while ((mark = __atomic_load_n(&pooled->mark, __ATOMIC_SEQ_CST)) == 1)
-        if (freeze_queue_pool_marks(pooled, 1, 2))
-            return true;
-    return mark != 0;
+    uint64_t in, seen = __atomic_load_n(&pool->words[word].marks, __ATOMIC_SEQ_CST);
+    while ((in = ~(seen | FREEZE_QUEUE_POOL_AWAITED)) != 0) {
+        const uint32_t found = (uint32_t)__builtin_ctzll(in >> mark != 0 ? in >> mark << mark : in);
+        freeze_queue_pooled *pooled = &pool->tags[found << pool->bits | word];
+        if (freeze_queue_pool_takes(pool, pooled, &seen, hint))
+            return &pooled->tag;
+    }
+    return NULL;
+}
+
+/* Takes a tag, of the word of place hint first; NULL if the call finds each one out. */
+static inline freeze_queue_tag *freeze_queue_pool_searches(freeze_queue_pool *pool, uint32_t count, uint32_t hint)
+{
+    const uint32_t place = hint % count;
+    freeze_queue_tag *tag = NULL;
+    for (uint32_t looked = 0; tag == NULL && looked <= pool->last; looked++)
+        tag = freeze_queue_pool_takes_of(pool, (place + looked) & pool->last, place >> pool->bits, hint);
+    return tag;
 }
 
 /* ---- Taken and given back ---- */
 
-/* Takes a tag, the first from place hint on that it finds in the pool; NULL if it finds each one out. */
+/* Takes a tag: the one of place hint (modulo the tags) if it is in the pool, else another; NULL if the call finds each one
+ * out. */
 FREEZE_QUEUE_MUST_USE FREEZE_QUEUE_INLINE freeze_queue_tag *freeze_queue_pool_take(freeze_queue_pool *pool, uint32_t hint)
 {
     const uint32_t count = __atomic_load_n(&pool->count, __ATOMIC_RELAXED);
-    uint32_t place = hint < count || count == 0 ? hint : hint % count;
-    for (uint32_t looked = 0; looked < count; looked++) {
-        if (freeze_queue_pool_takes_place(pool, place, hint))
-            return &pool->tags[place].tag;
-        place = place + 1 < count ? place + 1 : 0;
+    if (__builtin_expect(hint < count, 1)) {
+        freeze_queue_pooled *pooled = &pool->tags[hint];
+        uint64_t seen = __atomic_load_n(pooled->word, __ATOMIC_SEQ_CST);
+        if (__builtin_expect(freeze_queue_pool_takes(pool, pooled, &seen, hint), 1))
+            return &pooled->tag;
     }
-    return NULL;
+    return count == 0 ? NULL : freeze_queue_pool_searches(pool, count, hint);
 }
 
 /* Gives a tag back that the pool gave, and wakes a call that waits for it. ERR_TAG_NOT_OUT if it was given back already,
  * and no thread has taken it since. */
 FREEZE_QUEUE_INLINE uint32_t freeze_queue_pool_give(freeze_queue_pool *pool, freeze_queue_tag *tag)
 {
-    freeze_queue_pooled *pooled = (freeze_queue_pooled *)(void *)tag;
-    if (freeze_queue_pool_marks(pooled, 1, 0))
-        return FREEZE_QUEUE_OK; /* the pool may be gone by now */
-    if (__atomic_load_n(&pooled->mark, __ATOMIC_SEQ_CST) == 0)
+    const freeze_queue_pooled *pooled = (freeze_queue_pooled *)(void *)tag;
+    const uint64_t mark = pooled->mark;
+    uint64_t *word = pooled->word, seen = pooled->marks; /* most often they still are so */
+    while ((seen & FREEZE_QUEUE_POOL_AWAITED) == 0 && (seen & mark) != 0)
+        if (freeze_queue_pool_marks(word, &seen, seen & ~mark))
+            return FREEZE_QUEUE_OK; /* the pool may be gone by now */
+    if ((seen & mark) == 0)
         return FREEZE_QUEUE_ERR_TAG_NOT_OUT;
     pthread_mutex_lock(&pool->lock);
-    bool was_out = __atomic_exchange_n(&pooled->mark, 0, __ATOMIC_SEQ_CST) != 0;
+    const uint64_t kept = pool->waiting > 0 || pool->is_ending ? FREEZE_QUEUE_POOL_AWAITED : 0;
+    bool was_out = (__atomic_fetch_and(word, ~(mark | FREEZE_QUEUE_POOL_AWAITED) | kept, __ATOMIC_SEQ_CST) & mark) != 0;
     if (pool->is_ending)
         pthread_cond_broadcast(&pool->given_back);
     else
@@ -160,20 +203,28 @@ FREEZE_QUEUE_INLINE uint32_t freeze_queue_pool_give(freeze_queue_pool *pool, fre
 
 /* ---- Internal: waiting for a tag ---- */
 
-/* Takes a tag from place hint on, or marks each one as one that a call waits for. The mark of a tag that it takes goes on
- * saying so if another call waits, whose announcement was cleared when the tag came back. Under the lock. */
+/* Marks a word as one that a call waits for, if each of its tags is out, and returns whether that is so. Under the lock. */
+static inline bool freeze_queue_pool_awaits(uint64_t *word)
+{
+    uint64_t seen = __atomic_load_n(word, __ATOMIC_SEQ_CST);
+    while (seen == ~FREEZE_QUEUE_POOL_AWAITED)
+        if (freeze_queue_pool_marks(word, &seen, ~(uint64_t)0))
+            return true;
+    return seen == ~(uint64_t)0;
+}
+
+/* Takes a tag, or marks each word as one that a call waits for. Under the lock: the marks stay until a tag comes back while no
+ * call waits. */
 static inline freeze_queue_tag *freeze_queue_pool_takes_or_awaits(freeze_queue_pool *pool, uint32_t hint)
 {
-    const uint32_t count = pool->count;
-    for (uint32_t looked = 0; looked < count; looked++) {
-        freeze_queue_pooled *pooled = &pool->tags[((uint64_t)hint + looked) % count];
-        do
-            if (freeze_queue_pool_takes_place(pool, (uint32_t)(pooled - pool->tags), hint)) {
-                if (pool->waiting > 1)
-                    __atomic_store_n(&pooled->mark, 2, __ATOMIC_SEQ_CST);
-                return &pooled->tag;
-            }
-        while (!freeze_queue_pool_awaits(pooled));
+    const uint32_t place = hint % pool->count;
+    for (uint32_t looked = 0; looked <= pool->last; looked++) {
+        const uint32_t word = (place + looked) & pool->last;
+        do {
+            freeze_queue_tag *tag = freeze_queue_pool_takes_of(pool, word, place >> pool->bits, hint);
+            if (tag != NULL)
+                return tag;
+        } while (!freeze_queue_pool_awaits(&pool->words[word].marks));
     }
     return NULL;
 }
@@ -227,7 +278,7 @@ FREEZE_QUEUE_INLINE uint32_t freeze_queue_pool_in_flight(freeze_queue_pool *pool
         freeze_queue_pooled *pooled = &pool->tags[place];
         uint64_t since = __atomic_load_n(&pooled->since, __ATOMIC_RELAXED);
         freeze_queue_taken taken = {place, 0, 0, 0};
-        if (__atomic_load_n(&pooled->mark, __ATOMIC_SEQ_CST) == 0)
+        if ((__atomic_load_n(pooled->word, __ATOMIC_SEQ_CST) & pooled->mark) == 0)
             continue;
         if (watched != 0 && since >= watched) {
             taken.slot = __atomic_load_n(&pooled->slot, __ATOMIC_RELAXED);
@@ -243,14 +294,49 @@ FREEZE_QUEUE_INLINE uint32_t freeze_queue_pool_in_flight(freeze_queue_pool *pool
 
 /* ---- Internal: filled and emptied ---- */
 
-/* Gives the first count tags of a pool back to the queue, the last of them first, until one is refused. */
+/* Allocates the words and the places of count tags, none of them out; false without memory. */
+static inline bool freeze_queue_pool_makes(freeze_queue_pool *pool, uint32_t count)
+{
+    void *at = NULL;
+    uint32_t bits = 0;
+    while (2u << bits <= count && 2u << bits <= FREEZE_QUEUE_POOL_WORDS)
+        bits++;
+    const uint32_t words = 1u << bits;
+    const size_t size = words * sizeof(freeze_queue_pool_word) + count * sizeof(freeze_queue_pooled);
+    if (posix_memalign(&at, 128, size) != 0)
+        return false;
+    pool->words = (freeze_queue_pool_word *)memset(at, 0, size);
+    pool->tags = (freeze_queue_pooled *)(void *)(pool->words + words);
+    pool->last = words - 1;
+    pool->bits = bits;
+    for (uint32_t word = 0; word < words; word++)
+        pool->words[word].marks = ~FREEZE_QUEUE_POOL_AWAITED;
+    for (uint32_t place = 0; place < count; place++) {
+        pool->tags[place].word = &pool->words[place & pool->last].marks;
+        pool->tags[place].mark = (uint64_t)1 << (place >> bits);
+        *pool->tags[place].word &= ~pool->tags[place].mark;
+    }
+    return true;
+}
+static inline void freeze_queue_pool_frees(freeze_queue_pool *pool)
+{
+    free(pool->words);
+    pool->words = NULL;
+    pool->tags = NULL;
+}
+
+/* Gives the first count tags of a pool back to the queue, the last of them first, until one is refused. Its mark says of a tag
+ * that was given back that it is out, so a pool that keeps the others doesn't give it. */
 static inline uint32_t freeze_queue_pool_return(freeze_queue_pool *pool, freeze_queue_freezer *freezer, uint32_t *count)
 {
-    uint32_t answer = FREEZE_QUEUE_OK;
-    for (; *count > 0; --*count)
-        if ((answer = freeze_queue_give_tag_back(freezer, &pool->tags[*count - 1].tag)) != FREEZE_QUEUE_OK)
-            break;
-    return answer;
+    for (; *count > 0; --*count) {
+        freeze_queue_pooled *pooled = &pool->tags[*count - 1];
+        uint32_t answer = freeze_queue_give_tag_back(freezer, &pooled->tag);
+        if (answer != FREEZE_QUEUE_OK)
+            return answer;
+        *pooled->word |= pooled->mark;
+    }
+    return FREEZE_QUEUE_OK;
 }
 
 /* Whether a tag is out. Under the lock, so a call that cleared a mark under it has returned from it. */
@@ -258,23 +344,21 @@ static inline bool freeze_queue_pool_is_out(freeze_queue_pool *pool)
 {
     bool is_out = false;
     for (uint32_t place = 0; place < pool->count; place++)
-        is_out |= __atomic_load_n(&pool->tags[place].mark, __ATOMIC_SEQ_CST) != 0;
+        is_out |= (__atomic_load_n(pool->tags[place].word, __ATOMIC_SEQ_CST) & pool->tags[place].mark) != 0;
     return is_out;
 }
 
 /* ---- Filled and emptied ---- */
 
-/* Allocates a pool that isn't filled, at a multiple of 128 bytes; NULL without memory. */
+/* Allocates a pool that isn't filled; NULL without memory. */
 FREEZE_QUEUE_MUST_USE FREEZE_QUEUE_INLINE freeze_queue_pool *freeze_queue_pool_new(void)
 {
-    void *at = NULL;
-    if (posix_memalign(&at, 128, sizeof(freeze_queue_pool)) != 0)
-        return NULL;
-    return (freeze_queue_pool *)memset(at, 0, sizeof(freeze_queue_pool));
+    return (freeze_queue_pool *)calloc(1, sizeof(freeze_queue_pool));
 }
 
-/* Fills a pool with 1 to 63 tags of a queue. ERR_OPEN if it is filled, ERR_BAD_SIZE, and what next_tag refuses: then the
- * queue has those back that it gave. ERR_NO_MEMORY too if a mutex or a condition variable is refused. */
+/* Fills a pool with 1 to 63 tags of a queue: some 128 bytes for each, and 4 KiB for 32 or more. ERR_OPEN if it is filled,
+ * ERR_BAD_SIZE, ERR_NO_MEMORY also if a mutex or a condition variable is refused, and what next_tag refuses: then the queue
+ * has those back that it gave. */
 FREEZE_QUEUE_MUST_USE FREEZE_QUEUE_INLINE uint32_t freeze_queue_pool_fill(freeze_queue_pool *pool,
                                                                           freeze_queue_freezer *freezer, uint32_t count)
 {
@@ -283,11 +367,11 @@ FREEZE_QUEUE_MUST_USE FREEZE_QUEUE_INLINE uint32_t freeze_queue_pool_fill(freeze
         return FREEZE_QUEUE_ERR_OPEN;
     if (count < 1 || count > FREEZE_QUEUE_MOST_TAGS)
         return FREEZE_QUEUE_ERR_BAD_SIZE;
-    for (; given < count; given++) {
+    if (!freeze_queue_pool_makes(pool, count))
+        return FREEZE_QUEUE_ERR_NO_MEMORY;
+    for (; given < count; given++)
         if ((answer = freeze_queue_next_tag(freezer, &pool->tags[given].tag)) != FREEZE_QUEUE_OK)
             break;
-        pool->tags[given].mark = 0;
-    }
     if (answer == FREEZE_QUEUE_OK && pthread_mutex_init(&pool->lock, NULL) != 0)
         answer = FREEZE_QUEUE_ERR_NO_MEMORY;
     else if (answer == FREEZE_QUEUE_OK && freeze_queue_new_condition(&pool->given_back) != 0) {
@@ -296,6 +380,7 @@ FREEZE_QUEUE_MUST_USE FREEZE_QUEUE_INLINE uint32_t freeze_queue_pool_fill(freeze
     }
     if (answer != FREEZE_QUEUE_OK) {
         uint32_t returned = freeze_queue_pool_return(pool, freezer, &given);
+        freeze_queue_pool_frees(pool);
         return returned == FREEZE_QUEUE_OK ? answer : returned;
     }
     pool->waiting = pool->is_ending = 0;
@@ -321,10 +406,24 @@ FREEZE_QUEUE_MUST_USE FREEZE_QUEUE_INLINE uint32_t freeze_queue_pool_empty(freez
         return answer;
     pthread_cond_destroy(&pool->given_back);
     pthread_mutex_destroy(&pool->lock);
+    freeze_queue_pool_frees(pool);
     return FREEZE_QUEUE_OK;
 }
 
 /* ---- Internal: the end ---- */
+
+/* Takes the tag of a place for the end, or marks its word as awaited, and returns whether it has the tag. Under the lock. */
+static inline bool freeze_queue_pool_takes_place(freeze_queue_pooled *pooled)
+{
+    const uint64_t mark = pooled->mark;
+    uint64_t seen = __atomic_load_n(pooled->word, __ATOMIC_SEQ_CST);
+    while ((seen & mark) == 0 || (seen & FREEZE_QUEUE_POOL_AWAITED) == 0) {
+        const bool is_in = (seen & mark) == 0;
+        if (freeze_queue_pool_marks(pooled->word, &seen, seen | (is_in ? mark : FREEZE_QUEUE_POOL_AWAITED)))
+            return is_in;
+    }
+    return false;
+}
 
 /* Takes each tag for the end as it comes back, and waits until no call sleeps; returns how many it has at the deadline, of
  * which all are enough. Under the lock. */
@@ -332,15 +431,12 @@ static inline uint32_t freeze_queue_pool_takes_all(freeze_queue_pool *pool, cons
 {
     uint32_t taken = 0;
     for (bool in_time = true; taken < pool->count || pool->waiting > 0;) {
-        if (taken < pool->count && freeze_queue_pool_marks(&pool->tags[taken], 0, 1)) {
+        if (taken < pool->count && freeze_queue_pool_takes_place(&pool->tags[taken]))
             taken++;
-            continue;
-        }
-        if (taken < pool->count && !freeze_queue_pool_awaits(&pool->tags[taken]))
-            continue;
-        if (!in_time)
+        else if (in_time)
+            in_time = freeze_queue_pool_sleep(pool, deadline);
+        else
             break;
-        in_time = freeze_queue_pool_sleep(pool, deadline);
     }
     return taken;
 }
@@ -362,7 +458,7 @@ FREEZE_QUEUE_MUST_USE FREEZE_QUEUE_INLINE uint32_t freeze_queue_pool_end(freeze_
     uint32_t taken = freeze_queue_pool_takes_all(pool, deadline);
     bool in_time = taken == pool->count && pool->waiting == 0;
     for (uint32_t place = 0; place < taken && !in_time; place++)
-        __atomic_store_n(&pool->tags[place].mark, 0, __ATOMIC_SEQ_CST);
+        __atomic_fetch_and(pool->tags[place].word, ~pool->tags[place].mark, __ATOMIC_SEQ_CST);
     pool->is_ending = in_time;
     pthread_mutex_unlock(&pool->lock);
     if (!in_time)
@@ -383,6 +479,7 @@ FREEZE_QUEUE_INLINE void freeze_queue_pool_destroy(freeze_queue_pool *pool)
         return;
     pthread_cond_destroy(&pool->given_back);
     pthread_mutex_destroy(&pool->lock);
+    freeze_queue_pool_frees(pool);
     pool->is_ending = 0;
 }
 FREEZE_QUEUE_INLINE void freeze_queue_pool_free(freeze_queue_pool *pool)

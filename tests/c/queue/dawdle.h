@@ -29,4 +29,5 @@ static inline void dawdle(void)
 #define __atomic_compare_exchange_n(at, was, value, weak, order, other) \
     (dawdle(), __atomic_compare_exchange_n(at, was, value, weak, order, other))
 #define __atomic_exchange_n(at, value, order) (dawdle(), __atomic_exchange_n(at, value, order))
+#define __atomic_fetch_and(at, value, order) (dawdle(), __atomic_fetch_and(at, value, order))
 #endif

@@ -14,13 +14,25 @@ static void fill(uint32_t count)
     memset(&pool, 0, sizeof pool);
     if (freeze_queue_pool_fill(&pool, &freezer, count))
         abort();
+    for (uint32_t i = 0; i <= pool.last; i++)
+        watch(&pool.words[i].marks, sizeof pool.words[i].marks);
     for (uint32_t i = 0; i < count; i++)
-        watch(&pool.tags[i].mark, sizeof pool.tags[i].mark);
-    watch(&pool.waiting, sizeof pool.waiting + sizeof pool.is_ending);
+        watch(&pool.tags[i].marks, sizeof pool.tags[i].marks);
+    watch(&pool.waiting, sizeof pool.waiting);
+    watch(&pool.is_ending, sizeof pool.is_ending);
     watch(&pool.count, sizeof pool.count);
 }
 static void one_tag(void) { fill(1); }
 static void two_tags(void) { fill(2); }
+
+/* Two tags whose marks share a word, and a third one, which is out, with a word of its own. */
+static freeze_queue_tag *third;
+static void two_in_a_word(void)
+{
+    fill(3);
+    if ((third = freeze_queue_pool_take(&pool, 1)) != &pool.tags[1].tag || pool.tags[0].word != pool.tags[2].word)
+        abort();
+}
 
 static void takes_and_gives(int me)
 {
@@ -44,23 +56,37 @@ static freeze_queue_tag *out[2];
 static void both_out(void)
 {
     two_tags();
-    for (uint32_t i = 0; i < 2; i++) {
-        pool.tags[i].mark = 1;
-        out[i] = &pool.tags[i].tag;
-    }
+    for (uint32_t i = 0; i < 2; i++)
+        if ((out[i] = freeze_queue_pool_take(&pool, i)) != &pool.tags[i].tag)
+            abort();
 }
-/* The same after a call has waited for a tag in vain, which the marks still say. */
+/* The same of two tags whose marks share a word. */
+static void both_out_of_a_word(void)
+{
+    two_in_a_word();
+    for (uint32_t i = 0; i < 2; i++)
+        if ((out[i] = freeze_queue_pool_take(&pool, 2 * i)) != &pool.tags[2 * i].tag)
+            abort();
+    if (freeze_queue_pool_give(&pool, third))
+        abort();
+}
+/* The same after a call has waited for a tag in vain, which the words still say. */
+static void are_awaited(void)
+{
+    for (uint32_t i = 0; i <= pool.last; i++)
+        pool.words[i].marks |= FREEZE_QUEUE_POOL_AWAITED;
+}
 static void both_out_and_awaited(void)
 {
     both_out();
-    pool.tags[0].mark = pool.tags[1].mark = 2;
+    are_awaited();
+}
+static void both_out_of_an_awaited_word(void)
+{
+    both_out_of_a_word();
+    are_awaited();
 }
 static void gives_the_last(int me) { NEED(freeze_queue_pool_give(&pool, out[me]) == FREEZE_QUEUE_OK); }
-static void frees_the_pool(void)
-{
-    gone.from = (const char *)&pool;
-    gone.to = gone.from + sizeof pool;
-}
 static void a_pool_ends(int me)
 {
     if (me < 2) {
@@ -69,7 +95,6 @@ static void a_pool_ends(int me)
     }
     NEED(freeze_queue_pool_end(&pool, &waits, NULL) == FREEZE_QUEUE_OK);
     freeze_queue_pool_destroy(&pool);
-    frees_the_pool();
 }
 static void a_pool_is_emptied(int me)
 {
@@ -79,9 +104,16 @@ static void a_pool_is_emptied(int me)
     }
     uint32_t answer = freeze_queue_pool_empty(&pool, &freezer);
     NEED(answer == FREEZE_QUEUE_OK || answer == FREEZE_QUEUE_ERR_TAGS_OUT);
-    if (answer == FREEZE_QUEUE_OK)
-        frees_the_pool();
 }
+/* Both tags are given back twice; one of the two givings is refused. */
+static void given_twice(int me)
+{
+    uint32_t answer = freeze_queue_pool_give(&pool, out[me / 2]);
+    NEED(answer == FREEZE_QUEUE_OK || answer == FREEZE_QUEUE_ERR_TAG_NOT_OUT);
+    entered += answer == FREEZE_QUEUE_OK;
+}
+static void each_is_back_once(void) { NEED(entered == 2); }
+
 /* A thread waits for a tag while the pool ends, and gets none or gives it back. */
 static void a_pool_ends_with_a_waiter(int me)
 {
@@ -99,11 +131,19 @@ int main(void)
 {
     explore("three wait for one tag", 3, one_tag, takes_and_gives, all_are_back);
     explore("four wait for two tags", 4, two_tags, takes_and_gives, all_are_back);
+    explore("three wait for two tags of a word", 3, two_in_a_word, takes_and_gives, all_are_back);
     explore("a tag with a deadline", 3, one_tag, takes_for_a_while, nothing);
+    explore("a tag of a word with a deadline", 3, two_in_a_word, takes_for_a_while, nothing);
+    explore("tags that are given twice", 4, both_out_of_a_word, given_twice, each_is_back_once);
+    explore("awaited tags that are given twice", 4, both_out_of_an_awaited_word, given_twice, each_is_back_once);
     explore("a pool ends", 3, both_out, a_pool_ends, nothing);
+    explore("a pool ends, of a word", 3, both_out_of_a_word, a_pool_ends, nothing);
     explore("a pool is emptied", 3, both_out, a_pool_is_emptied, nothing);
+    explore("a pool is emptied, of a word", 3, both_out_of_a_word, a_pool_is_emptied, nothing);
     explore("a pool is emptied after a wait", 3, both_out_and_awaited, a_pool_is_emptied, nothing);
+    explore("a pool is emptied after a wait, of a word", 3, both_out_of_an_awaited_word, a_pool_is_emptied, nothing);
     explore("a pool ends while a thread waits", 4, both_out, a_pool_ends_with_a_waiter, nothing);
+    explore("a pool ends while a thread waits, of a word", 4, both_out_of_a_word, a_pool_ends_with_a_waiter, nothing);
     printf("in all %lu orders, %lu states\n", (unsigned long)all_orders, (unsigned long)all_states);
     return 0;
 }

@@ -24,6 +24,19 @@ static void lets_go(void *at) { (void)at; }
 
 #include "orders.h"
 
+/* What a pool allocates, once in a run. */
+static _Alignas(128) char block_of_pool[1 << 11];
+static int takes_block(void **at, size_t alignment, size_t size)
+{
+    *at = block_of_pool;
+    return alignment == 128 && size <= sizeof block_of_pool ? 0 : ENOMEM;
+}
+static void lets_block_go(void *at)
+{
+    gone.from = at;
+    gone.to = gone.from + sizeof block_of_pool;
+}
+
 /* A try counts for a moment where it is refused, so another may be the last to leave meanwhile. */
 static uint32_t tries(freeze_queue_tag *tag, uint32_t slot, bool frozen_too, int line)
 {
@@ -77,7 +90,11 @@ static uint32_t opens_gate(void)
 #define freeze_queue_limits_in_force(of, limits) (uint32_t)saw_limits(freeze_queue_limits_in_force(of, limits), limits)
 #define freeze_queue_give_tag_back(of, tag) OF_FREEZER(freeze_queue_give_tag_back(of, tag))
 #define freeze_queue_remove(of, last) OF_FREEZER(freeze_queue_remove(of, last))
+#define posix_memalign takes_block
+#define free lets_block_go
 #include "freeze_queue_pool.h"
+#undef posix_memalign
+#undef free
 
 static freeze_queue_freezer freezer;
 static freeze_queue_waits waits;

@@ -25,7 +25,7 @@ static void filled_and_emptied(void)
     IS(freeze_queue_pool_empty(&pool, &freezer), ERR_CLOSED);
     IS(freeze_queue_pool_fill(&pool, &closed, 1), ERR_CLOSED);
     IS(freeze_queue_pool_fill(&pool, &freezer, 0), ERR_BAD_SIZE);
-    IS(freeze_queue_pool_fill(&pool, &freezer, 64), ERR_BAD_SIZE);
+    IS(freeze_queue_pool_fill(&pool, &freezer, FREEZE_QUEUE_MOST_TAGS + 1), ERR_BAD_SIZE);
     IS(freeze_queue_pool_fill(&pool, &freezer, TAGS + 1), ERR_NO_TAG); /* those that it gave are back */
     IS(freeze_queue_next_tag(&freezer, &out), OK);
     IS(freeze_queue_pool_fill(&pool, &freezer, TAGS), ERR_NO_TAG);
@@ -42,23 +42,64 @@ static void filled_and_emptied(void)
     IS(freeze_queue_pool_empty(&pool, &freezer), ERR_ALREADY_ENTERED); /* and keeps two */
     TELLS(pool.count, 2);
     tag = freeze_queue_pool_take(&pool, 1);
+    TELLS(place_of(freeze_queue_pool_take(&pool, 2)), 0);
+    TELLS(freeze_queue_pool_take(&pool, 2) == NULL, true); /* the third is the queue's */
     IS(freeze_queue_leave(tag, 0), OK);
+    freeze_queue_pool_give(&pool, &pool.tags[0].tag);
     IS(freeze_queue_pool_empty(&pool, &freezer), ERR_TAGS_OUT);
     freeze_queue_pool_give(&pool, tag);
     IS(freeze_queue_pool_empty(&pool, &freezer), OK);
     IS(freeze_queue_remove(&other, &last), OK);
-    /* the greatest */
-    IS(freeze_queue_new(&other, &(freeze_queue_limits){8, 0, 0, 1}, 1, FREEZE_QUEUE_MOST_TAGS), OK);
-    IS(freeze_queue_pool_fill(&pool, &other, FREEZE_QUEUE_MOST_TAGS), OK);
-    for (uint32_t i = 0; i < FREEZE_QUEUE_MOST_TAGS; i++)
-        TELLS(place_of(freeze_queue_pool_take(&pool, 40)), (40 + i) % FREEZE_QUEUE_MOST_TAGS);
-    TELLS(freeze_queue_pool_take(&pool, 62) == NULL, true);
-    for (uint32_t i = 0; i < FREEZE_QUEUE_MOST_TAGS; i++)
-        freeze_queue_pool_give(&pool, &pool.tags[i].tag);
-    TELLS(place_of(freeze_queue_pool_take(&pool, UINT32_MAX)), UINT32_MAX % FREEZE_QUEUE_MOST_TAGS);
     TELLS(freeze_queue_pool_take(&(freeze_queue_pool){0}, 5) == NULL, true); /* not filled */
-    freeze_queue_pool_give(&pool, &pool.tags[UINT32_MAX % FREEZE_QUEUE_MOST_TAGS].tag);
-    IS(freeze_queue_pool_empty(&pool, &other), OK);
+}
+
+/* Takes all tags of a pool by one hint: the tag of its place first, and each once. A tag that is given back comes again. */
+static void taken_by(uint32_t count, uint32_t hint)
+{
+    static bool is_out[FREEZE_QUEUE_MOST_TAGS];
+    memset(is_out, 0, sizeof is_out);
+    for (uint32_t i = 0; i < count; i++) {
+        freeze_queue_tag *tag = freeze_queue_pool_take(&pool, hint);
+        uint32_t place = tag == NULL ? count : place_of(tag);
+        TELLS(place < count && !is_out[place] && (i > 0 || place == hint % count), true);
+        if (place >= count)
+            return;
+        is_out[place] = true;
+    }
+    TELLS(freeze_queue_pool_take(&pool, hint) == NULL, true);
+    for (uint32_t i = 0; i < count; i++) {
+        uint32_t place = (i * 7 + hint) % count;
+        IS(freeze_queue_pool_give(&pool, &pool.tags[place].tag), OK);
+        TELLS(place_of(freeze_queue_pool_take(&pool, hint)), place);
+    }
+    for (uint32_t i = 0; i < count; i++)
+        IS(freeze_queue_pool_give(&pool, &pool.tags[i].tag), OK);
+    for (uint32_t i = 0; i < count; i++) { /* and twice in a row, by the hint of each place */
+        TELLS(place_of(freeze_queue_pool_take(&pool, i)), i);
+        IS(freeze_queue_pool_give(&pool, &pool.tags[i].tag), OK);
+        IS(freeze_queue_pool_give(&pool, &pool.tags[i].tag), ERR_TAG_NOT_OUT);
+    }
+}
+
+/* Pools of each size up to 70, and of some up to the greatest, whose words have one mark more or less. */
+static void pools_of_each_size(void)
+{
+    static const uint32_t greater[] = {95, 96, 97, 127, 128, 512, 513, 992, 993, FREEZE_QUEUE_MOST_TAGS};
+    const uint32_t sizes = 70 + sizeof greater / sizeof *greater;
+    freeze_queue_final last;
+    IS(freeze_queue_new(&other, &(freeze_queue_limits){8, 0, 0, 1}, 1, FREEZE_QUEUE_MOST_TAGS), OK);
+    for (uint32_t i = 0; i < sizes; i++) {
+        uint32_t count = i < 70 ? i + 1 : greater[i - 70];
+        if (count > FREEZE_QUEUE_MOST_TAGS)
+            continue;
+        IS(freeze_queue_pool_fill(&pool, &other, count), OK);
+        TELLS(pool.last < FREEZE_QUEUE_POOL_WORDS && pool.last < count && (count < 32 || pool.last == 31), true);
+        taken_by(count, 40);
+        taken_by(count, UINT32_MAX);
+        IS(freeze_queue_pool_empty(&pool, &other), OK);
+    }
+    IS(freeze_queue_remove(&other, &last), OK);
+    IS(freeze_queue_new(&other, &(freeze_queue_limits){8, 0, 0, 1}, 1, 1), OK);
 }
 
 static void *gives_later(void *tag)
@@ -154,6 +195,7 @@ int main(int argc, char **argv)
     if (threads > MOST || freeze_queue_new(&freezer, &limits, 2, TAGS) || freeze_queue_new(&other, &limits, 1, 1))
         return 1;
     filled_and_emptied();
+    pools_of_each_size();
     IS(freeze_queue_pool_fill(&pool, &freezer, TAGS), OK);
     waits_for_one();
     used_by(threads);

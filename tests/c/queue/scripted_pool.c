@@ -21,7 +21,8 @@ static void gives_first(void) { gives(0); }
 static void gives_second(void) { gives(1); }
 static void gives_first_untold(void)
 {
-    ((freeze_queue_pooled *)(void *)out[0])->mark = 0;
+    const freeze_queue_pooled *pooled = (freeze_queue_pooled *)(void *)out[0];
+    *pooled->word &= ~pooled->mark;
     out[0] = NULL;
 }
 static void second_waits(void) { second = freeze_queue_pool_take_waiting(&pool, 0, NULL); }
@@ -52,6 +53,18 @@ static void takes_what_is_given(const struct timespec *deadline)
         }
     gives_first();
     gives_second();
+}
+
+/* A word isn't awaited any more once a tag of it has come back while no call waited: then giving takes no lock. */
+static void giving_takes_no_lock_again(void)
+{
+    for (int turn = 0; turn < 2; turn++) {
+        long before = locks;
+        takes_all();
+        gives_first();
+        gives_second();
+        TELLS(turn == 0 || locks == before, true);
+    }
 }
 
 /* One tag that is out, whichever it is, is seen by who empties the greatest pool. */
@@ -142,12 +155,18 @@ static void the_pool_ends(void)
     gives_second();
 }
 
-static void pools_are_aligned(void)
+/* Each tag, and each word, has 128 bytes for itself, wherever the pool lies. */
+static void tags_are_aligned(void)
 {
     for (int i = 0; i < 8; i++) {
         freeze_queue_pool *made = freeze_queue_pool_new();
-        TELLS(made != NULL && (uintptr_t)made % 128 == 0 && made->count == 0, true);
+        TELLS(made != NULL && made->count == 0, true);
         IS(freeze_queue_pool_empty(made, &freezer), ERR_CLOSED);
+        IS(freeze_queue_pool_fill(made, &freezer, 2), OK);
+        for (int place = 0; place < 2; place++)
+            TELLS((uintptr_t)&made->tags[place] % 128 == 0 && (uintptr_t)made->tags[place].word % 128 == 0, true);
+        TELLS(made->tags[0].word != made->tags[1].word, true);
+        IS(freeze_queue_pool_empty(made, &freezer), OK);
         freeze_queue_pool_free(made);
     }
 }
@@ -178,12 +197,14 @@ int main(void)
     TELLS(pool.waiting, 0);
     acts(gives_first_untold, NULL, NULL); /* and once more, with a tag there by then */
     takes_what_is_given(&soon);
+    giving_takes_no_lock_again();
     a_second_giving_is_told();
+    giving_takes_no_lock_again();
     tags_in_flight_are_listed();
     the_pool_ends();
-    pools_are_aligned();
     freeze_queue_waits_destroy(&waits);
     IS(freeze_queue_pool_empty(&pool, &freezer), OK);
+    tags_are_aligned();
     IS(freeze_queue_remove(&freezer, &last), OK);
     each_tag_that_is_out_is_seen(&limits);
     printf("%s\n", failures ? "FAILED" : "as the script has it");

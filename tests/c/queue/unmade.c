@@ -7,6 +7,7 @@
 #include <fcntl.h>
 #include <pthread.h>
 #include <stdio.h>
+#include <stdlib.h>
 #include <sys/eventfd.h>
 #include <time.h>
 #include <unistd.h>
@@ -51,6 +52,17 @@ static int opens(unsigned int count, int flags)
     return dup2(event, 0) == 0 && fcntl(0, F_SETFD, FD_CLOEXEC) == 0 && close(event) == 0 ? 0 : -1;
 }
 
+static int takes_block(void **at, size_t alignment, size_t size)
+{
+    return makes(ENOMEM) ? ENOMEM : posix_memalign(at, alignment, size);
+}
+
+static void lets_go(void *at)
+{
+    ends(0);
+    free(at);
+}
+
 /* Whether an event isn't inherited by another program, and whether a read of it waits. */
 static bool stays_here(int event) { return (fcntl(event, F_GETFD) & FD_CLOEXEC) != 0; }
 static bool never_waits(int event) { return (fcntl(event, F_GETFL) & O_NONBLOCK) != 0; }
@@ -64,6 +76,8 @@ static bool never_waits(int event) { return (fcntl(event, F_GETFL) & O_NONBLOCK)
 #define pthread_cond_destroy(on) ends(pthread_cond_destroy(on))
 #define eventfd opens
 #define close(event) ends(close(event))
+#define posix_memalign takes_block
+#define free lets_go
 #include "freeze_queue_pool.h"
 
 static int failures;
@@ -144,7 +158,7 @@ static void an_event_has_the_number_0(void)
 static void a_pool_is_filled(void)
 {
     freeze_queue_tag tag = {0};
-    for (int allow = 0; allow < 4; allow++) {
+    for (int allow = 0; allow < 5; allow++) {
         allowed = allow;
         TELLS(freeze_queue_pool_fill(&pool, &freezer, 2), FREEZE_QUEUE_ERR_NO_MEMORY);
         TELLS(made, 0);
@@ -154,7 +168,7 @@ static void a_pool_is_filled(void)
             TELLS(freeze_queue_give_tag_back(&freezer, &tag), FREEZE_QUEUE_OK);
         }
     }
-    allowed = 4;
+    allowed = 5;
     monotonic = 0;
     TELLS(freeze_queue_pool_fill(&pool, &freezer, 2), FREEZE_QUEUE_OK);
     TELLS(allowed, 0);
