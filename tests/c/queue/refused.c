@@ -1,6 +1,6 @@
 /* Each allocation of a whole life is refused in turn: a number is answered, nothing is lost and nothing leaks. Then queues
- * whose freezer is freed before their tags, and a handle that is used again. (Linked with --wrap=malloc and free, so that
- * this malloc refuses and both count.) */
+ * whose freezer is freed before their tags, and a handle that is used again. (Linked with --wrap=malloc, free and
+ * posix_memalign, so that these refuse and all count.) */
 #define _POSIX_C_SOURCE 200809L
 #include "freeze_queue_pool.h"
 #include "../refusing.h"
@@ -62,7 +62,7 @@ static int fills(void)
         if (answer != FREEZE_QUEUE_OK && answer != FREEZE_QUEUE_ERR_NO_MEMORY)
             return 2;
     }
-    return allow < 2 || freeze_queue_pool_empty(&pool, &freezer) || freeze_queue_remove(&freezer, &last);
+    return allow < 3 || freeze_queue_pool_empty(&pool, &freezer) || freeze_queue_remove(&freezer, &last);
 }
 
 /* Tags whose freezer was freed count on; a handle that is used again leads to another queue, though it lies where it lay. */
