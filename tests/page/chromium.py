@@ -8,6 +8,7 @@ import shutil
 import subprocess
 import tempfile
 import time
+import urllib.parse
 
 NAMES = ("chromium", "chromium-browser", "google-chrome")
 FLAGS = (
@@ -22,6 +23,7 @@ FLAGS = (
     "--force-color-profile=srgb",
     "--remote-debugging-pipe",
 )
+HELD = {None: 0, "alt": 1, "ctrl": 2}
 KEYS = {"ArrowLeft": 37, "ArrowRight": 39, "Tab": 9, "Enter": 13, " ": 32}
 
 
@@ -30,14 +32,20 @@ def browser():
     return next((path for path in map(shutil.which, NAMES) if path), None)
 
 
+def js(text):
+    """A text as JavaScript spells it."""
+    return "decodeURIComponent('" + urllib.parse.quote(text, safe="") + "')"
+
+
 class Failed(Exception):
     """What the browser refused, or an exception of the page."""
 
 
 class Chromium:
-    """A browser with one tab. `with` ends it."""
+    """A browser with one tab, of which a wait has an end after these seconds. `with` ends it."""
 
-    def __init__(self):
+    def __init__(self, patience=60):
+        self.patience = patience
         self.data = tempfile.mkdtemp(prefix="page-chromium-")
         (ours_in, theirs_out), (theirs_in, ours_out) = os.pipe(), os.pipe()
         # The browser reads from 3 and writes to 4.
@@ -50,6 +58,7 @@ class Chromium:
         self.read, self.write, self.left, self.count, self.session = ours_in, ours_out, b"", 0, None
         self.events = []
         self.session = self.attach()
+        self.call("Page.enable")
 
     def attach(self):
         """Attaches to the first tab."""
@@ -113,8 +122,9 @@ class Chromium:
             raise Failed(told.get("exception", {}).get("description") or told["text"])
         return said["result"].get("value")
 
-    def until(self, text, seconds=60):
+    def until(self, text, seconds=None):
         """Waits until an expression is true in the page."""
+        seconds = seconds or self.patience
         end = time.monotonic() + seconds
         while not self.js(f"Boolean({text})"):
             if time.monotonic() > end:
@@ -125,17 +135,24 @@ class Chromium:
         """Opens an address anew, and waits until the page is ready."""
         self.call("Page.navigate", url="about:blank")
         self.call("Page.navigate", url=url)
-        self.until("document.readyState === 'complete' && typeof begun !== 'undefined'")
-        self.js("begun.then(() => true)")
+        self.until("document.readyState === 'complete' && location.href !== 'about:blank'")
+        self.js("typeof begun === 'undefined' || begun.then(() => true)")
 
-    def key(self, name, times=1):
-        """Presses a key."""
+    def key(self, name, times=1, held=None):
+        """Presses a key, with another one held."""
         for _ in range(times):
-            more = {"key": name, "code": {" ": "Space"}.get(name, name), "windowsVirtualKeyCode": KEYS[name]}
-            if name in ("Enter", " "):
+            more = {"key": name, "code": {" ": "Space"}.get(name, name), "windowsVirtualKeyCode": KEYS[name], "modifiers": HELD[held]}
+            if name in ("Enter", " ") and not held:
                 more["text"] = {"Enter": "\r"}.get(name, name)
             self.call("Input.dispatchKeyEvent", type="keyDown", **more)
             self.call("Input.dispatchKeyEvent", type="keyUp", key=name, code=more["code"])
+
+    def names(self):
+        """The role and the name of each part of the page that can have the focus, as a screen reader is told them."""
+        value = lambda node, which: node.get(which, {}).get("value", "")
+        nodes = [it for it in self.call("Accessibility.getFullAXTree")["nodes"] if not it.get("ignored")]
+        focusable = [it for it in nodes if any(p["name"] == "focusable" and p["value"]["value"] for p in it.get("properties", []))]
+        return [[value(it, "role"), value(it, "name").strip()] for it in focusable if value(it, "role") != "RootWebArea"]
 
     def look(self, wide, high, scheme, is_phone=False):
         """Sets the size of the window, and light or dark."""

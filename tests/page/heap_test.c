@@ -1,5 +1,5 @@
-/* The heap of the page's module over an arena of this program: blocks beside one another in random calls, refusals at the bound, and
- * the product of 128 bits against the compiler's own. The last line is 'N passed, M failed'. */
+/* The heap of the page's module over an arena of this program: large blocks cut into small ones, blocks beside one another in random
+ * calls, refusals at the bound, and the product of 128 bits against the compiler's own. The last line is 'N passed, M failed'. */
 #include "heap.h"
 
 #include <sanitizer/asan_interface.h>
@@ -7,9 +7,11 @@
 #include <stdlib.h>
 #include <string.h>
 
-#define ARENA_PAGES 256
+#define ARENA_PAGES 1024
 #define LIVE 400
 #define CALLS 200000
+#define MIB (1ULL << 20)
+#define SMALL (32ULL << 10)
 
 __extension__ typedef unsigned __int128 wide;
 wide product_of(wide x, wide y);
@@ -60,9 +62,10 @@ static word random_below(word count)
     return (seed >> 33) % count;
 }
 
+/* Below 16 KiB, but for one of sixty, which is below 2 MiB. */
 static word random_size(void)
 {
-    return random_below(1ULL << (1 + random_below(14)));
+    return random_below(1ULL << (1 + random_below(random_below(60) ? 14 : 21)));
 }
 
 typedef struct {
@@ -118,6 +121,83 @@ static int is_right_after_a_call(live *it)
     return is_right;
 }
 
+static byte *block_of(word size)
+{
+    return rattle_alloc(size, 8).block;
+}
+
+static byte *freed_block_of(word size)
+{
+    byte *block = block_of(size);
+    rattle_dealloc(block);
+    return block;
+}
+
+/* How many small blocks lie in a freed large one before one doesn't, each of which keeps its bytes. */
+static word small_blocks_in(const byte *large, word size)
+{
+    word count = 0;
+    int are_kept = 1;
+    for (;; count++) {
+        byte *block = block_of(SMALL);
+        if (block < large || block + SMALL > large + size || count == LIVE)
+            break;
+        fill(&blocks[count], block, SMALL);
+    }
+    for (word at = 0; at < count; at++) {
+        are_kept &= is_kept(&blocks[at], blocks[at].block, SMALL);
+        rattle_dealloc(blocks[at].block);
+        blocks[at].block = 0;
+    }
+    check("small blocks of a large one keep their bytes", are_kept);
+    return count;
+}
+
+/* A freed block of 1 MiB or more is cut into small ones before the memory grows, the smallest such block first, and one below 1 MiB
+ * is kept for its own size. */
+static void chunks(void)
+{
+    byte *half = freed_block_of(MIB / 2), *large = block_of(6 * MIB), *larger = block_of(8 * MIB);
+    rattle_dealloc(larger);
+    rattle_dealloc(large);
+    word before = there, header = 16;
+    check("the smallest large block is cut, to its end", small_blocks_in(large, 6 * MIB) == 6 * MIB / (SMALL + header));
+    check("and the memory doesn't grow for that", there == before);
+    check("a freed small block is used again", (word)(block_of(SMALL) - large) < 6 * MIB);
+    check("the next large block is whole", block_of(7 * MIB) != larger && block_of(MIB / 2) == half);
+    byte *one = freed_block_of(MIB), *other = freed_block_of(MIB);
+    check("a freed large block is used again", one == other);
+}
+
+/* A vector that doubles, and is freed, needs no new memory in its second life. */
+static void doubling(void)
+{
+    word after_first = 0;
+    for (int life = 0; life < 20; life++) {
+        byte *block = block_of(32);
+        for (word size = 32; size < 4 * MIB; size *= 2)
+            block = rattle_realloc(block, size, 2 * size, 8).block;
+        rattle_dealloc(block);
+        after_first = life ? after_first : there;
+    }
+    check("a vector that doubles leaves its memory for the next", there == after_first);
+}
+
+/* A block stays where it is while it has room and isn't much too large. */
+static void other_sizes(void)
+{
+    byte *block = block_of(100);
+    memcpy(block, "0123456789abcdef0123456789abcdef", 32);
+    check("a block grows in its place", rattle_realloc(block, 100, 128, 8).block == block);
+    check("a block shrinks in its place", rattle_realloc(block, 128, 33, 8).block == block);
+    byte *small = rattle_realloc(block, 33, 32, 8).block;
+    check("a block that is much too large is replaced", small != block && !memcmp(small, "0123456789abcdef0123456789abcdef", 32));
+    check("and is used again", block_of(128) == block);
+    check("a block of 33 bytes has room for 48", rattle_realloc(small, 32, 33, 8).block != small);
+    byte *other = block_of(33);
+    check("and stays up to 48", rattle_realloc(other, 33, 48, 8).block == other && rattle_realloc(other, 48, 49, 8).block != other);
+}
+
 static void random_calls(void)
 {
     int are_right = 1;
@@ -143,7 +223,7 @@ static void refusals(void)
     check("the bound is kept", count < 1000 && there == before);
     bound((there + 3) * PAGE_BYTES);
     check("a higher bound lets it grow, by less than it would like to", rattle_alloc(100000, 8).is_there && there <= before + 3);
-    check("and no further", !rattle_alloc(200000, 8).is_there);
+    check("and no further", !rattle_alloc(5 * MIB, 8).is_there && there + 5 * MIB / PAGE_BYTES < ARENA_PAGES);
 }
 
 static void products(void)
@@ -164,6 +244,9 @@ static void products(void)
 int main(void)
 {
     ASAN_POISON_MEMORY_REGION(arena, sizeof(arena));
+    chunks();
+    doubling();
+    other_sizes();
     random_calls();
     refusals();
     products();

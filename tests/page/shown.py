@@ -8,7 +8,7 @@ ROOT = pathlib.Path(__file__).resolve().parents[2]
 sys.path.insert(0, str(ROOT / "tools"))
 
 from pictures import lanes
-from pictures.schedule import Schedule
+from pictures.schedule import Schedule, schedules_in
 
 
 def gates(text, answer):
@@ -34,14 +34,6 @@ def captions(text, answer):
     return [f"Step {at} of {len(steps)}: {name}: {row.step.text} → {lanes.with_bias(row.reply)}" for at, (name, row) in enumerate(named, 1)]
 
 
-def drawn(name, text, answer):
+def drawn(title, name, text, answer):
     """The elements of the lanes, without the style sheet, which the page has for all of its drawings."""
-    return re.sub(r"<style>.*?</style>\n", "", lanes.draw(name, Schedule(text, answer)), flags=re.DOTALL)
-
-
-def schedules_in(answer):
-    """The schedules in the answer of a race, each with its replies."""
-    for part in re.split(r"^outcomes? .*\n", answer, flags=re.MULTILINE)[1:]:
-        if "gate 1\n" in part:
-            schedule = part[part.index("gate 1\n") :]
-            yield schedule, "".join(f"{line[2:]}\n" for line in schedule.splitlines() if line.startswith("# "))
+    return re.sub(r"<style>.*?</style>\n", "", lanes.draw(title, name, Schedule(text, answer)), flags=re.DOTALL)

@@ -63,8 +63,9 @@ function endOf(schedule) {
 
 function outcomeHead(actors, calls) {
   const of = (actor) => [actorName(actor), element("code", { textContent: (calls.get(actor) ?? []).join(" / ") })];
-  const head = (parts) => element("th", { scope: "col" }, parts);
-  const heads = [head(["outcome"]), ...actors.map((actor) => head(of(actor))), head(["steps"]), head(["ends"]), head(["how it ends"])];
+  const head = (parts, className = "") => element("th", { scope: "col", className }, parts);
+  const counts = ["steps", "end states"].map((name) => head([name], "number"));
+  const heads = [head(["outcome"]), ...actors.map((actor) => head(of(actor))), ...counts, head(["how it ends"])];
   return element("thead", {}, [element("tr", {}, heads)]);
 }
 
@@ -90,6 +91,15 @@ function outcomeTable({ outcomes, states }, calls, onChoice) {
   const caption = `${counted(outcomes.length, "outcome")}${some}, over ${counted(states, "state")}. Choose one to draw its schedule.`;
   const body = element("tbody", {}, shown.map((outcome) => outcomeRow(outcome, actors, onChoice)));
   return element("table", {}, [element("caption", { textContent: caption }), outcomeHead(actors, calls), body]);
+}
+
+// Marks the row of the outcome that is chosen, in a table of these outcomes.
+function markChoice(table, outcomes, chosen) {
+  [...table.querySelector("tbody").rows].forEach((row, index) => {
+    const isChosen = outcomes[index].number === chosen.number;
+    row.className = isChosen ? "chosen" : "";
+    row.querySelector("button").setAttribute("aria-pressed", String(isChosen));
+  });
 }
 
 function hasWord({ actors }, word) {

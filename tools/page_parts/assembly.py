@@ -1,7 +1,8 @@
-"""The page, put together: the template with the style sheet, the scripts, the examples and the module."""
+"""The pages, put together: a template with the style sheet and the scripts; one of them with the examples and the module, one with a race."""
 
 import base64
 import gzip
+import html
 import json
 import os
 import re
@@ -13,6 +14,7 @@ HERE = os.path.dirname(os.path.realpath(__file__))
 EXAMPLES = f"{os.path.dirname(os.path.dirname(HERE))}/examples"
 # Each uses those before it.
 SCRIPTS = ("texts", "gate", "schedule", "svg", "lanes", "running", "legend", "stepping", "answers", "address", "page")
+SCRIPTS_OF_RACE = ("texts", "gate", "schedule", "svg", "lanes", "legend", "stepping", "answers", "race")
 
 
 def packed(module):
@@ -34,19 +36,36 @@ def colours():
     return f"{text}\n{light}\n@media (prefers-color-scheme: dark) {{\n{dark}\n}}"
 
 
+def in_script(value):
+    """A value as JSON that can stand in an element `script`."""
+    return json.dumps(value).replace("<", "\\u003c")
+
+
+def filled(template, scripts, parts):
+    """A template with its parts in their places."""
+    parts |= {
+        "/*STYLE*/": f"{colours()}\n{read(f'{HERE}/page.css').strip()}",
+        "<!--STEPS-->": read(f"{HERE}/steps.html").strip(),
+        "/*SCRIPTS*/": "\n".join(read(f"{HERE}/{name}.js").strip() for name in scripts),
+    }
+    return re.sub("|".join(map(re.escape, parts)), lambda it: parts[it[0]], read(f"{HERE}/{template}"))
+
+
 def assembled(module, sums):
     """The page with a packed module, which was made of sources with these sums."""
-    style = f"{colours()}\n{read(f'{HERE}/page.css').strip()}"
-    scripts = "\n".join(read(f"{HERE}/{name}.js").strip() for name in SCRIPTS)
     parts = {
-        "/*STYLE*/": style,
         "/*MADE-OF*/": json.dumps(sums, indent=0),
         "/*WORKER*/": read(f"{HERE}/worker.js").strip(),
-        "/*EXAMPLES*/": json.dumps(menu()).replace("</", "<\\/"),
+        "/*EXAMPLES*/": in_script(menu()),
         "/*MODULE*/": module,
-        "/*SCRIPTS*/": scripts,
     }
-    return re.sub("|".join(map(re.escape, parts)), lambda it: parts[it[0]], read(f"{HERE}/page.html"))
+    return filled("page.html", SCRIPTS, parts)
+
+
+def race_page(name, text, answer):
+    """The page of one race, with its answer."""
+    parts = {"<!--NAME-->": html.escape(name), "/*RACE*/": in_script({"name": name, "text": text, "answer": answer})}
+    return filled("race.html", SCRIPTS_OF_RACE, parts)
 
 
 def module_in(page):

@@ -56,10 +56,10 @@ function heldBy({ word, at }, state) {
 }
 
 class Lanes {
-  constructor(name, schedule) {
-    Object.assign(this, { name, schedule });
+  constructor(title, name, schedule) {
+    Object.assign(this, { title, name, schedule });
     this.states = [schedule.start, ...schedule.rows.map((row) => row.state)];
-    this.picture = new Picture(`${name} as lanes`, this.inWords());
+    this.picture = new Picture(title, this.inWords());
     this.actors = ["c", ...schedule.start.passes.keys()];
     this.place();
   }
@@ -87,7 +87,7 @@ class Lanes {
       x = placed.end + GAP;
       return placed;
     });
-    this.wide = x - GAP + EDGE;
+    this.wide = Math.max(x - GAP, EDGE + widthOf(this.title, 15) + 14 + widthOf(this.name, MIDDLE)) + EDGE;
   }
 
   wideOf(actor) {
@@ -139,7 +139,8 @@ class Lanes {
   }
 
   drawHeads(last) {
-    this.picture.text(EDGE, 24, this.name, { size: 15, isBold: true });
+    this.picture.text(EDGE, 24, this.title, { size: 15, isBold: true });
+    this.picture.text(EDGE + widthOf(this.title, 15) + 14, 24, this.name, { kind: "dim", size: MIDDLE });
     for (const { x, wide, middle, name } of this.lanes.values()) {
       this.picture.box(x, TOP - 22, wide, last - TOP + 8, "panel", { roundBy: 6 });
       this.picture.text(middle, TOP - 6, name, { size: SIZE, anchor: "middle", isBold: true });
@@ -247,6 +248,6 @@ class Lanes {
   }
 }
 
-function lanesOf(name, schedule) {
-  return new Lanes(name, schedule).drawn();
+function lanesOf(title, name, schedule) {
+  return new Lanes(title, name, schedule).drawn();
 }

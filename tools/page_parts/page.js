@@ -121,8 +121,8 @@ function showAnswer(text, result, chosen) {
   if (page.kind !== "schedule") return undefined;
   const end = linesOf(answer).at(-1);
   if (isStuck(end)) say(`answered ${took}, stuck at line ${end.replace(/^stuck (\d+) /, "$1: ")}`);
-  showSchedule(page.name ?? "schedule", text, answer, chosen.step);
-  if (chosen.step !== undefined) showSteps();
+  showSchedule(page.name ?? "schedule", "", text, answer, chosen.step);
+  if (chosen.step !== undefined) page.stepping.comeIntoView();
   return undefined;
 }
 
@@ -147,12 +147,6 @@ function showOutcomes(text, answer, chosen) {
   if (first) choose(first, chosen.step);
 }
 
-// The picture and its heading come into view.
-function showSteps() {
-  const isCalm = matchMedia("(prefers-reduced-motion: reduce)").matches;
-  find("steps").scrollIntoView({ block: "start", behavior: isCalm ? "instant" : "smooth" });
-}
-
 // A reader chooses an outcome, and goes on with its steps.
 function chooseHere(outcome) {
   choose(outcome);
@@ -163,22 +157,17 @@ function chooseHere(outcome) {
 function choose(outcome, step) {
   if (page.isStale) return;
   page.outcome = outcome.number;
-  const body = find("outcomes").querySelector("tbody");
-  [...body.rows].forEach((row, index) => {
-    const isChosen = page.outcomes[index].number === outcome.number;
-    row.className = isChosen ? "chosen" : "";
-    row.querySelector("button").setAttribute("aria-pressed", String(isChosen));
-  });
-  showSchedule(`outcome ${outcome.number}`, outcome.schedule, repliesIn(outcome.schedule), step);
-  showSteps();
+  markChoice(find("outcomes"), page.outcomes, outcome);
+  showSchedule(`outcome ${outcome.number}`, page.name ?? "", outcome.schedule, repliesIn(outcome.schedule), step);
+  page.stepping.comeIntoView();
 }
 
 // Draws a schedule whose answer the page's own machine gives too.
-function showSchedule(name, text, answer, step) {
+function showSchedule(title, name, text, answer, step) {
   page.drawn = text;
   find("open").hidden = page.kind === "schedule";
   try {
-    page.stepping.show(name, new Schedule(text, answer, MOST_STEPS), step);
+    page.stepping.show(title, name, new Schedule(text, answer, MOST_STEPS), step);
   } catch (why) {
     if (!(why instanceof Wrong)) throw why;
     page.stepping.hide();
@@ -272,19 +261,9 @@ function onEdit() {
   page.wait = setTimeout(() => runInput(), PAUSE);
 }
 
-// Whether the left and right keys step from there: from the part with the steps, or from nowhere; not where they scroll or move a mark.
-function stepsFrom(place) {
-  const frame = place.closest("[tabindex='0']");
-  if (frame && frame.scrollWidth > frame.clientWidth) return false;
-  return !["TEXTAREA", "INPUT", "SELECT"].includes(place.tagName) && (place === document.body || find("steps").contains(place));
-}
-
 function onKey(event) {
   if (event.key === "Enter" && (event.ctrlKey || event.metaKey)) runInput();
-  const isStep = ["ArrowLeft", "ArrowRight"].includes(event.key) && !event.altKey && !event.ctrlKey && !event.metaKey;
-  if (!isStep || page.isStale || !page.stepping.schedule || !stepsFrom(event.target)) return;
-  event.preventDefault();
-  page.stepping.goTo(page.stepping.step + (event.key === "ArrowLeft" ? -1 : 1));
+  if (!page.isStale) page.stepping.onKey(event);
 }
 
 function connect() {

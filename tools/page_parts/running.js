@@ -21,19 +21,24 @@ class Runner {
   // `most` bounds the bytes of memory, and `room` is the first room for the answer.
   run(kind, input, most = MOST_MEMORY, room = FIRST_ROOM) {
     this.stop();
-    if (!this.worker) {
-      this.worker = new Worker(this.source);
-      this.worker.postMessage({ module: this.module });
-    }
+    this.worker ??= this.started();
     return new Promise((done) => {
       this.done = (answered) => {
         this.done = undefined;
         done(answered);
       };
-      this.worker.onmessage = ({ data }) => this.done?.(data);
-      this.worker.onerror = (fault) => this.done?.({ status: -1, line: 0, fault: fault.message });
       this.worker.postMessage({ kind, input, most, room });
     });
+  }
+
+  // A worker with the module. What it says once it is ended isn't heard: another one may be at work then.
+  started() {
+    const worker = new Worker(this.source);
+    const hear = (answered) => worker === this.worker && this.done?.(answered);
+    worker.onmessage = ({ data }) => hear(data);
+    worker.onerror = ({ message }) => hear({ status: -1, line: 0, fault: message });
+    worker.postMessage({ module: this.module });
+    return worker;
   }
 
   // Ends a run that is under way, with its worker.

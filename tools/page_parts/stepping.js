@@ -34,21 +34,21 @@ class Stepping {
     this.find("steps").hidden = true;
   }
 
-  // Shows a schedule, at a step or at its end.
-  show(name, schedule, step = -1) {
+  // Shows a schedule of a text with this name, at a step or at its end.
+  show(title, name, schedule, step = -1) {
     const { find } = this;
     this.schedule = schedule;
     this.count = Math.min(schedule.rows.length, MOST_STEPS);
     find("steps").hidden = false;
     const some = this.count < schedule.rows.length ? `, the first ${this.count} of ${counted(schedule.rows.length, "step")}` : "";
-    find("steps-head").textContent = `Step by step: ${name}${some}`;
+    find("steps-head").textContent = `Step by step: ${title}${some}`;
     find("step").max = this.count;
     find("legend").replaceChildren(...legendOf(schedule.rows));
-    this.draw(name, schedule);
+    this.draw(title, name, schedule);
     this.goTo(step >= 0 ? step : this.count);
   }
 
-  draw(name, schedule) {
+  draw(title, name, schedule) {
     const lanes = this.find("lanes");
     const isDrawn = schedule.rows.length <= MOST_STEPS && schedule.start.passes.length <= MOST_PASSES;
     if (!isDrawn) {
@@ -56,13 +56,39 @@ class Stepping {
       lanes.textContent = `Lanes are drawn up to ${MOST_STEPS} steps and ${MOST_PASSES} passes; this schedule has ${schedule.rows.length} and ${schedule.start.passes.length}.`;
       return;
     }
-    this.drawing = new Lanes(name, schedule);
+    this.drawing = new Lanes(title, name, schedule);
     lanes.innerHTML = this.drawing.drawn();
-    const [now, later] = ["now-line", "later"].map((name) => document.createElementNS("http://www.w3.org/2000/svg", "rect"));
-    now.setAttribute("class", "now-line");
-    later.setAttribute("class", "later");
-    lanes.firstElementChild.append(later, now);
+    const [now, later] = ["now-line", "veil"].map((kind) => {
+      const box = document.createElementNS("http://www.w3.org/2000/svg", "rect");
+      box.setAttribute("class", kind);
+      return box;
+    });
+    // The veil is above the shapes, and below the texts.
+    this.texts = [...lanes.querySelectorAll("text")];
+    lanes.firstElementChild.append(later, ...this.texts, now);
     Object.assign(this, { now, later });
+  }
+
+  // The picture and its heading come into view.
+  comeIntoView() {
+    const isCalm = matchMedia("(prefers-reduced-motion: reduce)").matches;
+    this.find("steps").scrollIntoView({ block: "start", behavior: isCalm ? "instant" : "smooth" });
+  }
+
+  // Whether the left and right keys step from there: from the part with the steps, or from nowhere; not where they scroll or move a
+  // mark.
+  stepsFrom(place) {
+    const frame = place.closest("[tabindex='0']");
+    if (frame && frame.scrollWidth > frame.clientWidth) return false;
+    return !["TEXTAREA", "INPUT", "SELECT"].includes(place.tagName) && (place === document.body || this.find("steps").contains(place));
+  }
+
+  // Steps by the left and right keys.
+  onKey(event) {
+    const isStep = ["ArrowLeft", "ArrowRight"].includes(event.key) && !event.altKey && !event.ctrlKey && !event.metaKey;
+    if (!isStep || !this.schedule || !this.stepsFrom(event.target)) return;
+    event.preventDefault();
+    this.goTo(this.step + (event.key === "ArrowLeft" ? -1 : 1));
   }
 
   // Goes to the gate as it is after so many steps.
@@ -108,6 +134,10 @@ class Stepping {
     const end = this.drawing.yOf(this.drawing.schedule.rows.length) - 14;
     place(this.now, middle - 16, this.step ? 32 : 0);
     place(this.later, middle + 31, end - middle - 31);
+    this.texts.forEach((text) => {
+      const y = Number(text.getAttribute("y"));
+      text.classList.toggle("later", y > middle + 31 && y < end);
+    });
     const lane = this.step ? this.drawing.lanes.get(this.drawing.laneOf(this.schedule.rows[this.step - 1].step)) : undefined;
     lanes.scrollTo(lane ? lane.middle - lanes.clientWidth / 2 : 0, middle - lanes.clientHeight / 2);
   }

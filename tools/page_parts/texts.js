@@ -96,9 +96,10 @@ function repliesIn(schedule) {
     .join("");
 }
 
-// The fragment of a link to an input, and what a fragment says. Letters, digits, spaces and slashes stay readable.
+// The fragment of a link to an input, and what a fragment says. Letters, digits, spaces and slashes stay readable. Half of a pair of
+// code units is the replacement character there, as it is in the bytes that run.
 function fragmentOf(kind, text, chosen = {}) {
-  const spelled = encodeURIComponent(text).replace(/%20/g, "+").replace(/%2F/g, "/");
+  const spelled = encodeURIComponent(text.toWellFormed()).replace(/%20/g, "+").replace(/%2F/g, "/");
   const more = Object.entries(chosen).map(([name, value]) => `&${name}=${value}`);
   return `#${kind}=${spelled}${more.join("")}`;
 }

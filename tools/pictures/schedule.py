@@ -123,3 +123,11 @@ def world(words):
     if not all(word.isdecimal() for word in words[1:3] + words[4:]):
         raise Wrong("no world")
     return Gate(int(words[1]), int(words[2]), words[3], int(words[4]), [int(word) for word in words[5:]])
+
+
+def schedules_in(answer):
+    """The schedules in the answer of a race, each with its replies."""
+    for part in re.split(r"^outcomes? .*\n", answer, flags=re.MULTILINE)[1:]:
+        if "gate 1\n" in part:
+            schedule = part[part.index("gate 1\n") :]
+            yield schedule, "".join(f"{line[2:]}\n" for line in schedule.splitlines() if line.startswith("# "))

@@ -1,0 +1,111 @@
+"""The page of a race that tools/picture makes: its outcomes, the gate at each step of each of them, and how it looks."""
+
+import pathlib
+import re
+import subprocess
+import tempfile
+
+import shown
+from looks import LOOKS, OF_STEPS, fits_and_reads, shoot
+from tables import outcomes_in
+
+ROOT = pathlib.Path(__file__).resolve().parents[2]
+RACES = ("removal", "killed_twice", "another_slot", "kill_and_switch")
+STATE = "[...find('state').tBodies[0].rows].map((row) => [...row.cells].slice(0, 2).map((cell) => cell.textContent))"
+SHOWN = "[race.outcome, race.stepping.step, find('steps-head').textContent, location.hash]"
+CONTROLS = [*OF_STEPS, ["region", "Outcomes"], ["region", "The race"], ["button", "outcome 2: draw its schedule"]]
+
+
+def picture(*words):
+    done = subprocess.run([ROOT / "tools/picture", *words], capture_output=True, text=True, check=False)
+    return done.returncode, done.stdout, done.stderr.strip()
+
+
+def as_a_file(counts, work):
+    """What a race's page is made of, and what it isn't made of."""
+    (work / "a.races").write_text((ROOT / "examples/removal.races").read_text(encoding="utf-8"), encoding="utf-8")
+    right = (ROOT / "examples/removal.answer").read_text(encoding="utf-8")
+    status, page, _ = picture("race", str(ROOT / "examples/removal.races"))
+    addresses = sorted(set(re.findall(r"https?://[^\s\"'`]*", page)))
+    counts.equal("a race's page names no address but that of SVG", [status, addresses], [0, ["http://www.w3.org/2000/svg"]])
+    counts.check("it loads nothing", not re.search(r"\bsrc=|@import|url\(|\bfetch\(|XMLHttpRequest", page))
+    counts.check("it has fewer than 100,000 bytes", len(page.encode()) < 100_000, len(page))
+    wrong = {
+        "a reply that the machine doesn't give": right.replace("# refused\n", "# given\n", 1),
+        "an answer without its end": right[: right.rindex("outcomes ")],
+        "an outcome too few": right[: right.index("outcome 4")] + right[right.rindex("outcomes ") :],
+        "the answer of a schedule": (ROOT / "examples/late_try.answer").read_text(encoding="utf-8"),
+    }
+    for name, answer in wrong.items():
+        (work / "a.answer").write_text(answer, encoding="utf-8")
+        status, page, why = picture("race", str(work / "a.races"))
+        counts.check(f"no page of {name}", status and not page and why.startswith("tools/picture: "), [status, why])
+    (work / "a.answer").write_text(right, encoding="utf-8")
+    (work / "a.races").write_text("races 1\n# </script><b>\nworld 1 1 atomic 0\n0 live 0 / put 0 1\nc kill\n", encoding="utf-8")
+    counts.equal("a race with an element in its text", picture("race", str(work / "a.races"))[0], 0)
+
+
+def steps(page, counts, name, schedules):
+    """Each outcome in turn, by its button; its schedule by the keys from the start."""
+    for number, (schedule, replies) in enumerate(schedules, 1):
+        page.js(f"find('outcomes').querySelectorAll('tbody button')[{number - 1}].click()")
+        wanted, captions = shown.gates(schedule, replies), shown.captions(schedule, replies)
+        last = len(captions)
+        at_end = [number, last, f"Step by step: outcome {number}", f"#outcome={number}&step={last}"]
+        counts.equal(f"{name}: outcome {number} is chosen", page.js(SHOWN), at_end)
+        drawn = page.js(f"lanesOf('A title', 'a name', race.stepping.schedule)")
+        counts.equal(f"{name}: the lanes of outcome {number}", drawn, shown.drawn("A title", "a name", schedule, replies))
+        page.key("ArrowLeft", last)
+        counts.equal(f"{name}: the start of outcome {number}", page.js(STATE), wanted[0])
+        for step, caption in enumerate(captions, 1):
+            page.key("ArrowRight")
+            found = page.js(f"[{STATE}, find('caption').textContent, location.hash]")
+            counts.equal(f"{name}: outcome {number} after step {step}", found, [wanted[step], caption, f"#outcome={number}&step={step}"])
+
+
+def whole(page, counts, name, url):
+    text, answer = ((ROOT / f"examples/{name}.{it}").read_text(encoding="utf-8") for it in ("races", "answer"))
+    page.open(url)
+    rows = "[...find('outcomes').querySelectorAll('tbody tr')].map((row) => [...row.cells].map((cell) => cell.textContent))"
+    counts.equal(f"{name}: the table", page.js(f"{rows}.map((row) => row.slice(0, -1))"), [it[:-1] for it in outcomes_in(answer)])
+    counts.equal(f"{name}: its text", page.js("find('race').textContent"), text)
+    counts.equal(f"{name}: it begins before the first step", page.js("[race.outcome, race.stepping.step]"), [1, 0])
+    steps(page, counts, name, list(shown.schedules_in(answer)))
+
+
+def addresses(page, counts, url):
+    """The address leads to an outcome and a step, and the slider, a row and the glossary to others."""
+    page.open(f"{url}#outcome=2&step=3")
+    counts.equal("an address leads to its step", page.js(SHOWN), [2, 3, "Step by step: outcome 2", "#outcome=2&step=3"])
+    page.js("find('step').focus()")
+    page.key("ArrowRight")
+    counts.equal("the slider steps", page.js("[race.outcome, race.stepping.step]"), [2, 4])
+    page.js("find('outcomes').querySelectorAll('tbody tr')[2].cells[1].click()")
+    counts.equal("a row chooses its outcome", page.js("[race.outcome, document.activeElement.id]"), [3, "steps-head"])
+    page.js("[...find('glossary').querySelectorAll('dt')].find((it) => it.textContent === 'refused last').nextSibling.querySelector('button').click()")
+    counts.equal("the glossary chooses one", page.js("race.outcome"), 2)
+    page.js("location.hash = '#outcome=4&step=1'")
+    page.until("race.outcome === 4")
+    counts.equal("another address is followed", page.js("[race.stepping.step, find('notice').textContent]"), [1, ""])
+    page.open(f"{url}#outcome=9&step=3")
+    found = page.js("[race.outcome, race.stepping.step, find('notice').textContent]")
+    counts.equal("an outcome that isn't there is said", found, [1, 0, "The address names an outcome that isn't there."])
+
+
+def of_races(page, counts, url, shots):
+    with tempfile.TemporaryDirectory(prefix="page-race-") as folder:
+        work = pathlib.Path(folder)
+        as_a_file(counts, work)
+        urls = {}
+        for name in RACES:
+            (work / f"{name}.html").write_text(picture("race", str(ROOT / f"examples/{name}.races"))[1], encoding="utf-8")
+            urls[name] = (work / f"{name}.html").as_uri()
+            whole(page, counts, name, urls[name])
+        addresses(page, counts, urls["removal"])
+        for wide, scheme in LOOKS:
+            page.look(wide, 900, scheme, is_phone=wide < 600)
+            page.open(f"{urls['another_slot']}#outcome=2&step=3")
+            page.js("document.querySelectorAll('details').forEach((it) => (it.open = true))")
+            fits_and_reads(page, counts, f"a race's page, {wide} points, {scheme}", CONTROLS)
+            shoot(page, shots, f"picture_{wide}_{scheme}")
+    page.open(url)

@@ -1,0 +1,46 @@
+// The page of one race: its outcomes, of which one is drawn. The address has the outcome and the step.
+
+const find = (id) => document.getElementById(id);
+const race = { ...JSON.parse(find("data").textContent), stepping: undefined, outcome: 0 };
+race.all = outcomesOf(race.answer);
+
+function keepAddress(step) {
+  history.replaceState(null, "", `#outcome=${race.outcome}&step=${step}`);
+}
+
+// Chooses an outcome, and draws its schedule at a step, or at its end.
+function choose(outcome, step) {
+  race.outcome = outcome.number;
+  if (outcome.number <= MOST_OUTCOMES) markChoice(find("outcomes"), race.all.outcomes, outcome);
+  const schedule = new Schedule(outcome.schedule, repliesIn(outcome.schedule), MOST_STEPS);
+  race.stepping.show(`outcome ${outcome.number}`, race.name, schedule, step);
+}
+
+// A reader chooses an outcome, and goes on with its steps.
+function chooseHere(outcome) {
+  choose(outcome);
+  find("steps-head").focus({ preventScroll: true });
+  race.stepping.comeIntoView();
+}
+
+// Chooses what the address names; the first outcome, before its first step, if it names none.
+function chooseAsked() {
+  const asked = new URLSearchParams(location.hash.replace(/^#/, ""));
+  const [number, step] = ["outcome", "step"].map((name) => numberIn(asked.get(name)));
+  const found = race.all.outcomes.find((it) => it.number === number);
+  find("notice").textContent = number === undefined || found ? "" : "The address names an outcome that isn't there.";
+  choose(found ?? race.all.outcomes[0], found ? step : 0);
+}
+
+function begin() {
+  race.stepping = new Stepping(find, keepAddress);
+  find("open").hidden = true;
+  find("race").textContent = race.text;
+  find("outcomes").append(outcomeTable(race.all, callsOf(race.text), chooseHere));
+  find("glossary").append(...glossaryOf(race.all.outcomes.slice(0, MOST_OUTCOMES), chooseHere));
+  document.addEventListener("keydown", (event) => race.stepping.onKey(event));
+  addEventListener("hashchange", chooseAsked);
+  chooseAsked();
+}
+
+begin();
