@@ -12,7 +12,7 @@
 //!
 //! `specs/Requests.antt` and `specs/Completions.antt` have the rules, which hold at each moment and which each step
 //! keeps; `specs/Parts.antt` what those who take part know, and `specs/Numbers.antt` what draws are. The tests in
-//! `trials_run` show how a caller reasons. That a thread that waits gets on is promised nowhere: they show it.
+//! `trials_rows` show how a caller reasons. That a thread that waits gets on is promised nowhere: they show it.
 #![tactic(auto)]
 
 mod completions;

@@ -21,8 +21,8 @@
 //! A [`SharedFreezer`] gives several threads the one freezer, behind a lock, and waits with no lock held.
 //!
 //! What a tag and a freezer know, what each call leaves, and the laws are those of `queue_core` (specs/Queue.antt there says
-//! it in five minutes), and are named here too. The tests are a crate of their own, `trials_queue`, in which
-//! `tests/caller.rt` shows how a caller reasons. That a waiter wakes is promised nowhere: tests show it.
+//! it in five minutes), and are named here too. The tests are in `trials_rows`, where
+//! `tests/queue_caller.rt` shows how a caller reasons. That a waiter wakes is promised nowhere: tests show it.
 
 mod enter;
 mod freezer;
