@@ -5,12 +5,23 @@
 #   make check                         the tests that need no Rattle kit
 #   make prove                         proves the crates, and builds the programs from them: needs the kit, and some minutes
 #   make install PREFIX=/usr/local     puts the programs and the pages there; DESTDIR goes before it
-#   make install-c PREFIX=/usr/local   proves, builds and puts there both libraries for C, the queue's and the gate's
+#   make install-c PREFIX=/usr/local   builds and puts there both libraries for C, the queue's and the gate's: the proved ones
+#                                    where the Rattle kit or a release of this tree is, else by cargo in seconds
+#   make deb                           builds packages for Debian by cargo, in out/deb; DEB is another folder
+#   make release                       builds a release of the proved builds in out/release: needs the kit
+#   make release-check DIR=..          compares a release with this tree
 #   make install-nbd PREFIX=/usr/local   proves the queue's library, and puts there nbdkit-blkq-filter and blkqctl
 PREFIX ?= /usr/local
 override PREFIX := $(abspath $(PREFIX))
 AWK ?= awk
+CARGO ?= cargo
+DEB ?= out/deb
 AT = $(DESTDIR)$(PREFIX)
+# Which build of the libraries for C: tools/c_library/library.mk has them all.
+RELEASE ?= out/release
+BUILD ?= $(shell tools/c_library/which_build freeze_queue_c $(abspath $(RELEASE)))
+THE_BUILD = $(if $(filter erased,$(BUILD)),the erased build: plain Rust$(COMMA) by cargo,$(if $(filter released,$(BUILD)),the proved build of $(RELEASE),the proved build))
+COMMA = ,
 
 all:
 	./blkq run <examples/first.blkq >/dev/null
@@ -24,17 +35,38 @@ prove:
 	tools/run_program --prove gate_races
 
 install: all
+	$(MAKE) install-programs PROGRAMS="$$(tools/run_program --path blkq) $$(tools/run_program --path gate_races)"
+
+# The programs that cargo builds, whatever else is there.
+plain:
+	cd rust && $(CARGO) build -q --offline --locked --release --target-dir target -p blkq --bins
+
+install-plain: plain
+	$(MAKE) install-programs PROGRAMS="rust/target/release/blkq rust/target/release/gate_races"
+
+install-programs:
 	install -d $(AT)/bin $(AT)/share/man/man1 $(AT)/share/man/man5
-	install -m 755 "$$(tools/run_program --path blkq)" "$$(tools/run_program --path gate_races)" $(AT)/bin
+	install -m 755 $(PROGRAMS) $(AT)/bin
 	install -m 644 docs/blkq.1 docs/gate_races.1 $(AT)/share/man/man1
 	$(AWK) -f tools/formats_page docs/FORMATS.md >$(AT)/share/man/man5/blkq.5
-	@echo "installed: $$(tools/run_program --path blkq), $$(tools/run_program --path gate_races)"
+	@echo "installed: $(PROGRAMS)"
 
 install-c:
-	$(MAKE) -C crates/percpu_gate_c install PREFIX=$(PREFIX)
-	$(MAKE) -C crates/freeze_queue_c install PREFIX=$(PREFIX)
+	$(MAKE) -C crates/percpu_gate_c install PREFIX=$(PREFIX) BUILD=$(BUILD)
+	$(MAKE) -C crates/freeze_queue_c install PREFIX=$(PREFIX) BUILD=$(BUILD)
+	@echo "installed: libpercpu_gate and libfreeze_queue, $(THE_BUILD)"
 
 install-nbd:
 	$(MAKE) -C services/nbd install
 
-.PHONY: all check prove install install-c install-nbd
+deb:
+	tools/debian_packages $(DEB)
+
+release:
+	tools/release out/release
+
+# Of the folder DIR.
+release-check:
+	tools/release --check $(or $(DIR),out/release)
+
+.PHONY: all check prove plain install install-plain install-programs install-c install-nbd deb release release-check

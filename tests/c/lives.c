@@ -23,7 +23,7 @@ static void make(void)
     IS(percpu_gate_next_pass(&control, &passes[0]), OK);
 }
 
-/* The word of a slot, by what a pass counts on it and takes back. */
+/* The word of a slot, by what a pass counts on it and takes back. What the pass holds counts another slot too. */
 static uint64_t *slot_word(uint32_t slot)
 {
     IS(percpu_gate_try_get(&passes[0], slot), OK);
@@ -32,6 +32,9 @@ static uint64_t *slot_word(uint32_t slot)
     look_again(EMPTY + 5);
     IS(percpu_gate_put(&passes[0], slot, 5), OK);
     look_again(EMPTY);
+    IS(percpu_gate_try_get(&passes[0], (slot + 1) % SLOTS), OK);
+    look_again(EMPTY);
+    IS(percpu_gate_put(&passes[0], (slot + 1) % SLOTS, 1), OK);
     return the_word("a slot");
 }
 

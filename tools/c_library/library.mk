@@ -1,77 +1,130 @@
-# What the Makefiles of the libraries for C have in common. What is proved and built of a crate, the kit's C part and
-# library/NAME.c become one static library and one shared object, which show NAME_* alone. Of the Makefile that includes
-# this:
+# What the Makefiles of the libraries for C have in common. What is built of a crate and library/NAME.c become one static library
+# and one shared object, which show NAME_* alone. Of the Makefile that includes this:
 #
-#   NAME      the library's, as in libNAME.a; CRATE, the crate's that is built
+#   NAME      the library's, as in libNAME.a; CRATE, the crate's that is built; PACKAGE, the package of rust/ that it erases to
 #   HEADERS   the headers in include/, without .h; of each a man page is made, in section 3
 #   HIDDEN    the symbols of NAME_* that library/NAME.c alone calls
 #   BESIDE    further files of library/, without .c, each an object of its own in both
 #   SAYS      what pkg-config says of it
 #
-#   make                             builds both, in out/c
-#   make install PREFIX=/usr/local   puts there the headers, both, NAME.pc and the pages, with a link from each call to its
-#                                    page; DESTDIR goes before it. A PREFIX that doesn't begin with / is in the folder of make
+#   make                             builds both: in out/c if they are proved, else in out/erased
+#   make install PREFIX=/usr/local   puts there the headers, both, NAME.pc, the files for CMake and the pages, with a link from each
+#                                    call to its page; DESTDIR goes before it. A PREFIX that doesn't begin with / is in the folder of make
+#
+# BUILD=proved is what the Rattle kit proves and builds, and BUILD=erased is the same without its contracts, by cargo. BUILD=released
+# takes both libraries from a release of the same sources, in the folder RELEASE. Where BUILD isn't given: proved where the kit is,
+# else released where such a release is, else erased.
 PREFIX ?= /usr/local
 override PREFIX := $(abspath $(PREFIX))
+LIBDIR ?= lib
 OBJCOPY ?= objcopy
 AWK ?= awk
+CARGO ?= cargo
+TOP = ../..
 AT = $(DESTDIR)$(PREFIX)
+LIBRARIES = $(AT)/$(LIBDIR)
 # The libraries' version, and the number in their soname, which changes where a program has to be built again.
-VERSION = 1.0.0
+VERSION := $(shell cat $(TOP)/VERSION)
 SONAME = 2
-COMMON = ../../tools/c_library
+COMMON = $(TOP)/tools/c_library
+RELEASE ?= $(TOP)/out/release
+override RELEASE := $(abspath $(RELEASE))
+
+BUILD ?= $(shell $(COMMON)/which_build $(CRATE) $(RELEASE))
+ifeq ($(filter $(BUILD),proved erased released),)
+$(error BUILD is one of proved, erased and released, not '$(BUILD)')
+endif
+OUT = $(if $(filter proved,$(BUILD)),out/c,out/$(BUILD))
+# What pkg-config says: a release is of proved sources.
+BUILT = $(if $(filter erased,$(BUILD)),erased,proved)
 
 # The kit is the folder above the one that has rt.
 KIT = $(patsubst %/bin/,%,$(dir $(realpath $(shell command -v rt))))
 PROVED = out/lib$(CRATE).a
-# What that is made from: this crate and those that it stands on, as crates.txt has them.
-CRATES := $(shell ../../tools/crates_below $(CRATE) | sed 's/:.*//')
-# With their folders, which are newer where a file was removed.
+ERASED_FOLDER = $(TOP)/rust/target/c
+ERASED = $(ERASED_FOLDER)/release/lib$(CRATE).a
+# What they are made from: this crate and those that it stands on, as crates.txt has them. With their folders, which are newer
+# where a file was removed.
+CRATES := $(shell $(TOP)/tools/crates_below $(CRATE) | sed 's/:.*//')
 SOURCES = $(shell find $(foreach it,$(CRATES),$(addprefix ../$(it)/,src specs proofs)) 2>/dev/null)
+ERASED_SOURCES = $(shell find $(addprefix $(TOP)/rust/,c-memory $(PACKAGE) freeze-queue/src percpu-gate/src) -name target -prune -o -print)
 INCLUDED = $(HEADERS:%=include/%.h) $(wildcard include/*.hpp)
-PAGES = $(HEADERS:%=out/c/%.3)
-OBJECTS = out/c/$(NAME).o $(BESIDE:%=out/c/%.o)
+PAGES = $(HEADERS:%=$(OUT)/%.3)
+OBJECTS = $(OUT)/$(NAME).o $(BESIDE:%=$(OUT)/%.o)
+COMPILE = $(CC) -std=c11 -O2 -fPIC -Wall -Wextra -Werror $(CFLAGS) -Iinclude
+SHARED = lib$(NAME).so.$(SONAME)
 
-all: out/c/lib$(NAME).a out/c/lib$(NAME).so.$(SONAME) $(PAGES)
+all: $(OUT)/lib$(NAME).a $(OUT)/$(SHARED) $(PAGES)
 
-$(PROVED): ../../crates.txt $(SOURCES)
-	../../tools/prove_below --with $(CRATE)
+# The folder that has what is built.
+folder:
+	@echo $(abspath $(OUT))
 
-out/c/$(NAME).o: $(PROVED) library/$(NAME).c $(INCLUDED)
-	mkdir -p out/c
-	$(CC) -std=c11 -O2 -fPIC -Wall -Wextra -Werror -Iinclude -c library/$(NAME).c -o out/c/numbers.o
-	$(LD) -r -o $@ out/c/numbers.o --whole-archive $(PROVED) $(KIT)/c/liblibc_c.a
+$(PROVED): $(TOP)/crates.txt $(SOURCES)
+	$(TOP)/tools/prove_below --with $(CRATE)
+
+$(ERASED): $(ERASED_SOURCES)
+	cd $(TOP)/rust/c-memory && env -u CARGO_BUILD_TARGET $(CARGO) build -q --offline --locked --release -p $(PACKAGE) --target-dir ../target/c
+	touch $@
+
+# Of the proved archive the kit's C part is a part too; of cargo's only what is asked for.
+ifeq ($(BUILD),proved)
+RUST = $(PROVED)
+LINKED = --whole-archive $(PROVED) $(KIT)/c/liblibc_c.a
+else
+RUST = $(ERASED)
+LINKED = $(ERASED)
+endif
+
+ifeq ($(BUILD),released)
+RELEASED = $(RELEASE)/$(shell uname -m)-linux/lib
+
+$(OUT)/lib$(NAME).a $(OUT)/$(SHARED): $(OUT)/%: $(RELEASED)/%
+	mkdir -p $(OUT)
+	cp $< $@
+else
+$(OUT)/$(NAME).o: $(RUST) library/$(NAME).c $(INCLUDED)
+	mkdir -p $(OUT)
+	$(COMPILE) -c library/$(NAME).c -o $(OUT)/numbers.o
+	$(LD) -r -o $@ $(OUT)/numbers.o $(LINKED)
 	$(OBJCOPY) --wildcard --keep-global-symbol='$(NAME)_*' $@
 	$(OBJCOPY) $(HIDDEN:%=--localize-symbol=%) $@
 
-$(BESIDE:%=out/c/%.o): out/c/%.o: library/%.c $(INCLUDED)
-	mkdir -p out/c
-	$(CC) -std=c11 -O2 -fPIC -Wall -Wextra -Werror -Iinclude -c $< -o $@
+$(BESIDE:%=$(OUT)/%.o): $(OUT)/%.o: library/%.c $(INCLUDED)
+	mkdir -p $(OUT)
+	$(COMPILE) -c $< -o $@
 
-out/c/lib$(NAME).a: $(OBJECTS)
+$(OUT)/lib$(NAME).a: $(OBJECTS)
 	rm -f $@
-	$(AR) rcs $@ $^
+	$(AR) rcsD $@ $^
 
-out/c/lib$(NAME).so.$(SONAME): $(OBJECTS)
-	$(CC) -shared -Wl,-soname,lib$(NAME).so.$(SONAME) -Wl,-z,defs -o $@ $^ -pthread
+$(OUT)/$(SHARED): $(OBJECTS)
+	echo '{ global: $(NAME)_*; local: *; };' >$(OUT)/shown
+	$(CC) -shared -Wl,-soname,$(SHARED) -Wl,-z,defs -Wl,--version-script=$(OUT)/shown $(LDFLAGS) -o $@ $^ -pthread
+endif
 
-out/c/%.3: include/%.h $(COMMON)/man_page
-	mkdir -p out/c
+$(OUT)/%.3: include/%.h $(COMMON)/man_page
+	mkdir -p $(OUT)
 	$(AWK) -v name=$* -v library=$(NAME) -f $(COMMON)/man_page $< >$@
 
+# A file for pkg-config or CMake, of the one that is here for both libraries.
+FILLED = sed 's|@PREFIX@|$(PREFIX)|; s|@LIBDIR@|$(LIBDIR)|; s|@NAME@|$(NAME)|g; s|@SAYS@|$(SAYS)|; s|@VERSION@|$(VERSION)|; s|@SONAME@|$(SONAME)|; s|@BUILD@|$(BUILT)|'
+
 install: all
-	install -d $(AT)/include $(AT)/lib/pkgconfig $(AT)/share/man/man3
+	install -d $(AT)/include $(LIBRARIES)/pkgconfig $(LIBRARIES)/cmake/$(NAME) $(AT)/share/man/man3
 	install -m 644 $(INCLUDED) $(AT)/include
-	install -m 644 out/c/lib$(NAME).a $(AT)/lib
-	install -m 755 out/c/lib$(NAME).so.$(SONAME) $(AT)/lib
-	ln -sf lib$(NAME).so.$(SONAME) $(AT)/lib/lib$(NAME).so
-	sed 's|@PREFIX@|$(PREFIX)|; s|@NAME@|$(NAME)|; s|@SAYS@|$(SAYS)|; s|@VERSION@|$(VERSION)|' $(COMMON)/library.pc.in \
-		>$(AT)/lib/pkgconfig/$(NAME).pc
+	install -m 644 $(OUT)/lib$(NAME).a $(LIBRARIES)
+	install -m 644 $(OUT)/$(SHARED) $(LIBRARIES)
+	ln -sf $(SHARED) $(LIBRARIES)/lib$(NAME).so
+	$(FILLED) $(COMMON)/library.pc.in >$(LIBRARIES)/pkgconfig/$(NAME).pc
+	$(FILLED) $(COMMON)/config.cmake.in >$(LIBRARIES)/cmake/$(NAME)/$(NAME)-config.cmake
+	$(FILLED) $(COMMON)/config-version.cmake.in >$(LIBRARIES)/cmake/$(NAME)/$(NAME)-config-version.cmake
 	install -m 644 $(PAGES) $(AT)/share/man/man3
 	for page in $(HEADERS); do \
-		grep -oE '^([a-z][a-z0-9_ ]*[ *])?$(NAME)_[a-z_]+\(' out/c/$$page.3 | grep -oE '$(NAME)_[a-z_]+\(' | tr -d '(' | \
+		grep -oE '^([a-z][a-z0-9_ ]*[ *])?$(NAME)_[a-z_]+\(' $(OUT)/$$page.3 | grep -oE '$(NAME)_[a-z_]+\(' | tr -d '(' | \
 			while read -r call; do echo ".so man3/$$page.3" >$(AT)/share/man/man3/$$call.3; done; \
 	done
+	@echo "installed: lib$(NAME) in $(PREFIX), the $(BUILT) build$(if $(filter released,$(BUILD)), of $(RELEASE))"
 
 .DELETE_ON_ERROR:
-.PHONY: all install
+.PHONY: all folder install

@@ -18,11 +18,29 @@ def clause_brace(s, i):
     p = s.before(i)
     if p is None or not s.at(k, "{") or s.text[p] in BEFORE_A_VALUE:
         return None
+    if s.at(p, ",") and in_bounds(s, p):
+        return k
     if s.kind[p] == "sign" and s.text[p] not in ")]>}|{":
         return None
     if s.text[p] == "{" or (s.text[p] == "}" and s.live[p]):
         return None if s.after(i) == k else k
     return k
+
+
+def in_bounds(s, i):
+    """Whether this is a `where`, or a comma behind one."""
+    if s.at(i, ","):
+        while not (s.at(i, "where") or s.text[i] in ";{}()"):
+            i = s.before(i)
+    return s.at(i, "where")
+
+
+def cut_bound(s, first, last):
+    """Cuts a bound behind a `where`, with its comma; and the `where` if it was the only one."""
+    last = s.after(last) if s.at(s.after(last), ",") else last
+    if s.at(s.before(first), "where") and s.at(s.after(last), "{"):
+        first = s.before(first)
+    s.cut_lines(first, last)
 
 
 def cut_clauses(s):
@@ -88,7 +106,9 @@ def cut_drop_bounds(s):
         if s.at(p, "+"):
             s.cut(p, i)
         elif s.at(p, ":") and not s.at(s.before(p), ":"):
-            if s.at(n, "+"):
+            if in_bounds(s, s.before(s.before(p))) and (s.at(n, ",") or s.at(n, "{")):
+                cut_bound(s, s.before(p), i)
+            elif s.at(n, "+"):
                 s.cut(i, n)
             elif s.at(n, ",") or s.at(n, ">"):
                 s.cut(p, i)

@@ -2,7 +2,7 @@
 
 import os
 
-from erasing import by_hand, clauses, comments, errors, forms, handles, kit, memory
+from erasing import allocators, by_hand, clauses, comments, errors, forms, handles, kit, memory
 from erasing import parameters, paths, preconditions, runtime, unread
 from erasing.layout import LEFT_OUT, PACKAGES, WITHOUT_STD, finished, place
 from erasing.source import CannotErase, Source
@@ -85,12 +85,13 @@ def rewrite(s, places, gone):
     memory.rename_clones(s)
     memory.rename_calls(s)
     memory.rename_macros(s)
+    allocators.mend_boxes(s)
     runtime.mend_threads(s)
     runtime.mend_macros(s)
     paths.name_crates(s, places)
     forms.mend_taken_fields(s)
     unread.mend_unread(s)
-    if s.crate in places.without_std and s.words("Vec"):
-        s.imports.add(("alloc", "vec", "Vec"))
+    if s.crate in places.without_std:
+        s.imports |= {path for word, path in kit.OF_ALLOC.items() if s.words(word)}
     paths.rewrite_imports(s, places, gone)
     comments.mend_comments(s, places, gone)

@@ -6,6 +6,7 @@ Both are found by their types. In Rust there is one allocator, and waiting, thre
 import re
 
 from erasing import kit
+from erasing.allocators import Givers, cut_what_is_asked_for, taken_apart
 from erasing.runtime import mend_runtime
 from erasing.shape import bounds, functions, impls, item_start, semicolon, types
 
@@ -19,6 +20,7 @@ class Handles:
         self.parameters = parameters
         self.fields = {}  # the fields that go, by their struct
         self.field_names = {"allocator": set(), "handle": set()}
+        self.givers = Givers(sources)
         for s in sources:
             for it in types(s, ("struct",)):
                 self._fields_of(s, it)
@@ -63,6 +65,7 @@ class Handles:
                 if colon and (kind := self.kind(s, s.after(colon), part[1])):
                     names.setdefault(kind, []).append((s.text[s.before(colon)], fn.opening, fn.end))
         Cut(s, self, names).all()
+        self.givers.cut(s)
         for fn in functions(s):
             parts = s.parts(fn.opening, fn.closing)
             for part in parts:
@@ -119,6 +122,8 @@ class Cut:
         code = self.s.code(first, last)
         if match := re.fullmatch(rf"({CHAIN}\w+)\.alloc\(\)", code):
             return "allocator" if self.is_of(match[1], first, "handle") else None
+        if self.handles.givers.gives(code):
+            return "allocator"
         return next((kind for kind in ("allocator", "handle") if self.is_of(code, first, kind)), None)
 
     def is_of(self, code, at, kind):
@@ -140,7 +145,12 @@ class Cut:
         s = self.s
         for i in s.words("let"):
             name = s.after(i)
+            for it in taken_apart(s, i, self.handles.fields):
+                self.names.setdefault("allocator", []).append((it, i, self.block_around(i)))
             if not s.at(s.after(name), "="):
+                continue
+            if it := cut_what_is_asked_for(s, self.handles.givers, i):
+                self.names.setdefault("allocator", []).append((it, i, self.block_around(i)))
                 continue
             end = semicolon(s, i)
             first = s.after(s.after(name))
@@ -171,7 +181,10 @@ class Cut:
             ghosts = kit.GHOST_ARGUMENTS.get((owner, s.text[p]), ())
             for k, part in enumerate(parts):
                 kind = self.kind(part[0], part[1])
-                if k in ghosts or kind:
+                if kind == "allocator" and len(parts) == 1 and s.text[p] == "Ok":
+                    s.cut(part[0], part[1])
+                    s.write(part[0], "()", "an allocator that isn't there")
+                elif k in ghosts or kind:
                     s.cut_part(part, parts)
                 if kind == "allocator":
                     s.took.add(p)

@@ -5,12 +5,14 @@ PROVER_ATTRIBUTES = {"tactic", "cycle"}
 RULE_TRAITS = {"Play", "Split", "Join", "TableRule", "Protocol", "Outcome", "Lesson"}  # types that have one are rules
 GHOST_TRAITS = RULE_TRAITS | {"Model"}
 # The parameters of these types that are there for rules alone, counted without lifetimes.
-RULE_PARAMETERS = {"Table": {0, 1, 2, 3, 4}, "Seat": {0, 1}, "Shared": {0, 1, 2, 3, 4}, "Pass": {1}, "RuledArrayQueue": {1, 2}}
+# In Rust a box has the one allocator.
+RULE_PARAMETERS = {"Box": {1}, "Table": {0, 1, 2, 3, 4}, "Seat": {0, 1}, "Shared": {0, 1, 2, 3, 4}, "Pass": {1}, "RuledArrayQueue": {1, 2}}
 KIT_CRATES = {"atomic_table", "crossbeam_queue", "crossbeam_utils", "hex", "itoa", "memchr"}
 # Of the handle of the runtime: in Rust, waiting, threads and streams need none.
 HANDLE_TRAITS = {"Threads", "Wait", "Abort", "AllocGlobal", "Env", "Files", "Clock", "CpuClock", "Print", "Eprint"}
 HANDLE_TYPE = "HostRuntime"
 ALLOCATOR_TYPE = "Global"
+ALLOCATOR_TRAIT = "Allocator"
 # Arguments of the kit's calls that only rules read, or that stand for what is borrowed: counted in the source.
 GHOST_ARGUMENTS = {("Table", "of_words"): {2}, ("thread", "scope"): {0}}
 # Calls that ask for memory and return its refusal, by their names and numbers of arguments, and what stands for them: each is of
@@ -75,10 +77,16 @@ STAND_INS = {
 # Traits that a file imports for their methods alone.
 FOR_METHODS = {"Hash", "Hasher", "Read", "Write"}
 ALLOC_MODULES = {"alloc", "boxed", "collections", "string", "vec"}
+# What Rust's prelude has in std alone, and where else it is.
+OF_ALLOC = {
+    "Box": ("alloc", "boxed", "Box"),
+    "Vec": ("alloc", "vec", "Vec"),
+    "format": ("alloc", "format"),
+}
 # Names that the kit makes up for rules.
 BRANDS = {"Brand", "Free"}
 # What nothing stands for, wherever it is imported.
-NAMELESS = HANDLE_TRAITS | GHOST_TRAITS | BRANDS | {ALLOCATOR_TYPE, HANDLE_TYPE, "Allocator", "Forever"}
+NAMELESS = HANDLE_TRAITS | GHOST_TRAITS | BRANDS | {ALLOCATOR_TYPE, ALLOCATOR_TRAIT, HANDLE_TYPE, "Forever"}
 # Files in which each call of this name is of a method of the project, so that no trait is imported for it.
 OF_THE_PROJECT = {
     ("run_desk", "desk", "try_push"),

@@ -15,14 +15,16 @@ PACKAGES = {
         "counted_io", "blkq_run", "blkq", "races_run", "gate_races",
     ],
     "trials": ["uses", "trials_rows", "play_calls"],
+    "percpu-gate-c": ["percpu_gate_c"],
+    "freeze-queue-c": ["freeze_queue_c"],
 }  # fmt: skip
 # The first lines of the files among them.
 ERASED_LINE = "// Erased from"
 STAND_IN_LINE = "// A stand-in for"
 # These need `core` and `alloc` alone.
-WITHOUT_STD = {"percpu_words", "percpu_core", "percpu_gate", "queue_limits", "queue_core"}
+WITHOUT_STD = {"percpu_words", "percpu_core", "percpu_gate", "queue_limits", "queue_core", "percpu_gate_c", "freeze_queue_c"}
 # Crates of crates.txt that aren't erased: rust/ has no use for them.
-LEFT_OUT = {"browser", "percpu_gate_c", "freeze_queue_c", "trials_calls"}
+LEFT_OUT = {"browser", "trials_calls"}
 
 
 def place(package, crate, name):

@@ -49,7 +49,7 @@ class Parameters:
 
     def __init__(self, sources, empty_traits):
         self.sources, self.joined = sources, Joined()
-        self.ghost_traits = kit.GHOST_TRAITS | kit.HANDLE_TRAITS | empty_traits
+        self.ghost_traits = kit.GHOST_TRAITS | kit.HANDLE_TRAITS | {kit.ALLOCATOR_TRAIT} | empty_traits
         self.origin = {id(s): origins(s) for s in sources}
         self.types, self.functions, self.scopes = {}, {}, {}
         for s in sources:
@@ -89,7 +89,7 @@ class Parameters:
     def type_of(self, s, name):
         """The place of a type that a file names: of its own crate, of the one it imports it from, or of the kit."""
         crate = self.origin[id(s)].get(name)
-        if crate in kit.KIT_CRATES:
+        if crate in kit.KIT_CRATES or name == "Box":
             return ("type", "kit", name)
         crates = self.types.get(name, ())
         if s.crate in crates:

@@ -17,6 +17,8 @@ def item_start(s, i):
             start = k
         elif s.kind[k] == "word" and s.text[k] in BEFORE_AN_ITEM:
             start = k
+        elif s.kind[k] == "text" and s.at(s.before(k), "extern"):
+            start = s.before(k)
         elif s.at(k, ")") and s.at(s.before(s.partner[k]), "pub"):
             start = s.before(s.partner[k])
         elif s.at(k, "]") and s.at(s.before(s.partner[k]), "#"):

@@ -79,6 +79,11 @@
 #include <stdbool.h>
 #include <stdint.h>
 
+#define FREEZE_QUEUE_VERSION_MAJOR 1
+#define FREEZE_QUEUE_VERSION_MINOR 0
+#define FREEZE_QUEUE_VERSION_PATCH 0
+#define FREEZE_QUEUE_VERSION "1.0.0-rc.1"
+
 #if defined(__GNUC__)
 #define FREEZE_QUEUE_MUST_USE __attribute__((warn_unused_result))
 #else

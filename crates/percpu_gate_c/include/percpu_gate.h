@@ -72,6 +72,11 @@
 #include <stdbool.h>
 #include <stdint.h>
 
+#define PERCPU_GATE_VERSION_MAJOR 1
+#define PERCPU_GATE_VERSION_MINOR 0
+#define PERCPU_GATE_VERSION_PATCH 0
+#define PERCPU_GATE_VERSION "1.0.0-rc.1"
+
 #if defined(__GNUC__)
 #define PERCPU_GATE_MUST_USE __attribute__((warn_unused_result))
 #else

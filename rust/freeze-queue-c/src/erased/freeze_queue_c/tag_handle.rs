@@ -1,0 +1,49 @@
+// Erased from crates/freeze_queue_c/src/tag_handle.rt by tools/erase: edit that file.
+//! A tag, to C.
+
+use crate::erased::freeze_queue_c::misuse::Misuse;
+use crate::erased::freeze_queue_c::open_tag::OpenTag;
+use crate::erased::freeze_queue_c::tag_held::TagHeld;
+use alloc::boxed::Box;
+use core::mem;
+
+/// A tag handle: to C a `bool` and a pointer, all zero where it is closed.
+#[repr(C)]
+pub struct TagHandle {
+    is_open: bool,
+    held: TagHeld,
+}
+
+impl TagHandle {
+    /// A closed handle. (C makes its own, all zero.)
+    #[cfg(test)]
+    pub fn new() -> TagHandle {
+        TagHandle { is_open: false, held: TagHeld::nothing() }
+    }
+
+    /// The box of an open handle, which is left closed.
+    pub fn take(&mut self) -> Option<Box<OpenTag>> {
+        if !self.is_open {
+            return None;
+        }
+        self.is_open = false;
+        let nothing = TagHeld::nothing();
+        Some(mem::replace(&mut self.held, nothing).into_box())
+    }
+
+    /// Its allocator, where it is closed. Refuses Open.
+    pub fn closed(&self) -> Result<(), Misuse> {
+        if self.is_open { Err(Misuse::Open) } else { Ok(()) }
+    }
+
+    /// Opens a closed handle.
+    ///
+    /// # Preconditions
+    ///
+    /// - `self.held.tag` is `None`.
+    pub fn put_back(&mut self, tag: Box<OpenTag>) {
+        // One by one, since the bytes between them needn't be stored: what is stored delays the exchange that comes next.
+        self.held = TagHeld::of(tag);
+        self.is_open = true;
+    }
+}

@@ -1,0 +1,120 @@
+// Erased from crates/freeze_queue_c/src/tests/freed.rt by tools/erase: edit that file.
+//! Handles that are freed: the queue stays as it was, for each handle that is left.
+
+use super::{LIMITS, NUMBER};
+use crate::erased::freeze_queue_c::freezer_calls::{
+    freeze_queue_depth, freeze_queue_poll_drained, freeze_queue_start_freeze, freeze_queue_thaw,
+};
+use crate::erased::freeze_queue_c::freezer_handle::FreezerHandle;
+use crate::erased::freeze_queue_c::life::{
+    freeze_queue_free_freezer, freeze_queue_free_tag, freeze_queue_new_numbered, freeze_queue_next_tag,
+};
+use crate::erased::freeze_queue_c::plain_limits::PlainLimits;
+use crate::erased::freeze_queue_c::tag_calls::{
+    freeze_queue_leave, freeze_queue_try_enter, freeze_queue_try_enter_frozen,
+};
+use crate::erased::freeze_queue_c::tag_handle::TagHandle;
+
+/// A freezer and two tags of a new queue with two slots and these limits.
+fn of_two_tags(limits: &PlainLimits) -> (FreezerHandle, TagHandle, TagHandle) {
+    let mut freezer = FreezerHandle::new();
+    let mut first = TagHandle::new();
+    let mut second = TagHandle::new();
+    freeze_queue_new_numbered(&mut freezer, &NUMBER, limits, 2, 2);
+    freeze_queue_next_tag(&mut freezer, &mut first);
+    freeze_queue_next_tag(&mut freezer, &mut second);
+    (freezer, first, second)
+}
+
+/// A tag that is out when it is freed enters nothing: a freeze finds the queue empty.
+#[test]
+fn a_freed_tag_enters_nothing() {
+    let (mut freezer, mut freed, mut left) = of_two_tags(&LIMITS);
+    let mut depth = 9;
+    freeze_queue_free_tag(&mut freed);
+    assert!(freeze_queue_start_freeze(&mut freezer, &mut depth) == 4);
+    freeze_queue_free_tag(&mut left);
+    freeze_queue_free_freezer(&mut freezer);
+}
+
+/// A tag that is freed while the queue is frozen doesn't look in: the other tag is the last to leave.
+#[test]
+fn a_freed_tag_looks_into_nothing() {
+    let (mut freezer, mut freed, mut left) = of_two_tags(&LIMITS);
+    let mut depth = 9;
+    assert!(freeze_queue_try_enter(&mut left, 1) == 0);
+    assert!(freeze_queue_start_freeze(&mut freezer, &mut depth) == 0);
+    freeze_queue_free_tag(&mut freed);
+    assert!(freeze_queue_leave(&mut left, 0) == 1);
+    assert!(freeze_queue_poll_drained(&mut freezer));
+    freeze_queue_free_tag(&mut left);
+    freeze_queue_free_freezer(&mut freezer);
+}
+
+/// A tag that is in when it is freed doesn't leave, on either slot: the other tag isn't the last to leave.
+#[test]
+fn a_freed_tag_leaves_nothing() {
+    for slot in 0..2u32 {
+        let (mut freezer, mut freed, mut left) = of_two_tags(&LIMITS);
+        let mut depth = 9;
+        assert!(freeze_queue_try_enter(&mut freed, slot) == 0);
+        assert!(freeze_queue_try_enter(&mut left, 0) == 0);
+        assert!(freeze_queue_start_freeze(&mut freezer, &mut depth) == 0);
+        freeze_queue_free_tag(&mut freed);
+        assert!(freeze_queue_leave(&mut left, 1) == 0);
+        assert!(!freeze_queue_poll_drained(&mut freezer));
+        freeze_queue_free_tag(&mut left);
+        freeze_queue_free_freezer(&mut freezer);
+    }
+}
+
+/// A freezer that is freed while its queue is live doesn't freeze it, whatever its limits are.
+#[test]
+fn a_freed_freezer_freezes_nothing() {
+    for max in 1..17u32 {
+        let limits = PlainLimits { hardware: 16, max, chunk: 0, physical: 1 };
+        let (mut freezer, mut first, mut second) = of_two_tags(&limits);
+        freeze_queue_free_freezer(&mut freezer);
+        let entered = freeze_queue_try_enter(&mut first, 0);
+        assert!(entered == 0, "{max}");
+        let left = freeze_queue_leave(&mut first, 1);
+        assert!(left == 0, "{max}");
+        freeze_queue_free_tag(&mut first);
+        freeze_queue_free_tag(&mut second);
+    }
+}
+
+/// A freezer that was frozen and thawed before it is freed freezes nothing either.
+#[test]
+fn a_freed_freezer_stays_thawed() {
+    let (mut freezer, mut first, mut second) = of_two_tags(&LIMITS);
+    let mut depth = 9;
+    assert!(freeze_queue_start_freeze(&mut freezer, &mut depth) == 4);
+    assert!(freeze_queue_thaw(&mut freezer, &mut depth) == 5);
+    freeze_queue_free_freezer(&mut freezer);
+    assert!(freeze_queue_try_enter(&mut first, 0) == 0);
+    assert!(freeze_queue_leave(&mut first, 1) == 0);
+    freeze_queue_free_tag(&mut first);
+    freeze_queue_free_tag(&mut second);
+}
+
+/// A freezer that is freed while its queue is frozen thaws nothing, at whatever depth.
+#[test]
+fn a_freed_freezer_thaws_nothing() {
+    for freezes in [1u32, 2, 7, 1_000] {
+        let (mut freezer, mut first, mut second) = of_two_tags(&LIMITS);
+        let mut depth = 9;
+        for _ in 0..freezes {
+            freeze_queue_start_freeze(&mut freezer, &mut depth);
+        }
+        freeze_queue_depth(&mut freezer, &mut depth);
+        assert!(depth == freezes);
+        freeze_queue_free_freezer(&mut freezer);
+        let entered = freeze_queue_try_enter(&mut first, 0);
+        assert!(entered == 2, "{freezes}");
+        let looked_in = freeze_queue_try_enter_frozen(&mut first, 0);
+        assert!(looked_in == 2, "{freezes}");
+        freeze_queue_free_tag(&mut first);
+        freeze_queue_free_tag(&mut second);
+    }
+}

@@ -1,0 +1,97 @@
+// Erased from crates/percpu_gate_c/src/pass_calls.rt by tools/erase: edit that file.
+//! The calls of a pass. A closed handle answers Closed, and a question of it false.
+
+use crate::erased::percpu_gate_c::misuse::Misuse;
+use crate::erased::percpu_gate_c::number::{of_put, of_tried, of_unit, write};
+use crate::erased::percpu_gate_c::pass_handle::PassHandle;
+
+/// Takes a reference unless the gate has reached zero. Linux: `percpu_ref_tryget`
+/// (include/linux/percpu-refcount.h).
+#[unsafe(no_mangle)]
+pub extern "C" fn percpu_gate_try_get(pass: &mut PassHandle, slot: u32) -> u32 {
+    let Some(mut open) = pass.take() else {
+        return of_tried(Err(Misuse::Closed));
+    };
+    let answer = open.try_get(slot);
+    pass.put_back(open);
+    of_tried(answer)
+}
+
+/// Takes a reference unless the gate was killed. Linux: `percpu_ref_tryget_live`
+/// (include/linux/percpu-refcount.h).
+#[unsafe(no_mangle)]
+pub extern "C" fn percpu_gate_try_get_live(pass: &mut PassHandle, slot: u32) -> u32 {
+    let Some(mut open) = pass.take() else {
+        return of_tried(Err(Misuse::Closed));
+    };
+    let answer = open.try_get_live(slot);
+    pass.put_back(open);
+    of_tried(answer)
+}
+
+/// Takes `n` references more, of a pass that holds one. Linux: `percpu_ref_get_many`
+/// (include/linux/percpu-refcount.h).
+#[unsafe(no_mangle)]
+pub extern "C" fn percpu_gate_get(pass: &mut PassHandle, slot: u32, n: u32) -> u32 {
+    let Some(mut open) = pass.take() else {
+        return of_unit(Err(Misuse::Closed));
+    };
+    let answer = open.get(slot, n);
+    pass.put_back(open);
+    of_unit(answer)
+}
+
+/// Drops `n` references. 1 is the release. Linux: `percpu_ref_put_many` (include/linux/percpu-refcount.h).
+#[unsafe(no_mangle)]
+pub extern "C" fn percpu_gate_put(pass: &mut PassHandle, slot: u32, n: u32) -> u32 {
+    let Some(mut open) = pass.take() else {
+        return of_put(Err(Misuse::Closed));
+    };
+    let answer = open.put(slot, n);
+    pass.put_back(open);
+    of_put(answer)
+}
+
+/// Whether the gate was killed. Linux: `percpu_ref_is_dying` (include/linux/percpu-refcount.h).
+#[unsafe(no_mangle)]
+pub extern "C" fn percpu_gate_is_dying(pass: &mut PassHandle) -> bool {
+    let Some(mut open) = pass.take() else {
+        return false;
+    };
+    let yes = open.is_dying();
+    pass.put_back(open);
+    yes
+}
+
+/// Whether the count has reached zero. Linux: `percpu_ref_is_zero` (include/linux/percpu-refcount.h).
+#[unsafe(no_mangle)]
+pub extern "C" fn percpu_gate_is_zero(pass: &mut PassHandle) -> bool {
+    let Some(mut open) = pass.take() else {
+        return false;
+    };
+    let yes = open.is_zero();
+    pass.put_back(open);
+    yes
+}
+
+/// Writes the front.
+#[unsafe(no_mangle)]
+pub extern "C" fn percpu_gate_front(pass: &mut PassHandle, front: &mut u64) -> u32 {
+    let Some(mut open) = pass.take() else {
+        return write(Err(Misuse::Closed), front);
+    };
+    let answer = open.front();
+    pass.put_back(open);
+    write(answer, front)
+}
+
+/// Writes the guarded word `k`.
+#[unsafe(no_mangle)]
+pub extern "C" fn percpu_gate_word(pass: &mut PassHandle, k: u32, word: &mut u64) -> u32 {
+    let Some(mut open) = pass.take() else {
+        return write(Err(Misuse::Closed), word);
+    };
+    let answer = open.word(k);
+    pass.put_back(open);
+    write(answer, word)
+}
