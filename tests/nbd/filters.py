@@ -124,13 +124,14 @@ def minimum(served):
 
 def backends(served):
     """fio verifies its writes, and nbdcopy copies, over a few of nbdkit's backends, while settings change."""
-    plain = ["sparse-random", "size=16M"]
+    # Not sparse-random: what that gives of a block depends on where the read begins (nbdkit 1.32).
+    plain = ["pattern", "16M"]
     with tempfile.TemporaryDirectory() as folder:
         halves = [f"{folder}/one", f"{folder}/two"]
         run("truncate", "-s", "8M", *halves)
         for backend in (["memory", "16M"], ["data", "size=16M", "data=@0 1"], ["split", *halves], plain):
             with Server(served, backend=backend) as server:
-                if backend is plain:  # it takes no other bytes than its own
+                if backend is plain:  # it takes no writes
                     for half in halves:
                         while_settings_change(server, ["nbdcopy", server.uri, half], 50)
                     run("cmp", *halves)
