@@ -191,7 +191,7 @@ FREEZE_QUEUE_INLINE uint32_t freeze_queue_pool_give(freeze_queue_pool *pool, fre
     if ((seen & mark) == 0)
         return FREEZE_QUEUE_ERR_TAG_NOT_OUT;
     pthread_mutex_lock(&pool->lock);
-    const uint64_t kept = pool->waiting > 0 || pool->is_ending ? FREEZE_QUEUE_POOL_AWAITED : 0;
+    const uint64_t kept = pool->waiting > 0 ? FREEZE_QUEUE_POOL_AWAITED : 0;
     bool was_out = (__atomic_fetch_and(word, ~(mark | FREEZE_QUEUE_POOL_AWAITED) | kept, __ATOMIC_SEQ_CST) & mark) != 0;
     if (pool->is_ending)
         pthread_cond_broadcast(&pool->given_back);

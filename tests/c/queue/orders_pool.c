@@ -125,6 +125,23 @@ static void a_pool_ends_with_a_waiter(int me)
     else if ((tag = freeze_queue_pool_take_waiting(&pool, 0, NULL)) != NULL)
         NEED(freeze_queue_pool_give(&pool, tag) == FREEZE_QUEUE_OK);
 }
+/* Two threads wait for the one tag when the pool ends. */
+static void one_out(void)
+{
+    one_tag();
+    if ((out[0] = freeze_queue_pool_take(&pool, 0)) != &pool.tags[0].tag)
+        abort();
+}
+static void a_pool_ends_while_two_wait(int me)
+{
+    freeze_queue_tag *tag;
+    if (me == 0)
+        gives_the_last(me);
+    else if (me == 1)
+        NEED(freeze_queue_pool_end(&pool, &waits, NULL) == FREEZE_QUEUE_OK);
+    else if ((tag = freeze_queue_pool_take_waiting(&pool, 0, NULL)) != NULL)
+        NEED(freeze_queue_pool_give(&pool, tag) == FREEZE_QUEUE_OK);
+}
 static void nothing(void) {}
 
 int main(void)
@@ -144,6 +161,7 @@ int main(void)
     explore("a pool is emptied after a wait, of a word", 3, both_out_of_an_awaited_word, a_pool_is_emptied, nothing);
     explore("a pool ends while a thread waits", 4, both_out, a_pool_ends_with_a_waiter, nothing);
     explore("a pool ends while a thread waits, of a word", 4, both_out_of_a_word, a_pool_ends_with_a_waiter, nothing);
+    explore("a pool ends while two wait", 4, one_out, a_pool_ends_while_two_wait, nothing);
     printf("in all %lu orders, %lu states\n", (unsigned long)all_orders, (unsigned long)all_states);
     return 0;
 }
