@@ -80,6 +80,10 @@ def of_programs():
         # The races that gate_races prints, replayed; and its outcomes of random ones, compared with those of another program.
         Step("races", ("tests/races/program",), 2, proved=programs),
         Step("random races", ("tests/races/random_races", "crates/gate_races/out/gate_races"), 2, proved=programs),
+        # Races of up to a million states, compared with a search in C.
+        Step("large races", ("tests/races/large",), 2, proved=programs),
+        # Questions about races, answered by their outcomes.
+        Step("questions", ("tests/ask/run", "crates/gate_races/out/gate_races", "crates/blkq/out/blkq"), 0.5, proved=programs),
         # The page that runs the programs in a browser.
         Step("page", ("tests/page/run", "crates/blkq/out/blkq", "crates/gate_races/out/gate_races"), 2, proved=programs),
         # The pictures of the documents, made anew.
