@@ -1,6 +1,6 @@
-//! What a tag is, in one allocation: it has its own share of its queue, so a request counts none.
+//! What a tag is, in its place: it has its own share of its queue, so a request counts none.
 use crate::erased::queue_core as erased;
-use crate::places::Place;
+use crate::lent::Lent;
 use crate::shared::Shared;
 use std::ops::{Deref, DerefMut};
 use std::sync::Arc;
@@ -14,58 +14,110 @@ pub(crate) struct TagState {
     pub(crate) number: usize,
     /// A waker was noted at its seat, and may be there still.
     pub(crate) is_noted: bool,
+    /// Its place has a note of the request that is in flight with it.
+    pub(crate) is_watched: bool,
 }
 
 /// A tag with a share of the queue that it is of.
-#[repr(align(128))]
 pub(crate) struct Parts {
     pub(crate) state: TagState,
     pub(crate) shared: Arc<Shared>,
-    pub(crate) place: &'static Place,
 }
 
-/// A tag's parts, in an allocation that may be refused.
-pub(crate) struct Body(Box<[Parts; 1]>);
-
-/// Memory for the parts of a tag that is to come.
-pub(crate) struct Room(Vec<Parts>);
-
-impl Room {
-    /// None if memory is refused.
-    pub(crate) fn new() -> Option<Room> {
-        let mut room = Vec::new();
-        room.try_reserve_exact(1).ok()?;
-        Some(Room(room))
-    }
-
-    pub(crate) fn fill(self, parts: Parts) -> Body {
-        let Room(mut room) = self;
-        room.push(parts);
-        let Ok(body) = room.into_boxed_slice().try_into() else { unreachable!("it has one item") };
-        Body(body)
-    }
-}
+/// A tag that is out of its place, by which its holder reaches the parts. It is brought home, or it ends.
+#[must_use = "a tag is brought home or ends"]
+pub(crate) struct Body(Lent<'static, Option<Parts>>);
 
 impl Body {
-    /// The erased tag, of a tag that ends. Its share of the queue ends.
-    pub(crate) fn into_erased(self) -> erased::Tag {
-        let [parts] = *self.0;
-        parts.state.erased
+    /// Of a place that has a tag.
+    #[inline]
+    pub(crate) fn of(lent: Lent<'static, Option<Parts>>) -> Body {
+        Body(lent)
+    }
+
+    /// Brings the tag home, unless it is asked for: then it comes back.
+    #[inline]
+    pub(crate) fn bring_unless_asked(self) -> Option<Body> {
+        self.0.bring_unless_asked().map(Body)
+    }
+
+    /// Brings the tag home, also if it is asked for.
+    pub(crate) fn bring(self) {
+        self.0.bring();
+    }
+
+    /// The tag ends: its place is empty, and its share of the queue ends.
+    pub(crate) fn end(mut self) -> erased::Tag {
+        let Parts { state, shared } = self.0.take().expect(THERE);
+        self.0.bring(); // before the queue ends, perhaps, which gives its places back
+        drop(shared);
+        state.erased
+    }
+
+    /// The tag is out for ever, as its request is that was forgotten. Its share of the queue ends.
+    pub(crate) fn strand(mut self) {
+        drop(self.0.take());
     }
 }
+
+const THERE: &str = "a tag is there until it ends";
 
 impl Deref for Body {
     type Target = Parts;
 
     #[inline]
     fn deref(&self) -> &Parts {
-        &self.0[0]
+        self.0.as_ref().expect(THERE)
     }
 }
 
 impl DerefMut for Body {
     #[inline]
     fn deref_mut(&mut self) -> &mut Parts {
-        &mut self.0[0]
+        self.0.as_mut().expect(THERE)
+    }
+}
+
+#[cfg(test)]
+mod tests {
+    use crate::lent::{Home, Lent};
+    use crate::places::Place;
+    use std::cell::Cell;
+    use std::rc::Rc;
+
+    /// A call of it compiles only if the type isn't `Sync`: else there are two of it.
+    trait NotShared<Form> {
+        fn is_not_shared() {}
+    }
+    struct Shared;
+    impl<T> NotShared<()> for T {}
+    impl<T: Sync> NotShared<Shared> for T {}
+
+    /// The same of `Send`.
+    trait NotSent<Form> {
+        fn is_not_sent() {}
+    }
+    struct Sent;
+    impl<T> NotSent<()> for T {}
+    impl<T: Send> NotSent<Sent> for T {}
+
+    fn crosses_threads<T: Send + Sync>() {}
+
+    #[test]
+    fn what_is_lent_crosses_threads_if_it_may() {
+        crosses_threads::<Lent<'_, u32>>();
+        crosses_threads::<Home<Cell<u32>>>(); // one holder at a time
+    }
+
+    #[test]
+    fn what_may_not_cross_threads_is_lent_on_one() {
+        <Lent<'_, Cell<u32>> as NotShared<_>>::is_not_shared();
+        <Lent<'_, Rc<u32>> as NotSent<_>>::is_not_sent();
+        <Home<Rc<u32>> as NotShared<_>>::is_not_shared();
+    }
+
+    #[test]
+    fn a_place_is_no_larger_than_the_page_says() {
+        assert!(size_of::<Place>() <= 256);
     }
 }

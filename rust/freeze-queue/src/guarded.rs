@@ -78,6 +78,7 @@ use crate::{
     Limits, NewError, NextTagError, RemoveError, Tag, TryEnterError, TryFreezeError,
 };
 use std::fmt;
+use std::ops::ControlFlow;
 use std::time::Duration;
 use value::Value;
 
@@ -200,6 +201,42 @@ impl<T> Queue<T> {
     /// As of that call.
     pub fn try_enter_frozen<'e>(&'e self, tag: &'e mut Tag) -> Result<Entered<'e, T>, EnterFrozenError> {
         Ok(Entered::of(self.queue.try_enter_frozen(tag)?, &self.value))
+    }
+
+    /// Serves one request after another with one tag, which stays entered between them, as [`Queue::serve`](crate::Queue::serve) does. If
+    /// a freeze came between, the value may have changed.
+    ///
+    /// # Errors
+    ///
+    /// As of that call. The tag has left.
+    ///
+    /// # Examples
+    ///
+    /// ```
+    /// # use freeze_queue::{Limits, guarded::Queue};
+    /// # use std::ops::ControlFlow::{Break, Continue};
+    /// let queue = Queue::new([10, 200], Limits::of_hardware(64), 1, 1)?;
+    /// let (mut tag, mut work, mut sum) = (queue.next_tag(0)?, 0..2, 0);
+    /// queue.serve(&mut tag, |device| {
+    ///     let Some(next) = work.next() else { return Break(()) };
+    ///     sum += device[next];
+    ///     Continue(())
+    /// })?;
+    /// assert_eq!(sum, 210);
+    /// # Ok::<(), Box<dyn std::error::Error>>(())
+    /// ```
+    pub fn serve<B>(
+        &self,
+        tag: &mut Tag,
+        mut serve: impl FnMut(&Entered<'_, T>) -> ControlFlow<B>,
+    ) -> Result<B, EnterError> {
+        let mut request = self.enter(tag)?;
+        loop {
+            if let ControlFlow::Break(value) = serve(&request) {
+                return Ok(value);
+            }
+            request = request.stay_or_enter()?;
+        }
     }
 
     /// Enters by a future, as [`Queue::enter_async`](crate::Queue::enter_async) does. The request may be held across awaits.

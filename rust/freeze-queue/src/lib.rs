@@ -65,6 +65,9 @@
 //! | [`enter_any`](Queue::enter_any), [`enter_any_timeout`](Queue::enter_any_timeout) | [`enter_any_async`](Queue::enter_any_async) | a tag, in order of arrival, and the thaw |
 //! | [`freeze`](Queue::freeze), [`freeze_timeout`](Queue::freeze_timeout), [`Freezing::wait`] | [`freeze_async`](Queue::freeze_async), [`Freezing::drained`] | the drain |
 //!
+//! A thread that waits looks for some microseconds before it sleeps, and less if that was in vain before. If a freeze hangs, a queue that is
+//! [watched](Queue::watch) lists the requests in flight, since when, and by which thread ([`Queue::in_flight`]).
+//!
 //! Only the slow path touches them: a refused entering, the leaving that drains the queue, a wait for a tag, and each call that
 //! freezes, thaws or asks. A thread that waits for itself waits for ever: one that freezes while its own request is in flight,
 //! enters while it has a [`Frozen`], or waits for a tag while it has all of them.
@@ -83,13 +86,13 @@
 //! preconditions. No proof covers the program that cuts, its stand-ins, the Rust compiler, this crate around the steps, or
 //! its waits and wakes (`src/waits.rs`, `src/line.rs`). Its types enforce the preconditions: [`misuse`] shows the misuse
 //! that doesn't compile, and an error refuses the misuse that types can't exclude. A refusal that they do exclude is a bug
-//! of this crate, and panics. There is no `unsafe` in any of it but for one file of 60 lines, `src/guarded/value.rs`, by which a
-//! [`guarded::Queue<T>`](guarded::Queue) lends its T. A mistake elsewhere could break the laws of the queue. It could break the safety of
-//! memory for users of that type alone.
+//! of this crate, and panics. There is no `unsafe` in any of it but for two short files. By `src/lent.rs` a tag has one holder at a time,
+//! whatever the rest does. By `src/guarded/value.rs` a [`guarded::Queue<T>`](guarded::Queue) lends its T. A mistake elsewhere could break the
+//! laws of the queue. It could break the safety of memory for users of that type alone.
 //!
 //! The module `erased` is public for the crates above this one, and no part of the API that versions promise: its functions
 //! trust their preconditions, so no user calls them.
-#![deny(unsafe_code)] // but for guarded/value.rs
+#![deny(unsafe_code)] // but for lent.rs and guarded/value.rs
 
 extern crate alloc;
 
@@ -115,6 +118,8 @@ mod freezing;
 mod frozen;
 pub mod guarded;
 mod handed_back;
+mod in_flight;
+mod lent;
 mod limits;
 mod line;
 mod locked;
@@ -122,6 +127,7 @@ mod locked;
 pub mod misuse;
 mod outcomes;
 mod owned;
+mod patience;
 mod pieces;
 mod places;
 mod queue;
@@ -145,6 +151,7 @@ pub use errors::{
 pub use freezing::{Freezing, OwnedFreezing};
 pub use frozen::{Frozen, OwnedFrozen};
 pub use handed_back::HandedBack;
+pub use in_flight::InFlight;
 pub use limits::Limits;
 pub use outcomes::Final;
 pub use owned::OwnedEntered;

@@ -3,7 +3,7 @@
 //! nothing of this is there.
 use crate::sync::{Condvar, Mutex, MutexGuard};
 use std::ops::{Deref, DerefMut};
-use std::sync::{PoisonError, TryLockError};
+use std::sync::PoisonError;
 use std::time::Instant;
 
 #[cfg(freeze_queue_tsan)]
@@ -42,16 +42,6 @@ pub(crate) struct Lock<T> {
 impl<T> Lock<T> {
     pub(crate) const fn new(value: T) -> Lock<T> {
         Lock { value: Mutex::new(value), order: Order::new() }
-    }
-
-    /// Takes the lock, unless another thread has it.
-    #[inline]
-    pub(crate) fn try_lock(&self) -> Option<Locked<'_, T>> {
-        match self.value.try_lock() {
-            Ok(guard) => Some(self.locked(guard)),
-            Err(TryLockError::Poisoned(guard)) => Some(self.locked(guard.into_inner())),
-            Err(TryLockError::WouldBlock) => None,
-        }
     }
 
     /// Takes the lock.

@@ -146,9 +146,8 @@ impl Drop for OwnedEntered {
 
 /// A request leaves that is dropped, and its tag goes home. (Out of line, so that [`OwnedEntered::leave`] inlines.)
 #[inline(never)]
-fn end(mut tag: Tag) {
-    let (queue, state) = tag.parts_mut();
-    queue.leave(state);
+fn end(tag: Tag) {
+    tag.leave_and_go_home();
 }
 
 impl fmt::Debug for OwnedEntered {

@@ -1,93 +1,54 @@
-//! Where the tags of a queue lie while nobody has them: a place for each, on cache lines of its own.
+//! Where the tags of a queue lie: a place for each, on cache lines of its own.
 //!
 //! A request that ends on any thread brings its tag home, and asks nothing of what other threads write. It therefore counts no
 //! share of its queue: the memory of places is never freed, and goes from a queue that ended to the next one. A program has as
-//! many places as its queues had tags at once, at most.
-use crate::body::Body;
-use crate::locked::{Lock, Locked};
-use crate::sync::AtomicBool;
-use std::mem;
-use std::sync::atomic::Ordering::Relaxed;
+//! many places as its queues had tags at once, at most, and one for each tag whose request was forgotten.
+use crate::body::{Body, Parts};
+use crate::in_flight::InFlight;
+use crate::lent::Home;
+use crate::locked::Lock;
 
-/// What is in a place.
-enum State {
-    /// The tag.
-    Home(Body),
-    /// No tag. If it is asked for, or its queue is closed, the caller that brings it looks at the line first.
-    Out { is_asked: bool },
-}
-
-/// The place of a tag.
+/// The place of a tag. It is empty if no queue has it.
 #[repr(align(128))]
-pub(crate) struct Place {
-    state: Lock<State>,
-    /// As it was a moment ago, so that a search passes by what is out without its lock.
-    seems_home: AtomicBool,
-}
+pub(crate) struct Place(Home<Option<Parts>>, Lock<Option<InFlight>>);
 
 impl Place {
-    fn new() -> Place {
-        Place { state: Lock::new(State::Out { is_asked: false }), seems_home: AtomicBool::new(false) }
+    fn empty() -> Place {
+        Place(Home::new(None), Lock::new(None))
     }
 
-    /// The tag, if it seems to be here, and no other thread has the lock.
-    #[inline]
-    pub(crate) fn try_take(&self) -> Option<Body> {
-        if self.seems_home.load(Relaxed) { self.take_from(&mut self.state.try_lock()?, false) } else { None }
+    /// Puts a tag into an empty place.
+    pub(crate) fn fill(&'static self, parts: Parts) {
+        let mut lent = self.0.take().expect("nobody has it");
+        *lent = Some(parts);
+        lent.bring();
     }
 
     /// The tag, if it is here.
-    pub(crate) fn take(&self) -> Option<Body> {
-        self.take_from(&mut self.state.lock(), false)
-    }
-
-    /// The tag, if it is here. If it isn't, the caller that brings it looks at the line first.
-    pub(crate) fn take_or_ask(&self) -> Option<Body> {
-        self.take_from(&mut self.state.lock(), true)
-    }
-
     #[inline]
-    fn take_from(&self, state: &mut Locked<'_, State>, is_asked: bool) -> Option<Body> {
-        match &mut **state {
-            State::Home(_) => {
-                self.seems_home.store(false, Relaxed);
-                match mem::replace(&mut **state, State::Out { is_asked }) {
-                    State::Home(body) => Some(body),
-                    State::Out { .. } => None,
-                }
-            }
-            State::Out { is_asked: asked } => {
-                *asked |= is_asked;
-                None
-            }
-        }
+    pub(crate) fn take(&'static self) -> Option<Body> {
+        self.0.take().map(Body::of)
     }
 
-    /// Whether the tag is here.
+    /// The tag, if it is here. From now on it is asked for: the caller that brings it looks at the line first.
+    pub(crate) fn take_or_ask(&'static self) -> Option<Body> {
+        self.0.take_or_ask().map(Body::of)
+    }
+
+    /// Notes the request that is in flight with the tag, or that none is.
+    pub(crate) fn note(&self, request: Option<InFlight>) {
+        *self.1.lock() = request;
+    }
+
+    /// The request that was noted.
+    pub(crate) fn in_flight(&self) -> Option<InFlight> {
+        *self.1.lock()
+    }
+
+    /// Whether the tag is here, at a moment of the call.
+    #[inline]
     pub(crate) fn is_home(&self) -> bool {
-        matches!(*self.state.lock(), State::Home(_))
-    }
-
-    /// Puts the tag of this place into it, unless it is asked for: then it comes back.
-    #[inline]
-    pub(crate) fn put_unless_asked(&self, body: Body) -> Option<Body> {
-        let mut state = self.state.lock();
-        if matches!(*state, State::Out { is_asked: true }) {
-            return Some(body);
-        }
-        self.put_into(&mut state, body);
-        None
-    }
-
-    /// Puts the tag of this place into it, also if it is asked for.
-    pub(crate) fn put(&self, body: Body) {
-        self.put_into(&mut self.state.lock(), body);
-    }
-
-    #[inline]
-    fn put_into(&self, state: &mut Locked<'_, State>, body: Body) {
-        **state = State::Home(body);
-        self.seems_home.store(true, Relaxed);
+        self.0.is_here()
     }
 }
 
@@ -116,7 +77,7 @@ impl Places {
             store.free.try_reserve_exact(room).ok()?;
             let mut more: Vec<Place> = Vec::new();
             more.try_reserve_exact(missing).ok()?;
-            more.resize_with(missing, Place::new);
+            more.resize_with(missing, Place::empty);
             store.free.extend(more.leak().iter());
             store.made = all;
         }
@@ -135,15 +96,18 @@ impl Places {
         let count = self.0.len();
         let mut number = if from < count { from } else { from % count };
         for _ in 0..count {
-            if let Some(body) = self.0[number].try_take() {
-                return Some((number, body));
+            let place = self.0[number];
+            if place.is_home() {
+                if let Some(body) = place.take() {
+                    return Some((number, body));
+                }
             }
             number = if number + 1 == count { 0 } else { number + 1 };
         }
         None
     }
 
-    /// A tag that is home, looked for under each place's lock.
+    /// A tag that is home.
     pub(crate) fn find(&self) -> Option<Body> {
         self.0.iter().find_map(|place| place.take())
     }
@@ -156,6 +120,7 @@ impl Places {
 
 impl Drop for Places {
     fn drop(&mut self) {
-        STORE.lock().free.append(&mut self.0); // there is room for all that were made
+        let empty = self.0.drain(..).filter(|place| place.is_home());
+        STORE.lock().free.extend(empty); // there is room for all that were made
     }
 }

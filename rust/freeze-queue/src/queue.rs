@@ -1,8 +1,9 @@
 //! A queue: made and ended, its tags, and what it is asked.
-use crate::body::{Parts, Room, TagState};
+use crate::body::{Parts, TagState};
 use crate::erased::queue_core::{self as erased, BlockQueue, Mode};
 use crate::errors::{GiveBackError, NewError, NextTagError, RemoveError};
 use crate::handed_back::HandedBack;
+use crate::in_flight::{InFlight, Watch};
 use crate::limits::Limits;
 use crate::line::Line;
 use crate::outcomes::Final;
@@ -100,21 +101,16 @@ impl Queue {
     fn make(limits: erased::Limits, slots: u32, tags: u32) -> Option<Queue> {
         static NUMBERS: AtomicU64 = AtomicU64::new(0);
         let (erased, freezer, mut tags) = BlockQueue::new(limits, slots, tags).ok()?;
-        let (count, mut rooms) = (tags.len(), Vec::new());
-        rooms.try_reserve_exact(count).ok()?;
-        for _ in 0..count {
-            rooms.push(Room::new()?);
-        }
+        let count = tags.len();
         let (places, line) = (Places::new(count)?, Line::new(count)?);
         let mut kept = Vec::new();
         kept.try_reserve_exact(count).ok()?;
         let number = NonZeroU64::MIN.saturating_add(NUMBERS.fetch_add(1, Relaxed));
         let waits = Waits::of(Held::new(freezer, line, kept));
-        let shared = Arc::new(Shared { number, erased, places, waits });
-        for (number, (erased, room)) in tags.drain(..).zip(rooms).enumerate() {
-            let (shared, place) = (Arc::clone(&shared), shared.places.all()[number]);
-            let state = TagState { erased, slot: 0, number, is_noted: false };
-            place.put(room.fill(Parts { state, shared, place }));
+        let shared = Arc::new(Shared { number, watch: Watch::new(), erased, places, waits });
+        for (number, (erased, place)) in tags.drain(..).zip(shared.places.all()).enumerate() {
+            let state = TagState { erased, slot: 0, number, is_noted: false, is_watched: false };
+            place.fill(Parts { state, shared: Arc::clone(&shared) });
         }
         Some(Queue { shared })
     }
@@ -237,8 +233,9 @@ impl Queue {
             return Err(RemoveError::TagsOut);
         }
         held.freeze_to_end(&shared.erased)?;
+        held.is_closed = true;
         for tag in places.iter().filter_map(|place| place.take_or_ask()) {
-            held.take_back(tag.into_erased());
+            held.take_back(tag.end());
         }
         Ok(())
     }
@@ -326,6 +323,44 @@ impl Queue {
     #[must_use]
     pub fn is_dying(&self) -> bool {
         self.shared.waits.is_dying()
+    }
+
+    /// Whether requests note from now on when they enter, for [`in_flight`](Queue::in_flight). A request of a queue that is watched takes
+    /// some 100 nanoseconds more, and else one look at a flag.
+    ///
+    /// ```
+    /// # use freeze_queue::{FreezeTimeoutError, Limits, Queue};
+    /// # use std::time::Duration;
+    /// # let queue = Queue::new(Limits::of_hardware(64), 1, 1)?;
+    /// queue.watch(true);
+    /// # let _request = queue.enter_any()?;
+    /// if let Err(FreezeTimeoutError::TimedOut) = queue.freeze_timeout(Duration::from_millis(1)) {
+    ///     for request in queue.in_flight() {
+    ///         println!("tag {} by {:?}: {:?}", request.tag, request.thread, request.since.elapsed());
+    ///     }
+    /// }
+    /// # assert_eq!(queue.in_flight().count(), 1);
+    /// # Ok::<(), Box<dyn std::error::Error>>(())
+    /// ```
+    pub fn watch(&self, on: bool) {
+        self.shared.watch.set(on);
+    }
+
+    /// The requests in flight that entered while the queue was [watched](Queue::watch), each as it was when the iterator came to it. One
+    /// that was forgotten (`mem::forget`) is in flight for ever. Needs no memory. Linux: the list `busy` of debugfs
+    /// (block/blk-mq-debugfs.c).
+    ///
+    /// ```
+    /// # use freeze_queue::{Limits, Queue};
+    /// # let queue = Queue::new(Limits::of_hardware(64), 1, 2)?;
+    /// let unseen = queue.enter_any()?;
+    /// queue.watch(true);
+    /// let seen = queue.enter_any()?;
+    /// assert_eq!(queue.in_flight().count(), 1);
+    /// # Ok::<(), Box<dyn std::error::Error>>(())
+    /// ```
+    pub fn in_flight(&self) -> impl Iterator<Item = InFlight> {
+        self.shared.places.all().iter().filter_map(|place| place.in_flight())
     }
 
     /// Its number, from 1 on, which no other queue has.

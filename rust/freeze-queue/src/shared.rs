@@ -3,6 +3,7 @@ use crate::body::{Body, TagState};
 use crate::erased::queue_core::{self, BlockQueue, Entry, Put, Stay};
 use crate::errors::{EnterError, EnterFrozenError, EnterTimeoutError, SetError, TryEnterError};
 use crate::excluded::excluded;
+use crate::in_flight::{InFlight, Watch};
 use crate::limits::Limits;
 use crate::places::Places;
 use crate::threads;
@@ -18,6 +19,7 @@ use std::time::{Duration, Instant};
 pub(crate) struct Shared {
     /// No other queue has it.
     pub(crate) number: NonZeroU64,
+    pub(crate) watch: Watch,
     pub(crate) erased: BlockQueue,
     /// One for each tag.
     pub(crate) places: Places,
@@ -32,7 +34,10 @@ impl Shared {
             return Err(TryEnterError::StillEntered);
         }
         match self.erased.try_enter(&mut tag.erased, tag.slot) {
-            Entry::Entered => Ok(()),
+            Entry::Entered => {
+                self.noted_if_watched(tag);
+                Ok(())
+            }
             Entry::Refused(put) => Err(self.not_in(put)),
         }
     }
@@ -50,7 +55,10 @@ impl Shared {
             return Err(EnterFrozenError::StillEntered);
         }
         match self.erased.try_enter_frozen(&mut tag.erased, tag.slot) {
-            Entry::Entered => Ok(()),
+            Entry::Entered => {
+                self.noted_if_watched(tag);
+                Ok(())
+            }
             Entry::Refused(put) => {
                 self.dropped(put);
                 Err(EnterFrozenError::Drained)
@@ -164,14 +172,47 @@ impl Shared {
     /// A tag of this queue that has entered leaves.
     #[inline]
     pub(crate) fn leave(&self, tag: &mut TagState) {
+        self.forget_if_watched(tag);
         let put = self.erased.leave(&mut tag.erased, tag.slot);
         self.dropped(put);
+    }
+
+    /// A tag has entered.
+    #[inline]
+    fn noted_if_watched(&self, tag: &mut TagState) {
+        if self.watch.is_on() {
+            self.note(tag);
+        }
+    }
+
+    #[cold]
+    fn note(&self, tag: &mut TagState) {
+        tag.is_watched = true;
+        self.places.all()[tag.number].note(Some(InFlight::now(tag.number, tag.slot)));
+    }
+
+    /// A tag leaves.
+    #[inline]
+    fn forget_if_watched(&self, tag: &mut TagState) {
+        if tag.is_watched {
+            self.forget_note(tag);
+        }
+    }
+
+    #[cold]
+    fn forget_note(&self, tag: &mut TagState) {
+        tag.is_watched = false;
+        self.places.all()[tag.number].note(None);
     }
 
     /// Whether a tag of this queue that has entered stays entered. If not, it has left: the caller tells of the dropped count.
     #[inline]
     pub(crate) fn stays(&self, tag: &mut TagState) -> Stay {
-        self.erased.stay(&mut tag.erased, tag.slot)
+        let stay = self.erased.stay(&mut tag.erased, tag.slot);
+        if stay != Stay::Stayed {
+            self.forget_if_watched(tag);
+        }
+        stay
     }
 
     /// A count was dropped: if it was the last of a freeze, those are woken that wait for the drain.
@@ -187,8 +228,14 @@ impl Shared {
     pub(crate) fn try_any(&self) -> Option<Body> {
         let (thread, from) = threads::hint();
         let (number, mut tag) = self.places.try_take(from)?;
-        threads::note(thread, number);
-        tag.state.slot = self.slot_of(thread);
+        let slot = self.slot_of(thread);
+        // Mostly they are so already, and a store delays the exchange that comes next.
+        if number != from {
+            threads::note(thread, number);
+        }
+        if tag.state.slot != slot {
+            tag.state.slot = slot;
+        }
         Some(tag)
     }
 
@@ -203,8 +250,7 @@ impl Shared {
 /// A tag comes home: into its place, or to the first in line.
 #[inline]
 pub(crate) fn bring_home(tag: Body) {
-    let place = tag.place;
-    if let Some(tag) = place.put_unless_asked(tag) {
+    if let Some(tag) = tag.bring_unless_asked() {
         hand_over(tag);
     }
 }

@@ -9,7 +9,7 @@ use std::sync::Arc;
 /// A tag, with which one request at a time enters its queue.
 ///
 /// A thread that ends what it begins keeps a tag; else a tag goes along with its request
-/// ([`OwnedEntered`](crate::OwnedEntered)). It is one pointer, to an allocation with a share of its queue. Dropping it gives
+/// ([`OwnedEntered`](crate::OwnedEntered)). It is one pointer, to a place with a share of its queue. Dropping it gives
 /// it back to its queue, on whichever thread; [`Queue::give_back`](crate::Queue::give_back) does the same, and checks that it
 /// is that queue's. A tag under a forgotten request (`mem::forget`) is out for ever.
 ///
@@ -47,8 +47,18 @@ impl Tag {
     /// Its queue, and what changes as it is used.
     #[inline]
     pub(crate) fn parts_mut(&mut self) -> (&Arc<Shared>, &mut TagState) {
-        let Parts { state, shared, .. } = &mut **self.body.as_mut().expect("it is there until it is dropped");
+        let Parts { state, shared } = &mut **self.body.as_mut().expect("it is there until it is dropped");
         (shared, state)
+    }
+
+    /// Its request leaves, and it goes home. If a waker panics, it goes home all the same.
+    #[inline]
+    pub(crate) fn leave_and_go_home(mut self) {
+        let (queue, state) = self.parts_mut();
+        queue.leave(state);
+        if let Some(body) = self.body.take() {
+            bring(body);
+        }
     }
 
     /// Whether it wasn't taken.
@@ -139,11 +149,17 @@ impl Drop for Tag {
 
 /// The tag goes home, unless its request was forgotten: then it is out for ever.
 #[inline(never)]
-fn go_home(mut body: Body) {
+fn go_home(body: Body) {
     if body.state.erased.entered() {
-        return;
+        return body.strand();
     }
-    let Parts { state, shared, .. } = &mut *body;
+    bring(body);
+}
+
+/// A tag that has left goes home.
+#[inline]
+fn bring(mut body: Body) {
+    let Parts { state, shared } = &mut *body;
     let noted = shared.forget_waker(state);
     shared::bring_home(body);
     drop(noted);

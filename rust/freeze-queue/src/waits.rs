@@ -10,10 +10,13 @@ use crate::errors::{FreezeError, RemoveError};
 use crate::excluded::excluded;
 use crate::line::Line;
 use crate::locked::{Lock, Locked};
+use crate::patience::Patience;
 use crate::places::Place;
 use crate::seats::{Seats, Wakers, wake_each};
-use crate::sync::Condvar;
+use crate::sync::{Condvar, MOST_PATIENCE};
 use std::iter;
+use std::mem;
+use std::sync::atomic::{AtomicBool, Ordering::Relaxed};
 use std::task::Waker;
 use std::time::Instant;
 
@@ -29,8 +32,8 @@ pub(crate) struct Held {
     pub(crate) shares: u32,
     /// The device is gone, and its freeze is never thawed.
     pub(crate) is_dying: bool,
-    /// The queue was dropped: a tag that comes home ends.
-    is_closed: bool,
+    /// The queue was dropped, or its tags were taken back: a tag that comes home ends.
+    pub(crate) is_closed: bool,
     /// Threads that sleep until the queue is live, or until it is drained.
     entering: u32,
     draining: u32,
@@ -102,11 +105,25 @@ pub(crate) struct Waits {
     /// Where those sleep who wait to enter, and those who wait for the drain.
     live: Condvar,
     drained: Condvar,
+    for_live: Patience,
+    for_drain: Patience,
+    shut: Shut,
 }
+
+/// Whether those who would enter have to wait, on a line of its own: a hint for those who are about to sleep, set under the lock.
+#[repr(align(128))]
+struct Shut(AtomicBool);
 
 impl Waits {
     pub(crate) fn of(held: Held) -> Waits {
-        Waits { held: Lock::new(held), live: Condvar::new(), drained: Condvar::new() }
+        Waits {
+            held: Lock::new(held),
+            live: Condvar::new(),
+            drained: Condvar::new(),
+            for_live: Patience::new(MOST_PATIENCE),
+            for_drain: Patience::new(MOST_PATIENCE),
+            shut: Shut(AtomicBool::new(false)),
+        }
     }
 
     /// Under the lock. (What is under it is whole at each moment at which this crate's bugs panic.)
@@ -121,11 +138,13 @@ impl Waits {
 
     /// Waits until requests enter, or never will again; none where the deadline passes before.
     pub(crate) fn until_live(&self, deadline: Option<Instant>) -> Option<Seen> {
+        self.for_live.sees(deadline, || !self.shut.0.load(Relaxed));
         let mut held = self.lock();
         held.entering += 1;
         let mut in_time = true;
         let seen = loop {
             let seen = held.seen();
+            debug_assert_eq!(self.shut.0.load(Relaxed), seen.is_none(), "the hint is set under the lock");
             if seen.is_some() || !in_time {
                 break seen;
             }
@@ -145,11 +164,15 @@ impl Waits {
             Err(other) => excluded("start_freeze", other),
         }
         held.shares += shares;
+        self.shut.0.store(!held.is_dying, Relaxed);
         Ok(())
     }
 
     /// Waits until a queue that is frozen is drained; whether it is by the deadline.
     pub(crate) fn until_drained(&self, queue: &BlockQueue, deadline: Option<Instant>) -> bool {
+        if self.for_drain.sees(deadline, || self.lock().freezer.poll_drained(queue)) {
+            return true;
+        }
         let mut held = self.lock();
         held.draining += 1;
         let mut in_time = true;
@@ -180,6 +203,7 @@ impl Waits {
         let mut held = self.lock();
         held.shares -= shares;
         held.is_dying = true;
+        self.shut.0.store(false, Relaxed);
         let sent_away = held.line.send_away();
         let wakers = self.all_who_enter(&mut held);
         drop(held);
@@ -191,6 +215,7 @@ impl Waits {
     }
 
     fn wake_those_who_enter(&self, mut held: Locked<'_, Held>) {
+        self.shut.0.store(false, Relaxed);
         let wakers = self.all_who_enter(&mut held);
         drop(held);
         wake_each(wakers.into_iter());
@@ -229,24 +254,27 @@ impl Waits {
                     return;
                 }
                 Err(tag) => {
-                    tag.place.put(tag);
+                    tag.bring();
                     None
                 }
             }
         };
         drop(held);
-        drop(ended); // without the lock, since the queue may end with it
+        ended.map(Body::end); // without the lock, since the queue may end with it
     }
 
     /// The queue was dropped: each tag that is home ends, and any other as it comes home.
-    pub(crate) fn close(&self, places: &[&Place]) {
+    pub(crate) fn close(&self, places: &[&'static Place]) {
         let mut held = self.lock();
-        held.is_closed = true;
+        if mem::replace(&mut held.is_closed, true) {
+            return;
+        }
         let (handed, sent_away) = (held.line.take_handed(), held.line.send_away());
         drop(held);
-        for place in places {
-            drop(place.take_or_ask());
+        let homes = places.iter().filter_map(|place| place.take_or_ask());
+        for tag in homes.chain(handed.into_iter().map(|(_, tag)| tag)) {
+            tag.end();
         }
-        drop((handed, sent_away)); // of futures that were forgotten
+        drop(sent_away); // of futures that were forgotten
     }
 }

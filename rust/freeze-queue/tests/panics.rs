@@ -2,7 +2,7 @@
 //! should be. (A waker that panics as it is cloned is one by hand, so this test has `unsafe`.)
 #![allow(unsafe_code)]
 
-use freeze_queue::{EnterAnyError, EnterAsync, EnterError, Entered, Queue, Tag};
+use freeze_queue::{EnterAnyError, Entered, Queue, Tag};
 use std::cell::Cell;
 use std::mem;
 use std::panic::{AssertUnwindSafe, catch_unwind, panic_any};
@@ -78,7 +78,7 @@ fn panics<T>(call: impl FnOnce() -> T) -> bool {
     catch_unwind(AssertUnwindSafe(call)).is_err()
 }
 
-fn polled<'e>(future: &mut EnterAsync<'e>, waker: &Waker) -> Poll<Result<Entered<'e>, EnterError>> {
+fn polled<F: Future + Unpin>(future: &mut F, waker: &Waker) -> Poll<F::Output> {
     Pin::new(future).poll(&mut Context::from_waker(waker))
 }
 
@@ -216,7 +216,7 @@ fn a_waker_of_the_drain_panics() {
         let wakers = [Waker::from(Arc::new(Panics)), Waker::from(Arc::clone(&woken))];
         let mut all: Vec<_> = (0..2).map(|_| queue.begin_freeze().unwrap().drained()).collect();
         for (future, waker) in all.iter_mut().zip(&wakers) {
-            assert!(Pin::new(future).poll(&mut Context::from_waker(waker)).is_pending());
+            assert!(polled(future, waker).is_pending());
         }
         match way {
             0 => assert!(panics(|| drop(request))),
@@ -228,7 +228,7 @@ fn a_waker_of_the_drain_panics() {
         }
         assert_eq!((woken.times(), queue.is_drained()), (1, true));
         for future in &mut all {
-            assert!(Pin::new(future).poll(&mut Context::from_waker(Waker::noop())).is_ready());
+            assert!(polled(future, Waker::noop()).is_ready());
         }
         drop(all);
         queue.remove().unwrap();
@@ -244,16 +244,16 @@ fn a_waker_in_line_panics() {
     let wakers = [Waker::from(Arc::new(Panics)), Waker::from(Arc::clone(&woken))];
     let mut line = [queue.enter_any_async(), queue.enter_any_async()];
     for (future, waker) in line.iter_mut().zip(&wakers) {
-        assert!(Pin::new(future).poll(&mut Context::from_waker(waker)).is_pending());
+        assert!(polled(future, waker).is_pending());
     }
     assert!(panics(|| drop(request)));
     assert_eq!(woken.times(), 0);
     let [first, second] = &mut line;
-    let polled = Pin::new(first).poll(&mut Context::from_waker(Waker::noop()));
-    assert!(matches!(polled, Poll::Ready(Ok(_))));
-    drop(polled);
+    let handed = polled(first, Waker::noop());
+    assert!(matches!(handed, Poll::Ready(Ok(_))));
+    drop(handed);
     assert_eq!(woken.times(), 1);
-    assert!(Pin::new(second).poll(&mut Context::from_waker(Waker::noop())).is_ready());
+    assert!(polled(second, Waker::noop()).is_ready());
     drop(line);
     queue.remove().unwrap();
 }
@@ -267,14 +267,13 @@ fn a_waker_in_line_panics_as_the_device_goes() {
     let wakers = [Waker::from(Arc::new(Panics)), Waker::from(Arc::clone(&woken)), Waker::from(Arc::new(Panics))];
     let mut line = [queue.enter_any_async(), queue.enter_any_async(), queue.enter_any_async()];
     for (future, waker) in line.iter_mut().zip(&wakers) {
-        assert!(Pin::new(future).poll(&mut Context::from_waker(waker)).is_pending());
+        assert!(polled(future, waker).is_pending());
     }
     let frozen = queue.freeze_owned().unwrap();
     assert!(panics(|| frozen.mark_dying()));
     assert_eq!((woken.times(), queue.depth(), queue.is_dying()), (1, 1, true));
     for mut future in line {
-        let polled = Pin::new(&mut future).poll(&mut Context::from_waker(Waker::noop()));
-        assert!(matches!(polled, Poll::Ready(Err(EnterAnyError::Dying))));
+        assert!(matches!(polled(&mut future, Waker::noop()), Poll::Ready(Err(EnterAnyError::Dying))));
     }
 }
 
@@ -288,16 +287,15 @@ fn the_clone_of_a_waker_panics_in_line() {
     let (mut entering, mut drained) = (queue.enter_any_async(), queue.begin_freeze().unwrap().drained());
     CLONE_PANICS.set(true);
     for waker in [&bad, &good, &bad] {
-        let mut context = Context::from_waker(waker);
         let is_bad = !waker.will_wake(&good);
-        assert_eq!(panics(|| assert!(Pin::new(&mut entering).poll(&mut context).is_pending())), is_bad);
-        assert_eq!(panics(|| assert!(Pin::new(&mut drained).poll(&mut context).is_pending())), is_bad);
+        assert_eq!(panics(|| assert!(polled(&mut entering, waker).is_pending())), is_bad);
+        assert_eq!(panics(|| assert!(polled(&mut drained, waker).is_pending())), is_bad);
     }
     CLONE_PANICS.set(false);
     drop(request);
     assert_eq!(woken.times(), 2);
-    assert!(Pin::new(&mut drained).poll(&mut Context::from_waker(&bad)).is_ready());
-    assert!(matches!(Pin::new(&mut entering).poll(&mut Context::from_waker(&bad)), Poll::Ready(Ok(_))));
+    assert!(polled(&mut drained, &bad).is_ready());
+    assert!(matches!(polled(&mut entering, &bad), Poll::Ready(Ok(_))));
 }
 
 /// A request that leaves in a stay, as the last of a freeze that a future waits for, leaves once if that future's waker panics.
@@ -310,7 +308,7 @@ fn a_waker_of_the_drain_panics_in_a_stay() {
         let request = queue.enter(&mut tag).unwrap();
         let mut freezing = Box::pin(queue.freeze_async());
         let waker = Waker::from(Arc::new(Panics));
-        assert!(freezing.as_mut().poll(&mut Context::from_waker(&waker)).is_pending());
+        assert!(polled(&mut freezing, &waker).is_pending());
         assert!(catch_unwind(AssertUnwindSafe(|| stay(request))).is_err());
         assert!(queue.is_drained(), "it has left once, and no more");
         drop(freezing);
@@ -328,11 +326,11 @@ fn a_waker_panics_while_its_thread_unwinds() {
     let (mut waits, panics) = (queue.enter_any_async(), Waker::from(Arc::new(Panics)));
     let first = catch_unwind(AssertUnwindSafe(|| {
         let _request = queue.enter_any().unwrap();
-        assert!(Pin::new(&mut waits).poll(&mut Context::from_waker(&panics)).is_pending());
+        assert!(polled(&mut waits, &panics).is_pending());
         panic_any(7);
     }));
     assert_eq!(first.unwrap_err().downcast_ref(), Some(&7));
-    assert!(Pin::new(&mut waits).poll(&mut Context::from_waker(Waker::noop())).is_ready());
+    assert!(polled(&mut waits, Waker::noop()).is_ready());
     drop(waits);
     queue.remove().unwrap();
 }

@@ -85,7 +85,7 @@ fn each_allocation_refused() {
     let (asked, blocks) = (ASKED.get(), BLOCKS.get());
     let queue = new().unwrap();
     let asked = ASKED.get() - asked;
-    assert!(asked > 8, "a queue takes more than eight allocations");
+    assert!(asked > 6, "a queue takes more than six allocations");
     for allowed in 0..asked - 1 {
         let blocks = BLOCKS.get();
         assert_eq!(after(allowed, new).unwrap_err(), NewError::NoMemory);

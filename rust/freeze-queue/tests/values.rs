@@ -7,6 +7,7 @@ use freeze_queue::{
 use std::env;
 use std::future::Future;
 use std::mem;
+use std::ops::ControlFlow::{Break, Continue};
 use std::panic::{AssertUnwindSafe, catch_unwind};
 use std::sync::atomic::{AtomicU64, Ordering::Relaxed};
 use std::sync::{Arc, mpsc};
@@ -233,6 +234,25 @@ fn requests_with_tags_of_their_own() {
     frozen.lock().push(9);
     drop((frozen, queue.give_back(tag)));
     assert_eq!(*queue.try_enter_any().unwrap(), [7, 8, 9]);
+}
+
+/// A device is served by one tag between two changes of it.
+#[test]
+fn a_device_is_served() {
+    let queue = queue(1);
+    let mut tag = queue.next_tag(0).unwrap();
+    for value in 1..4 {
+        let mut turns = 0;
+        let served = queue.serve(&mut tag, |device| {
+            turns += 1;
+            if turns == 3 { Break(**device) } else { Continue(()) }
+        });
+        assert_eq!((served, turns), (Ok(value), 3));
+        *queue.freeze().unwrap().lock() += 1;
+    }
+    assert_eq!(queue.enter(&mut tag).unwrap().stay().map(|request| *request).unwrap(), 4);
+    queue.give_back(tag).unwrap();
+    assert_eq!(queue.remove().unwrap().0, 4);
 }
 
 /// A request that stays reads the value as it is; one that had to enter again, as it was changed meanwhile.

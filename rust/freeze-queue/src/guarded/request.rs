@@ -1,6 +1,6 @@
 //! A request that lends a value.
 use super::value::Value;
-use crate::EnterError;
+use crate::{EnterError, StayError};
 use std::fmt;
 use std::ops::Deref;
 
@@ -51,6 +51,30 @@ impl<'e, T> Entered<'e, T> {
     #[inline]
     pub fn stay_or_enter(self) -> Result<Entered<'e, T>, EnterError> {
         Ok(Entered::of(self.request.stay_or_enter()?, self.value))
+    }
+
+    /// Stays entered, or leaves if a freeze has begun, as [`Entered::stay`](crate::Entered::stay) does. It waits for nothing.
+    ///
+    /// # Errors
+    ///
+    /// As of that call. It has left.
+    ///
+    /// # Examples
+    ///
+    /// ```
+    /// # use freeze_queue::{Limits, StayError, guarded::Queue};
+    /// let queue = Queue::new(7, Limits::of_hardware(64), 1, 1)?;
+    /// let mut tag = queue.next_tag(0)?;
+    /// let request = queue.enter(&mut tag)?.stay()?;
+    /// assert_eq!(*request, 7);
+    /// let freezing = queue.begin_freeze()?;
+    /// assert_eq!(request.stay().unwrap_err(), StayError::Frozen);
+    /// assert!(freezing.is_drained());
+    /// # Ok::<(), Box<dyn std::error::Error>>(())
+    /// ```
+    #[inline]
+    pub fn stay(self) -> Result<Entered<'e, T>, StayError> {
+        Ok(Entered::of(self.request.stay()?, self.value))
     }
 
     /// The request itself, for its limits and pieces.

@@ -46,11 +46,14 @@ mod files {
     pub(crate) mod frozen;
     pub(crate) mod guarded;
     pub(crate) mod handed_back;
+    pub(crate) mod in_flight;
+    pub(crate) mod lent;
     pub(crate) mod limits;
     pub(crate) mod line;
     pub(crate) mod locked;
     pub(crate) mod outcomes;
     pub(crate) mod owned;
+    pub(crate) mod patience;
     pub(crate) mod pieces;
     pub(crate) mod places;
     pub(crate) mod queue;
@@ -62,11 +65,15 @@ mod files {
 
 use files::{
     body, drained, drains, enter_any, enter_async, enter_owned_async, entered, errors, excluded, freezing, frozen,
-    guarded, handed_back, limits, line, locked, outcomes, owned, pieces, places, queue, seats, shared, tag, waits,
+    guarded, handed_back, in_flight, lent, limits, line, locked, outcomes, owned, patience, pieces, places, queue,
+    seats, shared, tag, waits,
 };
 
 mod sync {
-    pub(crate) use orders::turns::{AtomicBool, Condvar, Mutex, MutexGuard, Thread, current, park, pause as yield_now};
+    /// A thread that waits looks once before it announces that. A clock would tell each run of an order another number of looks.
+    pub(crate) const MOST_PATIENCE: std::time::Duration = std::time::Duration::ZERO;
+
+    pub(crate) use orders::turns::{AtomicU32, Condvar, Mutex, MutexGuard, Thread, current, park, pause as yield_now};
 
     /// It may end at any moment, and its deadline doesn't pass.
     pub(crate) fn park_timeout(_patience: std::time::Duration) {
@@ -92,6 +99,7 @@ use errors::*;
 use freezing::{Freezing, OwnedFreezing};
 use frozen::{Frozen, OwnedFrozen};
 use handed_back::HandedBack;
+use in_flight::InFlight;
 use limits::Limits;
 use outcomes::Final;
 use owned::OwnedEntered;

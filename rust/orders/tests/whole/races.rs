@@ -2,6 +2,7 @@
 mod drains;
 mod line;
 mod pool;
+mod stays;
 mod values;
 mod waits;
 

@@ -1,0 +1,168 @@
+//! The requests in flight that a queue which is watched lists: each form of a request, until it leaves, and no other.
+use freeze_queue::{FreezeTimeoutError, InFlight, Limits, Queue, StayError};
+use std::future::Future;
+use std::mem;
+use std::pin::pin;
+use std::sync::mpsc;
+use std::task::{Context, Poll, Waker};
+use std::thread;
+use std::time::{Duration, Instant};
+
+mod shared;
+use shared::{LIMITS, ends, until};
+
+fn watched(tags: u32) -> Queue {
+    let queue = Queue::new(LIMITS, 4, tags).unwrap();
+    queue.watch(true);
+    queue
+}
+
+fn listed(queue: &Queue) -> Vec<InFlight> {
+    queue.in_flight().collect()
+}
+
+/// The one request that is in flight.
+fn only(queue: &Queue) -> InFlight {
+    let all = listed(queue);
+    assert_eq!(all.len(), 1, "{all:?}");
+    all[0]
+}
+
+#[test]
+fn a_request_is_listed_from_entering_to_leaving() {
+    let (queue, before) = (watched(2), Instant::now());
+    let (_idle, mut tag) = (queue.next_tag(0).unwrap(), queue.next_tag(3).unwrap());
+    assert_eq!(listed(&queue), [], "a tag that a caller keeps is not in flight");
+    let mut request = queue.enter(&mut tag).unwrap();
+    let noted = only(&queue);
+    assert_eq!((noted.slot, noted.thread), (3, thread::current().id()));
+    assert!((before..=Instant::now()).contains(&noted.since));
+    request.use_slot(1).unwrap();
+    request = request.stay().unwrap();
+    assert_eq!(only(&queue), noted, "as it entered");
+    drop(request);
+    assert_eq!(listed(&queue), []);
+}
+
+#[test]
+fn each_form_is_listed() {
+    let queue = watched(1);
+    let mut tag = queue.next_tag(0).unwrap();
+    let mut seen = 0;
+    let mut is_listed = || {
+        seen += 1;
+        only(&queue);
+    };
+    drop(queue.try_enter(&mut tag).map(|it| (is_listed(), it)).unwrap());
+    drop(queue.enter_timeout(&mut tag, Duration::ZERO).map(|it| (is_listed(), it)).unwrap());
+    drop(queue.try_enter_frozen(&mut tag).map(|it| (is_listed(), it)).unwrap());
+    {
+        let polled = pin!(queue.enter_async(&mut tag)).poll(&mut Context::from_waker(Waker::noop()));
+        let Poll::Ready(Ok(_request)) = polled else { panic!("it is live") };
+        is_listed();
+    }
+    assert_eq!(listed(&queue), []);
+    let request = queue.enter_owned(tag).unwrap();
+    is_listed();
+    let tag = request.leave();
+    assert_eq!(listed(&queue), []);
+    drop(tag);
+    let request = queue.enter_any().unwrap();
+    is_listed();
+    thread::spawn(move || drop(request)).join().unwrap();
+    assert_eq!((listed(&queue), seen), (vec![], 6));
+}
+
+/// A freeze that hangs is told by which request.
+#[test]
+fn a_freeze_that_hangs_is_explained() {
+    ends(|| {
+        let queue = &watched(3);
+        thread::scope(|threads| {
+            let (held, end) = mpsc::channel::<()>();
+            let slow = threads.spawn(move || {
+                let request = queue.enter_any().unwrap();
+                let _ended = end.recv();
+                drop(request);
+            });
+            until("it is in flight", || queue.in_flight().count() == 1);
+            drop(queue.enter_any().unwrap());
+            assert_eq!(queue.freeze_timeout(Duration::from_millis(1)).unwrap_err(), FreezeTimeoutError::TimedOut);
+            let noted = only(queue);
+            assert_eq!(noted.thread, slow.thread().id());
+            assert!(noted.since.elapsed() >= Duration::from_millis(1));
+            drop(held);
+        });
+        drop(queue.freeze().unwrap());
+        assert_eq!(listed(queue), []);
+    });
+}
+
+/// A request that a freeze put out is listed no more, and after the thaw as of then.
+#[test]
+fn a_request_that_left_by_a_stay_is_not_listed() {
+    ends(|| {
+        let queue = watched(1);
+        let mut tag = queue.next_tag(0).unwrap();
+        let request = queue.enter(&mut tag).unwrap();
+        let noted = only(&queue);
+        let freezing = queue.begin_freeze().unwrap();
+        assert_eq!(request.stay().unwrap_err(), StayError::Frozen);
+        assert_eq!(listed(&queue), []);
+        drop(freezing);
+        let request = queue.enter(&mut tag).unwrap();
+        assert!(only(&queue).since > noted.since);
+        thread::scope(|threads| {
+            let freezing = queue.begin_freeze().unwrap();
+            threads.spawn(|| drop(freezing));
+            let again = request.stay_or_enter().unwrap();
+            assert!(only(&queue).since > noted.since);
+            drop(again);
+        });
+        assert_eq!(listed(&queue), []);
+    });
+}
+
+/// What entered before, or after the watch ended, is not listed; what entered meanwhile is, until it leaves.
+#[test]
+fn a_watch_begins_and_ends() {
+    let queue = Queue::new(LIMITS, 1, 3).unwrap();
+    let before = queue.enter_any().unwrap();
+    queue.watch(true);
+    let meanwhile = queue.enter_any().unwrap();
+    let noted = only(&queue);
+    queue.watch(false);
+    let after = queue.enter_any().unwrap();
+    assert_eq!(only(&queue), noted);
+    drop((before, after));
+    assert_eq!(only(&queue), noted);
+    drop(meanwhile);
+    assert_eq!(listed(&queue), []);
+}
+
+/// One that was forgotten holds each freeze up for ever, and is listed as long.
+#[test]
+fn a_forgotten_request_is_listed() {
+    let queue = watched(2);
+    mem::forget(queue.enter_any().unwrap());
+    drop(queue.enter_any().unwrap());
+    let noted = only(&queue);
+    assert!(queue.freeze_timeout(Duration::ZERO).is_err());
+    assert_eq!(only(&queue), noted);
+}
+
+/// A queue that takes the places of one that ended lists nothing of it.
+#[test]
+fn the_next_queue_lists_its_own() {
+    for _ in 0..10 {
+        let queue = Queue::new(Limits::of_hardware(8), 1, 63).unwrap();
+        assert_eq!(listed(&queue), []);
+        queue.watch(true);
+        let all: Vec<_> = (0..63).map(|_| queue.enter_any().unwrap()).collect();
+        let mut tags: Vec<usize> = queue.in_flight().map(|it| it.tag).collect();
+        tags.sort_unstable();
+        assert_eq!(tags, (0..63).collect::<Vec<_>>());
+        drop(all);
+        queue.remove().unwrap();
+    }
+}
