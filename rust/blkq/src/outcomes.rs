@@ -5,8 +5,8 @@ use crate::errors::RaceError;
 use crate::text::Text;
 
 /// Goes through all orders of the atomic steps of a race, and returns its outcomes: what the calls answer, in how many states it
-/// ends so, and a shortest schedule that leads there, which [`replay`](crate::replay()) takes unchanged. The program
-/// `gate_races` writes the same.
+/// ends so, and a shortest schedule that leads there, which [`replay`](crate::replay()) takes unchanged if it has at most
+/// 1,048,576 bytes. The program `gate_races` writes the same.
 ///
 /// It keeps each state until all are seen, so a race of many calls takes much memory. At most 1,048,576 bytes are a race.
 ///
