@@ -69,6 +69,7 @@ def of_programs():
             Step(f"rows{build}", ("tests/built", "tests/rows/run", *both), 0.5, **what),
             Step(f"calls{build}", ("tests/built", "tests/rows/calls", player), 0.5, proved=frozenset(["play_calls"])),
             Step(f"sizes{build}", ("tests/built", "tools/sizes", *both), 2, **what),
+            Step(f"switches{build}", ("tests/built", "tests/switches/run", both[0]), 0.5, **what),
             Step(f"devices{build}", ("tests/built", "tools/sweep_devices", *both), 2, **what),
         ]
     return [

@@ -3,29 +3,26 @@ ghost use Rattle.std.specs.Prelude.{◌≡◌, ◌<◌, [], ◌∷◌, IfOk, IfN
 ghost use Rattle.crossbeam_queue.specs.Passes.{view, IsSamePass, IsPassOf, ruled_capacity};
 ghost use Rattle.run_queues.specs.Allowed.{MayPush, MayPop};
 
+use crate::patience::Patience;
 use crossbeam_queue::protocol::{Free, Lesson, Outcome, Protocol};
 use crossbeam_queue::{Pass, RuledArrayQueue};
-use crossbeam_utils::{Backoff, CachePadded};
+use crossbeam_utils::CachePadded;
 use std::alloc::{AllocError, Global};
 use std::sync::Wait;
-use std::sync::atomic::{AtomicUsize, Ordering};
-use std::thread;
+use std::sync::atomic::{AtomicBool, AtomicUsize, Ordering};
 use wait_queue::WaitQueue;
-
-/// How often a thread that finds nothing looks again before it sleeps.
-const LOOKS: u32 = 16;
 
 /// How many threads look at most. More of them would be in each other's way, and in that of whoever pushes.
 const LOOKERS: usize = 4;
 
 /// A queue under a rule, and those who sleep at it.
 ///
-/// A push and a pop take effect at one step each, and take no lock. A thread that finds nothing looks some times,
-/// and then announces that it will sleep, looks once more, and sleeps. Whoever pushes looks for such announcements
-/// after its step; so one of the two sees the other.
+/// A push and a pop take effect at one step each, and take no lock. A thread that finds nothing looks some times, as long as that
+/// is worth it ([`Patience`]). Then it announces that it will sleep, looks once more, and sleeps. A thread that pushes looks for such
+/// announcements after its step; so one of the two sees the other.
 ///
-/// A push wakes nobody while a thread looks, since that one finds the item. Where it finds one and leaves others, it
-/// wakes the next, once it no longer counts as looking.
+/// A push wakes nobody while a thread looks, or was woken and hasn't looked yet, since that one finds the item. Where it finds one
+/// and leaves others, it wakes the next, once it no longer counts as looking.
 #[derive(Drop)]
 pub(crate) struct RuledQueue<T: Drop, V, P: Protocol<T, V>> {
     pub(crate) ring: RuledArrayQueue<T, V, P>,
@@ -35,6 +32,9 @@ pub(crate) struct RuledQueue<T: Drop, V, P: Protocol<T, V>> {
     taken: WaitQueue,
     /// How many threads sleep, or are about to, because there was no item.
     sleeping: AtomicUsize,
+    /// One of them was woken, and none has looked since.
+    coming: AtomicBool,
+    patience: Patience,
     /// How many threads look for an item. It changes with each look, so it shares its cache lines with nothing else.
     looking: CachePadded<AtomicUsize>,
 }
@@ -55,6 +55,8 @@ impl<T: Drop, V, P: Protocol<T, V>> RuledQueue<T, V, P> {
             added: WaitQueue::new(),
             taken: WaitQueue::new(),
             sleeping: AtomicUsize::new(0),
+            coming: AtomicBool::new(false),
+            patience: Patience::new(),
             looking: CachePadded::new(AtomicUsize::new(0)),
         };
         Ok((line, pass))
@@ -146,7 +148,7 @@ impl<T: Drop, V, P: Protocol<T, V>> RuledQueue<T, V, P> {
         item
     }
 
-    // Tries to pop some times, ever less often, and lets other threads run between.
+    // Tries to pop some times, with pauses between.
     fn find_as<M: Outcome<T, V> + Lesson<T, V>, R: Wait>(
         &self,
         rt: &R,
@@ -158,14 +160,14 @@ impl<T: Drop, V, P: Protocol<T, V>> RuledQueue<T, V, P> {
         ensures none { IfNone result (view pass.new ≡ view pass.old) }
         ensures rule { IfSome result (λ item. M.then (view pass.old) item (view pass.new)) }
     {
-        let backoff = Backoff::new();
-        for _ in 0..LOOKS {
-            thread::yield_now();
-            backoff.spin();
+        for tried in 0..self.patience.tries() {
+            Patience::pause();
             if let Some(item) = self.ring.pop_as::<M, R>(rt, pass) {
+                self.patience.found(tried);
                 return Some(item);
             }
         }
+        self.patience.in_vain();
         None
     }
 
@@ -183,7 +185,8 @@ impl<T: Drop, V, P: Protocol<T, V>> RuledQueue<T, V, P> {
         item
     }
 
-    // Takes the first item as one of those who wait for it.
+    // Takes the first item as one of those who wait for it. Before each try it says that it has come: a push behind that wakes one
+    // again.
     fn wait_as<M: Outcome<T, V> + Lesson<T, V>, R: Wait>(&self, rt: &R, pass: &mut Pass<T, V>) -> T
         requires queue { IsPassOf self.now.ring pass.old }
         requires rule { MayPop P.holds pass.old M.then M.fact }
@@ -191,6 +194,7 @@ impl<T: Drop, V, P: Protocol<T, V>> RuledQueue<T, V, P> {
         ensures rule { M.then (view pass.old) result (view pass.new) }
     {
         for _ in self.added.announced_tries(rt) {
+            self.coming.store(false, Ordering::SeqCst);
             if let Some(item) = self.ring.pop_as::<M, R>(rt, pass) {
                 return item;
             }
@@ -210,9 +214,13 @@ impl<T: Drop, V, P: Protocol<T, V>> RuledQueue<T, V, P> {
         }
     }
 
-    // Wakes a sleeper, where there is one and no thread looks for what it would find.
+    // Wakes a sleeper, where there is one, no thread looks for what it would find, and none is on its way.
     fn wake(&self) {
-        if self.sleeping.load(Ordering::SeqCst) > 0 && self.looking.load(Ordering::SeqCst) == 0 {
+        if self.sleeping.load(Ordering::SeqCst) > 0
+            && self.looking.load(Ordering::SeqCst) == 0
+            && !self.coming.load(Ordering::SeqCst)
+            && !self.coming.swap(true, Ordering::SeqCst)
+        {
             self.added.wake_one();
         }
     }

@@ -7,6 +7,10 @@ use crossbeam_utils::sync::{EventCount, Key};
 use std::mem;
 use std::sync::{Forever, Wait};
 
+/// How many tries come with no wait announced. `Backoff` pauses after each of so many, some 6 microseconds in all; after one
+/// more it would yield, which gives the processor away for a whole slice where other programs want it.
+const LOOKS: u32 = 7;
+
 /// Threads that wait for what others bring about. Linux: `struct wait_queue_head` (include/linux/wait.h).
 #[derive(Drop)]
 pub struct WaitQueue {
@@ -33,17 +37,18 @@ impl WaitQueue {
         self.events.notify_all();
     }
 
-    /// A turn for each try of a thread that waits. The first tries come one after another, ever less often, and with no
-    /// wait announced: so nothing that other threads read is written where one of them succeeds. Linux: `wait_event`.
+    /// A turn for each try of a thread that waits. The first tries come one after another, with ever longer pauses and no wait
+    /// announced: so nothing that other threads read is written where one of them succeeds. Then it sleeps; it yields to nobody.
+    /// Linux: `wait_event`.
     #[inline]
     pub fn tries<'w, R: Wait>(&'w self, rt: &'w R) -> Tries<'w, R> {
-        Tries::new(self, rt, true)
+        Tries::new(self, rt, LOOKS)
     }
 
     /// The same for a thread that has tried often enough: each of these tries has its wait announced, the first too.
     #[inline]
     pub fn announced_tries<'w, R: Wait>(&'w self, rt: &'w R) -> Tries<'w, R> {
-        Tries::new(self, rt, false)
+        Tries::new(self, rt, 0)
     }
 }
 
@@ -65,8 +70,8 @@ pub struct Tries<'w, R: Wait> {
     rt: &'w R,
     queue: &'w WaitQueue,
     backoff: Backoff,
-    /// Whether the first tries come with no wait announced.
-    backs_off: bool,
+    /// How many tries more come with no wait announced, unless the backoff is completed before.
+    looks: u32,
     stage: Stage<'w>,
     /// How many turns are left: as many as no run uses up.
     turns: Forever<'w, R>,
@@ -74,12 +79,12 @@ pub struct Tries<'w, R: Wait> {
 
 impl<'w, R: Wait> Tries<'w, R> {
     #[inline]
-    fn new(queue: &'w WaitQueue, rt: &'w R, backs_off: bool) -> Tries<'w, R> {
+    fn new(queue: &'w WaitQueue, rt: &'w R, looks: u32) -> Tries<'w, R> {
         Tries {
             rt,
             queue,
             backoff: Backoff::new(),
-            backs_off,
+            looks,
             stage: Stage::New,
             turns: rt.forever(),
         }
@@ -107,7 +112,8 @@ impl<'w, R: Wait> Iterator for Tries<'w, R> {
         self.turns.next()?;
         let tried = mem::replace(&mut self.stage, Stage::New);
         self.pass_time(tried);
-        self.stage = if self.backs_off && !self.backoff.is_completed() {
+        self.stage = if self.looks > 0 && !self.backoff.is_completed() {
+            self.looks -= 1;
             Stage::Unannounced
         } else {
             Stage::Announced(self.queue.events.prepare_wait())

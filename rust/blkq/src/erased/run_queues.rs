@@ -17,6 +17,7 @@
 
 mod completions;
 mod numbered;
+mod patience;
 mod requests;
 mod ruled_queue;
 mod spares;

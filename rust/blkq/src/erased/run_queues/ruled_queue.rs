@@ -2,26 +2,23 @@
 //! A queue under a rule, at which a thread that finds nothing, or no room, sleeps.
 
 use crate::erased::crossbeam_queue::{Pass, RuledArrayQueue};
-use crate::erased::crossbeam_utils::{Backoff, CachePadded};
+use crate::erased::crossbeam_utils::CachePadded;
 use crate::erased::fallible::AllocError;
-use crate::erased::thread;
+use crate::erased::run_queues::patience::Patience;
 use crate::erased::wait_queue::WaitQueue;
-use std::sync::atomic::{AtomicUsize, Ordering};
-
-/// How often a thread that finds nothing looks again before it sleeps.
-const LOOKS: u32 = 16;
+use std::sync::atomic::{AtomicBool, AtomicUsize, Ordering};
 
 /// How many threads look at most. More of them would be in each other's way, and in that of whoever pushes.
 const LOOKERS: usize = 4;
 
 /// A queue under a rule, and those who sleep at it.
 ///
-/// A push and a pop take effect at one step each, and take no lock. A thread that finds nothing looks some times,
-/// and then announces that it will sleep, looks once more, and sleeps. Whoever pushes looks for such announcements
-/// after its step; so one of the two sees the other.
+/// A push and a pop take effect at one step each, and take no lock. A thread that finds nothing looks some times, as long as that
+/// is worth it ([`Patience`]). Then it announces that it will sleep, looks once more, and sleeps. A thread that pushes looks for such
+/// announcements after its step; so one of the two sees the other.
 ///
-/// A push wakes nobody while a thread looks, since that one finds the item. Where it finds one and leaves others, it
-/// wakes the next, once it no longer counts as looking.
+/// A push wakes nobody while a thread looks, or was woken and hasn't looked yet, since that one finds the item. Where it finds one
+/// and leaves others, it wakes the next, once it no longer counts as looking.
 pub(crate) struct RuledQueue<T> {
     pub(crate) ring: RuledArrayQueue<T>,
     /// Those who wait for an item.
@@ -30,6 +27,9 @@ pub(crate) struct RuledQueue<T> {
     taken: WaitQueue,
     /// How many threads sleep, or are about to, because there was no item.
     sleeping: AtomicUsize,
+    /// One of them was woken, and none has looked since.
+    coming: AtomicBool,
+    patience: Patience,
     /// How many threads look for an item. It changes with each look, so it shares its cache lines with nothing else.
     looking: CachePadded<AtomicUsize>,
 }
@@ -49,6 +49,8 @@ impl<T> RuledQueue<T> {
             added: WaitQueue::new(),
             taken: WaitQueue::new(),
             sleeping: AtomicUsize::new(0),
+            coming: AtomicBool::new(false),
+            patience: Patience::new(),
             looking: CachePadded::new(AtomicUsize::new(0)),
         };
         Ok((line, pass))
@@ -121,21 +123,21 @@ impl<T> RuledQueue<T> {
         item
     }
 
-    // Tries to pop some times, ever less often, and lets other threads run between.
+    // Tries to pop some times, with pauses between.
     //
     // # Preconditions
     //
     // - `IsPassOf(self.ring, pass)`.
     // - `MayPop(P.holds, pass, M.then, M.fact)`.
     fn find_as(&self, pass: &mut Pass<T>) -> Option<T> {
-        let backoff = Backoff::new();
-        for _ in 0..LOOKS {
-            thread::yield_now();
-            backoff.spin();
+        for tried in 0..self.patience.tries() {
+            Patience::pause();
             if let Some(item) = self.ring.pop_as(pass) {
+                self.patience.found(tried);
                 return Some(item);
             }
         }
+        self.patience.in_vain();
         None
     }
 
@@ -153,7 +155,8 @@ impl<T> RuledQueue<T> {
         item
     }
 
-    // Takes the first item as one of those who wait for it.
+    // Takes the first item as one of those who wait for it. Before each try it says that it has come: a push behind that wakes one
+    // again.
     //
     // # Preconditions
     //
@@ -161,6 +164,7 @@ impl<T> RuledQueue<T> {
     // - `MayPop(P.holds, pass, M.then, M.fact)`.
     fn wait_as(&self, pass: &mut Pass<T>) -> T {
         for _ in self.added.announced_tries() {
+            self.coming.store(false, Ordering::SeqCst);
             if let Some(item) = self.ring.pop_as(pass) {
                 return item;
             }
@@ -181,9 +185,13 @@ impl<T> RuledQueue<T> {
         }
     }
 
-    // Wakes a sleeper, where there is one and no thread looks for what it would find.
+    // Wakes a sleeper, where there is one, no thread looks for what it would find, and none is on its way.
     fn wake(&self) {
-        if self.sleeping.load(Ordering::SeqCst) > 0 && self.looking.load(Ordering::SeqCst) == 0 {
+        if self.sleeping.load(Ordering::SeqCst) > 0
+            && self.looking.load(Ordering::SeqCst) == 0
+            && !self.coming.load(Ordering::SeqCst)
+            && !self.coming.swap(true, Ordering::SeqCst)
+        {
             self.added.wake_one();
         }
     }

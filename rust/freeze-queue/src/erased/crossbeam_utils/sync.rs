@@ -56,11 +56,14 @@ impl EventCount {
 
     fn wake_one(&self) {
         let mut round = self.round();
-        if round.waiting > 0 {
-            round.waiting -= 1;
-            round.woken += 1;
-            self.wakes.notify_one();
+        if round.waiting == 0 {
+            return;
         }
+        round.waiting -= 1;
+        round.woken += 1;
+        // The thread that wakes wants the lock: where it runs at once, on the processor of this one, it would sleep for it again.
+        drop(round);
+        self.wakes.notify_one();
     }
 
     /// Wakes all threads that wait.
@@ -76,6 +79,7 @@ impl EventCount {
         round.number += 1;
         round.waiting = 0;
         round.woken = 0;
+        drop(round);
         self.wakes.notify_all();
     }
 }

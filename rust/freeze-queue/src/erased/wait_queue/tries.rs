@@ -6,6 +6,10 @@ use crate::erased::crossbeam_utils::sync::{EventCount, Key};
 use std::iter::{self, Repeat};
 use std::mem;
 
+/// How many tries come with no wait announced. `Backoff` pauses after each of so many, some 6 microseconds in all; after one
+/// more it would yield, which gives the processor away for a whole slice where other programs want it.
+const LOOKS: u32 = 7;
+
 /// Threads that wait for what others bring about. Linux: `struct wait_queue_head` (include/linux/wait.h).
 pub struct WaitQueue {
     events: EventCount,
@@ -29,17 +33,18 @@ impl WaitQueue {
         self.events.notify_all();
     }
 
-    /// A turn for each try of a thread that waits. The first tries come one after another, ever less often, and with no
-    /// wait announced: so nothing that other threads read is written where one of them succeeds. Linux: `wait_event`.
+    /// A turn for each try of a thread that waits. The first tries come one after another, with ever longer pauses and no wait
+    /// announced: so nothing that other threads read is written where one of them succeeds. Then it sleeps; it yields to nobody.
+    /// Linux: `wait_event`.
     #[inline]
     pub fn tries<'w>(&'w self) -> Tries<'w> {
-        Tries::new(self, true)
+        Tries::new(self, LOOKS)
     }
 
     /// The same for a thread that has tried often enough: each of these tries has its wait announced, the first too.
     #[inline]
     pub fn announced_tries<'w>(&'w self) -> Tries<'w> {
-        Tries::new(self, false)
+        Tries::new(self, 0)
     }
 }
 
@@ -58,8 +63,8 @@ enum Stage<'w> {
 pub struct Tries<'w> {
     queue: &'w WaitQueue,
     backoff: Backoff,
-    /// Whether the first tries come with no wait announced.
-    backs_off: bool,
+    /// How many tries more come with no wait announced, unless the backoff is completed before.
+    looks: u32,
     stage: Stage<'w>,
     /// How many turns are left: as many as no run uses up.
     turns: Repeat<()>,
@@ -67,8 +72,8 @@ pub struct Tries<'w> {
 
 impl<'w> Tries<'w> {
     #[inline]
-    fn new(queue: &'w WaitQueue, backs_off: bool) -> Tries<'w> {
-        Tries { queue, backoff: Backoff::new(), backs_off, stage: Stage::New, turns: iter::repeat(()) }
+    fn new(queue: &'w WaitQueue, looks: u32) -> Tries<'w> {
+        Tries { queue, backoff: Backoff::new(), looks, stage: Stage::New, turns: iter::repeat(()) }
     }
 
     /// Lets time pass before the next try: the thread sleeps where its wait was announced before the last one.
@@ -89,7 +94,8 @@ impl<'w> Iterator for Tries<'w> {
         self.turns.next()?;
         let tried = mem::replace(&mut self.stage, Stage::New);
         self.pass_time(tried);
-        self.stage = if self.backs_off && !self.backoff.is_completed() {
+        self.stage = if self.looks > 0 && !self.backoff.is_completed() {
+            self.looks -= 1;
             Stage::Unannounced
         } else {
             Stage::Announced(self.queue.events.prepare_wait())
