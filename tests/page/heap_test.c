@@ -17,12 +17,13 @@ __extension__ typedef unsigned __int128 wide;
 wide product_of(wide x, wide y);
 
 static _Alignas(65536) byte arena[ARENA_PAGES * PAGE_BYTES];
-static word there;
+/* The first page is the module's own, as far as the heap is concerned. */
+static word there = 2;
 static int passed, failed;
 
 byte *first_byte(void)
 {
-    return arena;
+    return arena + PAGE_BYTES;
 }
 
 word pages(void)
@@ -133,17 +134,61 @@ static byte *freed_block_of(word size)
     return block;
 }
 
-/* How many small blocks lie in a freed large one before one doesn't, each of which keeps its bytes. */
+/* The first block would fill the first page but for its header, so pages are added. A bound is kept and met to the page, also if only
+ * less can be added than the heap would like to. */
+static void first_pages(void)
+{
+    byte *first = block_of(PAGE_BYTES);
+    check("a header has its room too", first + PAGE_BYTES <= end_of_pages());
+    memset(first, 1, PAGE_BYTES);
+    word before = there, left = (word)(end_of_pages() - first) - PAGE_BYTES;
+    check("there is no room for a MiB with its header", left < MIB + 16 && left + PAGE_BYTES >= MIB + 16);
+    bound((before + 1) * PAGE_BYTES - 1);
+    check("a bound is kept to the page", !rattle_alloc(MIB, 8).is_there && there == before);
+    bound((before + 1) * PAGE_BYTES);
+    byte *block = block_of(MIB);
+    check("a bound is met to the page", block && there == before + 1);
+    byte *moved = rattle_realloc(block, MIB, 2 * MIB, 8).block;
+    check("a move that is refused leaves the block", !moved && !rattle_alloc(MIB, 8).is_there);
+    bound(1ULL << 40);
+}
+
+/* Blocks of 32 bytes fill a freed MiB but for 64 bytes, which are no room for a block of 64 and its header. */
+static void last_bytes(void)
+{
+    byte *large = block_of(MIB), *behind = block_of(MIB);
+    check("two large blocks are neighbours", behind == large + MIB + 16);
+    memset(behind, 7, MIB);
+    rattle_dealloc(large);
+    byte *block = block_of(32);
+    while (block < large || block > large + MIB)
+        block = block_of(32);
+    for (word count = 1; count < (MIB - 64) / 48; count++)
+        block = block_of(32);
+    check("the blocks lie side by side", block + 32 + 64 == large + MIB);
+    block = block_of(64);
+    check("a block that has no room there lies elsewhere", block < large || block > large + MIB);
+    memset(block, 8, 64);
+    check("the neighbour is as it was", behind[0] == 7 && behind[MIB - 1] == 7);
+    rattle_dealloc(behind);
+    check("and is freed as what it is", block_of(MIB) == behind);
+}
+
+static int lies_in(const byte *block, const byte *large, word size)
+{
+    return block >= large && block + SMALL <= large + size;
+}
+
+/* How many small blocks lie in a freed large one, once the chunk before it is used up, each of which keeps its bytes. */
 static word small_blocks_in(const byte *large, word size)
 {
     word count = 0;
     int are_kept = 1;
-    for (;; count++) {
-        byte *block = block_of(SMALL);
-        if (block < large || block + SMALL > large + size || count == LIVE)
-            break;
-        fill(&blocks[count], block, SMALL);
-    }
+    byte *block = block_of(SMALL);
+    for (word left = MIB / SMALL; left > 0 && !lies_in(block, large, size); left--)
+        block = block_of(SMALL);
+    for (; lies_in(block, large, size) && count < LIVE; block = block_of(SMALL))
+        fill(&blocks[count++], block, SMALL);
     for (word at = 0; at < count; at++) {
         are_kept &= is_kept(&blocks[at], blocks[at].block, SMALL);
         rattle_dealloc(blocks[at].block);
@@ -244,6 +289,9 @@ static void products(void)
 int main(void)
 {
     ASAN_POISON_MEMORY_REGION(arena, sizeof(arena));
+    ASAN_UNPOISON_MEMORY_REGION(first_byte(), PAGE_BYTES);
+    first_pages();
+    last_bytes();
     chunks();
     doubling();
     other_sizes();

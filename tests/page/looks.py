@@ -74,24 +74,24 @@ def looks_right(page, counts, look, url, shots):
     page.open(url)
     page.until("page.outcomes.length === 4")
     page.js("document.querySelectorAll('details').forEach((it) => (it.open = true)); choose(page.outcomes[1], 3)")
-    fits_and_reads(page, counts, name, NAMED + OF_STEPS + OF_RACE)
+    fits_and_reads(page, counts, name, NAMED + OF_STEPS + OF_RACE, wide)
     shoot(page, shots, f"race_{wide}_{scheme}")
     page.js("openExample('late_try.gate')")
     page.until("find('status').textContent.startsWith('answered')")
     page.js("page.stepping.goTo(2)")
-    fits_and_reads(page, counts, f"{name}, a schedule", NAMED + OF_STEPS)
+    fits_and_reads(page, counts, f"{name}, a schedule", NAMED + OF_STEPS, wide)
     shoot(page, shots, f"schedule_{wide}_{scheme}")
     page.js("open('blkq 1\\ndisk 16 hw 8\\n\\nwrite 6 6 61\\nset max_sektors 4\\nread 6 6\\n')")
     page.until("find('reason').textContent")
-    fits_and_reads(page, counts, f"{name}, refused", NAMED + [["region", "Answer"]])
+    fits_and_reads(page, counts, f"{name}, refused", NAMED + [["region", "Answer"]], wide)
     shoot(page, shots, f"refused_{wide}_{scheme}")
     if wide > 600 and scheme == "light":
         by_keys(page, counts, url)
 
 
-def fits_and_reads(page, counts, name, controls):
-    across = page.js("[document.documentElement.scrollWidth, innerWidth]")
-    counts.check(f"{name}: nothing is wider than the window", across[0] <= across[1], across)
+def fits_and_reads(page, counts, name, controls, wide):
+    across = page.js("document.documentElement.scrollWidth")
+    counts.check(f"{name}: nothing is wider than the window", across <= wide, across)
     least = page.js(CONTRAST)
     counts.check(f"{name}: each text has a contrast of {LEAST_CONTRAST}", least[0] >= LEAST_CONTRAST, least)
     named = page.names()

@@ -1,5 +1,6 @@
 """The tries of the page, each over a browser in which it is open."""
 
+import pathlib
 from typing import NamedTuple
 
 import answering
@@ -19,11 +20,12 @@ LARGE = js((inputs.ROOT / "tests/races/million.races").read_text(encoding="utf-8
 
 
 class Setting(NamedTuple):
-    """The address of the page, the native programs, and the folder for pictures, if any."""
+    """The address of the page, the native programs, the folder for pictures, if any, and the program that makes a page of a race."""
 
     url: str
     programs: inputs.Programs
     shots: str | None = None
+    picture: pathlib.Path = inputs.ROOT / "tools/picture"
 
 
 # Those that take a page, the counts and the setting; what differs between two versions of the page is tried first.
@@ -42,7 +44,7 @@ PARTS = {
     "runs": lambda page, counts, on: runs.of_runs(page, counts, on.url, LARGE),
     "beside": lambda page, counts, _: answering.beside(page, counts),
     "drawings": lambda page, counts, _: answering.drawings(page, counts),
-    "a race's page": lambda page, counts, on: raced.of_races(page, counts, on.url, on.shots),
+    "a race's page": lambda page, counts, on: raced.of_races(page, counts, on),
     **{
         f"looks {look}": lambda page, counts, on, look=look: looks_right(page, counts, look, on.url, on.shots)
         for look in LOOKS

@@ -16,16 +16,16 @@ SHOWN = "[race.outcome, race.stepping.step, find('steps-head').textContent, loca
 CONTROLS = [*OF_STEPS, ["region", "Outcomes"], ["region", "The race"], ["button", "outcome 2: draw its schedule"]]
 
 
-def picture(*words):
-    done = subprocess.run([ROOT / "tools/picture", *words], capture_output=True, text=True, check=False)
+def picture(program, *words):
+    done = subprocess.run([program, *words], capture_output=True, text=True, check=False)
     return done.returncode, done.stdout, done.stderr.strip()
 
 
-def as_a_file(counts, work):
+def as_a_file(counts, work, program):
     """What a race's page is made of, and what it isn't made of."""
     (work / "a.races").write_text((ROOT / "examples/removal.races").read_text(encoding="utf-8"), encoding="utf-8")
     right = (ROOT / "examples/removal.answer").read_text(encoding="utf-8")
-    status, page, _ = picture("race", str(ROOT / "examples/removal.races"))
+    status, page, _ = picture(program, "race", str(ROOT / "examples/removal.races"))
     addresses = sorted(set(re.findall(r"https?://[^\s\"'`]*", page)))
     counts.equal("a race's page names no address but that of SVG", [status, addresses], [0, ["http://www.w3.org/2000/svg"]])
     counts.check("it loads nothing", not re.search(r"\bsrc=|@import|url\(|\bfetch\(|XMLHttpRequest", page))
@@ -38,11 +38,12 @@ def as_a_file(counts, work):
     }
     for name, answer in wrong.items():
         (work / "a.answer").write_text(answer, encoding="utf-8")
-        status, page, why = picture("race", str(work / "a.races"))
+        status, page, why = picture(program, "race", str(work / "a.races"))
         counts.check(f"no page of {name}", status and not page and why.startswith("tools/picture: "), [status, why])
     (work / "a.answer").write_text(right, encoding="utf-8")
     (work / "a.races").write_text("races 1\n# </script><b>\nworld 1 1 atomic 0\n0 live 0 / put 0 1\nc kill\n", encoding="utf-8")
-    counts.equal("a race with an element in its text", picture("race", str(work / "a.races"))[0], 0)
+    status, page, _ = picture(program, "race", str(work / "a.races"))
+    counts.equal("a race with an element in its text", [status, page.count("</script>"), "<b>" in page], [0, 2, False])
 
 
 def steps(page, counts, name, schedules):
@@ -92,13 +93,13 @@ def addresses(page, counts, url):
     counts.equal("an outcome that isn't there is said", found, [1, 0, "The address names an outcome that isn't there."])
 
 
-def of_races(page, counts, url, shots):
+def of_races(page, counts, on):
     with tempfile.TemporaryDirectory(prefix="page-race-") as folder:
         work = pathlib.Path(folder)
-        as_a_file(counts, work)
+        as_a_file(counts, work, on.picture)
         urls = {}
         for name in RACES:
-            (work / f"{name}.html").write_text(picture("race", str(ROOT / f"examples/{name}.races"))[1], encoding="utf-8")
+            (work / f"{name}.html").write_text(picture(on.picture, "race", str(ROOT / f"examples/{name}.races"))[1], encoding="utf-8")
             urls[name] = (work / f"{name}.html").as_uri()
             whole(page, counts, name, urls[name])
         addresses(page, counts, urls["removal"])
@@ -106,6 +107,6 @@ def of_races(page, counts, url, shots):
             page.look(wide, 900, scheme, is_phone=wide < 600)
             page.open(f"{urls['another_slot']}#outcome=2&step=3")
             page.js("document.querySelectorAll('details').forEach((it) => (it.open = true))")
-            fits_and_reads(page, counts, f"a race's page, {wide} points, {scheme}", CONTROLS)
-            shoot(page, shots, f"picture_{wide}_{scheme}")
-    page.open(url)
+            fits_and_reads(page, counts, f"a race's page, {wide} points, {scheme}", CONTROLS, wide)
+            shoot(page, on.shots, f"picture_{wide}_{scheme}")
+    page.open(on.url)

@@ -19,8 +19,8 @@ def removal(page):
 
 def old_answer(page, counts, large):
     """While a new text runs, the old answer is dimmed, nothing of it can be chosen, and a link has nothing of it."""
-    removal(page)
-    page.js(OUTCOME)
+    page.js("openExample('removal.races', { outcome: 2, step: 3 })")
+    page.until("page.outcome === 2 && find('status').textContent.startsWith('answered')")
     page.js(f"find('input').value = {large}; find('input').dispatchEvent(new Event('input'))")
     stale = "['answer-part', 'steps', 'whole'].map((id) => find(id).inert && find(id).classList.contains('stale'))"
     choice = "find('outcomes').querySelector('tbody button').click(); find('copy').click()"
