@@ -37,7 +37,8 @@
  * them. After a fork the calls of the child leave the parent's events alone.
  *
  * Slots: a thread of a fixed number of threads has a slot of its own. A thread that comes and goes takes a number once, from
- * a counter, and uses it modulo the slots.
+ * a counter, and uses it modulo the slots. If more threads run than there are slots, use sched_getcpu() % slots, with a slot
+ * for each processor: it costs some 2 ns a request, and no two threads that run at once share a slot.
  *
  * Preconditions, beside the ones in freeze_queue.h:
  *  - while waits is there, the freezer's calls are made under waits->lock, or by the calls of this header;

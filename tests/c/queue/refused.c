@@ -46,6 +46,50 @@ static long life(long allow)
     return wrong ? -2 : refused;
 }
 
+/* A queue of a size gives all its tags, takes them back and ends, where no allocation is refused: each call has memory. */
+static int one_size(uint32_t slots, uint32_t count)
+{
+    static freeze_queue_tag tags[FREEZE_QUEUE_MOST_TAGS];
+    freeze_queue_freezer freezer = {0};
+    freeze_queue_final last;
+    uint32_t refused = freeze_queue_new(&freezer, &limits, slots, count);
+    for (uint32_t i = 0; i < count && !refused; i++)
+        refused = freeze_queue_next_tag(&freezer, &tags[i]);
+    for (uint32_t i = 0; i < count && !refused; i++)
+        refused = freeze_queue_give_tag_back(&freezer, &tags[i]);
+    return refused || freeze_queue_remove(&freezer, &last);
+}
+
+/* Each of a queue's tags gets no memory once, and then it does: ERR_NO_MEMORY comes where an allocation was refused. */
+static int each_tag_refused(uint32_t count)
+{
+    freeze_queue_freezer freezer = {0};
+    if (freeze_queue_new(&freezer, &limits, 1, count))
+        return 1;
+    for (uint32_t i = 0; i < count; i++) {
+        freeze_queue_tag tag = {0};
+        refusals = allowed = 0;
+        uint32_t first = freeze_queue_next_tag(&freezer, &tag);
+        allowed = -1;
+        if (first != FREEZE_QUEUE_ERR_NO_MEMORY || refusals == 0 || freeze_queue_next_tag(&freezer, &tag))
+            return 1;
+        freeze_queue_free_tag(&tag);
+    }
+    freeze_queue_free_freezer(&freezer);
+    return 0;
+}
+
+static int every_size(void)
+{
+    for (uint32_t slots = 1; slots <= FREEZE_QUEUE_MOST_SLOTS; slots++)
+        if (one_size(slots, 2))
+            return 1;
+    for (uint32_t count = 1; count <= FREEZE_QUEUE_MOST_TAGS; count++)
+        if (one_size(1, count))
+            return 1;
+    return one_size(FREEZE_QUEUE_MOST_SLOTS, FREEZE_QUEUE_MOST_TAGS) || each_tag_refused(FREEZE_QUEUE_MOST_TAGS);
+}
+
 /* A pool that is refused a tag gives back those that it was given. */
 static int fills(void)
 {
@@ -112,5 +156,5 @@ int main(void)
         return 2;
     if (fills())
         return 3;
-    return one_place_twice() ? 4 : freed_tags() ? 5 : blocks != 0 ? 6 : 0;
+    return one_place_twice() ? 4 : freed_tags() ? 5 : every_size() ? 6 : blocks != 0 ? 7 : 0;
 }

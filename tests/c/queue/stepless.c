@@ -1,0 +1,129 @@
+/* Which calls take no step on the queue (stepless.h): handles that are freed, given out or given back, questions, and calls that
+ * are refused. */
+#define _GNU_SOURCE
+#include "freeze_queue.h"
+
+#include "../stepless.h"
+
+enum { SLOTS = 4 };
+
+#define IS(call, want) is(#call, call, FREEZE_QUEUE_##want, __LINE__)
+
+static const freeze_queue_limits limits = {.hardware = 8, .max = 3};
+static freeze_queue_freezer freezer;
+static freeze_queue_tag tags[3], closed;
+
+/* The words that count are in the one block that two tags write when they enter. */
+static void finds_the_table(void)
+{
+    int found = 0;
+    for (int i = 0; i < block_count; i++) {
+        int written = 0;
+        for (int t = 0; t < 2; t++) {
+            the_table = i;
+            guards(true);
+            IS(freeze_queue_try_enter(&tags[t], 0), OK);
+            guards(false);
+            written += writes;
+            IS(freeze_queue_leave(&tags[t], 0), OK);
+        }
+        if (written == 2)
+            found = i + 1;
+    }
+    TELLS(found > 0, true);
+    the_table = found - 1;
+}
+
+/* A queue in a mode, frozen so often, with its last tag in, and the first if asked for. */
+static void a_queue(uint32_t mode, uint32_t freezes, bool is_in)
+{
+    uint32_t depth;
+    block_count = 0;
+    IS(freeze_queue_new(&freezer, &limits, SLOTS, 3), OK);
+    for (int t = 0; t < 3; t++)
+        IS(freeze_queue_next_tag(&freezer, &tags[t]), OK);
+    finds_the_table();
+    IS(freeze_queue_mode(&freezer, mode), OK);
+    IS(freeze_queue_try_enter(&tags[2], 1), OK);
+    if (is_in)
+        IS(freeze_queue_try_enter(&tags[0], 2), OK);
+    for (uint32_t i = 0; i < freezes; i++)
+        IS(freeze_queue_start_freeze(&freezer, &depth), OK);
+}
+
+static void questions(uint32_t freezes)
+{
+    freeze_queue_limits read;
+    uint32_t depth, piece;
+    TELLS(STEPLESS(freeze_queue_depth(&freezer, &depth)), FREEZE_QUEUE_OK);
+    TELLS(depth, freezes);
+    TELLS(STEPLESS(freeze_queue_limits_in_force(&freezer, &read)), FREEZE_QUEUE_OK);
+    TELLS(STEPLESS(freeze_queue_limits_of(&tags[2], &read)), FREEZE_QUEUE_OK);
+    TELLS(STEPLESS(freeze_queue_poll_drained(&freezer)), false);
+    TELLS(STEPLESS(freeze_queue_first_piece(&limits, 0, 9, &piece)), FREEZE_QUEUE_OK);
+    TELLS(STEPLESS(freeze_queue_tag_number(&tags[2])) == STEPLESS(freeze_queue_freezer_number(&freezer)), true);
+}
+
+static void refused_calls(uint32_t mode, bool is_in)
+{
+    freeze_queue_final last;
+    freeze_queue_freezer other = {0};
+    TELLS(STEPLESS(freeze_queue_try_enter(&tags[1], SLOTS)), FREEZE_QUEUE_ERR_BAD_SLOT);
+    TELLS(STEPLESS(freeze_queue_try_enter_frozen(&tags[1], SLOTS)), FREEZE_QUEUE_ERR_BAD_SLOT);
+    TELLS(STEPLESS(freeze_queue_try_enter(&tags[2], 0)), FREEZE_QUEUE_ERR_ALREADY_ENTERED);
+    TELLS(STEPLESS(freeze_queue_try_enter_frozen(&tags[2], 0)), FREEZE_QUEUE_ERR_ALREADY_ENTERED);
+    TELLS(STEPLESS(freeze_queue_stay(&tags[1], 0)), FREEZE_QUEUE_ERR_TAG_NOT_ENTERED);
+    TELLS(STEPLESS(freeze_queue_leave(&tags[1], 0)), FREEZE_QUEUE_ERR_TAG_NOT_ENTERED);
+    TELLS(STEPLESS(freeze_queue_leave(&tags[2], SLOTS)), FREEZE_QUEUE_ERR_BAD_SLOT);
+    TELLS(STEPLESS(freeze_queue_next_tag(&freezer, &closed)), FREEZE_QUEUE_ERR_NO_TAG);
+    TELLS(STEPLESS(freeze_queue_next_tag(&freezer, &tags[1])), FREEZE_QUEUE_ERR_OPEN);
+    TELLS(STEPLESS(freeze_queue_give_tag_back(&freezer, &tags[2])), FREEZE_QUEUE_ERR_ALREADY_ENTERED);
+    TELLS(STEPLESS(freeze_queue_give_tag_back(&other, &tags[1])), FREEZE_QUEUE_ERR_CLOSED);
+    TELLS(STEPLESS(freeze_queue_mode(&freezer, 2)), FREEZE_QUEUE_ERR_BAD_MODE);
+    TELLS(STEPLESS(freeze_queue_mode(&freezer, mode)), FREEZE_QUEUE_OK); /* the mode that it has */
+    TELLS(STEPLESS(freeze_queue_new(&freezer, &limits, 1, 1)), FREEZE_QUEUE_ERR_OPEN);
+    TELLS(STEPLESS(freeze_queue_remove(&freezer, &last)), FREEZE_QUEUE_ERR_TAGS_OUT);
+    TELLS(is_in, tags[0].is_open && STEPLESS(freeze_queue_limits_of(&tags[0], &(freeze_queue_limits){0})) == FREEZE_QUEUE_OK);
+}
+
+static uint64_t frees_tag(int t)
+{
+    freeze_queue_free_tag(&tags[t]);
+    return tags[t].is_open;
+}
+
+static uint64_t frees_freezer(void)
+{
+    freeze_queue_free_freezer(&freezer);
+    return freezer.is_open;
+}
+
+/* The tag that isn't in goes back and out again; then all handles are freed, the last share of the queue by the last tag. */
+static void handles(void)
+{
+    TELLS(STEPLESS(freeze_queue_give_tag_back(&freezer, &tags[1])), FREEZE_QUEUE_OK);
+    TELLS(STEPLESS(freeze_queue_next_tag(&freezer, &tags[1])), FREEZE_QUEUE_OK);
+    TELLS(STEPLESS(frees_tag(0)), false);
+    TELLS(STEPLESS(frees_freezer()), false);
+    TELLS(STEPLESS(frees_tag(1)), false);
+    freeze_queue_free_tag(&tags[2]);
+}
+
+int main(void)
+{
+    tells_writes();
+    for (uint32_t mode = 0; mode < 2; mode++)
+        for (uint32_t freezes = 0; freezes < 3; freezes++)
+            for (int is_in = 0; is_in < 2; is_in++) {
+                a_queue(mode, freezes, is_in);
+                questions(freezes);
+                refused_calls(mode, is_in);
+                if (freezes == 0) { /* and what does take steps is seen */
+                    TELLS(STEPS(freeze_queue_try_enter(&tags[1], 0)), FREEZE_QUEUE_OK);
+                    TELLS(STEPS(freeze_queue_leave(&tags[1], 3)), FREEZE_QUEUE_OK);
+                }
+                handles();
+            }
+    printf("%s\n", failures ? "FAILED" : "no step but their own");
+    return failures != 0;
+}

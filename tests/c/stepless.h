@@ -1,0 +1,71 @@
+/* Included by tests of which calls take no step, not even one that is taken back: while such a call runs the words that count
+ * are memory that no thread may write, so a write is told. Linked with --wrap=malloc and free: each block has pages of its own. */
+#ifndef STEPLESS_H
+#define STEPLESS_H
+#include "is.h"
+
+#include <signal.h>
+#include <stdbool.h>
+#include <stdlib.h>
+#include <sys/mman.h>
+
+enum { PAGE = 4096, BLOCKS = 256 };
+
+/* The value of a call that takes no step, and the one of a call that does. */
+#define STEPLESS(call) (guards(true), tells_steps(#call, (call), 0, __LINE__))
+#define STEPS(call) (guards(true), tells_steps(#call, (call), 1, __LINE__))
+
+static struct { char *at; size_t size; } blocks[BLOCKS];
+static int block_count, the_table;
+static volatile sig_atomic_t writes;
+
+void *__wrap_malloc(size_t size);
+void __wrap_free(void *at);
+
+void *__wrap_malloc(size_t size)
+{
+    size_t whole = (size + PAGE - 1) / PAGE * PAGE;
+    void *at = mmap(NULL, whole, PROT_READ | PROT_WRITE, MAP_PRIVATE | MAP_ANONYMOUS, -1, 0);
+    if (at == MAP_FAILED || block_count == BLOCKS)
+        abort();
+    blocks[block_count].at = at;
+    blocks[block_count++].size = whole;
+    return at;
+}
+
+void __wrap_free(void *at) { (void)at; }
+
+/* Lets the words that count be written, or not. */
+static void guards(bool on)
+{
+    if (on)
+        writes = 0;
+    if (mprotect(blocks[the_table].at, blocks[the_table].size, on ? PROT_READ : PROT_READ | PROT_WRITE) != 0)
+        abort();
+}
+
+static void on_write(int number, siginfo_t *of, void *context)
+{
+    char *at = of->si_addr;
+    (void)number;
+    (void)context;
+    if (at < blocks[the_table].at || at >= blocks[the_table].at + blocks[the_table].size)
+        abort();
+    writes = 1;
+    guards(false);
+}
+
+static void tells_writes(void)
+{
+    struct sigaction action = {.sa_sigaction = on_write, .sa_flags = SA_SIGINFO};
+    if (sigaction(SIGSEGV, &action, NULL) != 0)
+        exit(2);
+}
+
+static uint64_t tells_steps(const char *what, uint64_t answer, int steps, int line)
+{
+    guards(false);
+    is(what, (uint64_t)writes, (uint64_t)steps, line);
+    return answer;
+}
+#endif
