@@ -2,7 +2,7 @@
 # docs/FORMATS.md; and apart from them the libraries for C, each of which its crate's Makefile installs too.
 #
 #   make                               builds the programs by cargo, if there is no proved build of this tree: some 15 s
-#   make check                         the tests that need no Rattle kit
+#   make check                         everything but the proofs, without the Rattle kit
 #   make prove                         proves the crates, and builds the programs from them: needs the kit, and some minutes
 #   make install PREFIX=/usr/local     puts the programs and the pages there; DESTDIR goes before it
 #   make install-c PREFIX=/usr/local   builds and puts there both libraries for C, the queue's and the gate's: the proved ones

@@ -1,5 +1,6 @@
-"""The steps of the gate: a new one is a line of steps_of()."""
+"""The steps of the gate: a new one is a line of steps_of(), or of tests/list if it needs no kit."""
 
+import os
 import re
 
 from gate_parts.schedule import Step
@@ -31,17 +32,13 @@ def steps_of(crates, copy, log, processors, tries_all):
         Step("edits", ("tests/edits/run",), 4, after=("proofs",), memory=3),
         Step("noted", ("tests/edits/noted",), 5, memory=2),
         Step("libraries", ("tests/proofs/run",), 3, memory=2),
-        # The libraries for C, from C; and a storage service, with nbdkit and its clients.
-        Step("c", ("tests/c/run",), 6, **c),
-        Step("nbd", ("tests/nbd/run",), 5, **c),
         # Linux's own code beside these libraries and beside gate_races, where a source is.
         Step("linux", ("tests/linux/run",), 4, **c),
-        # The commands, programs and links of the pages.
-        Step("pages", ("tests/pages/run",), 3, **c, folders=("rust/target",)),
         # The plain Rust of rust/, which needs no kit: README's first commands in a copy with no kit on the PATH, of which `make check`
-        # has cargo's tests; and what else is tried of the crates, as lints, packages and sanitizers.
-        Step("plain", ("tests/fresh",), 4),
+        # has cargo's tests and tests/list over cargo's builds; and further tests of the crates: lints, packages, sanitizers.
+        Step("plain", ("tests/fresh",), 15, memory=2),
         Step("rust", ("tests/rust/run", "rest"), 4, folders=("rust/target",)),
+        *of_list(),
         *of_programs(),
         # The pages of claims, the clauses, and the English of pages, headers and comments, each with the tool that measures it.
         Step("claims", ("tests/claims/run",), 1),
@@ -49,8 +46,6 @@ def steps_of(crates, copy, log, processors, tries_all):
         Step("words", ("tests/words/run",), 1),
         # The erased files of rust/ compared with the sources, and the tool that erases.
         Step("erase", ("tests/erase/run",), 1),
-        # The moments of some races, counted by another program.
-        Step("races counted", ("tests/races/run",), 2),
         # The gate's own schedule.
         Step("gate", ("tests/gate/run",), 0.5),
         # The tests of waking, pinned to a processor that has nothing else to do.
@@ -58,38 +53,51 @@ def steps_of(crates, copy, log, processors, tries_all):
     ]
 
 
+LIST = os.path.join(os.path.dirname(os.path.realpath(__file__)), "../../tests/list")
+# What else the gate has to know of a test there.
+ALSO = {"pages": {"folders": ("rust/target",)}}
+
+
+def listed():
+    """The tests of tests/list: the name, the minutes, over what it runs, and its words."""
+    with open(LIST, encoding="utf-8") as file:
+        for line in file:
+            if line.split("#")[0].strip():
+                name, minutes, over, *words = line.split()
+                yield name, float(minutes), over, words
+
+
+def of_list():
+    """The steps of tests/list, over what is proved here. Those of the tree alone run in the step `plain`."""
+    programs, player = frozenset(["blkq", "gate_races"]), frozenset(["play_calls"])
+    for name, minutes, over, words in listed():
+        needed = player if "PLAY_CALLS" in words else programs
+        if over == "both":
+            for build in ("", ".by-rattle"):
+                yield Step(f"{name}{build}", ("tests/built", *proved_words(words, build)), minutes, proved=needed)
+        elif over == "programs":
+            yield Step(name, proved_words(words, ""), minutes, proved=needed)
+        elif over == "libraries":
+            yield Step(name, proved_words(words, ""), minutes, after=("archives",), **ALSO.get(name, {}))
+
+
+def proved_words(words, build):
+    """The words of a test, over the proved programs of a compiler, and the proved libraries."""
+    files = {name.upper(): (f"crates/{name}/out/{name}{build}",) for name in ("blkq", "gate_races", "play_calls")}
+    files |= {"BUILD": ("proved",), "PLAIN": ()}
+    return tuple(it for word in words for it in files.get(word, (word,)))
+
+
 def of_programs():
-    """The steps over the built programs."""
-    found, programs = [], frozenset(["blkq", "gate_races"])
-    for build in ("", ".by-rattle"):
-        both = (f"crates/blkq/out/blkq{build}", f"crates/gate_races/out/gate_races{build}")
-        player, what = f"crates/play_calls/out/play_calls{build}", {"proved": programs}
-        found += [
-            Step(f"examples{build}", ("tests/built", "tests/examples", *both), 0.5, **what),
-            Step(f"rows{build}", ("tests/built", "tests/rows/run", *both), 0.5, **what),
-            Step(f"calls{build}", ("tests/built", "tests/rows/calls", player), 0.5, proved=frozenset(["play_calls"])),
-            Step(f"sizes{build}", ("tests/built", "tools/sizes", *both), 2, **what),
-            Step(f"switches{build}", ("tests/built", "tests/switches/run", both[0]), 0.5, **what),
-            Step(f"devices{build}", ("tests/built", "tools/sweep_devices", *both), 2, **what),
-        ]
+    """The further steps over the proved programs."""
+    programs = frozenset(["blkq", "gate_races"])
     return [
-        *found,
         # One allocation or start of a thread refused after another, also in the tests, which rt ci builds.
         Step("refusals", ("tools/sweep_refusals",), 4, after=("proofs",), proved=programs),
         # Other programs compared with this one.
         Step("against", ("tests/against/run",), 3, proved=programs),
-        # The races that gate_races prints, replayed; and its outcomes of random ones, compared with those of another program.
-        Step("races", ("tests/races/program",), 2, proved=programs),
-        Step("random races", ("tests/races/random_races", "crates/gate_races/out/gate_races"), 2, proved=programs),
-        # Races of up to a million states, compared with a search in C.
-        Step("large races", ("tests/races/large",), 2, proved=programs),
-        # Questions about races, answered by their outcomes.
-        Step("questions", ("tests/ask/run", "crates/gate_races/out/gate_races", "crates/blkq/out/blkq"), 0.5, proved=programs),
         # The page that runs the programs in a browser.
         Step("page", ("tests/page/run", "crates/blkq/out/blkq", "crates/gate_races/out/gate_races"), 2, proved=programs),
-        # The pictures of the documents, made anew.
-        Step("pictures", ("tests/pictures/run",), 1, proved=programs),
-        Step("install", ("tests/install",), 0.5, proved=programs),
     ]
 
 
