@@ -39,8 +39,8 @@
  *  - a pool is all zero before it is filled, as freeze_queue_pool_new makes it. It isn't moved or copied while it is filled;
  *  - a thread gives back only tags that this pool gave, each after its leave;
  *  - freeze_queue_pool_fill and freeze_queue_pool_empty are calls of the freezer: under the lock of its waits, one at a
- *    time. No thread takes a tag before the first, or during the second or after it. freeze_queue_pool_end is made without
- *    the lock.
+ *    time. No thread takes a tag, or lists the tags that are out, before the first, or during the second or after it.
+ *    freeze_queue_pool_end is made without the lock.
  */
 #ifndef FREEZE_QUEUE_POOL_H
 #define FREEZE_QUEUE_POOL_H
@@ -471,8 +471,8 @@ FREEZE_QUEUE_MUST_USE FREEZE_QUEUE_INLINE uint32_t freeze_queue_pool_end(freeze_
     return FREEZE_QUEUE_OK;
 }
 
-/* Destroys a pool that has ended, once no thread may take from it: then it may be filled again. Destroys and frees a pool that
- * freeze_queue_pool_new made, and that was emptied or has ended. */
+/* Destroys a pool that has ended, once no thread may take from it or list its tags: then it may be filled again. Destroys
+ * and frees a pool that freeze_queue_pool_new made, and that was emptied or has ended. */
 FREEZE_QUEUE_INLINE void freeze_queue_pool_destroy(freeze_queue_pool *pool)
 {
     if (!pool->is_ending)
