@@ -1,9 +1,10 @@
 # Completes the words of blkqctl in bash.
 _blkqctl() {
     local word=${COMP_WORDS[COMP_CWORD]} place=$COMP_CWORD first=1 choices=
-    [[ ${COMP_WORDS[1]} == --timeout ]] && first=3
-    if ((place == first)); then
-        mapfile -t COMPREPLY < <(compgen -W --timeout -- "$word"; compgen -f -- "$word")
+    [[ ${COMP_WORDS[1]} == @(-v|--verbose) ]] && first=2
+    [[ ${COMP_WORDS[first]} == --timeout ]] && first=$((first + 2))
+    if ((place <= first)); then
+        mapfile -t COMPREPLY < <(compgen -W '--timeout --verbose' -- "$word"; compgen -f -- "$word")
         return
     fi
     case $((place - first)):${COMP_WORDS[first + 1]} in

@@ -15,6 +15,10 @@ typedef struct hold {
 static hold holds[FREEZE_QUEUE_MOST_DEPTH];
 static uint32_t held;
 
+/* The freezes of this file that aren't thawed, and since when there is one, in nanoseconds. */
+static uint32_t frozen;
+static uint64_t frozen_since;
+
 control_counts controlled = {.mode = FREEZE_QUEUE_MODE_SLOTS};
 
 uint64_t now(void)
@@ -23,6 +27,8 @@ uint64_t now(void)
     clock_gettime(CLOCK_MONOTONIC, &at);
     return (uint64_t)at.tv_sec * 1000000000 + (uint64_t)at.tv_nsec;
 }
+
+uint64_t time_frozen(void) { return controlled.frozen + (frozen > 0 ? now() - frozen_since : 0); }
 
 /* ---- Replies ---- */
 
@@ -38,19 +44,44 @@ static void say_depth(controller *to)
 static void say_refusal(controller *to, uint32_t refused)
 {
     controlled.refused++;
+    to->refused = refused;
     if (refused >= FREEZE_QUEUE_ERR_ABOVE_HARDWARE && refused <= FREEZE_QUEUE_ERR_BAD_PHYSICAL)
         say(to, "EINVAL");
     else
         say(to, refused == FREEZE_QUEUE_ERR_DEPTH_FULL ? "depth full" : freeze_queue_text(refused));
 }
 
+/* The field that the queue refuses; FIELDS where it isn't for a field. */
+static int field_refused(uint32_t refused)
+{
+    switch (refused) {
+    case FREEZE_QUEUE_ERR_ABOVE_HARDWARE: return MAX_SECTORS;
+    case FREEZE_QUEUE_ERR_CHUNK_TOO_LARGE: return CHUNK_SECTORS;
+    case FREEZE_QUEUE_ERR_BAD_PHYSICAL: return PHYSICAL_SECTORS;
+    default: return FIELDS;
+    }
+}
+
+/* The last refusal of a controller's lines, which may have been EINVAL alone. */
+static void say_why(controller *to)
+{
+    char text[128];
+    int field = field_refused(to->refused);
+    const char *name = field < FIELDS ? fields[field] : "queue";
+    snprintf(text, sizeof text, "%s: %s", name, freeze_queue_text(to->refused));
+    say(to, to->refused == FREEZE_QUEUE_OK ? "nothing was refused" : text);
+}
+
 /* ---- Freezes that are held ---- */
 
+/* Ends a freeze. A dying queue refuses that, and needs it no more. */
 static void thaw_queue(void)
 {
     uint32_t thawed = freeze_queue_waits_thaw(&blkq.waits);
     if (!freeze_queue_is_refused(thawed))
         controlled.thaws++;
+    if (--frozen == 0)
+        controlled.frozen += now() - frozen_since;
 }
 
 /* Thaws the hold at a place. */
@@ -118,10 +149,10 @@ static void hold_on(controller *from)
 static uint32_t limits_asked(const command *asked, freeze_queue_limits *limits)
 {
     uint32_t refused = freeze_queue_waits_limits(&blkq.waits, limits), piece;
-    uint32_t *const fields[FIELDS] = {&limits->max, &limits->chunk, &limits->physical};
+    uint32_t *const values[FIELDS] = {&limits->max, &limits->chunk, &limits->physical};
     for (int field = 0; field < FIELDS; field++)
         if (asked->sets[field])
-            *fields[field] = asked->to[field];
+            *values[field] = asked->to[field];
     if (limits->physical == 0) /* the library takes it for the default, and a line never asks for that */
         return FREEZE_QUEUE_ERR_BAD_PHYSICAL;
     return refused == FREEZE_QUEUE_OK ? freeze_queue_first_piece(limits, 0, 1, &piece) : refused;
@@ -144,6 +175,7 @@ static void set_limits(controller *from)
 
 static void end_flush(controller *from, int failed)
 {
+    controlled.flushing += now() - from->since;
     if (failed == 0) {
         controlled.quiesces++;
         hold_on(from);
@@ -159,6 +191,9 @@ static void end_flush(controller *from, int failed)
 /* The queue is drained, and the freeze of the line has begun. */
 static void go_on_drained(controller *from)
 {
+    uint64_t drained = now();
+    controlled.draining += drained - from->since;
+    from->since = drained;
     if (from->asked.verb == SET) {
         set_limits(from);
         give_up(from);
@@ -186,14 +221,17 @@ void go_on(controller *from)
 /* Begins a freeze, and goes on with the line once the queue is drained, now or later. */
 static void begin_freeze(controller *from)
 {
-    uint32_t begun = FREEZE_QUEUE_ERR_CLOSED;
-    if (!atomic_load(&blkq.is_ending))
+    uint32_t begun = FREEZE_QUEUE_ERR_DYING;
+    if (!freeze_queue_waits_is_dying(&blkq.waits))
         begun = held < FREEZE_QUEUE_MOST_DEPTH ? freeze_queue_waits_begin_freeze(&blkq.waits) : FREEZE_QUEUE_ERR_DEPTH_FULL;
     if (freeze_queue_is_refused(begun)) {
         say_refusal(from, begun);
         return;
     }
     from->stage = DRAINING;
+    from->since = now();
+    if (frozen++ == 0)
+        frozen_since = from->since;
     go_on(from);
 }
 
@@ -272,6 +310,7 @@ void run_line(controller *from, char *line)
     case THAW: thaw(from); break;
     case THAW_ALL: thaw_all(from); break;
     case SET: set(from); break;
+    case WHY: say_why(from); break;
     case MODE: count_by(from); break;
     case STAT: tell(from, tell_stat); break;
     case METRICS: tell(from, tell_metrics); break;

@@ -16,7 +16,8 @@ typedef struct connection {
     uint32_t minimum; /* bytes of the backend's smallest block; 1 where the backend names none */
     int fua;          /* an NBDKIT_FUA_.. */
     bool flushes, is_listed;
-    atomic_bool is_written; /* since the last flush began */
+    pthread_mutex_t flushing; /* held by a quiesce's flush, and by that of the connection's end */
+    atomic_bool is_written;   /* since the last flush began */
     struct connection *before, *after;
 } connection;
 
@@ -68,33 +69,45 @@ static void end_call(void)
 
 /* ---- Flushed ---- */
 
-/* Flushes the writes of a connection, if there were any: 0, or an errno. */
-static int flush_connection(connection *one)
+/* Has the backend flush by a connection: 0, or an errno. */
+static int flush_by(connection *one)
 {
     int failed = 0;
-    if (!one->flushes || !atomic_exchange(&one->is_written, false))
-        return 0;
     begin_call();
     bool done = one->next->flush(one->next, 0, &failed) == 0;
     end_call();
-    if (done)
-        return 0;
-    atomic_store(&one->is_written, true);
-    return failed != 0 ? failed : EIO;
+    return done ? 0 : failed != 0 ? failed : EIO;
+}
+
+/* Flushes the writes of a connection, if there were any: 0, or an errno, which a quiesce is told if the connection leaves. A
+ * flush that another thread has begun is waited for. */
+static int flush_connection(connection *one, bool leaves)
+{
+    int failed = 0;
+    pthread_mutex_lock(&one->flushing);
+    if (one->flushes && atomic_exchange(&one->is_written, false))
+        failed = flush_by(one);
+    if (failed != 0 && leaves)
+        atomic_store(&lost, failed);
+    else if (failed != 0)
+        atomic_store(&one->is_written, true);
+    pthread_mutex_unlock(&one->flushing);
+    return failed;
 }
 
 /* Flushes the writes of all connections, for a quiesce. A connection that went was flushed then. */
 static int flush_backend(void)
 {
-    int failed = atomic_exchange(&lost, 0);
+    int failed = 0;
     pthread_mutex_lock(&lock);
     for (connection *one = connections; one != NULL; one = one->after) {
-        int flushed = flush_connection(one);
+        int flushed = flush_connection(one, false);
         if (flushed != 0)
             failed = flushed;
     }
     pthread_mutex_unlock(&lock);
-    return failed;
+    int left = atomic_exchange(&lost, 0); /* of those that went meanwhile too */
+    return failed != 0 ? failed : left;
 }
 
 /* ---- The server comes and goes ---- */
@@ -110,8 +123,7 @@ static int filter_config(nbdkit_next_config *next, nbdkit_backend *nxdata, const
     for (char *at = name; *at != '\0'; at++)
         if (*at == '-')
             *at = '_';
-    int configured = configure_queue(name, value);
-    return configured > 0 ? refuse(key, "no such parameter") : configured;
+    return configure_queue(key, name, value);
 }
 
 static const char help[] =
@@ -142,8 +154,6 @@ static void filter_cleanup(nbdkit_backend *backend)
     end_queue();
 }
 
-static void filter_unload(void) { free(blkq.control); }
-
 /* ---- A client comes and goes ---- */
 
 static void *filter_open(nbdkit_next_open *next, nbdkit_context *context, int readonly, const char *name, int is_tls)
@@ -161,6 +171,7 @@ static void *filter_open(nbdkit_next_open *next, nbdkit_context *context, int re
         free(opened);
         return NULL;
     }
+    pthread_mutex_init(&opened->flushing, NULL);
     return opened;
 }
 
@@ -188,9 +199,7 @@ static int filter_finalize(nbdkit_next *next, void *handle)
 {
     connection *leaving = handle;
     (void)next;
-    int failed = flush_connection(leaving);
-    if (failed != 0)
-        atomic_store(&lost, failed);
+    int failed = flush_connection(leaving, true);
     unlist(leaving);
     return failed == 0 ? 0 : -1;
 }
@@ -198,8 +207,10 @@ static int filter_finalize(nbdkit_next *next, void *handle)
 /* nbdkit doesn't finalize a connection that is lost while it is made. */
 static void filter_close(void *handle)
 {
-    unlist(handle);
-    free(handle);
+    connection *closed = handle;
+    unlist(closed);
+    pthread_mutex_destroy(&closed->flushing);
+    free(closed);
 }
 
 /* The backend's sizes; the preferred one is the queue's physical block where that is larger. */
@@ -344,7 +355,7 @@ static struct nbdkit_filter filter = {
     .get_ready = filter_get_ready,
     .after_fork = filter_after_fork,
     .cleanup = filter_cleanup,
-    .unload = filter_unload,
+    .unload = unload_queue,
     .open = filter_open,
     .prepare = filter_prepare,
     .finalize = filter_finalize,

@@ -4,32 +4,39 @@
 #include <sys/eventfd.h>
 #include <unistd.h>
 
+static background flusher = NO_BACKGROUND;
+
+/* The tickets and the errno are under the flusher's lock. */
 static struct {
-    pthread_mutex_t lock;
-    pthread_cond_t told;
-    pthread_t thread;
-    bool runs, is_over;
-    int event; /* readable once a flush is done */
+    int event;            /* readable once a flush is done */
     uint64_t asked, done; /* tickets: the last one that was given, and those up to here are done */
-    int failed;           /* the errno of the last flush */
-} flusher = {.lock = PTHREAD_MUTEX_INITIALIZER, .told = PTHREAD_COND_INITIALIZER, .event = -1};
+    uint64_t failed_at;   /* the last ticket of the last flush that failed, */
+    int failed;           /* and its errno */
+} flushes = {.event = -1};
+
+/* Sleeps until a flush is asked for, and gives the last ticket; 0: the thread is to end. Under the lock. */
+static uint64_t next_ticket(void)
+{
+    while (!flusher.is_over && flushes.asked == flushes.done)
+        pthread_cond_wait(&flusher.told, &flusher.lock);
+    return flusher.is_over ? 0 : flushes.asked;
+}
 
 /* Each flush is for all tickets that were given before it began. */
 static void *flush_when_asked(void *nothing)
 {
+    uint64_t ticket;
     pthread_mutex_lock(&flusher.lock);
-    for (;;) {
-        while (!flusher.is_over && flusher.asked == flusher.done)
-            pthread_cond_wait(&flusher.told, &flusher.lock);
-        if (flusher.is_over)
-            break;
-        uint64_t ticket = flusher.asked;
+    while ((ticket = next_ticket()) != 0) {
         pthread_mutex_unlock(&flusher.lock);
         int failed = blkq.flush();
         pthread_mutex_lock(&flusher.lock);
-        flusher.done = ticket;
-        flusher.failed = failed;
-        eventfd_write(flusher.event, 1);
+        flushes.done = ticket;
+        if (failed != 0) {
+            flushes.failed_at = ticket;
+            flushes.failed = failed;
+        }
+        eventfd_write(flushes.event, 1);
     }
     pthread_mutex_unlock(&flusher.lock);
     return nothing;
@@ -37,35 +44,24 @@ static void *flush_when_asked(void *nothing)
 
 int start_flushing(void)
 {
-    flusher.event = eventfd(0, EFD_CLOEXEC | EFD_NONBLOCK);
-    if (flusher.event < 0)
-        return errno;
-    int failed = pthread_create(&flusher.thread, NULL, flush_when_asked, NULL);
-    flusher.runs = failed == 0;
-    return failed;
+    flushes.event = eventfd(0, EFD_CLOEXEC | EFD_NONBLOCK);
+    return flushes.event < 0 ? errno : begin_background(&flusher, flush_when_asked);
 }
 
 void end_flushing(void)
 {
-    if (flusher.runs) {
-        pthread_mutex_lock(&flusher.lock);
-        flusher.is_over = true;
-        pthread_cond_signal(&flusher.told);
-        pthread_mutex_unlock(&flusher.lock);
-        pthread_join(flusher.thread, NULL);
-        flusher.runs = false;
-    }
-    if (flusher.event >= 0)
-        close(flusher.event);
-    flusher.event = -1;
+    end_background(&flusher);
+    if (flushes.event >= 0)
+        close(flushes.event);
+    flushes.event = -1;
 }
 
-int flush_event(void) { return flusher.event; }
+int flush_event(void) { return flushes.event; }
 
 uint64_t ask_flush(void)
 {
     pthread_mutex_lock(&flusher.lock);
-    uint64_t ticket = ++flusher.asked;
+    uint64_t ticket = ++flushes.asked;
     pthread_cond_signal(&flusher.told);
     pthread_mutex_unlock(&flusher.lock);
     return ticket;
@@ -74,8 +70,8 @@ uint64_t ask_flush(void)
 bool is_flushed(uint64_t ticket, int *failed)
 {
     pthread_mutex_lock(&flusher.lock);
-    bool is_done = flusher.done >= ticket;
-    *failed = flusher.failed;
+    bool is_done = flushes.done >= ticket;
+    *failed = flushes.failed_at >= ticket ? flushes.failed : 0;
     pthread_mutex_unlock(&flusher.lock);
     return is_done;
 }

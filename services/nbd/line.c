@@ -4,7 +4,7 @@
 
 enum { MOST_WORDS = 2 + 2 * FIELDS, MOST_DIGITS = 20 };
 
-static const char *const fields[FIELDS] = {"max_sectors", "chunk_sectors", "physical_sectors"};
+const char *const fields[FIELDS] = {"max_sectors", "chunk_sectors", "physical_sectors"};
 
 /* Reads a number of 1 to 20 digits below 2^32: NULL, or its fault. */
 static const char *parse_number(const char *word, uint32_t *number)
@@ -90,8 +90,8 @@ static const char *parse_set(char *const words[], size_t count, command *parsed)
 
 static const struct { const char *first; verb verb; form *parse; } forms[] = {
     {"freeze", FREEZE, parse_freeze}, {"quiesce", QUIESCE, parse_freeze}, {"thaw", THAW, parse_thaw},
-    {"set", SET, parse_set},          {"mode", MODE, parse_mode},         {"stat", STAT, parse_alone},
-    {"metrics", METRICS, parse_alone},
+    {"set", SET, parse_set},          {"why", WHY, parse_alone},          {"mode", MODE, parse_mode},
+    {"stat", STAT, parse_alone},      {"metrics", METRICS, parse_alone},
 };
 
 /* Cuts a line at spaces and tabs, and counts its words, up to MOST_WORDS. */

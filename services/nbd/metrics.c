@@ -134,20 +134,36 @@ static void write_requests(FILE *file)
         write_histogram(file, "waiting_seconds", names[operation], waiting_of(operation));
 }
 
-static void write_queue(FILE *file)
+static void write_seconds(FILE *file, const char *name, const char *help, uint64_t nanoseconds)
+{
+    head(file, name, "counter", help);
+    fprintf(file, "blkq_%s %.9f\n", name, (double)nanoseconds / 1e9);
+}
+
+/* Where the time of freezes goes: what is neither the drain's nor the flush's is the command's that a freeze is held for. */
+static void write_freezes(FILE *file)
 {
     uint32_t depth = 0;
-    freeze_queue_limits limits = {0};
     freeze_queue_waits_depth(&blkq.waits, &depth);
-    freeze_queue_waits_limits(&blkq.waits, &limits);
-    write_number(file, "waiting", "gauge", "Requests that wait now.", atomic_load(&blkq.waiting));
     write_number(file, "freeze_depth", "gauge", "Freezes that are not thawed.", depth);
     write_number(file, "freezes_total", "counter", "Freezes that were drained.", controlled.freezes);
     write_number(file, "quiesces_total", "counter", "Freezes that were drained and flushed.", controlled.quiesces);
     write_number(file, "thaws_total", "counter", "Freezes that ended, those of settings too.", controlled.thaws);
+    write_seconds(file, "frozen_seconds_total", "Time for which the queue was frozen.", time_frozen());
+    write_seconds(file, "drain_seconds_total", "Time that freezes took to drain the queue.", controlled.draining);
+    write_seconds(file, "flush_seconds_total", "Time that quiesces waited for a flush.", controlled.flushing);
     write_number(file, "settings_total", "counter", "Changes of the limits.", controlled.settings);
     write_number(file, "refused_total", "counter", "Lines of the control that were refused.", controlled.refused);
+}
+
+static void write_queue(FILE *file)
+{
+    freeze_queue_limits limits = {0};
+    freeze_queue_waits_limits(&blkq.waits, &limits);
+    write_number(file, "waiting", "gauge", "Requests that wait now.", atomic_load(&blkq.waiting));
     write_number(file, "tags", "gauge", "Requests in flight at most.", blkq.tags);
+    write_number(file, "tags_out", "gauge", "Tags of requests in flight, or waiting for the thaw.",
+                 freeze_queue_pool_in_flight(&blkq.pool, NULL, 0));
     head(file, "limit_sectors", "gauge", "The limits in force, in sectors of 512 bytes.");
     fprintf(file, "blkq_limit_sectors{limit=\"max\"} %" PRIu32 "\n", limits.max);
     fprintf(file, "blkq_limit_sectors{limit=\"chunk\"} %" PRIu32 "\n", limits.chunk);
@@ -158,6 +174,7 @@ static void write_queue(FILE *file)
 static void write_metrics(FILE *file)
 {
     write_requests(file);
+    write_freezes(file);
     write_queue(file);
     fprintf(file, "# EOF\n");
 }

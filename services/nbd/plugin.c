@@ -35,8 +35,7 @@ static int plugin_config(const char *key, const char *value)
         return parse_size(value);
     if (strcmp(key, "latency_microseconds") == 0)
         return nbdkit_parse_uint32_t(key, value, &disk.latency);
-    int configured = configure_queue(key, value);
-    return configured > 0 ? refuse(key, "no such parameter") : configured;
+    return configure_queue(key, key, value);
 }
 
 static const char help[] =
@@ -66,8 +65,6 @@ static void plugin_cleanup(void)
     end_queue();
     munmap(disk.bytes, disk.size);
 }
-
-static void plugin_unload(void) { free(blkq.control); }
 
 /* ---- Told to a client ---- */
 
@@ -189,7 +186,7 @@ static struct nbdkit_plugin plugin = {
     .get_ready = plugin_get_ready,
     .after_fork = start_threads,
     .cleanup = plugin_cleanup,
-    .unload = plugin_unload,
+    .unload = unload_queue,
     .open = plugin_open,
     .get_size = plugin_get_size,
     .block_size = plugin_block_size,

@@ -9,6 +9,9 @@
 #include <string.h>
 #include <unistd.h>
 
+/* For tags that are out at the end: none is, once every client has gone. In nanoseconds. */
+#define END_WITHIN (UINT64_C(10) * 1000 * 1000 * 1000)
+
 service blkq = {
     .limits = {.hardware = MOST_COUNT, .physical = 1},
     .tags = FREEZE_QUEUE_MOST_TAGS,
@@ -29,40 +32,39 @@ static int parse_nowait(const char *text)
     return yes < 0 ? -1 : 0;
 }
 
-int configure_queue(const char *key, const char *value)
+/* Takes a parameter by its name. 1: there is no such parameter; -1: refused, and nbdkit was told why. */
+static int take_parameter(const char *key, const char *name, const char *value)
 {
-    const struct { const char *key; uint32_t *value; } numbers[] = {
+    const struct { const char *name; uint32_t *value; } numbers[] = {
         {"hardware_sectors", &blkq.limits.hardware}, {"max_sectors", &blkq.limits.max},
         {"chunk_sectors", &blkq.limits.chunk},       {"physical_sectors", &blkq.limits.physical},
         {"slots", &blkq.slots},                      {"tags", &blkq.tags},
     };
     for (size_t i = 0; i < sizeof numbers / sizeof *numbers; i++)
-        if (strcmp(key, numbers[i].key) == 0)
+        if (strcmp(name, numbers[i].name) == 0)
             return nbdkit_parse_uint32_t(key, value, numbers[i].value);
-    if (strcmp(key, "nowait") == 0)
+    if (strcmp(name, "nowait") == 0)
         return parse_nowait(value);
-    if (strcmp(key, "control") != 0)
+    if (strcmp(name, "control") != 0)
         return 1;
     free(blkq.control);
     blkq.control = nbdkit_absolute_path(value);
     return blkq.control == NULL ? -1 : 0;
 }
 
+int configure_queue(const char *key, const char *name, const char *value)
+{
+    int taken = take_parameter(key, name, value);
+    return taken > 0 ? refuse(key, "no such parameter") : taken;
+}
+
+void unload_queue(void) { free(blkq.control); }
+
 /* ---- nbdkit's end ---- */
 
-static struct {
-    pthread_mutex_t lock;
-    pthread_cond_t told;
-    pthread_t thread;
-    bool runs, is_over; /* is_over: under the lock */
-} watch = {.lock = PTHREAD_MUTEX_INITIALIZER, .told = PTHREAD_COND_INITIALIZER};
+static background watch = NO_BACKGROUND;
 
-void watch_for_the_end(void)
-{
-    pthread_mutex_lock(&watch.lock);
-    pthread_cond_signal(&watch.told);
-    pthread_mutex_unlock(&watch.lock);
-}
+void watch_for_the_end(void) { tell_background(&watch); }
 
 /* Sleeps until a request waits or the watch is over, and says whether it goes on. */
 static bool sleep_until_needed(void)
@@ -75,37 +77,25 @@ static bool sleep_until_needed(void)
     return goes_on;
 }
 
-/* Thaws the queue until no request waits: each enters, sees that nbdkit ends, and leaves. */
-static void send_waiting_away(void)
+/* Lets no request enter any more, by a freeze that no line thaws: those that wait are refused. If a thousand freezes leave no
+ * room for it, it takes the place of one. */
+static uint32_t mark_dying(void)
 {
-    const struct timespec pause = {0, 1000 * 1000};
-    atomic_store(&blkq.is_ending, true);
-    while (atomic_load(&blkq.waiting) > 0) {
-        while (!freeze_queue_is_refused(freeze_queue_waits_thaw(&blkq.waits)))
-            ;
-        nanosleep(&pause, NULL);
-    }
+    uint32_t refused = freeze_queue_waits_mark_dying(&blkq.waits);
+    while (refused == FREEZE_QUEUE_ERR_DEPTH_FULL && !freeze_queue_is_refused(freeze_queue_waits_thaw(&blkq.waits)))
+        refused = freeze_queue_waits_mark_dying(&blkq.waits);
+    return refused;
 }
 
 /* nbdkit_nanosleep ends early where nbdkit ends. */
 static void *look_for_the_end(void *nothing)
 {
     while (sleep_until_needed())
-        if (nbdkit_nanosleep(1, 0) != 0)
-            send_waiting_away();
+        if (nbdkit_nanosleep(1, 0) != 0) {
+            (void)mark_dying();
+            break;
+        }
     return nothing;
-}
-
-static void end_watch(void)
-{
-    if (!watch.runs)
-        return;
-    pthread_mutex_lock(&watch.lock);
-    watch.is_over = true;
-    pthread_cond_signal(&watch.told);
-    pthread_mutex_unlock(&watch.lock);
-    pthread_join(watch.thread, NULL);
-    watch.runs = false;
 }
 
 /* ---- The queue comes and goes ---- */
@@ -136,8 +126,7 @@ int make_queue(void)
 
 int start_threads(void)
 {
-    int failed = pthread_create(&watch.thread, NULL, look_for_the_end, NULL);
-    watch.runs = failed == 0;
+    int failed = begin_background(&watch, look_for_the_end);
     if (failed == 0 && blkq.flush != NULL)
         failed = start_flushing();
     return failed == 0 ? start_control() : refuse("thread", strerror(failed));
@@ -146,15 +135,19 @@ int start_threads(void)
 void end_queue(void)
 {
     freeze_queue_final last;
-    end_watch();
+    end_background(&watch);
     end_control();
     end_flushing();
-    uint32_t refused = freeze_queue_pool_empty(&blkq.pool, &blkq.freezer);
+    const struct timespec late = freeze_queue_deadline(END_WITHIN);
+    uint32_t refused = mark_dying();
     if (refused == FREEZE_QUEUE_OK)
-        refused = freeze_queue_remove(&blkq.freezer, &last);
-    if (refused != FREEZE_QUEUE_OK)
+        refused = freeze_queue_pool_end(&blkq.pool, &blkq.waits, &late);
+    if (refused == FREEZE_QUEUE_OK)
+        refused = freeze_queue_waits_end(&blkq.waits, &last, &late);
+    if (refused != FREEZE_QUEUE_OK) {
         nbdkit_error("queue: %s", freeze_queue_text(refused));
-    else
-        nbdkit_debug("frozen %" PRIu64 " times", last.kills);
-    freeze_queue_waits_destroy(&blkq.waits);
+        return;
+    }
+    freeze_queue_pool_destroy(&blkq.pool);
+    nbdkit_debug("frozen %" PRIu64 " times", last.kills);
 }

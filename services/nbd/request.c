@@ -57,7 +57,7 @@ static struct timespec next_look(void)
 }
 
 /* Whether the server ends or the client has gone: then nbdkit lets no thread of the connection sleep. */
-static bool is_unwanted(void) { return atomic_load(&blkq.is_ending) || nbdkit_nanosleep(0, 1) != 0; }
+static bool is_unwanted(void) { return freeze_queue_waits_is_dying(&blkq.waits) || nbdkit_nanosleep(0, 1) != 0; }
 
 static void begin_waiting(void)
 {
@@ -80,6 +80,14 @@ static freeze_queue_tag *wait_for_tag(uint32_t thread)
     return tag;
 }
 
+/* Of an answer to an entering, other than that the queue is frozen. */
+static int errno_of(uint32_t entered)
+{
+    if (entered == FREEZE_QUEUE_OK)
+        return 0;
+    return entered == FREEZE_QUEUE_ERR_DYING ? ESHUTDOWN : EIO;
+}
+
 /* Waits for the thaw, and enters: 0, or an errno of serve. */
 static int wait_for_thaw(freeze_queue_tag *tag, uint32_t slot)
 {
@@ -91,9 +99,7 @@ static int wait_for_thaw(freeze_queue_tag *tag, uint32_t slot)
         entered = freeze_queue_waits_enter(&blkq.waits, tag, slot, &look);
     } while (entered == FREEZE_QUEUE_ERR_TIMED_OUT && (is_wanted = !is_unwanted()));
     end_waiting();
-    if (!is_wanted)
-        return ESHUTDOWN;
-    return entered == FREEZE_QUEUE_OK ? 0 : EIO;
+    return is_wanted ? errno_of(entered) : ESHUTDOWN;
 }
 
 /* ---- Under the tag ---- */
@@ -142,8 +148,6 @@ static int do_pieces(freeze_queue_tag *tag, const request *wanted, uint32_t *pie
 /* Does a request whose tag is entered. A flush and the question for extents move no bytes, and aren't cut. */
 static int do_request(freeze_queue_tag *tag, const request *wanted, uint32_t *pieces)
 {
-    if (atomic_load(&blkq.is_ending))
-        return ESHUTDOWN;
     if (wanted->operation != EXTENTS && wanted->operation != FLUSH)
         return do_pieces(tag, wanted, pieces);
     *pieces = 1;
@@ -163,7 +167,7 @@ static int pass_queue(freeze_queue_tag *tag, const request *wanted, uint32_t slo
             return refused;
         has_waited = true;
     } else if (entered != FREEZE_QUEUE_OK) {
-        return EIO;
+        return errno_of(entered);
     }
     if (has_waited)
         count_duration(&mine->waiting, now() - began);

@@ -42,29 +42,46 @@ typedef struct service {
     freeze_queue_freezer freezer;
     freeze_queue_waits waits;
     freeze_queue_pool pool;
-    atomic_bool is_ending; /* nbdkit ends: no request reaches the backend any more */
-    atomic_uint waiting;   /* requests that wait, for a tag or for the thaw */
+    atomic_uint waiting; /* requests that wait, for a tag or for the thaw */
     counts counts[FREEZE_QUEUE_MOST_SLOTS];
 } service;
 
 extern service blkq;
 
+/* ---- background.c ---- */
+
+/* A thread that sleeps until it is told of work, or to end. */
+typedef struct background {
+    pthread_mutex_t lock;
+    pthread_cond_t told;
+    pthread_t thread;
+    bool runs, is_over; /* is_over: under the lock */
+} background;
+
+#define NO_BACKGROUND {.lock = PTHREAD_MUTEX_INITIALIZER, .told = PTHREAD_COND_INITIALIZER}
+
+/* Begins the thread: 0, or an errno. Wakes it. Tells it to end, and waits for that, if it was begun. */
+int begin_background(background *one, void *run(void *));
+void tell_background(background *one);
+void end_background(background *one);
+
 /* ---- queue.c: the queue comes and goes, for the filter and the plugin ---- */
 
-/* Takes a parameter by its name. 1: there is no such parameter; -1: refused, and nbdkit was told why. */
-int configure_queue(const char *key, const char *value);
+/* Takes a parameter of the queue by its name, which the command line has as key. -1: refused, and nbdkit was told why. */
+int configure_queue(const char *key, const char *name, const char *value);
 
 /* Makes the queue, and the control's socket, before nbdkit goes into the background; then starts the threads. -1: refused. */
 int make_queue(void);
 int start_threads(void);
 
-/* Ends the threads and the queue once every client has gone. */
+/* Ends the threads and the queue once every client has gone. Frees the parameters, also of a server that didn't start. */
 void end_queue(void);
+void unload_queue(void);
 
 /* Tells nbdkit why something is refused: -1. */
 int refuse(const char *subject, const char *why);
 
-/* Tells the thread that looks for nbdkit's end that a request waits. */
+/* Wakes the thread that looks for nbdkit's end, since a request waits. */
 void watch_for_the_end(void);
 
 /* ---- request.c ---- */
@@ -93,9 +110,11 @@ int serve(const request *wanted);
 
 /* ---- line.c ---- */
 
-typedef enum verb { NOTHING, FREEZE, QUIESCE, THAW, THAW_ALL, SET, MODE, STAT, METRICS } verb;
+typedef enum verb { NOTHING, FREEZE, QUIESCE, THAW, THAW_ALL, SET, WHY, MODE, STAT, METRICS } verb;
 typedef enum holding { WHILE_CONNECTED, LEASED, KEPT } holding;
 enum { MAX_SECTORS, CHUNK_SECTORS, PHYSICAL_SECTORS, FIELDS };
+
+extern const char *const fields[FIELDS];
 
 /* A line of the control. */
 typedef struct command {
@@ -120,7 +139,9 @@ typedef struct controller {
     int at; /* -1: nobody */
     stage stage;
     command asked;   /* unless IDLE: the line that isn't answered yet, whose freeze has begun */
+    uint64_t since;  /* when its stage began, in nanoseconds */
     uint64_t ticket; /* while FLUSHING: the flush that it waits for */
+    uint32_t refused; /* the last refusal of its lines by the queue */
     uint64_t heard;  /* when, in nanoseconds */
     bool has_ended;  /* it sends no more */
     size_t filled;
@@ -157,7 +178,7 @@ int flush_event(void);
 /* Asks for a flush that begins later than this call, and gives its ticket. */
 uint64_t ask_flush(void);
 
-/* Whether the flush of a ticket is done, and its errno. */
+/* Whether the flush of a ticket is done, and its errno, or that of a later flush if one has failed since. */
 bool is_flushed(uint64_t ticket, int *failed);
 
 /* ---- metrics.c ---- */
@@ -165,10 +186,14 @@ bool is_flushed(uint64_t ticket, int *failed);
 /* Counted by the thread of the control alone. */
 typedef struct control_counts {
     uint64_t freezes, quiesces, thaws, settings, refused;
+    uint64_t draining, flushing, frozen; /* nanoseconds */
     uint32_t mode;
 } control_counts;
 
 extern control_counts controlled;
+
+/* The nanoseconds for which the queue was frozen up to now. */
+uint64_t time_frozen(void);
 
 /* Writes the line of `stat`, and the metrics as Prometheus reads them: an allocation of length bytes; NULL: no memory. */
 char *tell_stat(size_t *length);

@@ -7,10 +7,11 @@ import subprocess
 import sys
 import tempfile
 import time
-from contextlib import ExitStack, closing
+from contextlib import ExitStack, closing, contextmanager
 
 import nbd
 
+from gates import Paused
 from server import Control, Server
 from tries import done
 
@@ -37,12 +38,13 @@ def in_force(control):
 
 
 class Busy:
-    """A request that is in flight, in a backend that takes seconds for it, so that a drain waits."""
+    """A request that is in flight, in a backend that is held up, so that a drain waits."""
 
     def __init__(self, server):
         self.client = server.client()
         self.cookie = self.client.aio_pread(nbd.Buffer(512), 0)
-        time.sleep(0.2)
+        with closing(server.control()) as control:
+            soon(lambda: metrics_of(control)["blkq_tags_out"] == 1, "the request isn't in flight")
 
     def need_done(self):
         assert done([self.client], [self.cookie]) == [0]
@@ -51,8 +53,20 @@ class Busy:
 def slow(served, seconds):
     """A server whose requests take so long."""
     if "filter" in served:
-        return Server(served, backend=["--filter=delay", "memory", "1M", f"delay-read={seconds}"])
+        return Server(served, backend=["--filter=delay", "memory", "1M", f"delay-read={int(seconds * 1e3)}ms"])
     return Server(served, "size=1M", f"latency_microseconds={int(seconds * 1e6)}")
+
+
+@contextmanager
+def held_up(served):
+    """A server whose requests are held up, and a call that lets them go; those of the plugin go by themselves, after a while."""
+    if "filter" in served:
+        with Paused(served) as server:
+            server.tell(b"p")
+            yield server, lambda: server.tell(b"r")
+    else:
+        with slow(served, 10) as server:
+            yield server, lambda: None
 
 
 # ---- Freezes and their controllers ----
@@ -99,7 +113,7 @@ def kept(served):
 
 def given_up(served):
     """A drain holds up nobody else, and ends with its controller or by thaw all; then a request enters at once."""
-    with slow(served, 3) as server, closing(server.control()) as control:
+    with held_up(served) as (server, let_go), closing(server.control()) as control:
         busy = Busy(server)
         waiting, ending, setting = server.control(), server.control(), server.control()
         ending.at.sendall(b"quiesce keep\nstat\n")
@@ -114,6 +128,7 @@ def given_up(served):
         assert waiting.replies.read() == "thawed\nnot frozen\n"
         assert setting.replies.readline() == "thawed\n"
         control.at.sendall(b"freeze\n")  # drained once the request is done
+        let_go()
         busy.need_done()
         assert control.replies.readline() == "depth 1\n"
         control.need("thaw", "depth 0")
@@ -252,19 +267,19 @@ def switches(server):
 
 
 def waiting_is_cheap(served):
-    """Three hundred requests that wait for two seconds look a thousand times at most, and not twenty times a second each."""
+    """Three hundred requests that wait look a thousand times a second at most, and not twenty times a second each."""
     with Server(served, "size=1M") as server, closing(server.control()) as control:
         clients = [server.client() for _ in range(20)]
         control.need("freeze", "depth 1")
         cookies = [(client, client.aio_pread(nbd.Buffer(512), 0)) for client in clients for _ in range(15)]
         soon(lambda: metrics_of(control)["blkq_waiting"] == 300, "not all wait")
         time.sleep(0.2)
-        before = switches(server)
+        before, began = switches(server), time.monotonic()
         time.sleep(2)
-        looked = switches(server) - before
+        looked, took = switches(server) - before, time.monotonic() - began
         control.need("thaw", "depth 0")
         assert done(*zip(*cookies)) == [0] * 300
-        assert looked < 2000, looked
+        assert looked < 1000 * took, (looked, took)
 
 
 # ---- Begun ----

@@ -1,17 +1,19 @@
 """Copies of a disk that clients write to, and blkqctl: copies.py FILTER NAME tries one thing."""
 
 import os
+import re
 import signal
 import struct
 import subprocess
 import sys
+import tempfile
 import threading
 import time
 from contextlib import closing
 
 import nbd
 
-from controls import depth_of, in_force, slow, soon
+from controls import Busy, depth_of, held_up, in_force, soon
 from server import Server
 from tries import MIB, run
 
@@ -90,6 +92,33 @@ def torn(served):
     assert found > TRIES // 2, f"{found} of {TRIES} copies are torn"
 
 
+def page(served):
+    """The README's backup, line by line, and a second one over it. No file is overwritten while clients wait: the file that cp writes
+    isn't there when it begins."""
+    with open(os.path.join(os.path.dirname(BLKQCTL), "README.md"), encoding="utf-8") as file:
+        text = file.read().split("## A consistent backup in five minutes\n", 1)[1].split("\n## ", 1)[0]
+    steps = [line[4:] for line in text.splitlines() if line.startswith("    ") and not line.startswith(("    apt-get", "    make", "    export"))]
+    [taken] = [step for step in steps if " cp " in step]
+    [last] = [number for number, step in enumerate(steps) if " watch" in step]
+    steps[last : last + 1] = [steps[last].replace("watch", "watch -c 1"), taken, "cmp -n 1 backup.img disk.img"]
+    steps.insert(-1, "kill %1; wait")
+    script = "\n".join(steps).replace("$HOME/usr/lib/nbdkit/filters/nbdkit-blkq-filter.so", served)
+    memory = "/dev/shm" if os.path.isdir("/dev/shm") else None  # a disk may take minutes to free a backup that is replaced
+    with tempfile.TemporaryDirectory(dir=memory) as folder:
+        programs = {"cp": '#!/bin/bash\n[ ! -e "${@: -1}" ] || { touch overwritten; exit 1; }\nexec /bin/cp "$@"\n',
+                    "blkqctl": f'#!/bin/sh\nexec {sys.executable} {os.path.abspath(BLKQCTL)} "$@"\n'}
+        for name, program in programs.items():
+            with open(f"{folder}/{name}", "w", encoding="ascii", opener=lambda path, flags: os.open(path, flags, 0o755)) as file:
+                file.write(program)
+        given = {**os.environ, "PATH": f"{folder}:{os.environ['PATH']}"}
+        told = subprocess.run(["bash", "-e"], input=script.encode(), cwd=folder, env=given, stdout=subprocess.PIPE, timeout=100,
+                              check=False)
+        assert not os.path.exists(f"{folder}/overwritten"), "a copy overwrites a file while clients wait"
+        said = told.stdout.decode()
+        assert told.returncode == 0 and "ok\n" in said and "reads/s" in said, said
+        assert os.path.getsize(f"{folder}/backup.img") == 64 * MIB and not os.path.exists(f"{folder}/backup.new")
+
+
 # ---- blkqctl ----
 
 
@@ -98,8 +127,10 @@ def commands(served):
     with Server(served, "size=1M", "hardware_sectors=64") as server, closing(server.control()) as control:
         assert blkqctl(server, "set", "max_sectors", "8", "chunk_sectors", "16") == "ok\n"
         assert in_force(control) == {"max": 8, "chunk": 16, "physical": 1}
-        blkqctl(server, "set", "max_sectors", "65", status=1)
-        blkqctl(server, "set", "max_sectors", status=1)
+        for words, reply in ((["max_sectors", "65"], "EINVAL: max_sectors: more sectors than the hardware takes"),
+                             (["max_sectors", "4", "chunk_sectors", "65536"],
+                              "EINVAL: chunk_sectors: a chunk of more than 65535 sectors"), (["max_sectors"], "missing word")):
+            assert refusal(server, "set", *words) == f"blkqctl: set: {reply}\n"
         assert blkqctl(server, "mode", "atomic") == "ok\n"
         assert blkqctl(server, "stat").startswith("stat reads 0 writes 0 ")
         assert blkqctl(server, "metrics").endswith("# EOF\n")
@@ -115,6 +146,13 @@ def commands(served):
         assert "exit status" in blkqctl(server, "--help")
     gone = subprocess.run([sys.executable, BLKQCTL, "/nowhere", "stat"], stderr=subprocess.PIPE, check=False)
     assert gone.returncode == 3 and gone.stderr == b"blkqctl: /nowhere: No such file or directory\n"
+
+
+def refusal(server, *words):
+    """What blkqctl writes to standard error where the server refuses."""
+    found = subprocess.run([sys.executable, BLKQCTL, server.control_path, *words], stderr=subprocess.PIPE, timeout=60, check=False)
+    assert found.returncode == 1, (words, found)
+    return found.stderr.decode()
 
 
 def on_a_terminal(server, *words):
@@ -148,17 +186,22 @@ def around(served):
             losing.process.terminate()
             assert losing.process.wait(20) == 125
         for number, status in ((signal.SIGTERM, 143), (signal.SIGKILL, -9)):
-            with Sleeping(server) as ended:
+            with Sleeping(server, 1000) as ended:
                 ended.process.send_signal(number)
                 assert ended.process.wait(20) == status
-            soon(lambda: depth_of(server) == 0, "the freeze stays")
+                soon(lambda: depth_of(server) == 0, "the freeze stays")
+                assert ended.process.stdout.read() == b"", "COMMAND outlives blkqctl"  # its end, once COMMAND has closed it
+        told = subprocess.run([sys.executable, BLKQCTL, "-v", server.control_path, "quiesce", "--", "sleep", "0.2"],
+                              stderr=subprocess.PIPE, timeout=60, check=True).stderr.decode()
+        found = re.fullmatch(r"blkqctl: the quiesce took (\d+\.\d\d) s, and sleep (\d+\.\d\d) s\n", told)
+        assert found and float(found[2]) >= 0.2, told
 
 
 class Sleeping:
     """blkqctl with a freeze around a sleep, which has begun."""
 
-    def __init__(self, server):
-        sleep = ["sh", "-c", "echo begun && exec sleep 5"]
+    def __init__(self, server, seconds=5):
+        sleep = ["sh", "-c", f"echo begun && exec sleep {seconds}"]
         command = [sys.executable, BLKQCTL, server.control_path, "freeze", "--", *sleep]
         self.process = subprocess.Popen(command, stdout=subprocess.PIPE, stderr=subprocess.DEVNULL)
         assert self.process.stdout.readline() == b"begun\n"
@@ -174,16 +217,14 @@ class Sleeping:
 
 def in_time(served):
     """A drain that takes too long is given up, and leaves nothing behind."""
-    with slow(served, 3) as server:
-        client = server.client()
-        cookie = client.aio_pread(nbd.Buffer(512), 0)
-        time.sleep(0.2)
+    with held_up(served) as (server, let_go):
+        busy = Busy(server)
         given_up = subprocess.run([sys.executable, BLKQCTL, "--timeout", "0.5", server.control_path, "quiesce", "--", "true"],
                                   stderr=subprocess.DEVNULL, check=False)
         assert given_up.returncode == 125
         soon(lambda: depth_of(server) == 0, "the drain goes on")
-        while not client.aio_command_completed(cookie):
-            client.poll(100)
+        let_go()
+        busy.need_done()
 
 
 if __name__ == "__main__":

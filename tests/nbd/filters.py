@@ -13,7 +13,7 @@ from contextlib import closing
 
 import nbd
 
-from controls import Busy, depth_of, metrics_of, soon
+from controls import metrics_of, soon
 from server import Server
 from tries import MIB, done, fio, run, while_settings_change
 
@@ -198,11 +198,11 @@ def beside(served):
                 assert metrics_of(control)['blkq_pieces_total{operation="write"}'] > 64 or not is_below, name
 
 
-# ---- Backends that fail and are slow ----
+# ---- Backends that fail, clients that go ----
 
 
 def failing(served):
-    """The errors of a backend reach the client as they are, are counted, and leave the queue fit; a flush that fails too."""
+    """The errors of a backend reach the client as they are, are counted, and leave the queue fit."""
     backend = ["--filter=error", "memory", "1M", "error-pread=ENOMEM", "error-pread-rate=100%", "error-pwrite=ENOSPC",
                "error-pwrite-rate=100%", "error-pwrite-file={folder}/full"]
     with Server(served, backend=backend) as server, closing(server.control()) as control:
@@ -216,43 +216,6 @@ def failing(served):
         assert found['blkq_errors_total{operation="read"}'] == found['blkq_errors_total{operation="write"}'] == 1
         assert control.ask("stat").startswith("stat reads 0 writes 1 again 0 eio 2 ")
         control.need("freeze", "depth 1")
-        control.need("thaw", "depth 0")
-    with Server(served, backend=shell("echo EIO refused >&2; exit 1")) as server, closing(server.control()) as control:
-        client = server.client()
-        control.need("quiesce", "depth 1")
-        control.need("thaw", "depth 0")
-        client.pwrite(bytes(512), 0)
-        for _ in range(2):
-            control.need("quiesce", "flush: Input/output error")
-        assert depth_of(server) == 0
-        client.shutdown()
-        server.clients.remove(client)
-        soon(lambda: server.said().count("refused") == 3, "no flush as a connection goes")
-        control.need("quiesce", "flush: Input/output error")
-        control.need("quiesce", "depth 1")
-
-
-def shell(flush):
-    """A disk of a mebibyte that keeps nothing, by nbdkit's eval plugin, with a flush of these commands."""
-    return ["eval", "thread_model=echo parallel", "get_size=echo 1M", "pread=head -c $3 /dev/zero", "can_write=exit 0",
-            "pwrite=cat >/dev/null", "can_flush=exit 0", f"flush={flush}"]
-
-
-def slow_flush(served):
-    """A flush that takes seconds holds up its own controller alone, and ends with that."""
-    with Server(served, backend=shell("sleep 3")) as server, closing(server.control()) as control:
-        client, other = server.client(), server.client()
-        client.pwrite(bytes(512), 0)
-        quiescing = server.control()
-        quiescing.at.sendall(b"quiesce\n")
-        soon(lambda: depth_of(server) == 1, "stat waits for a flush")
-        cookie = other.aio_pread(nbd.Buffer(512), 0)
-        control.need("thaw", "not yours")
-        control.need("freeze", "depth 2")
-        control.need("thaw", "depth 1")
-        quiescing.close()
-        assert done([other], [cookie], 2.0) == [0], "the queue stays frozen for a controller that went"
-        control.need("quiesce", "depth 1")
         control.need("thaw", "depth 0")
 
 
@@ -289,16 +252,16 @@ def lost_while_made(served):
 
 
 def never_done(served):
-    """A write that waits at a frozen queue when the server ends is refused, and doesn't reach the backend."""
+    """Writes that wait when the server ends, for the thaw and for a tag, are refused, and don't reach the backend."""
     with tempfile.TemporaryDirectory() as folder:
         run("truncate", "-s", "1M", f"{folder}/kept")
-        server = Server(served, backend=["file", f"{folder}/kept"])
-        control, client = server.control(), server.client()
+        server = Server(served, "tags=1", backend=["file", f"{folder}/kept"])
+        control, clients = server.control(), [server.client() for _ in range(3)]
         control.need("quiesce", "depth 1")
-        cookie = client.aio_pwrite(nbd.Buffer.from_bytearray(bytearray(b"x" * 512)), 0)
-        soon(lambda: metrics_of(control)["blkq_waiting"] == 1, "the write doesn't wait")
+        cookies = [client.aio_pwrite(nbd.Buffer.from_bytearray(bytearray(b"x" * 512)), 0) for client in clients]
+        soon(lambda: metrics_of(control)["blkq_waiting"] == 3, "the writes don't wait")
         server.process.send_signal(signal.SIGTERM)
-        assert done([client], [cookie]) == [errno.ESHUTDOWN]
+        assert done(clients, cookies) == [errno.ESHUTDOWN] * 3
         control.close()
         server.end()
         with open(f"{folder}/kept", "rb") as file:

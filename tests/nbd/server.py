@@ -79,6 +79,7 @@ class Server:
         """The words of nbdkit's command line behind its own options."""
         given = {"control": self.control_path}
         given.update(parameter.split("=", 1) for parameter in parameters)
+        self.control_path = given["control"]
         if "filter" not in self.plugin:
             return [self.served, *(f"{key}={value}" for key, value in given.items())]
         subprocess.run(["truncate", "-s", given.pop("size", "64M"), self.disk], check=True)
@@ -128,11 +129,10 @@ class Server:
             fields = file.read().rpartition(")")[2].split()
         return (int(fields[11]) + int(fields[12])) / os.sysconf("SC_CLK_TCK")
 
-    def end(self, within=20.0):
-        """Sends SIGTERM, and gives the seconds until the server ended, which has to be with status 0."""
+    def end(self, within=60.0):
+        """Sends SIGTERM, and waits until the server has ended, which has to be with status 0."""
         for client in self.clients:
             client.shutdown()
-        began = time.monotonic()
         self.process.send_signal(signal.SIGTERM)
         try:
             status = self.process.wait(within)
@@ -140,7 +140,6 @@ class Server:
             self.process.kill()
             self.process.wait()
             raise AssertionError(f"the server doesn't end within {within} seconds") from None
-        took = time.monotonic() - began
         told = self.said()
         self.errors.close()
         assert status == 0, f"the server ended with status {status}: {told}"
@@ -148,7 +147,6 @@ class Server:
         assert "queue: " not in told, told  # what the queue refuses at the end, as where a tag is out
         assert not os.path.exists(self.control_path), "the control's socket stays"
         self.folder.cleanup()
-        return took
 
     def __enter__(self):
         return self

@@ -6,6 +6,7 @@
 
 #include <freeze_queue.h>
 #include <pthread.h>
+#include <stdatomic.h>
 #include <sys/eventfd.h>
 #include <time.h>
 #include <unistd.h>
@@ -13,6 +14,7 @@
 typedef struct freeze_queue_waits {
     pthread_rwlock_t lock;
     uint32_t depth; /* of the control's thread alone, which holds the lock while it isn't 0 */
+    atomic_bool is_dying;
     int drained_event;
 } freeze_queue_waits;
 
@@ -48,9 +50,18 @@ static inline int freeze_queue_waits_init(freeze_queue_waits *waits, freeze_queu
 
 #define freeze_queue_new(freezer, limits, slots, tags) peer_new(limits)
 #define freeze_queue_pool_fill(pool, freezer, count) FREEZE_QUEUE_OK
-#define freeze_queue_pool_empty(pool, freezer) FREEZE_QUEUE_OK
-#define freeze_queue_remove(freezer, last) ((last)->kills = 0, FREEZE_QUEUE_OK)
-#define freeze_queue_waits_destroy(waits) ((void)(waits))
+static inline uint32_t freeze_queue_waits_mark_dying(freeze_queue_waits *waits)
+{
+    atomic_store(&waits->is_dying, true);
+    return FREEZE_QUEUE_OK;
+}
+
+static inline bool freeze_queue_waits_is_dying(freeze_queue_waits *waits) { return atomic_load(&waits->is_dying); }
+
+#define freeze_queue_pool_end(pool, waits, deadline) ((void)(deadline), FREEZE_QUEUE_OK)
+#define freeze_queue_pool_destroy(pool) ((void)(pool))
+#define freeze_queue_pool_in_flight(pool, list, room) 0
+#define freeze_queue_waits_end(waits, last, deadline) ((last)->kills = 0, FREEZE_QUEUE_OK)
 
 /* ---- Requests ---- */
 
