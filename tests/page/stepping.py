@@ -57,3 +57,9 @@ def refusals(page, counts):
     page.js("openExample('first.blkq')")
     page.until("find('status').textContent.startsWith('answered')")
     counts.equal("no mark is left", page.js("[find('reason').textContent, find('refused-line').hidden]"), ["", True])
+    for text, reason in {"blkq 1\\n": "line 2: no disk", "races 1\\n\\n# a\\n": "line 4: no world", "": "line 1: no version"}.items():
+        page.js(f"open('{text}')")
+        page.until("find('reason').textContent")
+        shows = "[find('reason').textContent, find('rows').querySelector('.refused').textContent, find('numbers').querySelector('.refused').textContent]"
+        line, why = reason.removeprefix("line ").split(": ")
+        counts.equal(f"a fault behind the end, {reason}", page.js(shows), [reason, why, line])

@@ -111,6 +111,23 @@ def slots(page, counts, answer):
     by_buttons(page, counts, len(captions))
 
 
+def wrong_answers(page, counts, answer):
+    """A schedule whose answer isn't the machine's isn't drawn, and the page says why."""
+    lines = answer.splitlines()
+    wrong = {
+        "another reply": ["\n".join(["open 1", *lines[1:]]), "the answer's line 1 says 'open 1', and the machine 'open 0'"],
+        "another end": ["\n".join([*lines[:-1], "end live 1"]), f"the answer's line {len(lines)} says 'end live 1'"],
+        "a line too few": ["\n".join(lines[:-1]), f"the answer's line {len(lines)} says 'undefined'"],
+        "a line too many": ["\n".join([*lines, "ok"]), f"the answer has {len(lines) + 1} lines, and the machine gives {len(lines)}"],
+    }
+    for name, (answer, why) in wrong.items():
+        page.js("openExample('late_try.gate')")
+        page.until(f"page.kind === 'schedule' && {ANSWERED}")
+        page.js(f"showSchedule('Slots', '', {SLOTS!r}, {answer!r})")
+        said = page.js("find('steps').hidden && find('status').textContent")
+        counts.check(f"{name} isn't drawn", said and said.startswith(f"not drawn: {why}"), said)
+
+
 def frame(page, counts, step, last):
     """The frame is around the step's row, and what comes later is faded."""
     row = "(at) => page.stepping.drawing.yOf(at)"
@@ -124,7 +141,8 @@ def frame(page, counts, step, last):
 def by_buttons(page, counts, last):
     disabled = "['first', 'back', 'next', 'last'].map((id) => find(id).disabled)"
     at_end, at_start = [False, False, True, True], [True, True, False, False]
-    for button, step, wanted in (("last", last, at_end), ("back", last - 1, [False] * 4), ("first", 0, at_start), ("next", 1, [False] * 4)):
+    clicks = {"first": (0, at_start), "last": (last, at_end), "back": (last - 1, [False] * 4), "next": (last, at_end)}
+    for button, (step, wanted) in clicks.items():
         page.js(f"find('{button}').click()")
         found = page.js(f"[page.stepping.step, Number(find('step').value), {disabled}, find('step').getAttribute('aria-valuetext')]")
         counts.equal(f"the button {button}", found, [step, step, wanted, f"step {step} of {last}"])
@@ -139,7 +157,7 @@ def cut(page, counts):
     page.js(f"open({MANY!r}, {{ outcome: 500 }})")
     page.until(f"page.outcome === 500 && {ANSWERED}", 120)
     counts.equal("the last of them is drawn", page.js("find('steps-head').textContent"), "Step by step: outcome 500")
-    page.js(f"open({LONG})")
+    page.js(f"named(undefined); open({LONG})")
     page.until(f"page.kind === 'schedule' && {ANSWERED}")
     shows = "[find('steps-head').textContent, find('step').max, find('lanes').querySelector('svg') === null, find('lanes').textContent]"
     head = "Step by step: schedule, the first 600 of 601 steps"
@@ -160,5 +178,7 @@ def cut(page, counts):
 
 def of_tables(page, counts, programs, given):
     outcomes(page, counts)
-    slots(page, counts, programs.answer(given("three slots", "schedule", SLOTS.encode())).text.decode())
+    answer = programs.answer(given("three slots", "schedule", SLOTS.encode())).text.decode()
+    slots(page, counts, answer)
+    wrong_answers(page, counts, answer)
     cut(page, counts)

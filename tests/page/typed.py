@@ -107,6 +107,9 @@ def marks(page, counts):
         else:
             counts.check(f"no number is marked behind {scrolled} points", page.js(f"!{marked}"))
     along(page, counts)
+    edit = "find('input').value += 'stat\\n'; find('input').dispatchEvent(new Event('input'))"
+    shows = "[find('refused-line').hidden, find('numbers').querySelector('.refused') === null, find('input').getAttribute('aria-invalid')]"
+    counts.equal("an edit takes the mark away", page.js(f"{edit}; {shows}"), [True, True, "false"])
 
 
 def along(page, counts):
