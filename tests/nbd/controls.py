@@ -12,13 +12,13 @@ from contextlib import ExitStack, closing, contextmanager
 import nbd
 
 from gates import Paused
-from server import Control, Server
+from server import WITHIN, Control, Server
 from tries import done
 
 FIELDS = {"max": 12, "chunk": 14, "physical": 16}
 
 
-def soon(is_so, why, within=20.0):
+def soon(is_so, why, within=WITHIN):
     """Waits until something is so."""
     late = time.monotonic() + within
     while not is_so():
@@ -170,7 +170,7 @@ def parts(served):
             assert long.at.recv(1) == b"", "a line that is too long"
         with closing(server.control()) as garbage:
             garbage.at.sendall(bytes(range(256)).replace(b"\n", b"") * 2 + b"\n")
-            garbage.at.settimeout(20)
+            garbage.at.settimeout(60)
             try:
                 assert garbage.at.recv(99) in (b"", b"unknown word\n")
             except ConnectionResetError:

@@ -24,7 +24,7 @@ WRITERS, TRIES, BLOCK, SIZE = 4, 20, 4096, 32 * MIB
 def blkqctl(server, *words, status=0, **more):
     """What blkqctl prints, which has to end with this status."""
     found = subprocess.run([sys.executable, BLKQCTL, server.control_path, *words], stdout=subprocess.PIPE,
-                           stderr=subprocess.PIPE, timeout=60, check=False, **more)
+                           stderr=subprocess.PIPE, timeout=200, check=False, **more)
     assert found.returncode == status, (words, found)
     return found.stdout.decode()
 
@@ -111,7 +111,7 @@ def page(served):
             with open(f"{folder}/{name}", "w", encoding="ascii", opener=lambda path, flags: os.open(path, flags, 0o755)) as file:
                 file.write(program)
         given = {**os.environ, "PATH": f"{folder}:{os.environ['PATH']}"}
-        told = subprocess.run(["bash", "-e"], input=script.encode(), cwd=folder, env=given, stdout=subprocess.PIPE, timeout=100,
+        told = subprocess.run(["bash", "-e"], input=script.encode(), cwd=folder, env=given, stdout=subprocess.PIPE, timeout=300,
                               check=False)
         assert not os.path.exists(f"{folder}/overwritten"), "a copy overwrites a file while clients wait"
         said = told.stdout.decode()
@@ -150,7 +150,7 @@ def commands(served):
 
 def refusal(server, *words):
     """What blkqctl writes to standard error where the server refuses."""
-    found = subprocess.run([sys.executable, BLKQCTL, server.control_path, *words], stderr=subprocess.PIPE, timeout=60, check=False)
+    found = subprocess.run([sys.executable, BLKQCTL, server.control_path, *words], stderr=subprocess.PIPE, timeout=200, check=False)
     assert found.returncode == 1, (words, found)
     return found.stderr.decode()
 
@@ -184,15 +184,15 @@ def around(served):
         with Sleeping(server) as losing:
             control.need("thaw all", "depth 0")
             losing.process.terminate()
-            assert losing.process.wait(20) == 125
+            assert losing.process.wait(60) == 125
         for number, status in ((signal.SIGTERM, 143), (signal.SIGKILL, -9)):
             with Sleeping(server, 1000) as ended:
                 ended.process.send_signal(number)
-                assert ended.process.wait(20) == status
+                assert ended.process.wait(60) == status
                 soon(lambda: depth_of(server) == 0, "the freeze stays")
                 assert ended.process.stdout.read() == b"", "COMMAND outlives blkqctl"  # its end, once COMMAND has closed it
         told = subprocess.run([sys.executable, BLKQCTL, "-v", server.control_path, "quiesce", "--", "sleep", "0.2"],
-                              stderr=subprocess.PIPE, timeout=60, check=True).stderr.decode()
+                              stderr=subprocess.PIPE, timeout=200, check=True).stderr.decode()
         found = re.fullmatch(r"blkqctl: the quiesce took (\d+\.\d\d) s, and sleep (\d+\.\d\d) s\n", told)
         assert found and float(found[2]) >= 0.2, told
 
@@ -211,7 +211,7 @@ class Sleeping:
         return self
 
     def __exit__(self, *_):
-        self.process.wait(20)
+        self.process.wait(60)
         self.process.stdout.close()
 
 

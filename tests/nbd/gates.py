@@ -61,5 +61,5 @@ class Paused(Server):
         assert self.pausing.recv(1) == letter.upper()
 
     def __exit__(self, *failed):
-        self.pausing.close()
         super().__exit__(*failed)
+        self.pausing.close()  # now: the pause filter's thread would wake where nbdkit has unloaded it

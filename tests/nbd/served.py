@@ -54,7 +54,7 @@ def of_another(served):
                     break
             refused = Server(served, "size=1M", f"control={path}", wait=False)
             try:
-                status = refused.process.wait(20)
+                status = refused.process.wait(60)
             except subprocess.TimeoutExpired:
                 refused.process.kill()
                 status = refused.process.wait()

@@ -9,7 +9,8 @@ import time
 
 import nbd
 
-STARTS_WITHIN = 30.0  # seconds; under a sanitizer and valgrind too
+STARTS_WITHIN = 90.0  # seconds; under a sanitizer and valgrind too
+WITHIN = float(os.environ.get("WITHIN", "60"))  # the seconds after which a try takes what it waits for as never coming
 
 # Words before nbdkit, as valgrind and its options.
 CHECKED = os.environ.get("CHECKED", "").split()

@@ -12,7 +12,7 @@ import time
 import nbd
 
 from pieces import pieces, watched
-from server import Server
+from server import WITHIN, Server
 
 MIB = 1 << 20
 SETTINGS = ["max_sectors 1", "chunk_sectors 3", "max_sectors 7", "physical_sectors 8", "max_sectors 128",
@@ -20,10 +20,10 @@ SETTINGS = ["max_sectors 1", "chunk_sectors 3", "max_sectors 7", "physical_secto
 
 
 def run(*words, **more):
-    return subprocess.run(words, check=True, stdout=subprocess.PIPE, timeout=120, **more).stdout
+    return subprocess.run(words, check=True, stdout=subprocess.PIPE, timeout=300, **more).stdout
 
 
-def done(clients, cookies, within=20.0):
+def done(clients, cookies, within=WITHIN):
     """Waits until each client's request is done, and gives the errno of each, 0 for success."""
     found, late = [], time.monotonic() + within
     for client, cookie in zip(clients, cookies):
@@ -107,7 +107,7 @@ def refused_parameters(plugin):
     for parameter, why in wrong.items():
         server = Server(plugin, parameter, wait=False)
         try:
-            status = server.process.wait(20)
+            status = server.process.wait(60)
         except subprocess.TimeoutExpired:
             server.process.kill()
             raise
@@ -218,7 +218,7 @@ def refused_at_once(plugin):
 
 def until_waiting(control, count):
     """Waits until so many requests wait."""
-    late = time.monotonic() + 20.0
+    late = time.monotonic() + WITHIN
     while waiting_now(control) != count:
         assert time.monotonic() < late, f"not {count} requests wait"
         time.sleep(0.02)
