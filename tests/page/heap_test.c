@@ -161,8 +161,11 @@ static void last_bytes(void)
     memset(behind, 7, MIB);
     rattle_dealloc(large);
     byte *block = block_of(32);
-    while (block < large || block > large + MIB)
+    while (block && (block < large || block > large + MIB))
         block = block_of(32);
+    check("a freed MiB is cut", block != 0);
+    if (!block)
+        return;
     for (word count = 1; count < (MIB - 64) / 48; count++)
         block = block_of(32);
     check("the blocks lie side by side", block + 32 + 64 == large + MIB);

@@ -90,6 +90,10 @@ def chosen_links(page, counts):
     page.js("find('next').click()")
     counts.check("the link follows the step", page.js("location.hash").endswith("&outcome=3&step=6"))
     counts.equal("and the entry has it", page.js("history.state.chosen"), {"outcome": 3, "step": 6})
+    for step in (6, 2):
+        page.js(f"page.stepping.goTo({step}); find('copy').click()")
+        page.until("find('status').textContent.includes('link')")
+        counts.check(f"the copied link has the step {step}", page.js("find('link').value").endswith(f"&outcome=3&step={step}"))
     page.js("open('races 1\\nworld 1 1 atomic 0\\n0 putt\\n')")
     page.until("find('reason').textContent")
     counts.equal("a refused text has a link", page.js("location.hash"), "#race=races+1%0Aworld+1+1+atomic+0%0A0+putt%0A")

@@ -52,7 +52,8 @@ def menu(page, counts):
     """The menu leads to each example and to what it shows; a text of the reader's own stays behind it."""
     page.js(f"named(undefined); open('{RACE}')")
     page.until(ANSWERED)
-    entries = page.js("history.length")
+    # No entry is ahead then.
+    entries = page.js("history.pushState(history.state, '', location.href); history.length")
     page.js("find('example').value = 'late_try.gate'; find('example').dispatchEvent(new Event('change'))")
     page.until(f"page.kind === 'schedule' && {ANSWERED}")
     shows = "[find('input').value, find('shows').textContent, find('kind').textContent]"
