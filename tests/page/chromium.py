@@ -18,6 +18,8 @@ FLAGS = (
     "--disable-dev-shm-usage",
     "--disable-extensions",
     "--disable-background-networking",
+    # Without it the browser takes no more than 200 changes of the address in 10 seconds.
+    "--disable-ipc-flooding-protection",
     "--no-first-run",
     "--hide-scrollbars",
     "--force-color-profile=srgb",

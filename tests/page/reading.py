@@ -27,6 +27,7 @@ def old_answer(page, counts, large):
     for when in ("page.isStale", "find('status').textContent.startsWith('running')"):
         page.until(when)
         counts.equal("the old answer is dimmed and inert", page.js(stale), [True, True, True])
+        page.until("['answer-part', 'steps', 'whole'].every((id) => Number(getComputedStyle(find(id)).opacity) < 0.7)")
         linked = page.js(f"{choice}; [page.outcome, readFragment(location.hash)]")
         counts.equal("an old outcome isn't chosen", linked[0], 2)
         counts.equal("the link has the new text", linked[1]["text"], page.js("find('input').value"))
