@@ -228,4 +228,21 @@ fn what_is_dropped_is_freed() {
     assert_ne!(BLOCKS.get(), blocks, "a freeze has a share");
     drop(freezing);
     assert_eq!(BLOCKS.get(), blocks);
+    drop(Queue::new(LIMITS, 1, 63).unwrap()); // the place of a forgotten request goes to no other queue
+}
+
+/// The place of a tag that ends its queue goes to the next one.
+#[test]
+fn the_last_tag_gives_its_place_back() {
+    let _one = with_places();
+    let new = || Queue::new(LIMITS, 1, 63).unwrap();
+    let asked = ASKED.get();
+    let queue = new();
+    let usual = ASKED.get() - asked;
+    let tag = queue.next_tag(0).unwrap();
+    drop(queue);
+    drop(tag);
+    let asked = ASKED.get();
+    drop(new());
+    assert_eq!(ASKED.get() - asked, usual);
 }
