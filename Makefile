@@ -8,8 +8,6 @@
 #   make install-c PREFIX=/usr/local   builds and puts there both libraries for C, the queue's and the gate's: the proved ones
 #                                    where the Rattle kit or a release of this tree is, else by cargo in seconds
 #   make deb                           builds packages for Debian by cargo, in out/deb; DEB is another folder
-#   make release                       builds a release of the proved builds in out/release: needs the kit
-#   make release-check DIR=..          compares a release with this tree
 #   make install-nbd PREFIX=/usr/local   proves the queue's library, and puts there nbdkit-blkq-filter and blkqctl
 PREFIX ?= /usr/local
 override PREFIX := $(abspath $(PREFIX))
@@ -62,11 +60,4 @@ install-nbd:
 deb:
 	tools/debian_packages $(DEB)
 
-release:
-	tools/release out/release
-
-# Of the folder DIR.
-release-check:
-	tools/release --check $(or $(DIR),out/release)
-
-.PHONY: all check prove plain install install-plain install-programs install-c install-nbd deb release release-check
+.PHONY: all check prove plain install install-plain install-programs install-c install-nbd deb
