@@ -24,7 +24,7 @@ STAND_IN_LINE = "// A stand-in for"
 # These need `core` and `alloc` alone.
 WITHOUT_STD = {"percpu_words", "percpu_core", "percpu_gate", "queue_limits", "queue_core", "percpu_gate_c", "freeze_queue_c"}
 # Crates of crates.txt that aren't erased: rust/ has no use for them.
-LEFT_OUT = {"browser", "trials_calls"}
+LEFT_OUT = {"bench", "browser", "trials_calls"}
 
 
 def place(package, crate, name):
