@@ -1,8 +1,8 @@
 //! Entering by futures: who is woken, when, and that one which is cancelled takes nothing along.
-use freeze_queue::{EnterAsync, EnterError, Entered, Queue, Tag};
+use freeze_queue::{EnterAsync, EnterError, Entered, OwnedFrozen, Queue, Tag};
 use std::pin::Pin;
-use std::sync::Arc;
-use std::task::{Context, Poll, Waker};
+use std::sync::{Arc, Mutex};
+use std::task::{Context, Poll, Wake, Waker};
 use std::thread;
 
 mod shared;
@@ -22,6 +22,15 @@ fn never_woken() -> Arc<Woken> {
     Arc::default()
 }
 
+/// Wakes by the thaw of another queue.
+struct Thaws(Mutex<Option<OwnedFrozen>>);
+
+impl Wake for Thaws {
+    fn wake(self: Arc<Self>) {
+        drop(self.0.lock().unwrap().take());
+    }
+}
+
 #[test]
 fn a_live_queue_is_entered_at_once() {
     let (queue, mut tags) = queue(1);
@@ -33,6 +42,21 @@ fn a_live_queue_is_entered_at_once() {
     drop(request);
     assert!(queue.try_freeze().is_ok());
     assert_eq!((woken.times(), Arc::strong_count(&woken)), (0, 1));
+}
+
+/// A waker whose call wakes another task: that one is woken once the waker has returned, before the first thaw returns.
+#[test]
+fn a_waker_wakes_by_a_call() {
+    let ((one, mut its_tags), (other, mut other_tags)) = (queue(1), queue(1));
+    let frozen = one.freeze().unwrap();
+    let thaws = Waker::from(Arc::new(Thaws(Mutex::new(Some(other.freeze_owned().unwrap())))));
+    let (mut first, mut second) = (one.enter_async(&mut its_tags[0]), other.enter_async(&mut other_tags[0]));
+    let woken = never_woken();
+    assert!(Pin::new(&mut first).poll(&mut Context::from_waker(&thaws)).is_pending());
+    assert!(polled(&mut second, &woken).is_pending());
+    drop(frozen);
+    assert_eq!(woken.times(), 1);
+    assert!(polled(&mut second, &woken).is_ready());
 }
 
 /// Nothing is done before a poll, and a thaw wakes once, whichever waker was there last.
