@@ -8,7 +8,10 @@
 #   make install-c PREFIX=/usr/local   builds and puts there both libraries for C, the queue's and the gate's: the proved ones
 #                                    where the Rattle kit or a release of this tree is, else by cargo in seconds
 #   make deb                           builds packages for Debian by cargo, in out/deb; DEB is another folder
-#   make install-nbd PREFIX=/usr/local   proves the queue's library, and puts there nbdkit-blkq-filter and blkqctl
+#   make release                       makes a release of the proved builds in out/release: needs the kit; RELEASE is another folder
+#   make release-check DIR=..          checks a release, and builds it again: needs the kit
+#   make install-nbd PREFIX=/usr/local   builds the queue's library, and puts there nbdkit-blkq-filter and blkqctl
+#   make uninstall-nbd PREFIX=/usr/local removes them
 PREFIX ?= /usr/local
 override PREFIX := $(abspath $(PREFIX))
 AWK ?= awk
@@ -55,9 +58,19 @@ install-c:
 	@echo "installed: libpercpu_gate and libfreeze_queue, $(THE_BUILD)"
 
 install-nbd:
-	$(MAKE) -C services/nbd install
+	$(MAKE) -C services/nbd install PREFIX=$(PREFIX)
+
+uninstall-nbd:
+	$(MAKE) -C services/nbd uninstall PREFIX=$(PREFIX)
 
 deb:
 	tools/debian_packages $(DEB)
 
-.PHONY: all check prove plain install install-plain install-programs install-c install-nbd deb
+release:
+	tools/release $(RELEASE)
+
+# Of the folder DIR.
+release-check:
+	tools/release --check $(or $(DIR),$(RELEASE))
+
+.PHONY: all check prove plain install install-plain install-programs install-c install-nbd uninstall-nbd deb release release-check

@@ -1,4 +1,4 @@
-/* A device that is removed while two threads submit requests to it: whoever is told of the last reference frees it. */
+/* A device that is removed while two threads submit requests to it: the thread that puts the last reference frees it. */
 #include "percpu_gate.h"
 #include <pthread.h>
 #include <stdatomic.h>

@@ -14,8 +14,8 @@ static struct submitter {
     long sent, wrong;
 } submitters[2];
 
-/* Cuts the request of 100 sectors from start on. Of a setting the chunk is four times the most of a piece, or there is
- * none: so pieces that were cut by two settings would show. */
+/* Cuts the request of 100 sectors from start on. In each setting the chunk is four times the most of a piece, or there is
+ * none: pieces that were cut by two settings would show. */
 static void send(struct submitter *me, uint64_t start)
 {
     freeze_queue_limits limits;

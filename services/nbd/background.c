@@ -8,10 +8,10 @@ int begin_background(background *one, void *run(void *))
     return failed;
 }
 
-void tell_background(background *one)
+void wake_background(background *one)
 {
     pthread_mutex_lock(&one->lock);
-    pthread_cond_signal(&one->told);
+    pthread_cond_signal(&one->wakes);
     pthread_mutex_unlock(&one->lock);
 }
 
@@ -21,7 +21,7 @@ void end_background(background *one)
         return;
     pthread_mutex_lock(&one->lock);
     one->is_over = true;
-    pthread_cond_signal(&one->told);
+    pthread_cond_signal(&one->wakes);
     pthread_mutex_unlock(&one->lock);
     pthread_join(one->thread, NULL);
     one->runs = false;

@@ -4,7 +4,7 @@ _blkqctl() {
     [[ ${COMP_WORDS[1]} == @(-v|--verbose) ]] && first=2
     [[ ${COMP_WORDS[first]} == --timeout ]] && first=$((first + 2))
     if ((place <= first)); then
-        mapfile -t COMPREPLY < <(compgen -W '--timeout --verbose' -- "$word"; compgen -f -- "$word")
+        mapfile -t COMPREPLY < <(compgen -W '--timeout --verbose --version' -- "$word"; compgen -f -- "$word")
         return
     fi
     case $((place - first)):${COMP_WORDS[first + 1]} in

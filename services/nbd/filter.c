@@ -16,7 +16,7 @@ typedef struct connection {
     uint32_t minimum; /* bytes of the backend's smallest block; 1 where the backend names none */
     int fua;          /* an NBDKIT_FUA_.. */
     bool flushes, is_listed;
-    pthread_mutex_t flushing; /* held by a quiesce's flush, and by that of the connection's end */
+    pthread_mutex_t flushing; /* held by the flush of a quiesce, or of the connection's end */
     atomic_bool is_written;   /* since the last flush began */
     struct connection *before, *after;
 } connection;
@@ -79,8 +79,8 @@ static int flush_by(connection *one)
     return done ? 0 : failed != 0 ? failed : EIO;
 }
 
-/* Flushes the writes of a connection, if there were any: 0, or an errno, which a quiesce is told if the connection leaves. A
- * flush that another thread has begun is waited for. */
+/* Flushes the writes of a connection, if there were any: 0, or an errno. If the connection leaves, a quiesce gets the errno too.
+ * Waits for a flush that another thread has begun. */
 static int flush_connection(connection *one, bool leaves)
 {
     int failed = 0;
@@ -132,13 +132,14 @@ static const char help[] =
     "blkq-chunk-sectors=N        no piece crosses a multiple of it; 0: none (0)\n"
     "blkq-physical-sectors=N     pieces end where a physical block ends, a power of two (1)\n"
     "blkq-hardware-sectors=N     the most that max_sectors can be (65535)\n"
-    "blkq-slots=N, blkq-tags=N   of the queue: 1 to 64 (the processors), and 1 to 63 requests at once (63)\n"
+    "blkq-slots=N, blkq-tags=N   of the queue: 1 to 512 (the processors), and 1 to 1023 requests at once (63)\n"
     "blkq-nowait=true            a request that comes to a frozen queue is refused";
 
 static int filter_get_ready(int thread_model)
 {
     is_serial = thread_model != NBDKIT_THREAD_MODEL_PARALLEL;
     blkq.flush = flush_backend;
+    blkq.control_key = "blkq-control";
     return make_queue();
 }
 

@@ -18,7 +18,7 @@ static struct {
 static uint64_t next_ticket(void)
 {
     while (!flusher.is_over && flushes.asked == flushes.done)
-        pthread_cond_wait(&flusher.told, &flusher.lock);
+        pthread_cond_wait(&flusher.wakes, &flusher.lock);
     return flusher.is_over ? 0 : flushes.asked;
 }
 
@@ -62,7 +62,7 @@ uint64_t ask_flush(void)
 {
     pthread_mutex_lock(&flusher.lock);
     uint64_t ticket = ++flushes.asked;
-    pthread_cond_signal(&flusher.told);
+    pthread_cond_signal(&flusher.wakes);
     pthread_mutex_unlock(&flusher.lock);
     return ticket;
 }

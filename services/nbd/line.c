@@ -1,4 +1,4 @@
-/* The lines of the control: those of a script that speak of its queue, read as docs/FORMATS.md says, and more. */
+/* The lines of the control: the lines of a script that are about its queue, read as docs/FORMATS.md says, and more. */
 #include "service.h"
 #include <string.h>
 

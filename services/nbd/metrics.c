@@ -96,7 +96,7 @@ static void write_by_operation(FILE *file, const char *name, const char *help, u
         fprintf(file, "blkq_%s{operation=\"%s\"} %" PRIu64 "\n", name, names[operation], count(operation));
 }
 
-/* The place n has durations of at most 2^n microseconds, and the last place those of any length. */
+/* The place n has durations of at most 2^n microseconds, and the last place durations of any length. */
 static void write_histogram(FILE *file, const char *name, const char *operation, size_t offset)
 {
     uint64_t count = 0;
@@ -153,7 +153,7 @@ static void write_freezes(FILE *file)
     write_seconds(file, "drain_seconds_total", "Time that freezes took to drain the queue.", controlled.draining);
     write_seconds(file, "flush_seconds_total", "Time that quiesces waited for a flush.", controlled.flushing);
     write_number(file, "settings_total", "counter", "Changes of the limits.", controlled.settings);
-    write_number(file, "refused_total", "counter", "Lines of the control that were refused.", controlled.refused);
+    write_number(file, "refused_total", "counter", "Lines that the queue refused, and quiesces whose flush failed.", controlled.refused);
 }
 
 static void write_queue(FILE *file)

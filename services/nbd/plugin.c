@@ -44,7 +44,7 @@ static const char help[] =
     "max_sectors=N             the longest piece of a request; 0: hardware_sectors (0)\n"
     "chunk_sectors=N           no piece crosses a multiple of it; 0: none (0)\n"
     "physical_sectors=N        pieces end where a physical block ends, a power of two (1)\n"
-    "slots=N, tags=N           of the queue: 1 to 64 (the processors), and 1 to 63 requests at once (63)\n"
+    "slots=N, tags=N           of the queue: 1 to 512 (the processors), and 1 to 1023 requests at once (63)\n"
     "latency_microseconds=N    added to each piece, as a device would (0)\n"
     "control=PATH              a Unix socket for blkqctl\n"
     "nowait=true               a request that comes to a frozen queue is refused";
@@ -66,7 +66,7 @@ static void plugin_cleanup(void)
     munmap(disk.bytes, disk.size);
 }
 
-/* ---- Told to a client ---- */
+/* ---- For a client ---- */
 
 static void *plugin_open(int readonly)
 {

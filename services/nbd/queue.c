@@ -14,7 +14,8 @@
 
 service blkq = {
     .limits = {.hardware = MOST_COUNT, .physical = 1},
-    .tags = FREEZE_QUEUE_MOST_TAGS,
+    .tags = 63,
+    .control_key = "control",
 };
 
 int refuse(const char *subject, const char *why)
@@ -32,7 +33,7 @@ static int parse_nowait(const char *text)
     return yes < 0 ? -1 : 0;
 }
 
-/* Takes a parameter by its name. 1: there is no such parameter; -1: refused, and nbdkit was told why. */
+/* Takes a parameter by its name. 1: there is no such parameter; -1: refused, and nbdkit has the reason. */
 static int take_parameter(const char *key, const char *name, const char *value)
 {
     const struct { const char *name; uint32_t *value; } numbers[] = {
@@ -64,14 +65,14 @@ void unload_queue(void) { free(blkq.control); }
 
 static background watch = NO_BACKGROUND;
 
-void watch_for_the_end(void) { tell_background(&watch); }
+void watch_for_the_end(void) { wake_background(&watch); }
 
 /* Sleeps until a request waits or the watch is over, and says whether it goes on. */
 static bool sleep_until_needed(void)
 {
     pthread_mutex_lock(&watch.lock);
     while (!watch.is_over && atomic_load(&blkq.waiting) == 0)
-        pthread_cond_wait(&watch.told, &watch.lock);
+        pthread_cond_wait(&watch.wakes, &watch.lock);
     bool goes_on = !watch.is_over;
     pthread_mutex_unlock(&watch.lock);
     return goes_on;
@@ -117,16 +118,15 @@ int make_queue(void)
     if (refused != FREEZE_QUEUE_OK)
         return refuse("queue", freeze_queue_text(refused));
     int failed = freeze_queue_waits_init(&blkq.waits, &blkq.freezer);
-    if (failed == 0)
-        failed = freeze_queue_waits_open_events(&blkq.waits);
-    if (failed != 0)
-        return refuse("queue", strerror(failed));
-    return bind_control();
+    return failed == 0 ? bind_control() : refuse("queue", strerror(failed));
 }
 
+/* The events are of the process that opens them, and nbdkit forks into the background before this. */
 int start_threads(void)
 {
-    int failed = begin_background(&watch, look_for_the_end);
+    int failed = freeze_queue_waits_open_events(&blkq.waits);
+    if (failed == 0)
+        failed = begin_background(&watch, look_for_the_end);
     if (failed == 0 && blkq.flush != NULL)
         failed = start_flushing();
     return failed == 0 ? start_control() : refuse("thread", strerror(failed));

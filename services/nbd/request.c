@@ -11,8 +11,8 @@
 #define watch_piece(tag, wanted, limits, from, to)
 #endif
 
-/* A request that waits looks once a second whether its client is still there; more than a thousand look more rarely, so
- * that there are at most a thousand looks a second. In nanoseconds. */
+/* A request that waits looks once a second whether its client is still there. If more than a thousand wait, they look more
+ * rarely: at most a thousand looks a second. In nanoseconds. */
 enum { LOOK_AFTER = 1000 * 1000 * 1000, BETWEEN_LOOKS = 1000 * 1000 };
 
 /* A number for each thread, by which it finds where its search for a tag begins. It lies with the thread's own stack, and so is
@@ -80,7 +80,7 @@ static freeze_queue_tag *wait_for_tag(uint32_t thread)
     return tag;
 }
 
-/* Of an answer to an entering, other than that the queue is frozen. */
+/* The errno for the answer to an entering, of a queue that isn't frozen. */
 static int errno_of(uint32_t entered)
 {
     if (entered == FREEZE_QUEUE_OK)
@@ -105,8 +105,8 @@ static int wait_for_thaw(freeze_queue_tag *tag, uint32_t slot)
 /* ---- Under the tag ---- */
 
 /* Where the first piece of a request ends that has been done up to here, in bytes; 0 where the queue refuses. A request is
- * cut as the sectors that it touches; a piece ends before the backend's block that it would end in, or behind it where it
- * begins there. Chunks and physical blocks lie alike in each period, so no disk is too large for first_piece. */
+ * cut as the sectors that it touches. A piece doesn't end inside a block of the backend: it ends before that block, or behind
+ * it if it begins there. Chunks and physical blocks lie alike in each period, so no disk is too large for first_piece. */
 static uint64_t piece_end(const freeze_queue_limits *limits, const request *wanted, uint64_t from)
 {
     uint64_t end = wanted->offset + wanted->count, start = from / SECTOR, sectors = (end - 1) / SECTOR + 1 - start;

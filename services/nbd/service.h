@@ -12,7 +12,7 @@ enum { SECTOR = 512 /* bytes */, MOST_COUNT = 65535 /* sectors that the hardware
 
 typedef enum operation { READ, WRITE, TRIM, ZERO, CACHE, EXTENTS, FLUSH, OPERATIONS } operation;
 
-/* Durations: in place n those of at most 2^n microseconds that aren't in an earlier place, in the last one the longer ones. */
+/* Durations: place n counts the ones of at most 2^n microseconds that no earlier place counts; the last place, all longer ones. */
 enum { BUCKETS = 25 };
 typedef struct histogram {
     atomic_uint_fast64_t nanoseconds; /* the sum */
@@ -22,7 +22,7 @@ typedef struct histogram {
 /* The requests of one operation on one slot. Those that were done are counted in latency. */
 typedef struct operation_counts {
     atomic_uint_fast64_t bytes, pieces, failed;
-    histogram latency; /* from their coming to their leaving, with the waiting */
+    histogram latency; /* from arrival to leaving, with the waiting */
     histogram waiting; /* of those that had to wait for a tag or for the thaw */
 } operation_counts;
 
@@ -38,6 +38,7 @@ typedef struct service {
     uint32_t tags;
     bool nowait;         /* a request to a frozen queue is refused, and doesn't wait */
     char *control;       /* the path of the control's socket, or NULL */
+    const char *control_key; /* the name of its parameter */
     int (*flush)(void);  /* flushes the backend: 0, or an errno; NULL where nothing could be lost */
     freeze_queue_freezer freezer;
     freeze_queue_waits waits;
@@ -50,27 +51,28 @@ extern service blkq;
 
 /* ---- background.c ---- */
 
-/* A thread that sleeps until it is told of work, or to end. */
+/* A thread that sleeps until it is woken for work, or to end. */
 typedef struct background {
     pthread_mutex_t lock;
-    pthread_cond_t told;
+    pthread_cond_t wakes;
     pthread_t thread;
     bool runs, is_over; /* is_over: under the lock */
 } background;
 
-#define NO_BACKGROUND {.lock = PTHREAD_MUTEX_INITIALIZER, .told = PTHREAD_COND_INITIALIZER}
+#define NO_BACKGROUND {.lock = PTHREAD_MUTEX_INITIALIZER, .wakes = PTHREAD_COND_INITIALIZER}
 
-/* Begins the thread: 0, or an errno. Wakes it. Tells it to end, and waits for that, if it was begun. */
+/* Begins the thread: 0, or an errno. Wakes it. Ends it and waits for its end, if it was begun. */
 int begin_background(background *one, void *run(void *));
-void tell_background(background *one);
+void wake_background(background *one);
 void end_background(background *one);
 
 /* ---- queue.c: the queue comes and goes, for the filter and the plugin ---- */
 
-/* Takes a parameter of the queue by its name, which the command line has as key. -1: refused, and nbdkit was told why. */
+/* Takes a parameter of the queue by its name, which the command line has as key. -1: refused, and nbdkit has the reason. */
 int configure_queue(const char *key, const char *name, const char *value);
 
-/* Makes the queue, and the control's socket, before nbdkit goes into the background; then starts the threads. -1: refused. */
+/* Makes the queue, and the control's socket, before nbdkit goes into the background; then opens the events and starts the
+ * threads. -1: refused. */
 int make_queue(void);
 int start_threads(void);
 
@@ -78,7 +80,7 @@ int start_threads(void);
 void end_queue(void);
 void unload_queue(void);
 
-/* Tells nbdkit why something is refused: -1. */
+/* Gives nbdkit the reason of a refusal: -1. */
 int refuse(const char *subject, const char *why);
 
 /* Wakes the thread that looks for nbdkit's end, since a request waits. */
@@ -178,7 +180,7 @@ int flush_event(void);
 /* Asks for a flush that begins later than this call, and gives its ticket. */
 uint64_t ask_flush(void);
 
-/* Whether the flush of a ticket is done, and its errno, or that of a later flush if one has failed since. */
+/* Whether the flush of a ticket is done, and its errno, or the errno of a later flush that has failed since. */
 bool is_flushed(uint64_t ticket, int *failed);
 
 /* ---- metrics.c ---- */

@@ -23,7 +23,7 @@ static bool runs;
 
 static int refuse_control(const char *what)
 {
-    nbdkit_error("control=%s: %s: %s", blkq.control, what, strerror(errno));
+    nbdkit_error("%s=%s: %s: %s", blkq.control_key, blkq.control, what, strerror(errno));
     return -1;
 }
 
@@ -109,8 +109,8 @@ static bool do_next_line(controller *from)
 }
 
 /* Goes as far as it can: with the line that isn't answered yet, the reply, and then the next lines. Whether the controller
- * stays. One that sends a longer line than there are doesn't, nor does one that has ended and has its replies; the part of
- * a line that one leaves behind is never run. */
+ * stays. It doesn't if it sends a longer line than there are, or if it has ended and has its replies. The part of a line
+ * that it leaves behind is never run. */
 static bool serve_controller(controller *one)
 {
     do {
@@ -147,7 +147,7 @@ static void attend(controller *one, short events)
         let_go(one);
 }
 
-/* The events to look for: lines, while none waits to be answered; room for a reply. A hang-up is told always. */
+/* The events to look for: lines, while none waits to be answered; room for a reply. poll reports a hang-up always. */
 static short events_of(const controller *one)
 {
     if (one->length > 0)
@@ -288,7 +288,7 @@ int start_control(void)
     return runs ? 0 : refuse_control("thread");
 }
 
-/* Removes the socket unless another stands at its path now. */
+/* Removes the socket unless another one has its path now. */
 static void unbind_control(void)
 {
     struct stat found;

@@ -2,12 +2,8 @@
  * compares the answers. What this library can't tell is answered '?'. */
 #include "percpu_gate.h"
 
-#include <inttypes.h>
-#include <stdio.h>
+#include "row.h"
 #include <stdlib.h>
-#include <string.h>
-
-enum { LONGEST_LINE = 512 };
 
 static percpu_gate_control control;
 static percpu_gate_pass passes[PERCPU_GATE_MOST_PASSES];
@@ -208,27 +204,22 @@ static bool make_gate(char *line)
     return true;
 }
 
+static void ask(const char *actor, const char *call, const uint64_t *numbers)
+{
+    unsigned long pass = strtoul(actor, NULL, 10);
+    if (!strcmp(actor, "c"))
+        ask_control(call, (uint32_t)numbers[0], numbers[1]);
+    else if (pass < PERCPU_GATE_MOST_PASSES)
+        ask_pass(&passes[pass], call, (uint32_t)numbers[0], (uint32_t)numbers[1]);
+    else
+        puts("passed over");
+}
+
 int main(void)
 {
-    char line[LONGEST_LINE], actor[32], call[32];
-    if (!fgets(line, sizeof line, stdin) || strcmp(line, "calls 1\n") || !fgets(line, sizeof line, stdin) || !make_gate(line))
-        return 2;
-    while (fgets(line, sizeof line, stdin)) {
-        uint64_t first = 0, second = 0;
-        if (sscanf(line, "%31s %31s %" SCNu64 " %" SCNu64, actor, call, &first, &second) < 2)
-            return 2;
-        if (!strcmp(actor, "c")) {
-            ask_control(call, (uint32_t)first, second);
-            continue;
-        }
-        unsigned long pass = strtoul(actor, NULL, 10);
-        if (pass < PERCPU_GATE_MOST_PASSES)
-            ask_pass(&passes[pass], call, (uint32_t)first, (uint32_t)second);
-        else
-            puts("passed over");
-    }
+    int status = answers_row(make_gate, ask);
     for (size_t at = 0; at < PERCPU_GATE_MOST_PASSES; at++)
         percpu_gate_free_pass(&passes[at]);
     percpu_gate_free_control(&control);
-    return 0;
+    return status;
 }

@@ -2,6 +2,8 @@
  * runs: it stores `turns` numbers from where it is told. */
 #ifndef DRAWING_H
 #define DRAWING_H
+#include "need.h"
+
 #include <pthread.h>
 #include <stdbool.h>
 #include <stdint.h>
@@ -11,14 +13,6 @@
 enum { THREADS = 4 };
 
 static long turns;
-
-static void need(bool holds, const char *what)
-{
-    if (holds)
-        return;
-    fprintf(stderr, "drawn: %s\n", what);
-    exit(1);
-}
 
 /* Runs the threads, with as many turns as the first word says. No number is drawn twice. */
 static int draws_each_once(int argc, char **argv, void *(*make)(void *))

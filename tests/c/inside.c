@@ -57,20 +57,14 @@ static void worn_out(void)
     TELLS(blocks_now(), 0);
 }
 
+static void gives(int p) { IS(percpu_gate_next_pass(&control, &passes[p]), OK); }
+static void takes_back(int p) { IS(percpu_gate_retire(&control, &passes[p]), OK); }
+
 /* A gate whose passes are all back, and the word that counts its shares. */
 static uint64_t *a_shared_gate(void)
 {
     IS(percpu_gate_new(&control, 1, 3, PERCPU_GATE_START_SLOTS, words), OK);
-    first_look(1);
-    for (uint64_t i = 0; i < 3; i++) {
-        IS(percpu_gate_next_pass(&control, &passes[i]), OK);
-        look_again(2 + i);
-    }
-    for (uint64_t i = 3; i-- > 0;) {
-        IS(percpu_gate_retire(&control, &passes[i]), OK);
-        look_again(1 + i);
-    }
-    return the_word("shares");
+    return word_of_shares(gives, takes_back);
 }
 
 static void in_use(void)

@@ -74,11 +74,48 @@ static uint64_t *the_word(const char *of)
     exit(1);
 }
 
+/* The word that counts the shares: the first one's, and one for each of three handles that are given and taken back. */
+static inline uint64_t *word_of_shares(void (*gives)(int), void (*takes_back)(int))
+{
+    first_look(1);
+    for (int i = 0; i < 3; i++) {
+        gives(i);
+        look_again(2 + (uint64_t)i);
+    }
+    for (int i = 3; i-- > 0;) {
+        takes_back(i);
+        look_again(1 + (uint64_t)i);
+    }
+    return the_word("shares");
+}
+
 static long blocks_now(void)
 {
     long now = 0;
     for (int i = 0; i < BLOCKS; i++)
         now += blocks[i].at != NULL;
     return now;
+}
+
+static struct { uint64_t *at; uint64_t words[4096]; } kept[BLOCKS];
+
+/* Notes the words of all blocks. */
+static inline void keep_all(void)
+{
+    for (int i = 0; i < BLOCKS; i++) {
+        kept[i].at = blocks[i].words <= 4096 ? blocks[i].at : NULL;
+        if (kept[i].at)
+            memcpy(kept[i].words, kept[i].at, blocks[i].words * 8);
+    }
+}
+
+/* How many words aren't as they were, of the blocks that are there still. */
+static inline long words_changed(void)
+{
+    long changed = 0;
+    for (int i = 0; i < BLOCKS; i++)
+        for (size_t w = 0; kept[i].at && kept[i].at == blocks[i].at && w < blocks[i].words; w++)
+            changed += kept[i].words[w] != blocks[i].at[w];
+    return changed;
 }
 #endif

@@ -1,11 +1,11 @@
 /* What a gate keeps in its later lives too, as its own memory shows, which no program may read: the slot that a call names is
- * the one that counts; a pass that is freed holds on; a control that is freed leaves the slots open; no pass runs out by kills.
- * (Linked with --wrap=malloc and free.) */
+ * the one that counts, of however many; a pass that is freed holds on; a control that is freed leaves the slots open; no pass runs
+ * out by kills. (Linked with --wrap=malloc and free.) */
 #include "percpu_gate.h"
 
 #include "inside.h"
 
-enum { SLOTS = PERCPU_GATE_MOST_SLOTS, LIVES = 1200 };
+enum { SLOTS = PERCPU_GATE_MOST_SLOTS, LIVES = 1200, MANY_LIVES = 100000 };
 
 #define IS(call, want) is(#call, call, PERCPU_GATE_##want, __LINE__)
 
@@ -14,17 +14,19 @@ static const uint64_t EMPTY = (uint64_t)1 << 32;
 
 static const uint64_t words[8] = {3};
 static percpu_gate_control control;
-static percpu_gate_pass passes[2];
+static percpu_gate_pass passes[3];
 static percpu_gate_final last;
 
-static void make(void)
+static void make_with(uint32_t slots)
 {
-    IS(percpu_gate_new(&control, SLOTS, 2, PERCPU_GATE_START_SLOTS, words), OK);
+    IS(percpu_gate_new(&control, slots, 2, PERCPU_GATE_START_SLOTS, words), OK);
     IS(percpu_gate_next_pass(&control, &passes[0]), OK);
 }
 
-/* The word of a slot, by what a pass counts on it and takes back. What the pass holds counts another slot too. */
-static uint64_t *slot_word(uint32_t slot)
+static void make(void) { make_with(SLOTS); }
+
+/* What may be the word of a slot, by what a pass counts on it and takes back. */
+static void look_at(uint32_t slot)
 {
     IS(percpu_gate_try_get(&passes[0], slot), OK);
     first_look(EMPTY + 1);
@@ -32,9 +34,26 @@ static uint64_t *slot_word(uint32_t slot)
     look_again(EMPTY + 5);
     IS(percpu_gate_put(&passes[0], slot, 5), OK);
     look_again(EMPTY);
+}
+
+/* The word of a slot. What the pass holds counts another slot too. */
+static uint64_t *slot_word(uint32_t slot)
+{
+    look_at(slot);
     IS(percpu_gate_try_get(&passes[0], (slot + 1) % SLOTS), OK);
     look_again(EMPTY);
     IS(percpu_gate_put(&passes[0], (slot + 1) % SLOTS, 1), OK);
+    return the_word("a slot");
+}
+
+/* The same where there may be no other slot: another pass counts it too. */
+static uint64_t *slot_word_of_both(uint32_t slot)
+{
+    look_at(slot);
+    IS(percpu_gate_try_get(&passes[1], slot), OK);
+    look_again(EMPTY + 1);
+    IS(percpu_gate_put(&passes[1], slot, 1), OK);
+    look_again(EMPTY);
     return the_word("a slot");
 }
 
@@ -87,13 +106,70 @@ static void slots_in_each_life(void)
     TELLS(blocks_now(), 0);
 }
 
-/* What a freed pass holds, on its slot, it holds for ever, in whichever life. */
-static void a_freed_pass(uint64_t lives)
+/* The same of a pass that holds so many. */
+static void counts_above(uint32_t slot, const uint64_t *word, uint32_t held)
+{
+    IS(percpu_gate_try_get(&passes[0], slot), OK);
+    IS(percpu_gate_get(&passes[0], slot, held - 1), OK);
+    TELLS(*word, EMPTY + held);
+    IS(percpu_gate_try_get(&passes[0], slot), OK);
+    TELLS(*word, EMPTY + held + 1);
+    IS(percpu_gate_try_get_live(&passes[0], slot), OK);
+    TELLS(*word, EMPTY + held + 2);
+    IS(percpu_gate_put(&passes[0], slot, 2), OK);
+    TELLS(*word, EMPTY + held);
+    IS(percpu_gate_put(&passes[0], slot, held), OK);
+    TELLS(*word, EMPTY);
+}
+
+/* Of a gate with so many slots each call counts on the slot that it names, whatever the pass holds. */
+static void slots_of(uint32_t slots)
+{
+    static const uint32_t amounts[] = {2, 1000, 32768, 50001, PERCPU_GATE_MOST_HELD - 2};
+    make_with(slots);
+    IS(percpu_gate_next_pass(&control, &passes[1]), OK);
+    for (uint32_t slot = 0; slot < slots; slot++) {
+        const uint64_t *word = slot_word_of_both(slot);
+        counts_on(slot, word);
+        for (size_t i = 0; i < sizeof amounts / sizeof *amounts; i++)
+            counts_above(slot, word, amounts[i]);
+    }
+    IS(percpu_gate_retire(&control, &passes[0]), OK);
+    IS(percpu_gate_retire(&control, &passes[1]), OK);
+    IS(percpu_gate_exit(&control, &last), OK);
+    TELLS(blocks_now(), 0);
+}
+
+/* A gate that was killed and revived very often gives its last pass, and ends. */
+static void an_old_gate(void)
+{
+    make_with(1);
+    for (uint64_t life = 0; life < MANY_LIVES; life++)
+        live_again(life);
+    IS(percpu_gate_next_pass(&control, &passes[1]), OK);
+    IS(percpu_gate_next_pass(&control, &passes[2]), ERR_NO_PASS);
+    IS(percpu_gate_retire(&control, &passes[0]), OK);
+    IS(percpu_gate_retire(&control, &passes[1]), OK);
+    IS(percpu_gate_exit(&control, &last), OK);
+    TELLS(last.kills, MANY_LIVES);
+    TELLS(last.releases, MANY_LIVES);
+    TELLS(blocks_now(), 0);
+}
+
+/* The word of the last slot, of a gate that has had so many lives. */
+static uint64_t *last_slot_after(uint64_t lives)
 {
     make();
     uint64_t *word = slot_word(SLOTS - 1);
     for (uint64_t life = 0; life < lives; life++)
         live_again(life);
+    return word;
+}
+
+/* What a freed pass holds, on its slot, it holds for ever, in whichever life. */
+static void a_freed_pass(uint64_t lives)
+{
+    uint64_t *word = last_slot_after(lives);
     IS(percpu_gate_try_get_live(&passes[0], SLOTS - 1), OK);
     IS(percpu_gate_get(&passes[0], SLOTS - 1, 6), OK);
     percpu_gate_free_pass(&passes[0]);
@@ -107,10 +183,7 @@ static void a_freed_pass(uint64_t lives)
 /* A control that is freed closes no slot, in whichever life: its passes count on. */
 static void a_freed_control(uint64_t lives)
 {
-    make();
-    uint64_t *word = slot_word(SLOTS - 1);
-    for (uint64_t life = 0; life < lives; life++)
-        live_again(life);
+    uint64_t *word = last_slot_after(lives);
     percpu_gate_free_control(&control);
     counts_on(SLOTS - 1, word);
     percpu_gate_free_pass(&passes[0]);
@@ -120,6 +193,10 @@ static void a_freed_control(uint64_t lives)
 int main(void)
 {
     slots_in_each_life();
+    for (uint32_t slots = 1; slots <= 64; slots++)
+        slots_of(slots);
+    slots_of(SLOTS);
+    an_old_gate();
     for (uint64_t lives = 0; lives < 3; lives++) {
         a_freed_pass(lives);
         a_freed_control(lives);

@@ -175,9 +175,9 @@ int main(void)
     closed_handles();
     numbers();
     IS(percpu_gate_new(&control, 0, 1, PERCPU_GATE_START_SLOTS, words), ERR_BAD_SIZE);
-    IS(percpu_gate_new(&control, 65, 1, PERCPU_GATE_START_SLOTS, words), ERR_BAD_SIZE);
+    IS(percpu_gate_new(&control, 513, 1, PERCPU_GATE_START_SLOTS, words), ERR_BAD_SIZE);
     IS(percpu_gate_new(&control, 1, 0, PERCPU_GATE_START_SLOTS, words), ERR_BAD_SIZE);
-    IS(percpu_gate_new(&control, 1, 65, PERCPU_GATE_START_SLOTS, words), ERR_BAD_SIZE);
+    IS(percpu_gate_new(&control, 1, 1025, PERCPU_GATE_START_SLOTS, words), ERR_BAD_SIZE);
     IS(percpu_gate_new(&control, 1, 1, 3, words), ERR_BAD_SIZE);
     IS(percpu_gate_new(&control, 2, 1, PERCPU_GATE_START_SLOTS, words), OK);
     IS(percpu_gate_new(&control, 2, 1, PERCPU_GATE_START_SLOTS, words), ERR_OPEN);

@@ -73,10 +73,10 @@ static uint32_t some_amount(void)
 
 static void make(uint32_t c)
 {
-    uint32_t slots = any_below(6) ? 1 + any_below(4) : any_below(70);
-    uint32_t out = any_below(6) ? 1 + any_below(4) : any_below(70);
+    uint32_t slots = any_below(6) ? 1 + any_below(4) : any_below(600);
+    uint32_t out = any_below(6) ? 1 + any_below(4) : any_below(1200);
     uint32_t start = any_below(8) ? any_below(3) : 3;
-    bool fits = slots >= 1 && slots <= 64 && out >= 1 && out <= 64 && start <= 2, dead = start == PERCPU_GATE_START_DEAD;
+    bool fits = slots >= 1 && slots <= 512 && out >= 1 && out <= 1024 && start <= 2, dead = start == PERCPU_GATE_START_DEAD;
     uint64_t words[8];
     for (int k = 0; k < 8; k++)
         words[k] = any_word();
@@ -215,14 +215,17 @@ static void look(uint32_t p)
     IS(word, want ? UNWRITTEN : g->words[k]);
 }
 
-static uint32_t kill_refusal(const struct gate *g)
+/* What a call is answered that may not come in the midst of a kill. */
+static uint32_t refusal(const struct gate *g, uint32_t if_dead, uint32_t if_live)
 {
     if (!g)
         return PERCPU_GATE_ERR_CLOSED;
     if (in_a_kill(g))
         return PERCPU_GATE_ERR_MID_SWITCH;
-    return g->phase == PERCPU_GATE_PHASE_DEAD ? PERCPU_GATE_ERR_ALREADY_DEAD : PERCPU_GATE_OK;
+    return g->phase == PERCPU_GATE_PHASE_DEAD ? if_dead : if_live;
 }
+
+static uint32_t kill_refusal(const struct gate *g) { return refusal(g, PERCPU_GATE_ERR_ALREADY_DEAD, PERCPU_GATE_OK); }
 
 static void kill(uint32_t c)
 {
@@ -289,14 +292,7 @@ static void step(uint32_t c)
     }
 }
 
-static uint32_t dead_refusal(const struct gate *g)
-{
-    if (!g)
-        return PERCPU_GATE_ERR_CLOSED;
-    if (in_a_kill(g))
-        return PERCPU_GATE_ERR_MID_SWITCH;
-    return g->phase == PERCPU_GATE_PHASE_DEAD ? PERCPU_GATE_OK : PERCPU_GATE_ERR_NOT_DEAD;
-}
+static uint32_t dead_refusal(const struct gate *g) { return refusal(g, PERCPU_GATE_OK, PERCPU_GATE_ERR_NOT_DEAD); }
 
 static void revive(uint32_t c, bool from_zero)
 {

@@ -57,18 +57,9 @@ int main(void)
 {
     percpu_gate_control control = {0};
     percpu_gate_pass pass[3] = {{0}, {0}, {0}};
-    IS(sizeof(percpu_gate_control), 32);
-    IS(offsetof(percpu_gate_control, is_open), 0);
-    IS(offsetof(percpu_gate_control, at), 8);
-    IS(offsetof(percpu_gate_control, reserved), 16);
-    IS(sizeof(percpu_gate_pass), 32);
-    IS(offsetof(percpu_gate_pass, is_open), 0);
-    IS(offsetof(percpu_gate_pass, at), 8);
-    IS(offsetof(percpu_gate_pass, reserved), 16);
-    IS(sizeof(percpu_gate_final), 88);
-    IS(offsetof(percpu_gate_final, dead), 0);
-    IS(offsetof(percpu_gate_final, kills), 8);
-    IS(offsetof(percpu_gate_final, releases), 16);
+    HANDLE_IS_LAID_OUT(percpu_gate_control);
+    HANDLE_IS_LAID_OUT(percpu_gate_pass);
+    FINAL_IS_LAID_OUT(percpu_gate_final, 88);
     IS(offsetof(percpu_gate_final, words), 24);
     /* three slots, two passes, on the shared word alone */
     IS(percpu_gate_new(&control, 3, 2, PERCPU_GATE_START_ATOMIC, words), PERCPU_GATE_OK);

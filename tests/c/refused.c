@@ -17,7 +17,7 @@ static long life(long allow)
     percpu_gate_pass pass[2] = {{0}, {0}};
     percpu_gate_final last;
     allowed = allow;
-    uint32_t answer = percpu_gate_new(&control, 64, 2, PERCPU_GATE_START_SLOTS, words);
+    uint32_t answer = percpu_gate_new(&control, 512, 2, PERCPU_GATE_START_SLOTS, words);
     if (answer == PERCPU_GATE_ERR_NO_MEMORY) {
         allowed = -1;
         return control.is_open ? -2 : allow;
@@ -41,28 +41,32 @@ static long life(long allow)
     return percpu_gate_exit(&control, &last) || last.words[0] != 3 ? -2 : refused;
 }
 
-/* Gates of every size and start, with all their passes, are made and end where no allocation is refused: none is too large. */
+/* A gate of a size gives all its passes, takes them back and ends, where no allocation is refused: each call has memory. */
+static int one_size(uint32_t slots, uint32_t most, uint32_t start)
+{
+    static percpu_gate_pass passes[PERCPU_GATE_MOST_PASSES];
+    percpu_gate_control control = {0};
+    percpu_gate_final last;
+    uint32_t refused = percpu_gate_new(&control, slots, most, start, words);
+    for (uint32_t i = 0; i < most && !refused; i++)
+        refused = percpu_gate_next_pass(&control, &passes[i]);
+    if (refused || percpu_gate_next_pass(&control, &(percpu_gate_pass){0}) != PERCPU_GATE_ERR_NO_PASS)
+        return 1;
+    for (uint32_t i = 0; i < most && !refused; i++)
+        refused = percpu_gate_retire(&control, &passes[i]);
+    return refused || percpu_gate_exit(&control, &last);
+}
+
+/* Gates of every size and start are made and end: none is too large. */
 static int every_size(uint32_t start)
 {
     for (uint32_t slots = 1; slots <= PERCPU_GATE_MOST_SLOTS; slots++)
-        for (uint32_t most = 1; most <= PERCPU_GATE_MOST_PASSES; most++) {
-            percpu_gate_control control = {0};
-            percpu_gate_pass passes[PERCPU_GATE_MOST_PASSES] = {{0}};
-            percpu_gate_final last;
-            if (percpu_gate_new(&control, slots, most, start, words))
-                return 1;
-            for (uint32_t i = 0; i < most; i++)
-                if (percpu_gate_next_pass(&control, &passes[i]))
-                    return 1;
-            if (percpu_gate_next_pass(&control, &(percpu_gate_pass){0}) != PERCPU_GATE_ERR_NO_PASS)
-                return 1;
-            for (uint32_t i = 0; i < most; i++)
-                if (percpu_gate_retire(&control, &passes[i]))
-                    return 1;
-            if (percpu_gate_exit(&control, &last))
-                return 1;
-        }
-    return 0;
+        if (one_size(slots, 2, start))
+            return 1;
+    for (uint32_t most = 1; most <= PERCPU_GATE_MOST_PASSES; most++)
+        if (one_size(1, most, start) || (most <= 16 && one_size(most, 17 - most, start)))
+            return 1;
+    return one_size(PERCPU_GATE_MOST_SLOTS, PERCPU_GATE_MOST_PASSES, start);
 }
 
 /* Each of a gate's passes in turn gets no memory once, and then it does: ERR_NO_MEMORY comes where an allocation was refused, and
@@ -83,6 +87,33 @@ static int each_pass_refused(void)
     }
     percpu_gate_free_control(&control);
     return 0;
+}
+
+/* A pass is given at each step of a kill and behind it, in each of three lives: it has memory there. */
+static int at_each_step(void)
+{
+    percpu_gate_control control = {0};
+    percpu_gate_pass passes[32] = {{0}};
+    percpu_gate_final last;
+    uint32_t given = 0, slots;
+    uint64_t front;
+    if (percpu_gate_new(&control, 2, 32, PERCPU_GATE_START_SLOTS, words))
+        return 1;
+    for (int life = 0; life < 3; life++)
+        if (percpu_gate_next_pass(&control, &passes[given++]) || percpu_gate_switch_to_atomic(&control) ||
+            percpu_gate_next_pass(&control, &passes[given++]) || percpu_gate_switch_to_slots(&control) ||
+            percpu_gate_mark_dead(&control, &slots) || percpu_gate_next_pass(&control, &passes[given++]) ||
+            percpu_gate_close_next(&control) || percpu_gate_next_pass(&control, &passes[given++]) ||
+            percpu_gate_close_next(&control) || percpu_gate_next_pass(&control, &passes[given++]) ||
+            percpu_gate_collect(&control) || percpu_gate_next_pass(&control, &passes[given++]) ||
+            percpu_gate_confirm(&control, &front) || percpu_gate_next_pass(&control, &passes[given++]) ||
+            percpu_gate_drop_base(&control) != PERCPU_GATE_LAST || percpu_gate_next_pass(&control, &passes[given++]) ||
+            percpu_gate_reinit(&control))
+            return 1;
+    while (given > 0)
+        if (percpu_gate_retire(&control, &passes[--given]))
+            return 1;
+    return percpu_gate_exit(&control, &last) || last.kills != 3;
 }
 
 /* A gate ends with no memory at all: with a pass that is back from a refused next_pass, and with one never asked for. */
@@ -223,5 +254,6 @@ int main(void)
     for (uint32_t start = 0; start < 3; start++)
         if (every_size(start))
             return 4;
-    return no_call_allocates() || freed_in_each_phase() || each_pass_refused() || ends_without_memory() || two_gates() || one_place_twice() || blocks != 0;
+    return no_call_allocates() || freed_in_each_phase() || each_pass_refused() || at_each_step() || ends_without_memory() || two_gates() ||
+        one_place_twice() || blocks != 0;
 }

@@ -1,4 +1,5 @@
-/* Which calls take no step on the gate (stepless.h): handles that are freed or given out, questions, and calls that are refused. */
+/* Which calls take no step on the gate (stepless.h): handles that are freed or given out, questions, switches that change nothing, and
+ * calls that are refused. */
 #define _GNU_SOURCE
 #include "percpu_gate.h"
 
@@ -12,60 +13,63 @@ static const uint64_t words[PERCPU_GATE_WORD_COUNT] = {3};
 static percpu_gate_control control;
 static percpu_gate_pass passes[3], closed;
 
-/* The words that count are in the one block that two passes write when they get a reference. */
-static void finds_the_table(void)
-{
-    int found = 0;
-    for (int i = 0; i < block_count; i++) {
-        int written = 0;
-        for (int p = 0; p < 2; p++) {
-            the_table = i;
-            guards(true);
-            IS(percpu_gate_try_get(&passes[p], 0), OK);
-            guards(false);
-            written += writes;
-            IS(percpu_gate_put(&passes[p], 0, 1), OK);
-        }
-        if (written == 2)
-            found = i + 1;
-    }
-    TELLS(found > 0, true);
-    the_table = found - 1;
-}
+static void comes_in(int p) { IS(percpu_gate_try_get(&passes[p], 0), OK); }
+static void goes_out(int p) { IS(percpu_gate_put(&passes[p], 0, 1), OK); }
 
-/* A gate, live, mid kill or dead, whose last pass holds a reference, and the first one if asked for. */
+enum { LIVE, BEGUN, DEAD, CONFIRMED };
+
+/* A gate, live, at the first or last step of a kill, or dead, whose last pass holds a reference, and the first one if asked for. */
 static void a_gate(uint32_t start, int kill, bool is_held)
 {
     uint32_t slots;
+    uint64_t front;
     block_count = 0;
     IS(percpu_gate_new(&control, SLOTS, 3, start, words), OK);
     for (int p = 0; p < 3; p++)
         IS(percpu_gate_next_pass(&control, &passes[p]), OK);
-    finds_the_table();
+    finds_the_table(comes_in, goes_out);
     IS(percpu_gate_try_get(&passes[2], 1), OK);
     if (is_held)
         IS(percpu_gate_try_get(&passes[0], 2), OK);
-    if (kill == 1)
-        IS(percpu_gate_mark_dead(&control, &slots), OK);
-    if (kill == 2)
+    if (kill == DEAD)
         IS(percpu_gate_kill(&control), OK);
+    if (kill == BEGUN || kill == CONFIRMED)
+        IS(percpu_gate_mark_dead(&control, &slots), OK);
+    if (kill == CONFIRMED) {
+        for (uint32_t slot = 0; slot < slots; slot++)
+            IS(percpu_gate_close_next(&control), OK);
+        if (slots > 0)
+            IS(percpu_gate_collect(&control), OK);
+        IS(percpu_gate_confirm(&control, &front), OK);
+    }
 }
 
 static void questions(int kill)
 {
     uint64_t number, read[PERCPU_GATE_WORD_COUNT];
-    TELLS(STEPLESS(percpu_gate_is_dying(&passes[2])), kill > 0);
+    TELLS(STEPLESS(percpu_gate_is_dying(&passes[2])), kill != LIVE);
     TELLS(STEPLESS(percpu_gate_is_zero(&passes[2])), false);
     TELLS(STEPLESS(percpu_gate_front(&passes[2], &number)), PERCPU_GATE_OK);
     TELLS(STEPLESS(percpu_gate_word(&passes[2], 0, &number)), PERCPU_GATE_OK);
     TELLS(number, 3);
     TELLS(STEPLESS(percpu_gate_all_words(&control, read)), PERCPU_GATE_OK);
     TELLS(STEPLESS(percpu_gate_kill_count(&control, &number)), PERCPU_GATE_OK);
-    TELLS(number, kill > 0);
+    TELLS(number, kill != LIVE);
     TELLS(STEPLESS(percpu_gate_release_count(&control, &number)), PERCPU_GATE_OK);
     TELLS(STEPLESS(percpu_gate_control_is_zero(&control)), false);
     STEPLESS(percpu_gate_phase(&control));
     TELLS(STEPLESS(percpu_gate_pass_number(&passes[2])) == STEPLESS(percpu_gate_control_number(&control)), true);
+}
+
+/* A switch to the mode in which a live gate counts, and any of a dead one, which says how it comes back. */
+static void switches(uint32_t start, int kill)
+{
+    if (kill == DEAD || (kill == LIVE && start == PERCPU_GATE_START_SLOTS))
+        TELLS(STEPLESS(percpu_gate_switch_to_slots(&control)), PERCPU_GATE_OK);
+    if (kill == DEAD || (kill == LIVE && start == PERCPU_GATE_START_ATOMIC))
+        TELLS(STEPLESS(percpu_gate_switch_to_atomic(&control)), PERCPU_GATE_OK);
+    if (kill == BEGUN || kill == CONFIRMED)
+        TELLS(STEPLESS(percpu_gate_switch_to_slots(&control)) >= 16 && STEPLESS(percpu_gate_switch_to_atomic(&control)) >= 16, true);
 }
 
 static void refused_calls(int kill)
@@ -82,9 +86,9 @@ static void refused_calls(int kill)
     TELLS(STEPLESS(percpu_gate_retire(&control, &closed)), PERCPU_GATE_ERR_CLOSED);
     TELLS(STEPLESS(percpu_gate_new(&control, 1, 1, PERCPU_GATE_START_SLOTS, words)), PERCPU_GATE_ERR_OPEN);
     TELLS(STEPLESS(percpu_gate_exit(&control, &last)) >= 16, true);
-    if (kill == 2)
+    if (kill == DEAD)
         TELLS(STEPLESS(percpu_gate_kill(&control)), PERCPU_GATE_ERR_ALREADY_DEAD);
-    if (kill < 2)
+    else
         TELLS(STEPLESS(percpu_gate_reinit(&control)) >= 16 && STEPLESS(percpu_gate_resurrect(&control)) >= 16, true);
 }
 
@@ -113,10 +117,11 @@ int main(void)
 {
     tells_writes();
     for (uint32_t start = 0; start < 2; start++)
-        for (int kill = 0; kill < 3; kill++)
+        for (int kill = LIVE; kill <= CONFIRMED; kill++)
             for (int is_held = 0; is_held < 2; is_held++) {
                 a_gate(start, kill, is_held);
                 questions(kill);
+                switches(start, kill);
                 refused_calls(kill);
                 TELLS(STEPS(percpu_gate_try_get(&passes[1], 0)), PERCPU_GATE_OK); /* and what does take steps is seen */
                 TELLS(STEPS(percpu_gate_put(&passes[1], 3, 1)), PERCPU_GATE_OK);

@@ -1,14 +1,11 @@
-"""Plants one mistake in a copy of the kernel's files."""
+"""Plants one mistake in a copy of the kernel's files. What a mistake has as old is a pattern, which a function has once."""
 
 import os
 import re
 import shutil
 
 from against_linux_parts.source import FILES
-
-
-class DoesntFit(Exception):
-    """Why a mistake can't be planted in this version."""
+from mistakes import Bad
 
 
 def planted(source, mistake, folder):
@@ -21,13 +18,19 @@ def planted(source, mistake, folder):
     path = os.path.join(folder, mistake.file)
     with open(path, encoding="utf-8", errors="surrogateescape") as it:
         text = it.read()
-    # From the line with the function's name on, up to the brace that ends it.
-    found = re.search(rf"^[a-z][^\n;]*\b{mistake.function}\([^;]*?\n\{{.*?^\}}", text, re.M | re.S)
-    if not found:
-        raise DoesntFit(f"{mistake.file} has no function {mistake.function}")
-    body, count = re.subn(mistake.old, mistake.new, found[0])
-    if count != 1:
-        raise DoesntFit(f"{mistake.function} has {count} places of {mistake.old}")
     with open(path, "w", encoding="utf-8", errors="surrogateescape") as it:
-        it.write(text[: found.start()] + body + text[found.end() :])
+        it.write(with_mistake(text, mistake))
     return folder
+
+
+def with_mistake(text, mistake):
+    """The text of the mistake's file with the mistake in its function."""
+    function, (pair,) = mistake.words["function"], mistake.pairs
+    # From the line with the function's name on, up to the brace that ends it.
+    found = re.search(rf"^[a-z][^\n;]*\b{function}\([^;]*?\n\{{.*?^\}}", text, re.M | re.S)
+    if not found:
+        raise Bad(f"{mistake.file} has no function {function}")
+    body, count = re.subn(pair.old, pair.new, found[0])
+    if count != 1:
+        raise Bad(f"{function} has {count} places of {pair.old}")
+    return text[: found.start()] + body + text[found.end() :]

@@ -92,17 +92,20 @@ def torn(served):
     assert found > TRIES // 2, f"{found} of {TRIES} copies are torn"
 
 
+# Kills a server by its number a second later, as one that takes long to end.
+LATE_KILL = 'kill() { if [[ $1 == %* ]]; then builtin kill "$@"; else (sleep 1; builtin kill "$@") >/dev/null & fi; }\n'
+
+
 def page(served):
     """The README's backup, line by line, and a second one over it. No file is overwritten while clients wait: the file that cp writes
-    isn't there when it begins."""
+    isn't there when it begins. At the end the server has ended, also a slow one."""
     with open(os.path.join(os.path.dirname(BLKQCTL), "README.md"), encoding="utf-8") as file:
         text = file.read().split("## A consistent backup in five minutes\n", 1)[1].split("\n## ", 1)[0]
     steps = [line[4:] for line in text.splitlines() if line.startswith("    ") and not line.startswith(("    apt-get", "    make", "    export"))]
     [taken] = [step for step in steps if " cp " in step]
     [last] = [number for number, step in enumerate(steps) if " watch" in step]
     steps[last : last + 1] = [steps[last].replace("watch", "watch -c 1"), taken, "cmp -n 1 backup.img disk.img"]
-    steps.insert(-1, "kill %1; wait")
-    script = "\n".join(steps).replace("$HOME/usr/lib/nbdkit/filters/nbdkit-blkq-filter.so", served)
+    script = LATE_KILL + "\n".join(steps).replace("$HOME/usr/lib/nbdkit/filters/nbdkit-blkq-filter.so", served)
     memory = "/dev/shm" if os.path.isdir("/dev/shm") else None  # a disk may take minutes to free a backup that is replaced
     with tempfile.TemporaryDirectory(dir=memory) as folder:
         programs = {"cp": '#!/bin/bash\n[ ! -e "${@: -1}" ] || { touch overwritten; exit 1; }\nexec /bin/cp "$@"\n',
@@ -116,6 +119,9 @@ def page(served):
         assert not os.path.exists(f"{folder}/overwritten"), "a copy overwrites a file while clients wait"
         said = told.stdout.decode()
         assert told.returncode == 0 and "ok\n" in said and "reads/s" in said, said
+        assert re.search(r"^stat reads \d+ writes [1-9]", said, flags=re.M), f"the backup may come before the load: {said}"
+        left = [name for name in ("disk.sock", "disk.control", "nbdkit.pid") if os.path.exists(f"{folder}/{name}")]
+        assert not left, f"the next start finds {left}"
         assert os.path.getsize(f"{folder}/backup.img") == 64 * MIB and not os.path.exists(f"{folder}/backup.new")
 
 
@@ -195,6 +201,20 @@ def around(served):
                               stderr=subprocess.PIPE, timeout=200, check=True).stderr.decode()
         found = re.fullmatch(r"blkqctl: the quiesce took (\d+\.\d\d) s, and sleep (\d+\.\d\d) s\n", told)
         assert found and float(found[2]) >= 0.2, told
+
+
+def told(served):
+    """-v tells how long a freeze took that outlives blkqctl too; --version is the tree's."""
+    with Server(served, "size=1M") as server:
+        for name in ("freeze", "quiesce"):
+            found = subprocess.run([sys.executable, BLKQCTL, "-v", server.control_path, name, "--lease", "60"], stdout=subprocess.DEVNULL,
+                                   stderr=subprocess.PIPE, timeout=200, check=True).stderr.decode()
+            assert re.fullmatch(rf"blkqctl: the {name} took \d+\.\d\d s\n", found), found
+        blkqctl(server, "thaw", "all")
+    with open(os.path.join(os.path.dirname(BLKQCTL), "..", "..", "VERSION"), encoding="ascii") as file:
+        version = file.read()
+    found = subprocess.run([sys.executable, BLKQCTL, "--version"], stdout=subprocess.PIPE, check=True).stdout.decode()
+    assert found == f"blkqctl {version}", found
 
 
 class Sleeping:

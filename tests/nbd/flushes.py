@@ -2,7 +2,7 @@
 
 import sys
 import threading
-from contextlib import closing
+from contextlib import closing, contextmanager
 
 import nbd
 
@@ -24,6 +24,16 @@ def quiescing(server):
     control.at.sendall(b"quiesce\n")
     begun(server, "flush", before + 1)
     return control
+
+
+@contextmanager
+def flush_is_held(served):
+    """A server with a client that wrote, whose flush the backend holds up: the server, a controller and the client."""
+    with Server(served, backend=shell()) as server, closing(server.control()) as control:
+        client = server.client()
+        client.pwrite(bytes(512), 0)
+        write(server, "held", "flush")
+        yield server, control, client
 
 
 def of_each(served):
@@ -124,10 +134,7 @@ def slow(served):
 
 def begun_before(served):
     """A flush that began before a quiesce doesn't count for it: writes may have come in between."""
-    with Server(served, backend=shell()) as server, closing(server.control()) as control:
-        client = server.client()
-        client.pwrite(bytes(512), 0)
-        write(server, "held", "flush")
+    with flush_is_held(served) as (server, control, client):
         with closing(quiescing(server)) as first, closing(server.control()) as second:
             control.need("thaw all", "depth 0")
             assert first.replies.readline() == "thawed\n"
@@ -158,10 +165,7 @@ def behind_the_drain(served):
 
 def thawed(served):
     """`thaw all` ends a quiesce that flushes: it is told so, and the flush's end freezes nothing."""
-    with Server(served, backend=shell()) as server, closing(server.control()) as control:
-        client = server.client()
-        client.pwrite(bytes(512), 0)
-        write(server, "held", "flush")
+    with flush_is_held(served) as (server, control, client):
         with closing(quiescing(server)) as quiesced:
             assert not is_answered(quiesced, 0.3), "a quiesce is answered before its flush is done"
             control.need("thaw all", "depth 0")
@@ -178,10 +182,7 @@ def thawed(served):
 
 def of_a_leaving(served):
     """A quiesce waits for the flush by which a connection goes: its writes may not be kept yet."""
-    with Server(served, backend=shell()) as server, closing(server.control()) as control:
-        leaving = server.client()
-        leaving.pwrite(bytes(512), 0)
-        write(server, "held", "flush")
+    with flush_is_held(served) as (server, control, leaving):
         server.clients.remove(leaving)
         gone = threading.Thread(target=leaving.shutdown)
         gone.start()

@@ -1,19 +1,20 @@
 """The control's socket and its places: served.py SERVED NAME tries one thing."""
 
 import os
+import select
 import signal
 import socket
 import stat
 import subprocess
 import sys
 import tempfile
-from contextlib import ExitStack, closing
+from contextlib import ExitStack, closing, suppress
 
 import nbd
 
 from controls import depth_of, metrics_of, soon
 from gates import Paused, is_answered
-from server import Control, Server
+from server import WITHIN, Control, Server
 from tries import done
 
 
@@ -101,6 +102,40 @@ def why(served):
             control.need("why", reason)
             other.need("why", "nothing was refused")
         control.need("why now", "extra word")
+
+
+def read(path):
+    """The text of a file that may not be there yet."""
+    with suppress(FileNotFoundError), open(path, encoding="ascii") as file:
+        return file.read()
+
+
+def in_background(served):
+    """A server that went into the background answers a drain as soon as the last request is done, and then ends."""
+    with tempfile.TemporaryDirectory() as folder:
+        slow = ["--filter=delay", "memory", "1M", "delay-read=1000ms", f"blkq-control={folder}/control"]
+        if "filter" in os.path.basename(served):
+            words = [f"--filter={served}", *slow]
+        else:
+            words = [served, "size=1M", "latency_microseconds=1000000", f"control={folder}/control"]
+        subprocess.run(["nbdkit", "-U", f"{folder}/nbd", "-P", f"{folder}/pid", *words], timeout=90, check=True)
+        soon(lambda: read(f"{folder}/pid"), "the server doesn't start")
+        process = int(read(f"{folder}/pid"))
+        try:
+            client = nbd.NBD()
+            client.connect_unix(f"{folder}/nbd")
+            with closing(Control(f"{folder}/control")) as control:
+                cookie = client.aio_pread(nbd.Buffer(512), 0)
+                soon(lambda: metrics_of(control)["blkq_tags_out"] == 1, "the request isn't in flight")
+                control.at.sendall(b"quiesce\n")
+                assert select.select([control.at], [], [], WITHIN)[0], "the drain isn't answered"
+                assert control.replies.readline() == "depth 1\n"
+                control.need("thaw", "depth 0")
+            assert done([client], [cookie]) == [0]
+            client.shutdown()
+        finally:
+            os.kill(process, signal.SIGTERM)
+        soon(lambda: not os.path.exists(f"{folder}/control"), "the server doesn't end")
 
 
 if __name__ == "__main__":

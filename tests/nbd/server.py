@@ -6,6 +6,7 @@ import socket
 import subprocess
 import tempfile
 import time
+from contextlib import suppress
 
 import nbd
 
@@ -133,7 +134,8 @@ class Server:
     def end(self, within=60.0):
         """Sends SIGTERM, and waits until the server has ended, which has to be with status 0."""
         for client in self.clients:
-            client.shutdown()
+            with suppress(nbd.Error):  # one that ends already may have closed the connection
+                client.shutdown()
         self.process.send_signal(signal.SIGTERM)
         try:
             status = self.process.wait(within)

@@ -99,9 +99,10 @@ def told(plugin):
 
 def refused_parameters(plugin):
     """A server that can't be what it is asked to be doesn't start, and says why."""
-    wrong = {"slots=65": "slots or tags", "tags=64": "slots or tags", "max_sectors=65536": "more sectors",
+    wrong = {"slots=513": "slots or tags", "tags=1024": "slots or tags", "max_sectors=65536": "more sectors",
              "physical_sectors=3": "power of two", "hardware_sectors=0": "hardware limit", "chunk_sectors=65536": "chunk",
-             "nowait=perhaps": "perhaps", "sectors=4": "no such parameter", "control=/nowhere/at/all": "control"}
+             "nowait=perhaps": "perhaps", "sectors=4": "no such parameter",
+             "control=/nowhere/at/all": f"error: {'blkq-' if 'filter' in plugin else ''}control=/nowhere/at/all: bind: No such file"}
     if "filter" not in plugin:
         wrong["size=1000"] = "size"
     for parameter, why in wrong.items():
@@ -327,12 +328,12 @@ def two_settings(plugin):
 def cut_by_two(plugin):
     """How many requests were cut by two settings, and how many there were."""
     with Server(plugin, "size=16M") as server:
-        while_settings_change(server, fio(server, 8, 1, bs="64k"))
-        two = count = 0
-        for start, length, found, first, last in watched(server.watched):
-            count += 1
-            two += first != last or found != pieces(start, length, first)
-    return two, count
+        found = []
+        while len(found) <= 1000:  # a second of a busy machine may have some hundred
+            while_settings_change(server, fio(server, 8, 1, bs="64k"))
+            found = list(watched(server.watched))
+    two = sum(first != last or cut != pieces(start, length, first) for start, length, cut, first, last in found)
+    return two, len(found)
 
 
 if __name__ == "__main__":

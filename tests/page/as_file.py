@@ -8,6 +8,8 @@ import subprocess
 import sys
 import tempfile
 
+from counts import last_line_of
+
 ROOT = pathlib.Path(__file__).resolve().parents[2]
 PAGE = ROOT / "docs/try.html"
 MOST_BYTES = 300_000
@@ -16,20 +18,6 @@ SANITIZED = "-std=c17 -g -O1 -Wall -Wextra -Werror -fsanitize=address,undefined 
 # What tools/page --check reads. A folder `out` is left behind.
 READ = ("crates", "tools", "examples", "docs/try.html", "crates.txt")
 AROUND = "tools/page_parts or examples/ has changed since: run tools/page --around"
-
-
-class Counts:
-    def __init__(self):
-        self.passed = self.failed = 0
-
-    def check(self, name, is_so, more=""):
-        self.passed += bool(is_so)
-        self.failed += not is_so
-        if not is_so:
-            print(f"FAILED: {name}{f': {more}' if more else ''}", flush=True)
-
-    def equal(self, name, found, wanted):
-        self.check(name, found == wanted, f"found {str(found)[:300]!r}, wanted {str(wanted)[:300]!r}")
 
 
 def told_by_check(root):
@@ -127,6 +115,6 @@ def heap(counts, parts=PARTS):
         if done.returncode == 0:
             # A heap that gives one block again and again has no end.
             done = subprocess.run(["timeout", "600", f"{work}/heap"], capture_output=True, text=True, errors="replace", check=False)
-        said = re.search(r"^(\d+) passed, (\d+) failed$", done.stdout, re.MULTILINE)
-        counts.check("the heap is right under sanitizers", done.returncode == 0 and said, (done.stdout + done.stderr)[-2000:])
-        counts.passed += int(said[1]) if said else 0
+        is_right = done.returncode == 0 and last_line_of(done.stdout)
+        counts.check("the heap is right under sanitizers", is_right, (done.stdout + done.stderr)[-2000:])
+        counts.add(done.stdout)

@@ -7,10 +7,10 @@ import tempfile
 
 import shown
 from looks import LOOKS, OF_STEPS, fits_and_reads, shoot
-from tables import outcomes_in
+from tables import ROWS, outcomes_in
 
 ROOT = pathlib.Path(__file__).resolve().parents[2]
-RACES = ("removal", "killed_twice", "another_slot", "kill_and_switch")
+RACES = ("removal", "killed_twice", "another_slot", "kill_and_switch", "freeze")
 STATE = "[...find('state').tBodies[0].rows].map((row) => [...row.cells].slice(0, 2).map((cell) => cell.textContent))"
 SHOWN = "[race.outcome, race.stepping.step, find('steps-head').textContent, location.hash]"
 CONTROLS = [*OF_STEPS, ["region", "Outcomes"], ["region", "The race"], ["button", "outcome 2: draw its schedule"]]
@@ -67,8 +67,7 @@ def steps(page, counts, name, schedules):
 def whole(page, counts, name, url):
     text, answer = ((ROOT / f"examples/{name}.{it}").read_text(encoding="utf-8") for it in ("races", "answer"))
     page.open(url)
-    rows = "[...find('outcomes').querySelectorAll('tbody tr')].map((row) => [...row.cells].map((cell) => cell.textContent))"
-    counts.equal(f"{name}: the table", page.js(f"{rows}.map((row) => row.slice(0, -1))"), [it[:-1] for it in outcomes_in(answer)])
+    counts.equal(f"{name}: the table", page.js(f"{ROWS}.map((row) => row.slice(0, -1))"), [it[:-1] for it in outcomes_in(answer)])
     counts.equal(f"{name}: its text", page.js("find('race').textContent"), text)
     counts.equal(f"{name}: it begins before the first step", page.js("[race.outcome, race.stepping.step]"), [1, 0])
     steps(page, counts, name, list(shown.schedules_in(answer)))

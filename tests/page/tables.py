@@ -6,6 +6,9 @@ import re
 import shown
 
 ROOT = pathlib.Path(__file__).resolve().parents[2]
+# The cells of the table of outcomes, row by row, and the words of its glossary.
+ROWS = "[...find('outcomes').querySelectorAll('tbody tr')].map((row) => [...row.cells].map((cell) => cell.textContent))"
+WORDS = "[...find('glossary').querySelectorAll('dt')].map((it) => it.textContent)"
 ANSWERED = "!page.isStale && find('status').textContent.startsWith('answered')"
 # Two passes on the slots 1 and 2 of three, a kill, and the words of the gate.
 SLOTS = """gate 1
@@ -50,10 +53,10 @@ LONG = "'gate 1\\nworld 1 1 slots 0\\n' + '0 look 0\\n'.repeat(601)"
 def outcomes_in(answer):
     """The cells of the table: of each outcome its number, the answers of each actor, the steps, the states and the end."""
     for part in re.split(r"^(?=outcome )", answer, flags=re.MULTILINE)[1:]:
-        number, states, steps = re.match(r"outcome (\d+) states (\d+) steps (\d+)\n", part).groups()
+        number, states, steps, deadlock = re.match(r"outcome (\d+) states (\d+) steps (\d+)( deadlock)?\n", part).groups()
         said = [line.split(" ", 1)[1] for line in part[: part.index("gate 1\n")].splitlines()[1:]]
         end = re.search(r"^# end (.*)$", part, re.MULTILINE)[1]
-        yield [number, *said, steps, states, end]
+        yield [number, *said, steps, states, f"deadlock: {end}" if deadlock else end]
 
 
 def outcomes(page, counts):
@@ -61,8 +64,7 @@ def outcomes(page, counts):
     page.js("openExample('removal.races')")
     page.until(f"page.outcomes.length === 4 && {ANSWERED}")
     answer = (ROOT / "examples/removal.answer").read_text(encoding="utf-8")
-    rows = "[...find('outcomes').querySelectorAll('tbody tr')].map((row) => [...row.cells].map((cell) => cell.textContent))"
-    counts.equal("the table of the outcomes", page.js(rows), list(outcomes_in(answer)))
+    counts.equal("the table of the outcomes", page.js(ROWS), list(outcomes_in(answer)))
     heads = page.js("[...find('outcomes').querySelectorAll('thead th')].map((cell) => cell.textContent)")
     counts.equal("its heads", heads[:3], ["outcome", "pass 0live 0 / put 0 1", "controlkill"])
     counts.equal("its caption", page.js("find('outcomes').querySelector('caption').textContent"), "4 outcomes, over 39 states. Choose one to draw its schedule.")
@@ -75,9 +77,22 @@ def outcomes(page, counts):
     glossary(page, counts, answer)
 
 
+def deadlock(page, counts):
+    """The table says which outcome is a deadlock, and the glossary what its actor waits for."""
+    page.js("openExample('freeze.races')")
+    page.until(f"page.outcomes.length === 12 && {ANSWERED}")
+    answer = (ROOT / "examples/freeze.answer").read_text(encoding="utf-8")
+    wanted = [row[:-1] for row in outcomes_in(answer)]
+    counts.equal("the table of a race with a deadlock", page.js(f"{ROWS}.map((row) => row.slice(0, -1))"), wanted)
+    ends = page.js(f"{ROWS}.map((row) => row.at(-1).startsWith('deadlock: '))")
+    counts.equal("the first outcome alone is a deadlock", ends, [True, *[False] * 11])
+    words = page.js(WORDS)
+    counts.check("the glossary has a call that waits for ever", "waits for zero" in words, words)
+
+
 def glossary(page, counts, answer):
     said = [(row[0], {word for cell in row[1:3] for word in cell.split(" / ")}) for row in outcomes_in(answer)]
-    words = page.js("[...find('glossary').querySelectorAll('dt')].map((it) => it.textContent)")
+    words = page.js(WORDS)
     counts.equal("the glossary has each word that is answered", sorted(words), sorted(set().union(*(of for _, of in said))))
     for index, word in enumerate(words):
         having = [number for number, of in said if word in of]
@@ -178,6 +193,7 @@ def cut(page, counts):
 
 def of_tables(page, counts, programs, given):
     outcomes(page, counts)
+    deadlock(page, counts)
     answer = programs.answer(given("three slots", "schedule", SLOTS.encode())).text.decode()
     slots(page, counts, answer)
     wrong_answers(page, counts, answer)

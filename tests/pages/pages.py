@@ -3,6 +3,8 @@
 import os
 import re
 
+from sources.rattle import files_in
+
 BUILT = {".git", "out", "target", "__pycache__"}
 
 
@@ -69,8 +71,5 @@ def rows_of(text, heading=None):
 
 def paths_in(root, ending):
     """The files of the tree whose names end so, by their paths from the top."""
-    for folder, folders, files in os.walk(root):
-        folders[:] = sorted(set(folders) - BUILT)
-        for file in sorted(files):
-            if file.endswith(ending):
-                yield os.path.relpath(os.path.join(folder, file), root)
+    for path in files_in(root, ending, BUILT):
+        yield os.path.relpath(path, root)

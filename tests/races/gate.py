@@ -7,6 +7,7 @@ MOST_DELTA = 1 << 20
 MOST_HELD = 65535
 MOST_KILLS = 1 << 40
 ASKED = ("front", "dying", "zero", "word")
+WAITS = ("await", "set")
 
 
 class Race(NamedTuple):
@@ -84,6 +85,8 @@ def can_be_made(call, held, race):
     word = call[0]
     if word in ASKED:
         return word != "word" or (call[1] < len(race.words) and held > 0)
+    if word in WAITS:
+        return True
     if call[1] >= race.slots:
         return False
     if word in ("try", "live"):
@@ -101,9 +104,9 @@ def begun(seat, calls, race):
     """A pass that begins its next call, once those before it are answered."""
     while len(seat.told) < len(calls):
         call = calls[len(seat.told)]
-        if can_be_made(call, seat.held, race):
-            return seat._replace(stage=("asks",) if call[0] in ASKED else ("looks",))
-        seat = seat._replace(told=(*seat.told, "passed over"))
+        if call[0] != "set" and can_be_made(call, seat.held, race):
+            return seat._replace(stage=("awaits",) if call[0] == "await" else ("asks",) if call[0] in ASKED else ("looks",))
+        seat = seat._replace(told=(*seat.told, "ok" if call[0] == "set" else "passed over"))
     return seat._replace(stage=())
 
 
@@ -124,6 +127,8 @@ def asked(gate, call):
 def pass_step(gate, seat, calls, race):
     """The gate and the pass after the pass's next step."""
     call, stage = calls[len(seat.told)], seat.stage
+    if stage[0] == "awaits":
+        return gate, answered(seat, "ok", calls, race)
     if stage[0] == "asks":
         return gate, answered(seat, asked(gate, call), calls, race)
     if stage[0] == "looks":
@@ -162,6 +167,22 @@ def shared_step(gate, seat, call, calls, race):
     return gate, answered(seat, counted(call), calls, race)
 
 
+# What calls wait for.
+
+
+def awaited(seat, calls):
+    """What the call under way waits for, or nothing."""
+    return calls[len(seat.told)][1] if seat.stage and calls[len(seat.told)][0] == "await" else ""
+
+
+def is_ready(moment, seat, calls, race):
+    """Whether the call under way needn't wait. A flag is set once a call that sets it was made."""
+    gate, seats, control = moment
+    made = [call for of, it in zip((*race.passes, race.control), (*seats, control)) for call in of[: len(it.told)]]
+    wanted = awaited(seat, calls)
+    return not wanted or {"zero": gate.zero, "dead": gate.dead}.get(wanted, ("set", wanted) in made)
+
+
 # The calls of the control.
 
 
@@ -183,6 +204,8 @@ def is_possible(call, gate, race):
 def refusal(call, gate):
     """What a call is answered that takes no step, or nothing."""
     word, phase = call[0], gate.phase
+    if word == "set":
+        return "ok"
     if word not in ("kill", "mark_dead", "reinit", "resurrect", "store", "atomic", "slots"):
         return None
     if is_mid_switch(phase):
@@ -275,6 +298,8 @@ def control_step(gate, seat, race):
         return control_answered(gate, seat, str(gate.front), race)
     if word == "zero":
         return control_answered(gate, seat, yes_or_no(gate.zero), race)
+    if word == "await":
+        return control_answered(gate, seat, "ok", race)
     if word == "store":
         return store_step(gate, seat, call, race)
     return revival_or_switch_step(gate, seat, word, race)

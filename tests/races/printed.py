@@ -10,9 +10,9 @@ class Outcome(NamedTuple):
 
 
 def figures_of(line):
-    """Those of the line '# end SHARED V front F kills K releases R held H'."""
+    """Those of the line '# end MARK V front F kills K releases R held H' by which outcomes are told apart: all but V."""
     words = line.split()
-    return (words[2], *(int(words[at]) for at in (3, 5, 7, 9, 11)))
+    return (words[2], *(int(words[at]) for at in (5, 7, 9, 11)))
 
 
 def steps_of(schedule):
@@ -24,7 +24,8 @@ def outcome_of(lines, number):
     """An outcome; its first line says its number, and how many steps its schedule has."""
     head, begin = lines[0].split(), lines.index("gate 1")
     schedule = lines[begin:]
-    if head != ["outcome", str(number), "states", head[3], "steps", str(steps_of(schedule))]:
+    deadlock = ["deadlock"] if any("waits for " in line for line in lines[1:begin]) else []
+    if head != ["outcome", str(number), "states", head[3], "steps", str(steps_of(schedule)), *deadlock]:
         raise ValueError(lines[0])
     return Outcome((*lines[1:begin], figures_of(lines[-1])), int(head[3]), schedule)
 

@@ -74,7 +74,7 @@ static void put(Set *set, const int64_t *row, uint32_t number) {
 
 /* What the state tells: the figures, and the answers of every actor. */
 static void tell_outcome(const int64_t *s, int64_t *row) {
-    static const int FIGURES[] = {IS_ZERO, IS_DEAD, VALUE, FRONT_IS, KILLS, RELEASES};
+    static const int FIGURES[] = {IS_ZERO, IS_DEAD, FRONT_IS, KILLS, RELEASES};
     int64_t held = 0;
     for (size_t k = 0; k < sizeof FIGURES / sizeof *FIGURES; k++)
         *row++ = s[FIGURES[k]];
@@ -161,7 +161,7 @@ int main(void) {
     }
     lay_out();
     first_state(first, start, kills);
-    Set states = {.width = (size_t)cells}, outcomes = {.width = (size_t)cells - GATE_CELLS - (size_t)(slots + words) + 7 - ACTOR_CELLS * ((size_t)passes + 1)};
+    Set states = {.width = (size_t)cells}, outcomes = {.width = (size_t)cells - GATE_CELLS - (size_t)(slots + words) + 6 - ACTOR_CELLS * ((size_t)passes + 1)};
     put(&states, first, 0);
     search(&states, &outcomes);
     uint64_t ends = 0, steps = 0;

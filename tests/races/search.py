@@ -7,7 +7,7 @@ A line for each race: its file, the number of its moments, and at how many of th
 outcomes, how many ends have them, and how many steps lead to them at least, all told. With --outcomes each outcome, as
 docs/FORMATS.md has it, without its schedule. A FILE is a race that is right. A moment is
 the gate, and for each actor how far it is in its calls and what they have answered; an outcome is what the calls have answered
-at an end, with the figures that the end of a replay tells. tests/rows/races.rows has these numbers of some races.
+at an end, with the figures that the end of a replay tells but for the value. tests/rows/races.rows has these numbers of some races.
 """
 
 import sys
@@ -15,7 +15,7 @@ from collections import deque
 
 sys.dont_write_bytecode = True
 
-from gate import Race, control_step, first_control, first_gate, first_pass, pass_step
+from gate import Race, awaited, control_step, first_control, first_gate, first_pass, is_ready, pass_step
 
 
 def calls_of(words):
@@ -41,10 +41,10 @@ def after(moment, race):
     """The moments that may come next."""
     gate, seats, seat = moment
     for at, of_pass in enumerate(seats):
-        if of_pass.stage:
+        if of_pass.stage and is_ready(moment, of_pass, race.passes[at], race):
             then, moved = pass_step(gate, of_pass, race.passes[at], race)
             yield then, seats[:at] + (moved,) + seats[at + 1 :], seat
-    if seat.stage:
+    if seat.stage and is_ready(moment, seat, race.control, race):
         then, moved = control_step(gate, seat, race)
         yield then, seats, moved
 
@@ -70,12 +70,18 @@ def moments(race):
     return len(ends), sum(ends)
 
 
-def told(moment):
+def line_of(actor, seat, calls):
+    """What an actor's calls have answered, and what the next one waits for."""
+    waits = [f"waits for {wanted}"] if (wanted := awaited(seat, calls)) else []
+    return f"{actor} {' / '.join([*seat.told, *waits])}".rstrip()
+
+
+def told(moment, race):
     """What the end tells: a line for each actor, and the figures of its gate."""
     gate, seats, seat = moment
-    lines = [f"{actor} {' / '.join(it.told)}".rstrip() for actor, it in (*enumerate(seats), ("c", seat))]
+    lines = [line_of(at, it, race.passes[at]) for at, it in enumerate(seats)] + [line_of("c", seat, race.control)]
     marks = "zero" if gate.zero else "dead" if gate.dead else "live"
-    return (*lines, (marks, gate.value, gate.front, gate.kills, gate.releases, sum(it.held for it in seats)))
+    return (*lines, (marks, gate.front, gate.kills, gate.releases, sum(it.held for it in seats)))
 
 
 def all_outcomes(race):
@@ -84,8 +90,9 @@ def all_outcomes(race):
     for moment, steps, is_end in search(race):
         seen += 1
         if is_end:
-            states, least = found.get(told(moment), (0, steps))
-            found[told(moment)] = states + 1, least
+            tells = told(moment, race)
+            states, least = found.get(tells, (0, steps))
+            found[tells] = states + 1, least
     return found, seen
 
 

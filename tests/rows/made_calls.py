@@ -193,17 +193,26 @@ def many_changes():
 
 def each_tag_on_each_slot():
     """Sixteen tags enter, each on a slot of its own, and leave on the slot beside it: the last one to leave drains the queue."""
-    for first in range(0, 64, 16):
+    for first in range(0, 512, 16):
         calls = [(f"{tag} try {first + tag}", "entered") for tag in range(16)] + [("f freeze", "1")]
         for tag in range(16):
-            calls += [(f"{tag} leave {(first + tag + 1) % 64}", "last" if tag == 15 else "not last")]
+            calls += [(f"{tag} leave {(first + tag + 1) % 512}", "last" if tag == 15 else "not last")]
             calls += [("f drained", "yes" if tag == 15 else "no"), (f"{tag} try {first}", "again")]
-        yield f"each_tag_on_each_slot, from {first}", "queue 64 16 8", calls
+        yield f"each_tag_on_each_slot, from {first}", "queue 512 16 8", calls
+
+
+def all_tags_at_once():
+    """As many requests are under way as there may be tags, two of them on each slot. They leave on other slots, the last one first,
+    and the first drains the queue."""
+    calls = [*((f"{tag} try {tag % 512}", "entered") for tag in range(1_023)), ("f freeze", "1"), ("f drained", "no")]
+    calls += [(f"{tag} leave {(tag + 100) % 512}", "not last") for tag in range(1_022, 0, -1)]
+    calls += [("f drained", "no"), ("0 limits", MAX.format(8)), ("0 leave 511", "last"), ("f drained", "yes")]
+    yield "all_tags_at_once", "queue 512 1023 8", calls
 
 
 def queue_rows():
     """All rows of a queue."""
-    for of_loop in (most_freezes, many_changes, each_tag_on_each_slot):
+    for of_loop in (most_freezes, many_changes, each_tag_on_each_slot, all_tags_at_once):
         yield from of_loop()
 
 

@@ -3,6 +3,7 @@
 import os
 import re
 
+from claims_parts.faults import Faults
 from sources.contracts import clauses_of
 from sources.rattle import DEFINITION, NESTED, Crate, files_in
 
@@ -143,19 +144,6 @@ def pairs_in(text):
     return pairs, wrong
 
 
-class Holding:
-    """What was held, and what lags behind, by lines of the list."""
-
-    def __init__(self):
-        self.passed, self.told = 0, []
-
-    def check(self, holds, line, why):
-        if holds:
-            self.passed += 1
-        else:
-            self.told.append(f"{LIST}:{line}: {why}")
-
-
 def promises_of(root, crate):
     """What each public call of a crate promises, but for laws: its owner, and its clauses by name."""
     laws = {(it.owner, it.name) for it in Crate(os.path.join(root, "crates", crate)).functions if it.is_law}
@@ -169,50 +157,50 @@ def promises_of(root, crate):
     return calls
 
 
-def hold_call(pair, name, clauses, listed, upper, holding):
+def hold_call(pair, name, clauses, listed, upper, faults):
     """Each clause is carried word for word, or in other words by what the list names, or the list says why it isn't."""
     for function in listed.functions:
-        holding.check(function in upper.clauses, listed.line, f"{pair.upper} has no contract of {function}")
+        faults.check(function in upper.clauses, listed.line, f"{pair.upper} has no contract of {function}")
     facts, names = upper.facts(listed.functions)
     for label, fact in clauses.items():
         is_carried = any(text in facts for text in read_as(fact, pair.readings))
         line, fields = listed.clauses.get(label, (listed.line, ()))
         if label not in listed.clauses:
-            holding.check(is_carried, line, f"{pair.upper} doesn't carry {label} of {pair.lower}'s {name}: {fact}")
+            faults.check(is_carried, line, f"{pair.upper} doesn't carry {label} of {pair.lower}'s {name}: {fact}")
         elif is_carried:
-            holding.check(False, line, f"{label} of {name} is carried as it is")
+            faults.check(False, line, f"{label} of {name} is carried as it is")
         else:
             for field in fields or ():
-                holding.check(field in names, line, f"{' '.join(listed.functions)} has no part {field}")
-            holding.passed += fields is None
+                faults.check(field in names, line, f"{' '.join(listed.functions)} has no part {field}")
+            if fields is None:
+                faults.check(True, line, "it isn't carried, and the list says why")
 
 
-def hold_pair(root, pair, holding):
+def hold_pair(root, pair, faults):
     upper, calls = Upper(root, pair.upper), promises_of(root, pair.lower)
     for name, (owner, clauses) in calls.items():
         listed = pair.calls.get(name) or pair.calls.get(f"{owner}::*")
         if owner in upper.shown.get(pair.lower, ()):
-            holding.check(not listed, listed.line if listed else pair.line, f"{pair.upper} shows {owner} as its own")
+            faults.check(not listed, listed.line if listed else pair.line, f"{pair.upper} shows {owner} as its own")
         elif not listed:
-            holding.check(False, pair.line, f"nothing is said of {pair.lower}'s {name}")
+            faults.check(False, pair.line, f"nothing is said of {pair.lower}'s {name}")
         elif listed.functions is None:
-            holding.passed += 1
+            faults.check(True, listed.line, "it isn't passed on, and the list says why")
         else:
-            hold_call(pair, name, clauses, listed, upper, holding)
+            hold_call(pair, name, clauses, listed, upper, faults)
     owners = {f"{owner}::*" for owner, _ in calls.values()}
     for name, listed in pair.calls.items():
-        holding.check(name in calls or name in owners, listed.line, f"{pair.lower} has no call {name} with a clause")
+        faults.check(name in calls or name in owners, listed.line, f"{pair.lower} has no call {name} with a clause")
         for label, (line, _) in listed.clauses.items() if name in calls else ():
-            holding.check(label in calls[name][1], line, f"{name} has no clause {label}")
+            faults.check(label in calls[name][1], line, f"{name} has no clause {label}")
 
 
-def hold_carried(root):
-    """How many clauses hold that a layer passes on, and what lags behind."""
-    holding = Holding()
+def hold_carried(counts, root):
+    """Holds the clauses of each layer that passes calls on."""
+    faults = Faults(counts, LIST)
     with open(os.path.join(root, LIST), encoding="utf-8") as file:
         pairs, wrong = pairs_in(file.read())
     for number in wrong:
-        holding.check(False, number, "this line says nothing that is known")
+        faults.check(False, number, "this line says nothing that is known")
     for pair in pairs:
-        hold_pair(root, pair, holding)
-    return holding.passed, holding.told
+        hold_pair(root, pair, faults)

@@ -3,6 +3,7 @@
 import os
 import re
 
+from claims_parts.faults import Faults
 from sources.rattle import Crate, files_in
 
 WORD = re.compile(r"[\w-]+")
@@ -69,19 +70,6 @@ class Sources:
         return any(name in names for crate in crates for names in (crate.definitions, crate.types, crate.constants))
 
 
-class Faults:
-    """What was held, and what lags behind."""
-
-    def __init__(self, page):
-        self.page, self.passed, self.told = page, 0, []
-
-    def check(self, holds, word, why):
-        if holds:
-            self.passed += 1
-        else:
-            self.told.append(f"{self.page}:{word.line}: {why}")
-
-
 class Carried:
     """The words of a claim's second part: the calls with their clauses, and what they are over."""
 
@@ -121,11 +109,11 @@ class Carried:
     def end_calls(self):
         for word, found in self.calls:
             is_one = any(function.ensures <= {""} for function in found)
-            self.faults.check(is_one, word, f"the clauses of {word.text} have names, and the page names none")
+            self.faults.check(is_one, word.line, f"the clauses of {word.text} have names, and the page names none")
         self.calls = []
 
     def hold_path(self, word):
-        self.faults.check(self.sources.path(self.crate, word.text, self.crates), word, f"there is no file {word.text}")
+        self.faults.check(self.sources.path(self.crate, word.text, self.crates), word.line, f"there is no file {word.text}")
 
     def hold_name(self, word, at):
         name = word.text
@@ -134,11 +122,11 @@ class Carried:
         found = [] if self.is_over else self.functions(name, at)
         if self.is_bare:
             is_condition = any(name in function.requires for function in self.sources.crates[self.crate].functions)
-            self.faults.check(found or is_condition, word, f"there is no function or condition {name}")
+            self.faults.check(found or is_condition, word.line, f"there is no function or condition {name}")
             return
         kind = "definition" if self.is_over else "function"
         is_defined = self.sources.is_defined(name)
-        self.faults.check(found or is_defined, word, f"there is no {kind} {name}")
+        self.faults.check(found or is_defined, word.line, f"there is no {kind} {name}")
         if found:
             self.calls.append((word, found))
         elif is_defined:
@@ -193,7 +181,7 @@ class Carried:
         for label in labels:
             for word, found in self.calls:
                 has = any(label.text in function.labels() or self.has_fact(function, label.text) for function in found)
-                self.faults.check(has, label, f"{word.text} has no clause {label.text}")
+                self.faults.check(has, label.line, f"{word.text} has no clause {label.text}")
         self.calls = []
 
     def has_fact(self, function, name):
@@ -208,14 +196,14 @@ class Carried:
                 or any(label.text in it.labels() and it.owner in (names or [it.owner]) for it in crate.functions)
                 for crate in self.sources.crates.values()
             )
-            self.faults.check(has, label, f"{' or '.join(names) or 'nothing before it'} has no part {label.text}")
+            self.faults.check(has, label.line, f"{' or '.join(names) or 'nothing before it'} has no part {label.text}")
 
     def hold_files(self, files):
         """Each definition since the last files is in one of these."""
         for word in self.over if files else ():
             name = word.text.partition(".")[0]
             is_there = any(self.has_definition(name, file.text) for file in files)
-            self.faults.check(is_there, word, f"{name} isn't in {' or '.join(file.text for file in files)}")
+            self.faults.check(is_there, word.line, f"{name} isn't in {' or '.join(file.text for file in files)}")
         self.over = [] if files else self.over
 
     def has_definition(self, name, file):
@@ -234,7 +222,7 @@ def hold_refused(sources, crate, item, faults):
             folder = re.match(r"\(([a-z_]+)/(must-fail|wrong)\)", behind)
             edits = sources.edits(folder[1], (folder[2],)) if folder else sources.edits(crate)
             place = folder[0][1:-1] if folder else crate
-            faults.check(word.text in edits, word, f"{place} has no edit {word.text}")
+            faults.check(word.text in edits, word.line, f"{place} has no edit {word.text}")
 
 
 def hold_told(sources, crate, item, faults):
@@ -243,10 +231,10 @@ def hold_told(sources, crate, item, faults):
     for word in words:
         if word.kind == "path" and "." in word.text and not word.text.startswith(".") and "/X/" not in word.text:
             beside = {part for it in words for part in it.text.split("/")[:1] if part in sources.crates}
-            faults.check(sources.path(crate, word.text, beside), word, f"there is no file {word.text}")
+            faults.check(sources.path(crate, word.text, beside), word.line, f"there is no file {word.text}")
         elif word.kind == "name":
             gone = [part for part in WORD.findall(word.text) if not sources.knows(crate, part)]
-            faults.check(not gone, word, f"nothing is named {' '.join(gone)}")
+            faults.check(not gone, word.line, f"nothing is named {' '.join(gone)}")
 
 
 def hold_calls(sources, crate, items, faults):
@@ -260,11 +248,12 @@ def hold_calls(sources, crate, items, faults):
         if function.is_public and not function.is_law and function.name.startswith(begin):
             is_there = {function.name.removeprefix(begin), function.name, function.owner} & names
             path = "::".join(filter(None, (function.owner, function.name)))
-            faults.check(is_there, words[0], f"'{WHAT_IS_REFUSED}' lacks {path}")
+            faults.check(is_there, words[0].line, f"'{WHAT_IS_REFUSED}' lacks {path}")
 
 
-def hold_page(sources, crate, page, items):
-    faults = Faults(page)
+def hold_page(counts, sources, crate, page, items):
+    """Holds the items of a page."""
+    faults = Faults(counts, page)
     if crate:
         hold_calls(sources, crate, items, faults)
     for item in items:
@@ -274,4 +263,3 @@ def hold_page(sources, crate, page, items):
             hold_refused(sources, crate, item, faults)
         else:
             hold_told(sources, crate, item, faults)
-    return faults

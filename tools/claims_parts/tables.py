@@ -3,6 +3,7 @@
 import os
 import re
 
+from claims_parts.faults import Faults
 from sources.crates import lines_of
 
 ROW = re.compile(r"\| \[?`(\w+)`.*\| ([^|]*)\|$")
@@ -40,13 +41,14 @@ def hold_table(crates, rows, has_below):
         yield rows[-1][0] if rows else 1, f"the table lacks {name}"
 
 
-def hold_tables(root):
-    """How many lines hold, and what lags behind: of the map, and of the pages' table, which leaves out crates of tests."""
-    crates, passed, told = crates_of(root), 0, []
+def hold_tables(counts, root):
+    """Holds the lines of the map, and of the pages' table, which leaves out crates of tests."""
+    crates = crates_of(root)
     promising = {name: below for name, below in crates.items() if not name.startswith("trials_")}
     for page, wanted, has_below in (("docs/ARCHITECTURE.md", crates, True), ("docs/PROMISES.md", promising, False)):
         with open(os.path.join(root, page), encoding="utf-8") as file:
             rows = rows_of(file.read())
-        behind = [f"{page}:{number}: {why}" for number, why in hold_table(wanted, rows, has_below)]
-        passed, told = passed + len(rows) - len(behind), told + behind
-    return passed, told
+        faults, behind = Faults(counts, page), list(hold_table(wanted, rows, has_below))
+        counts.passed += len(rows) - len(behind)
+        for number, why in behind:
+            faults.check(False, number, why)

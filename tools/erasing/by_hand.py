@@ -4,7 +4,7 @@ from erasing.shape import impls, item_start
 
 # Rattle's `drop` is handed the value; Rust's borrows it, and the types below can't be taken apart then.
 ITEMS = {
-    ("race_answers", "answers", "Drop", "End"): """impl Drop for End {
+    ("race_calls", "answers", "Drop", "End"): """impl Drop for End {
     fn drop(&mut self) {
         let mut rest = self.taken();
         while let Some(mut end) = rest {
@@ -23,7 +23,7 @@ impl End {
     }
 }""",
 }
-IMPORTS = {("race_answers", "answers"): {("std", "mem")}}
+IMPORTS = {("race_calls", "answers"): {("std", "mem")}}
 
 
 def write_by_hand(s):

@@ -8,7 +8,7 @@ FOR_CONTRACTS = re.compile(r" ?\bContracts see [^.]*(?:\.[^ ][^.]*)*\.(?= |$)")
 
 
 def mend_comments(s, places, gone):
-    root = "::".join((*places.root(s), s.crate))
+    root = "::".join(places.top(s))
     for block in blocks(s):
         cut_sentences(s, block)
     for i in range(len(s)):

@@ -3,8 +3,10 @@
 import os
 import subprocess
 
+from counts import Counts
 from erasing.layout import ERASED_LINE, PACKAGES, STAND_IN_LINE, laid_out
 from erasing.source import TOKEN
+from sources.rattle import files_in
 
 # The version that laid rust/ out.
 RUSTFMT = "rustfmt 1.9.0"
@@ -13,21 +15,16 @@ CLOSING = {"(": ")", "[": "]", "{": "}"}
 
 def check(rust, texts):
     """Tells each file that isn't what it should be, with its line. Whether all are."""
-    told, passed = [], 0
+    counts = Counts()
     layouts = laid_out(texts, rust)[0] if has_rustfmt() else {}
     for path, text in sorted(texts.items()):
         line = differs(os.path.join(rust, path), text, layouts.get(path))
-        if line:
-            told.append(f"rust/{path}{line}")
-        else:
-            passed += 1
-    told += [f"rust/{path}: it is nobody's: no source erases to it, and it isn't a stand-in" for path in strangers(rust, texts)]
-    for line in told:
-        print(f"FAILED: {line}")
+        counts.check(f"rust/{path}{line}", not line)
+    for path in strangers(rust, texts):
+        counts.check(f"rust/{path}: it is nobody's: no source erases to it, and it isn't a stand-in", False)
     if not layouts:
         print(f"skipped: the layout isn't compared, since {RUSTFMT} isn't there (rustup component add rustfmt)")
-    print(f"{passed} passed, {len(told)} failed")
-    return not told
+    return counts.end() == 0
 
 
 def has_rustfmt():
@@ -69,13 +66,11 @@ def strangers(rust, texts):
     found = []
     for package in sorted(os.listdir(rust)):
         for folder in ("src/erased", "src/bin"):
-            for top, _, names in os.walk(os.path.join(rust, package, folder)):
-                for name in names:
-                    whole = os.path.join(top, name)
-                    path = os.path.relpath(whole, rust)
-                    by_hand = folder == "src/bin" or package not in PACKAGES
-                    if path not in texts and not is_known(whole, by_hand):
-                        found.append(path)
+            for whole in files_in(os.path.join(rust, package, folder)):
+                path = os.path.relpath(whole, rust)
+                by_hand = folder == "src/bin" or package not in PACKAGES
+                if path not in texts and not is_known(whole, by_hand):
+                    found.append(path)
     return sorted(found)
 
 

@@ -7,6 +7,7 @@ from erasing import parameters, paths, preconditions, runtime, unread
 from erasing.layout import LEFT_OUT, PACKAGES, WITHOUT_STD, finished, place
 from erasing.source import CannotErase, Source
 from sources.crates import lines_of
+from sources.rattle import files_in
 
 
 def crates_of(root):
@@ -23,14 +24,10 @@ def read(root, crates):
     files = {}
     for crate in crates:
         top = os.path.join(root, "crates", crate, "src")
-        for folder, _, names in sorted(os.walk(top)):
-            for name in sorted(names):
-                if not name.endswith(".rt"):
-                    continue
-                path = os.path.join(folder, name)
-                with open(path, encoding="utf-8") as file:
-                    key = os.path.relpath(path, top)[: -len(".rt")]
-                    files[crate, key] = Source(crate, key, file.read())
+        for path in files_in(top, ".rt"):
+            with open(path, encoding="utf-8") as file:
+                key = os.path.relpath(path, top)[: -len(".rt")]
+                files[crate, key] = Source(crate, key, file.read())
     return files
 
 

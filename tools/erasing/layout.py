@@ -11,24 +11,31 @@ PACKAGES = {
     "freeze-queue": ["queue_limits", "queue_core", "wait_queue", "freeze_queue"],
     "blkq": [
         "line_text", "ram_disk", "script_meaning", "script_overlap", "blk_script", "run_queues", "run_desk", "blk_workers",
-        "gate_replay", "race_calls", "race_answers", "race_world", "race_search", "race_outcomes", "races_text", "races_shown",
+        "gate_replay", "race_calls", "race_world", "race_search", "race_outcomes", "races_text",
         "counted_io", "blkq_run", "blkq", "races_run", "gate_races",
     ],
-    "trials": ["uses", "trials_rows", "play_calls"],
+    "trials": ["uses", "play_calls"],
+    "c-memory": ["loose_box"],
     "percpu-gate-c": ["percpu_gate_c"],
     "freeze-queue-c": ["freeze_queue_c"],
 }  # fmt: skip
+# Programs of several files, each in a folder of its own.
+PROGRAMS = {"play_calls"}
 # The first lines of the files among them.
 ERASED_LINE = "// Erased from"
 STAND_IN_LINE = "// A stand-in for"
 # These need `core` and `alloc` alone.
-WITHOUT_STD = {"percpu_words", "percpu_core", "percpu_gate", "queue_limits", "queue_core", "percpu_gate_c", "freeze_queue_c"}
+WITHOUT_STD = {
+    "percpu_words", "percpu_core", "percpu_gate", "queue_limits", "queue_core", "loose_box", "percpu_gate_c", "freeze_queue_c",
+}  # fmt: skip
 # Crates of crates.txt that aren't erased: rust/ has no use for them.
-LEFT_OUT = {"bench", "browser", "trials_calls"}
+LEFT_OUT = {"bench", "browser", "race_laws", "trials_rows", "trials_calls"}
 
 
 def place(package, crate, name):
     """The file of rust/ that a source file becomes."""
+    if crate in PROGRAMS:
+        return f"{package}/src/bin/{crate}/{name}.rs"
     if name == "main":
         return f"{package}/src/bin/{crate}.rs"
     return f"{package}/src/erased/{crate}.rs" if name == "lib" else f"{package}/src/erased/{crate}/{name}.rs"
@@ -58,7 +65,7 @@ def laid_out(texts, rust):
             with open(whole, "w", encoding="utf-8") as file:
                 file.write(text)
         # A file's modules are laid out with it.
-        tops = [os.path.join(room, path) for path in texts if re.fullmatch(r"[^/]+/src/(erased|bin)/\w+\.rs", path)]
+        tops = [os.path.join(room, path) for path in texts if re.fullmatch(r"[^/]+/src/(erased/\w+|bin/\w+|bin/\w+/main)\.rs", path)]
         command = ["rustfmt", "--edition", "2024", "--quiet", "--config-path", os.path.join(rust, "rustfmt.toml")]
         done = subprocess.run(command + tops, capture_output=True, text=True, check=False)
         refused = done.stderr.replace(room + "/", "").strip()

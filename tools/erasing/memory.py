@@ -67,7 +67,7 @@ def rename_call(s, i, opening):
 
 def insist_on_tests(s, i):
     """In Rust these calls end the program if memory is refused, so only tests may make them."""
-    if not s.crate.startswith("trials_") and s.name.partition("/")[0] != "tests":
+    if s.name.partition("/")[0] != "tests":
         raise s.fault(i, f"{s.text[i]}, whose memory can't be refused in Rust")
 
 

@@ -3,6 +3,7 @@
 import re
 
 from erasing import kit
+from erasing.layout import PROGRAMS
 from erasing.shape import item_start, leaves, uses
 
 ERASED = "erased"
@@ -18,12 +19,16 @@ class Places:
     def root(self, s):
         """How a file names the module that has all erased crates."""
         package = next(name for name, crates in self.packages.items() if s.crate in crates)
-        return (package.replace("-", "_") if s.name == "main" else "crate", ERASED)
+        return (package.replace("-", "_") if s.name == "main" or s.crate in PROGRAMS else "crate", ERASED)
+
+    def top(self, s):
+        """How a file names its own crate's root."""
+        return ("crate",) if s.crate in PROGRAMS else (*self.root(s), s.crate)
 
     def target(self, s, path):
         """What a path of the sources is in Rust, or None where nothing stands for it."""
         if path[0] == "crate":
-            return (*self.root(s), s.crate, *path[1:])
+            return (*self.top(s), *path[1:])
         if path[0] in self.crates:
             return (*self.root(s), *path)
         if path in kit.STAND_INS:
@@ -59,7 +64,7 @@ def name_crates(s, places):
         if s.at(p, ":") and s.at(s.before(p), ":"):
             continue
         if s.text[i] == "crate":
-            s.write(i, "::".join((*places.root(s), s.crate)), "a path")
+            s.write(i, "::".join(places.top(s)), "a path")
         elif s.text[i] in places.crates:
             s.imports.add((s.text[i],))
         elif s.text[i] == "std" and s.crate in places.without_std:

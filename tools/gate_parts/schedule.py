@@ -10,10 +10,10 @@ import time
 from dataclasses import dataclass
 from typing import Callable, Optional, Sequence
 
+from counts import last_line_of
 from proving.memory import free_memory
 from proving.proofs import text_of
 
-LAST_LINE = re.compile(r"(\d+) passed, (\d+) failed")
 # The seconds between two looks at the steps, and between two lines that say what runs.
 LOOK, MINUTE = 0.5, 60
 
@@ -96,8 +96,8 @@ class Running:
 
     def counts(self):
         """How many tries passed and failed, and what is to be said of the step's end."""
-        last = self.said().rstrip("\n").rpartition("\n")[2]
-        found = LAST_LINE.fullmatch(last)
+        said = self.said()
+        found, last = last_line_of(said), said.rstrip("\n").rpartition("\n")[2]
         why = "it ran for too long" if self.is_over_limit else f"its status is {self.status}"
         if not self.step.is_counted:
             return (0, 0, "") if self.status == 0 else (0, 1, f"FAILED: {self.step.name}: {why}\n")

@@ -38,6 +38,9 @@ def steps_of(crates, copy, log, processors, tries_all):
         # has cargo's tests and tests/list over cargo's builds; and further tests of the crates: lints, packages, sanitizers.
         Step("plain", ("tests/fresh",), 15, memory=2),
         Step("rust", ("tests/rust/run", "rest"), 4, folders=("rust/target",)),
+        # A release of what is proved here, and mistakes in one; and cargo's builds beside these, by random inputs.
+        Step("release", ("tests/release/run",), 8, proved=frozenset(["blkq", "gate_races"]), memory=3, **c),
+        Step("answers", ("tests/answers",), 3, proved=frozenset(["blkq", "gate_races"]), folders=("rust/target",), **c),
         *of_list(),
         *of_programs(),
         # The pages of claims, the clauses, and the English of pages, headers and comments, each with the tool that measures it.
@@ -92,8 +95,8 @@ def of_programs():
     """The further steps over the proved programs."""
     programs = frozenset(["blkq", "gate_races"])
     return [
-        # One allocation or start of a thread refused after another, also in the tests, which rt ci builds.
-        Step("refusals", ("tools/sweep_refusals",), 4, after=("proofs",), proved=programs),
+        # One allocation or start of a thread refused after another, also while rows of calls are played.
+        Step("refusals", ("tools/sweep_refusals",), 4, proved=programs | {"play_calls"}),
         # Other programs compared with this one.
         Step("against", ("tests/against/run",), 3, proved=programs),
         # The page that runs the programs in a browser.

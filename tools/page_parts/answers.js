@@ -22,6 +22,8 @@ const MEANINGS = {
   "mid switch": "refused: a switch of the mode is under way",
   "worn out": "refused: the gate was killed 2^40 times",
   "passed over": "the call couldn't be made at its place",
+  "waits for zero": "a deadlock: this call waits until the gate reaches zero, and no step is left that could lead there",
+  "waits for dead": "a deadlock: this call waits until the gate is killed, and no call is left that kills it",
 };
 
 function clipped(text) {
@@ -57,8 +59,9 @@ function callsOf(text) {
   return calls;
 }
 
-function endOf(schedule) {
-  return withBias(linesOf(schedule).at(-1).replace(/^# end /, ""));
+function endOf({ schedule, isDeadlock }) {
+  const end = withBias(linesOf(schedule).at(-1).replace(/^# end /, ""));
+  return isDeadlock ? `deadlock: ${end}` : end;
 }
 
 function outcomeHead(actors, calls) {
@@ -78,7 +81,7 @@ function outcomeRow(outcome, actors, onChoice) {
   });
   const counts = [outcome.steps, outcome.states].map((count) => element("td", { className: "number", textContent: String(count) }));
   const cells = [element("th", { scope: "row" }, [choice]), ...answers, ...counts];
-  const row = element("tr", {}, [...cells, element("td", { className: "end", textContent: endOf(outcome.schedule) })]);
+  const row = element("tr", {}, [...cells, element("td", { className: "end", textContent: endOf(outcome) })]);
   row.onclick = () => onChoice(outcome);
   return row;
 }

@@ -1,7 +1,7 @@
 // A schedule as lanes: tools/pictures/lanes.py, for the page, with the same elements: one lane for each actor, its steps in order with
 // their replies, shaded where the actor holds references or has a step pending; beside them the words of the gate.
 
-const [SIZE, MIDDLE, SMALL] = [13, 12, 11];
+const [SIZE, SMALL] = [13, 12];
 const [ROW, BOX] = [44, 26];
 const [TOP, EDGE, GAP, INNER] = [64, 16, 10, 12];
 
@@ -82,12 +82,12 @@ class Lanes {
     }
     x += GAP;
     this.words = this.shownWords().map(({ name, texts, ...word }) => {
-      const wide = Math.max(...[...texts, name].map((text) => widthOf(text, MIDDLE))) + 14;
+      const wide = Math.max(...[...texts, name].map((text) => widthOf(text, SMALL))) + 14;
       const placed = { ...word, ...column(name, x, wide) };
       x = placed.end + GAP;
       return placed;
     });
-    this.wide = Math.max(x - GAP, EDGE + widthOf(this.title, 15) + 14 + widthOf(this.name, MIDDLE)) + EDGE;
+    this.wide = Math.max(x - GAP, EDGE + widthOf(this.title, 15) + 14 + widthOf(this.name, SMALL)) + EDGE;
   }
 
   wideOf(actor) {
@@ -140,13 +140,13 @@ class Lanes {
 
   drawHeads(last) {
     this.picture.text(EDGE, 24, this.title, { size: 15, isBold: true });
-    this.picture.text(EDGE + widthOf(this.title, 15) + 14, 24, this.name, { kind: "dim", size: MIDDLE });
+    this.picture.text(EDGE + widthOf(this.title, 15) + 14, 24, this.name, { kind: "dim", size: SMALL });
     for (const { x, wide, middle, name } of this.lanes.values()) {
       this.picture.box(x, TOP - 22, wide, last - TOP + 8, "panel", { roundBy: 6 });
       this.picture.text(middle, TOP - 6, name, { size: SIZE, anchor: "middle", isBold: true });
     }
     this.words.forEach(({ middle, name }) => {
-      this.picture.text(middle, TOP - 6, name, { kind: "dim", size: MIDDLE, anchor: "middle" });
+      this.picture.text(middle, TOP - 6, name, { kind: "dim", size: SMALL, anchor: "middle" });
     });
   }
 
@@ -219,7 +219,7 @@ class Lanes {
     this.picture.box(word.x, y - 10, word.wide, 20, "ground", { line: "rule", roundBy: 4 });
     if (word.word !== "shared") {
       const shown = word.word === "slot" ? slotShown(state.slots[word.at]) : heldBy(word, state);
-      this.picture.text(word.middle, y + 4, shown, { size: MIDDLE, anchor: "middle" });
+      this.picture.text(word.middle, y + 4, shown, { size: SMALL, anchor: "middle" });
       return;
     }
     let x = word.x + 3;
@@ -229,7 +229,7 @@ class Lanes {
       this.picture.text(x + 4, y + 4, mark, { kind: "on", size: SMALL, isBold: true });
       x += wide + 3;
     }
-    this.picture.text(word.end - 7, y + 4, countShown(state), { size: MIDDLE, anchor: "end" });
+    this.picture.text(word.end - 7, y + 4, countShown(state), { size: SMALL, anchor: "end" });
   }
 
   drawLegend(y) {

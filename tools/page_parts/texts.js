@@ -71,15 +71,19 @@ function printed(rows) {
   return rows.map(({ line, reply }) => (reply === undefined ? line : `${line.padEnd(BESIDE)} ${reply}`) + "\n").join("");
 }
 
-// The outcomes of a race: each with the answers of its actors, and its schedule as it is printed.
+function numbersOf([, number, states, steps]) {
+  return { number: Number(number), states: Number(states), steps: Number(steps) };
+}
+
+// The outcomes of a race: each with the answers of its actors, whether one waits for ever, and its schedule as it is printed.
 function outcomesOf(answer) {
   const outcomes = [];
   let total = {};
   for (const line of linesOf(answer)) {
     const now = outcomes[outcomes.length - 1];
-    const head = /^outcome (\d+) states (\d+) steps (\d+)$/.exec(line);
+    const head = /^outcome (\d+) states (\d+) steps (\d+)( deadlock)?$/.exec(line);
     const end = /^outcomes (\d+) states (\d+)$/.exec(line);
-    if (head) outcomes.push({ number: Number(head[1]), states: Number(head[2]), steps: Number(head[3]), actors: [], schedule: "" });
+    if (head) outcomes.push({ ...numbersOf(head), isDeadlock: head[4] !== undefined, actors: [], schedule: "" });
     else if (end) total = { states: Number(end[2]) };
     else if (!now) continue;
     else if (now.schedule || line === "gate 1") now.schedule += `${line}\n`;

@@ -6,7 +6,7 @@ import re
 from pictures.gate import BIAS
 from pictures.svg import Page, width_of
 
-SIZE, MIDDLE, SMALL = 13, 12, 11
+SIZE, SMALL = 13, 12
 ROW, BOX = 44, 26
 TOP, EDGE, GAP, INNER = 64, 16, 10, 12
 
@@ -89,9 +89,9 @@ class Lanes:
             x = self.lanes[actor].end + GAP
         x += GAP
         for key, name, texts in self.shown_words():
-            self.words[key] = Column(name, x, max(width_of(text, MIDDLE) for text in [*texts, name]) + 14)
+            self.words[key] = Column(name, x, max(width_of(text, SMALL) for text in [*texts, name]) + 14)
             x = self.words[key].end + GAP
-        self.wide = max(x - GAP, EDGE + width_of(self.title, 15) + 14 + width_of(self.name, MIDDLE)) + EDGE
+        self.wide = max(x - GAP, EDGE + width_of(self.title, 15) + 14 + width_of(self.name, SMALL)) + EDGE
 
     def lane_of(self, step):
         """The lane of a step's actor; where there is no such actor, the control's."""
@@ -136,12 +136,12 @@ class Lanes:
 
     def draw_heads(self, last):
         self.page.text(EDGE, 24, self.title, "ink", 15, bold=True)
-        self.page.text(EDGE + width_of(self.title, 15) + 14, 24, self.name, "dim", MIDDLE)
+        self.page.text(EDGE + width_of(self.title, 15) + 14, 24, self.name, "dim", SMALL)
         for column in self.lanes.values():
             self.page.box(column.x, TOP - 22, column.wide, last - TOP + 8, "panel", round_by=6)
             self.page.text(column.middle, TOP - 6, column.name, "ink", SIZE, "middle", True)
         for column in self.words.values():
-            self.page.text(column.middle, TOP - 6, column.name, "dim", MIDDLE, "middle")
+            self.page.text(column.middle, TOP - 6, column.name, "dim", SMALL, "middle")
 
     def draw_shades(self, actor):
         """What an actor holds and owes, from the step that changes it to the next that does."""
@@ -218,7 +218,7 @@ class Lanes:
         self.page.box(column.x, y - 10, column.wide, 20, "ground", "rule", 4)
         if key != "shared":
             told = self.slot_told(state.slots[key[1]]) if key[0] == "slot" else str(self.held_by(key, state))
-            self.page.text(column.middle, y + 4, told, "ink", MIDDLE, "middle")
+            self.page.text(column.middle, y + 4, told, "ink", SMALL, "middle")
             return
         x = column.x + 3
         for mark in marks_of(state):
@@ -226,7 +226,7 @@ class Lanes:
             self.page.box(x, y - 8, wide, 16, "done" if mark == "ZERO" else "mark", round_by=3)
             self.page.text(x + 4, y + 4, mark, "on", SMALL, bold=True)
             x += wide + 3
-        self.page.text(column.end - 7, y + 4, count_told(state), "ink", MIDDLE, "end")
+        self.page.text(column.end - 7, y + 4, count_told(state), "ink", SMALL, "end")
 
     def draw_legend(self, y):
         x = EDGE

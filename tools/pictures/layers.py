@@ -36,14 +36,9 @@ NAMES = {
 }
 
 
-def rooms_of(text):
+def rooms_of(lines):
     """The colour of each crate, by the group that it is in."""
-    found, room = {}, None
-    for line in text.splitlines():
-        if line.startswith("#"):
-            room = ROOMS.get(line.lstrip("# "), room)
-        elif line.strip():
-            found[line.split(":")[0].split()[0]] = room
+    found = {line.name: ROOMS.get(line.group) for line in lines}
     if None in found.values():
         raise Wrong("a group of crates has no colour")
     return found
@@ -53,8 +48,8 @@ class Crates:
     """The lines of crates.txt; programs are at the top."""
 
     def __init__(self, text, programs):
-        self.rooms, self.programs = rooms_of(text), programs
         lines = list(lines_in(text))
+        self.rooms, self.programs = rooms_of(lines), programs
         names = {line.name for line in lines}
         self.below = {line.name: [crate for crate in line.libraries if crate in names] for line in lines}
         self.all_below = {}

@@ -11,10 +11,10 @@ PARTS = ("src", "specs", "proofs")
 
 
 class Crate:
-    """A crate: its folder, the repository's libraries that it names, and the kit's."""
+    """A crate: its folder, the repository's libraries that it names, and the kit's. An archive may be built for another target."""
 
     def __init__(self, folder, name, kind, libraries, known):
-        self.folder, self.name, self.out = folder, name, None
+        self.folder, self.name, self.out, self.target = folder, name, None, None
         self.is_program, self.is_static = os.path.isfile(f"{folder}/src/main.rt"), "staticlib" in kind
         self.deps = [known[it] for it in libraries if it in known]
         self.of_kit = ["std", *(it for it in libraries if it not in known)]
@@ -32,7 +32,7 @@ class Crate:
 
     def files(self):
         """Each file of the crate's sources, specs and proofs, by name."""
-        return [path for part in PARTS for path in files_in(f"{self.folder}/{part}", "")]
+        return [path for part in PARTS for path in files_in(f"{self.folder}/{part}")]
 
     def lines(self):
         """How many lines of code the crate has."""
@@ -51,10 +51,10 @@ def crates_of(root):
         if name in above:
             sys.exit(f"crates.txt has {name} depend on itself")
         if name in lines and name not in found:
-            _, kind, libraries = lines[name]
-            for it in libraries:
+            line = lines[name]
+            for it in line.libraries:
                 add(it, (*above, name))
-            found[name] = Crate(f"{root}/crates/{name}", name, kind, libraries, found)
+            found[name] = Crate(f"{root}/crates/{name}", name, line.kind, line.libraries, found)
 
     for name in lines:
         if not re.fullmatch(r"\w+", name):

@@ -118,6 +118,8 @@ class Kit:
         words += ["--antt-project", self.at("logic"), "--logic-built", self.at("built logic")]
         # The repository declares no C functions.
         words += ["--jobs", str(jobs), "--links", f"{crate.name}="]
+        if crate.target:
+            words += ["--target", crate.target]
         return [*words, "--crate-type", "staticlib"] if crate.is_static else words
 
     def check(self, crate, folder, jobs, flags):
@@ -153,6 +155,9 @@ class Kit:
         """Proves a crate and builds it: a library of its statements, an archive, or a program. The status; it says all on out."""
         if self.lacks():
             # rt run builds a program, and its status is the program's, for which there is no input.
+            if crate.target:
+                out.write(f"{self.name} builds nothing for {crate.target} here\n")
+                return 1
             verb = "run" if crate.is_program else "lib"
             status = self.said(["rt", verb, "--jobs", str(jobs)], crate, out)
             return 0 if crate.is_program and os.path.isfile(made) else status

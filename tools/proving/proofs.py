@@ -27,7 +27,8 @@ class Proofs:
     def read_by(self, crate):
         """A sum of all that a crate's proof reads, once the libraries below it are built."""
         of_kit = [sum_of(self.kit.format_of(it)) for it in crate.of_kit]
-        found = hashlib.sha256(repr((self.kit.identity(), crate.is_static, crate.of_kit, of_kit)).encode())
+        how = crate.is_static, *([crate.target] if crate.target else [])
+        found = hashlib.sha256(repr((self.kit.identity(), *how, crate.of_kit, of_kit)).encode())
         found.update(repr(sources_of(crate)).encode())
         # A library's format has a sum of its other files.
         found.update(repr([(it.name, sum_of(f"{it.rlib}/format")) for it in crate.below()]).encode())
@@ -81,8 +82,8 @@ class Proofs:
     def take(self, crates, log, origin):
         """Takes what rt ci has proved and built in another copy of the repository, as far as this log of it goes, for each of these
         crates with the same sources; the lowest first. The copy's crates.txt has the time of the copy. The names of the crates taken."""
-        with open(log, encoding="utf-8", errors="replace") as it:
-            proved, began = proved_in(it.read()), os.path.getmtime(f"{origin}/crates.txt")
+        said = text_of(log)
+        proved, began, lines = proved_in(said), os.path.getmtime(f"{origin}/crates.txt"), last_lines(said)
         theirs, taken = {it.name: it for it in crates_of(origin)}, []
         for crate in crates:
             other = theirs.get(crate.name)
@@ -90,6 +91,8 @@ class Proofs:
                 continue
             if sources_of(crate) == sources_of(other) and self.take_one(crate, other, began):
                 taken.append(crate.name)
+                if crate.name in lines and not crate.is_static:
+                    replace(f"{crate.folder}/out/proved.log", f"{lines[crate.name]}\n")
         return taken
 
     def take_one(self, crate, other, began):
@@ -127,7 +130,12 @@ def made_of(crate):
     """The file that is built of a crate: of a library the one with the sums of its other files."""
     if crate.is_program:
         return f"{crate.folder}/out/{crate.name}"
-    return f"{crate.folder}/out/lib{crate.name}.a" if crate.is_static else f"{crate.rlib}/format"
+    return f"{out_of(crate)}/lib{crate.name}.a" if crate.is_static else f"{crate.rlib}/format"
+
+
+def out_of(crate):
+    """The folder in which a crate's archive lies, and in proved.log what the prover said of it."""
+    return f"{crate.folder}/out/{crate.target}" if crate.target else f"{crate.folder}/out"
 
 
 def sources_of(crate):
@@ -138,6 +146,17 @@ def sources_of(crate):
 def proved_in(said):
     """The names of the crates that rt ci said to be proved, now or by an earlier run of the same sources."""
     return {*re.findall(r"^rt: (\w+) (?:proved$|is kept: )", said, re.MULTILINE)}
+
+
+def last_lines(said):
+    """The prover's last line of each crate that rt ci said to be proved, or rt's own if it kept an earlier proof."""
+    found, last = {}, None
+    for line in said.splitlines():
+        if line.startswith("logic=proved ") and " tests=" not in line:
+            last = line
+        elif told := re.match(r"rt: (\w+) (?:(proved)$|is kept: )", line):
+            found[told[1]], last = (last if told[2] else line), None
+    return {name: line for name, line in found.items() if line}
 
 
 def text_of(path):

@@ -27,10 +27,10 @@ class Function:
         return self.requires | self.ensures
 
 
-def files_in(folder, ending):
-    """The files below a folder whose names end so, by name."""
+def files_in(folder, ending="", without=()):
+    """The files below a folder whose names end so, by name, but for what is in folders of some names."""
     for where, folders, files in os.walk(folder):
-        folders.sort()
+        folders[:] = sorted({*folders} - {*without})
         for file in sorted(files):
             if file.endswith(ending):
                 yield os.path.join(where, file)

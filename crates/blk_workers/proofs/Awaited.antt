@@ -1,6 +1,7 @@
 -- Which replies are owed once a completion is collected, or a line taken: those of the accepted requests whose completions weren't collected.
-use Rattle.std.proofs.Common.{◌≡◌, ◌≢◌, ◌∙◌, sym, ap, subst, ℕ, ◌+◌, ◌<◌, inl, inr, arith, List, [], ◌∷◌, ◌++◌, length, set, Option, Some, None, is_some}
+use Rattle.std.proofs.Common.{◌≡◌, ◌≢◌, ◌∙◌, sym, ap, subst, ℕ, ◌+◌, ◌<◌, inl, inr, true, arith, List, [], ◌∷◌, ◌++◌, length, set, Option, Some, None, is_some}
 use Rattle.std.proofs.lemmas.Bool.{cases_eq, cases_lt}
+use Rattle.std.proofs.lemmas.List.{length-append}
 use Rattle.run_queues.specs.Numbers.{times, one_at}
 use Rattle.run_queues.specs.Parts.{CollectorFacts}
 use Rattle.run_queues.proofs.Increasing.{one_at_itself, times_append}
@@ -11,7 +12,7 @@ use Rattle.script_meaning.proofs.Numbers.{in_order}
 use Rattle.blk_workers.specs.Progress.{AreAwaited}
 use Rattle.run_desk.specs.Desk.{is_owed}
 use Rattle.run_desk.specs.Requests.{IsAcceptedAt}
-use Rattle.run_desk.proofs.Places.{owed_push, owed_at, owed_set_other}
+use Rattle.run_desk.proofs.Places.{count_push_none, count_push_some, count_set, owed_push, owed_at, owed_set_other}
 use Rattle.run_desk.proofs.Numbering.{before_grows}
 
 -- a request whose number is below the count before a position stands before it
@@ -47,26 +48,38 @@ same_but_collected first second third xs once again =
 
 -- a completion is collected that brings no answer, and one that does
 pub awaited_fewer : (script : Meant) (replies : List (Option (List ℕ))) (given last : ℕ) (collected : List ℕ) → AreAwaited script replies given collected → AreAwaited script replies given (collected ++ last ∷ [])
-awaited_fewer script replies given last collected awaited = λ number position at less none. awaited number position at less (not_before number last collected none)
+awaited_fewer script replies given last collected awaited = record {
+  each = λ number position at less none. awaited.each number position at less (not_before number last collected none);
+  no_more = omega (arith, awaited.no_more, length-append collected (last ∷ []));
+}
 
-pub awaited_taken : (script : Meant) (replies : List (Option (List ℕ))) (given last here : ℕ) (text : Option (List ℕ)) (collected : List ℕ) → IsAcceptedAt script last here
-    → AreAwaited script replies given collected → AreAwaited script (set replies here text) given (collected ++ last ∷ [])
-awaited_taken script replies given last here text collected done awaited = λ number position at less none.
-    let other : position ≢ here = λ same. is_another number last collected none (sym at.count ∙ ap (accepted_before script) same ∙ done.count) in
-    owed_set_other replies here position text other ∙ awaited number position at less (not_before number last collected none)
+pub awaited_taken : (script : Meant) (replies : List (Option (List ℕ))) (given last here : ℕ) (text : List ℕ) (collected : List ℕ) → IsAcceptedAt script last here → is_owed replies here ≡ true
+    → AreAwaited script replies given collected → AreAwaited script (set replies here (Some text)) given (collected ++ last ∷ [])
+awaited_taken script replies given last here text collected done owed awaited = record {
+  each = λ number position at less none.
+      let other : position ≢ here = λ same. is_another number last collected none (sym at.count ∙ ap (accepted_before script) same ∙ done.count) in
+      owed_set_other replies here position (Some text) other ∙ awaited.each number position at less (not_before number last collected none);
+  no_more = omega (arith, awaited.no_more, count_set replies here text owed, length-append collected (last ∷ []));
+}
 
 -- a line is taken that is no accepted request, and one that is
-pub awaited_replied : (script : Meant) (replies : List (Option (List ℕ))) (given : ℕ) (collected : List ℕ) (reply : Option (List ℕ)) → given ≡ accepted_before script (length replies)
-    → AreAwaited script replies given collected → AreAwaited script (replies ++ reply ∷ []) given collected
-awaited_replied script replies given collected reply is awaited = λ number position at less none.
-    owed_push replies reply position (stands_before script number position (length replies) at (omega (arith, less, is))) ∙ awaited number position at less none
+pub awaited_replied : (script : Meant) (replies : List (Option (List ℕ))) (given : ℕ) (collected : List ℕ) (text : List ℕ) → given ≡ accepted_before script (length replies)
+    → AreAwaited script replies given collected → AreAwaited script (replies ++ Some text ∷ []) given collected
+awaited_replied script replies given collected text is awaited = record {
+  each = λ number position at less none.
+      owed_push replies (Some text) position (stands_before script number position (length replies) at (omega (arith, less, is))) ∙ awaited.each number position at less none;
+  no_more = omega (arith, awaited.no_more, count_push_some replies text);
+}
 
 pub awaited_submitted : (script : Meant) (replies : List (Option (List ℕ))) (given : ℕ) (collected : List ℕ) (request : Request) → given ≡ accepted_before script (length replies)
     → accepted_at script (length replies) ≡ Some request → AreAwaited script replies given collected → AreAwaited script (replies ++ None ∷ []) (given + 1) collected
-awaited_submitted script replies given collected request is accepted awaited = λ number position at less none.
-    elim (cases_lt number given) [
-      | inl before ↦ owed_push replies None position (stands_before script number position (length replies) at (omega (arith, before, is))) ∙ awaited number position at before none
-      | inr last ↦
-          let mine : IsAcceptedAt script number (length replies) = record { accepted = ap is_some accepted; count = omega (arith, is, last, less) } in
-          ap (is_owed (replies ++ None ∷ [])) (one_position script number position (length replies) at mine) ∙ owed_at replies None
-    ]
+awaited_submitted script replies given collected request is accepted awaited = record {
+  each = λ number position at less none.
+      elim (cases_lt number given) [
+        | inl before ↦ owed_push replies None position (stands_before script number position (length replies) at (omega (arith, before, is))) ∙ awaited.each number position at before none
+        | inr last ↦
+            let mine : IsAcceptedAt script number (length replies) = record { accepted = ap is_some accepted; count = omega (arith, is, last, less) } in
+            ap (is_owed (replies ++ None ∷ [])) (one_position script number position (length replies) at mine) ∙ owed_at replies None
+      ];
+  no_more = omega (arith, awaited.no_more, count_push_none replies);
+}

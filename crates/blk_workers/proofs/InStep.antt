@@ -5,14 +5,14 @@ use Rattle.queue_limits.specs.Bounds.{Bounds, is_physical_size}
 use Rattle.queue_limits.specs.declared.limits.TheConstants.{CHUNK_LIMIT}
 use Rattle.freeze_queue.specs.Queue.{FreezerFacts}
 use Rattle.script_meaning.specs.Queue.{Queue}
-use Rattle.script_meaning.specs.Taken.{counts_of, request_counted, request_taken, limits_taken, taken_there, taken, outcome, queue_after}
+use Rattle.script_meaning.specs.Taken.{request_counted, request_taken, limits_taken, taken_there, taken, outcome, queue_after}
 use Rattle.script_meaning.specs.declared.line.What.{What}
 use Rattle.script_meaning.specs.declared.line.What.TheVariants.{Read, Write, Freeze, Thaw, SetMax, SetChunk, SetPhysical, SetMode, Stat, Remove}
 use Rattle.script_meaning.specs.declared.outcome.Outcome.{Outcome}
 use Rattle.script_meaning.specs.declared.outcome.Outcome.TheVariants.{Accepted, Drained, Replied}
 use Rattle.script_meaning.specs.declared.queue_state.TheConstants.{DEPTH_LIMIT}
 use Rattle.script_meaning.specs.declared.reply.Reply.{Reply}
-use Rattle.script_meaning.specs.declared.reply.Reply.TheVariants.{Done, Depth, NotFrozen, DepthFull, Again, PastEnd, Invalid, Stat as Told, Removed, Gone}
+use Rattle.script_meaning.specs.declared.reply.Reply.TheVariants.{Done, Depth, NotFrozen, DepthFull, Again, PastEnd, Invalid, Gone}
 use Rattle.script_meaning.specs.declared.request.Request.{Request}
 use Rattle.blk_workers.specs.Following.{IsFrozenFor, IsInStep, IsNear, depth_of, once_frozen, one_nearer}
 

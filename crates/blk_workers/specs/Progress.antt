@@ -1,7 +1,7 @@
 -- How far the thread that submits and collects has come.
-use Rattle.std.specs.Prelude.{◌≡◌, ℕ, ◌+◌, ◌<◌, ◌≤◌, ◌^◌, ◌==◌, ◌⊎◌, if◌then◌else◌, true, false, All, List, [], ◌∷◌, ◌++◌, length, map, Option, Some, None}
+use Rattle.std.specs.Prelude.{◌≡◌, ℕ, ◌+◌, ◌<◌, ◌≤◌, ◌^◌, ◌⊎◌, true, false, All, List, [], ◌∷◌, ◌++◌, length, map, Option, Some, None}
 use Rattle.atomic_table.specs.Seated.{TableId}
-use Rattle.run_queues.specs.Numbers.{Draws, times}
+use Rattle.run_queues.specs.Numbers.{Draws, IsIncreasing, times}
 use Rattle.run_queues.specs.Parts.{CollectorFacts, CountFacts, DrawerFacts, SourceFacts}
 use Rattle.run_queues.specs.Requests.{all_parts}
 use Rattle.freeze_queue.specs.Queue.{QueueFacts, FreezerFacts, TagFacts}
@@ -33,10 +33,10 @@ pub record IsCounted (script : Meant) (position accepted : ℕ) : Type 0 where
   pub is : accepted ≡ accepted_before script position
   pub few : accepted ≤ position
 
--- a reply is owed to each accepted request whose duty was given (a number below `given`) and that wasn't collected
-abbrev pub AreAwaited : Meant → List (Option (List ℕ)) → ℕ → List ℕ → Type 0
-AreAwaited script replies given collected =
-    (number position : ℕ) → IsAcceptedAt script number position → number < given → times number collected ≡ 0 → is_owed replies position ≡ true
+-- a reply is owed to each accepted request whose duty was given (a number below `given`) and that wasn't collected: so no more completions are to come than replies are owed
+pub record AreAwaited (script : Meant) (replies : List (Option (List ℕ))) (given : ℕ) (collected : List ℕ) : Type 0 where
+  pub each : (number position : ℕ) → IsAcceptedAt script number position → number < given → times number collected ≡ 0 → is_owed replies position ≡ true
+  pub no_more : given ≤ length collected + owed_count replies
 
 -- what was awaited at `before` is so at `after`, once the completion of this number counts as collected
 abbrev pub StaysAwaitedBut : Meant → List (Option (List ℕ)) → List (Option (List ℕ)) → ℕ → Type 0
@@ -180,9 +180,22 @@ pub record IsNewDrawer (requests : TableId) (room : ℕ) (drawer : DrawerFacts) 
   pub none_drawn : drawer.drawn ≡ []
   pub has_room : room ≤ drawer.room
 
--- the queue of completions, with room for each of the script's, and the right to collect them, before the first one
-pub record AreNewCompletions (script : Meant) (completions : TableId) (room : ℕ) (this_queue : TableId) (collector : CollectorFacts) : Type 0 where
-  pub room_for_each : room ≡ (if accepted_in_all script == 0 then 1 else accepted_in_all script)
+-- a worker's station: its right to draw has room for each accepted request's number and one more, its list increases and has numbers of accepted requests alone, and as many completions were told and tags put back
+pub record IsStation (script : Meant) (requests free_tags : TableId) (drawer : DrawerFacts) (told : ℕ) (tags : CountFacts) : Type 0 where
+  pub own : drawer.queue ≡ requests
+  pub has_room : accepted_in_all script < drawer.room
+  pub accepted : All (λ n. n < accepted_in_all script) drawer.drawn
+  pub increasing : IsIncreasing drawer.drawn
+  pub told_each : told ≡ length drawer.drawn
+  pub put_each : HasCounted free_tags (length drawer.drawn) tags
+
+-- there is a place in a queue of completions with so much room for each one whose duty was given and that wasn't collected: so whoever has such a duty finds room
+abbrev pub HasRoomForEach : ℕ → CollectorFacts → Type 0
+HasRoomForEach room collector = collector.given ≤ length collector.collected + room
+
+-- the queue of completions, with room for one more than there are tags, and the right to collect them, before the first one
+pub record AreNewCompletions (tags : ℕ) (completions : TableId) (room : ℕ) (this_queue : TableId) (collector : CollectorFacts) : Type 0 where
+  pub one_more : room ≡ tags + 1
   pub its_queue : this_queue ≡ completions
   pub collects : collector.queue ≡ completions
   pub none_given : collector.given ≡ 0

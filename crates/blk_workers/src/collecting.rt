@@ -1,5 +1,5 @@
 //! How completions are collected.
-ghost use Rattle.std.specs.Prelude.{◌≡◌, ◌+◌, true, IfErr, OnOk, length};
+ghost use Rattle.std.specs.Prelude.{◌≡◌, ◌+◌, ◌≤◌, true, IfErr, OnOk, length};
 ghost use Rattle.blk_workers.specs.Progress.{HasTakenCompletion, IsCollecting};
 ghost use Rattle.run_desk.specs.Desk.{Stands, is_owed, owed_count};
 
@@ -32,8 +32,8 @@ fn take_completion<J: Run, C: QueueName, L: QueueNames, R, S>(
 }
 
 /// Collects the completions that are there now, as many as are owed at most, once so many are owed as there are tags. A
-/// look for each request would take the queue's cache lines from the workers each time. `collector`: what was given
-/// stays as it was, by which the next duty is numbered.
+/// look for each request would take the queue's cache lines from the workers each time. Afterwards no more are owed than there
+/// are tags. `collector`: what was given stays as it was, by which the next duty is numbered.
 pub(crate) fn collect_some<J: Run, C: QueueName, L: QueueNames, R: Wait, S>(
     hall: &Hall<'_, J, C, L, R, S>,
     collector: &mut Collector<Completion<J>>,
@@ -43,6 +43,7 @@ pub(crate) fn collect_some<J: Run, C: QueueName, L: QueueNames, R: Wait, S>(
     ensures collecting { IsCollecting J.script C.id desk.new collector.new }
     ensures lines { length desk.new.replies ≡ length desk.old.replies }
     ensures collector { collector.new ≡ record collector.old { collected = collector.new.collected } }
+    ensures few { OnOk result (owed_count desk.new.replies ≤ hall.now) }
     ensures memory { IfErr result (λ fault. fault ≡ RunFault.Memory) }
 {
     if desk.replies.owed() < hall.free_tags.room() {
@@ -54,24 +55,27 @@ pub(crate) fn collect_some<J: Run, C: QueueName, L: QueueNames, R: Wait, S>(
         };
         take_completion(hall, desk, completion)?;
     }
+    // Each request whose completion wasn't there has its tag, so this waits for none.
+    collect_until(hall, collector, desk, hall.free_tags.room())?;
     Ok(())
 }
 
-/// Collects completions until none is owed, and waits for them. `collector` is as at `collect_some`.
-pub(crate) fn collect_all<J: Run, C: QueueName, L: QueueNames, R: Wait, S>(
+/// Collects completions until at most so many are owed, and waits for them. `collector` is as at `collect_some`.
+pub(crate) fn collect_until<J: Run, C: QueueName, L: QueueNames, R: Wait, S>(
     hall: &Hall<'_, J, C, L, R, S>,
     collector: &mut Collector<Completion<J>>,
     desk: &mut Desk,
+    most: usize,
 ) -> Result<(), RunFault>
     requires collecting { IsCollecting J.script C.id desk.old collector.old }
     ensures collecting { IsCollecting J.script C.id desk.new collector.new }
     ensures lines { length desk.new.replies ≡ length desk.old.replies }
     ensures collector { collector.new ≡ record collector.old { collected = collector.new.collected } }
-    ensures none_owed { OnOk result (owed_count desk.new.replies ≡ 0) }
+    ensures few { OnOk result (owed_count desk.new.replies ≤ most) }
     ensures memory { IfErr result (λ fault. fault ≡ RunFault.Memory) }
 {
     for _ in hall.rt.forever() {
-        if desk.replies.owed() == 0 {
+        if desk.replies.owed() <= most {
             return Ok(());
         }
         // What is owed has a completion to come: where one brought no answer, `take_completion` has ended the run.

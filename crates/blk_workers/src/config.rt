@@ -8,10 +8,10 @@ use std::marker::Model;
 /// docs/blkq.1 and docs/TOUR.md write out too.
 pub const MOST_WORKERS: u32 = 32;
 
-/// The most slots of a run's gate: as many as a gate takes (`percpu_core::SLOT_LIMIT`).
+/// The most slots of a run's gate: a choice of the program `blkq`, fewer than a gate takes (`percpu_core::SLOT_LIMIT`).
 pub const MOST_SLOTS: u32 = 64;
 
-/// The most tags of a run: as many as a queue takes (`freeze_queue::MOST_TAGS`).
+/// The most tags of a run: a choice too, fewer than a queue takes (`freeze_queue::MOST_TAGS`).
 pub const MOST_TAGS: u32 = 63;
 
 /// How a run is shaped: how many threads work on requests, over how many slots the gate spreads its count,

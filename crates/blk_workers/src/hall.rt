@@ -7,11 +7,13 @@ ghost use Rattle.blk_workers.specs.Progress.{AreFreeTags};
 use crate::fault::RunFault;
 use crate::job::{Completion, FreeTag, Job};
 use crate::naming::{QueueName, QueueNames, Run};
+use crate::worker::Station;
 use freeze_queue::{BlockQueue, Tag};
-use run_queues::{CompletionQueue, PutCount, RequestQueue, Source, SpareQueue, Taker};
+use run_desk::UniformSectors;
+use run_queues::{CompletionQueue, PutCount, RequestQueue, Shelf, Source, SpareQueue, Taker};
 use script_overlap::Checked;
 use std::alloc::{AllocError, Global};
-use std::marker::{Model, PhantomData};
+use std::marker::Model;
 use std::sync::Wait;
 
 /// The queues of a run: the one that requests enter, and those by which its threads hand requests, completions and free
@@ -87,8 +89,8 @@ impl<J: Run, C: QueueName> Queues<J, C> {
 /// What a run's threads stand on: the runtime, the allocator, the checked script, what holds the run at its points, and the run's
 /// queues. `J` is the run, `C` its queue of completions, `L` its queues of requests and free tags, `R` the runtime's type, `S` the stall's.
 ///
-/// The type keeps that the script and the queues are those which its parameters name, that the queue has a slot and the
-/// script's hardware, and that the script's lines are few enough to be numbered.
+/// The type keeps that the script and the queues are those which its parameters name, that there is room for one completion more than
+/// there are tags, that the queue has a slot and the script's hardware, and that the script's lines are few enough to be numbered.
 #[derive(Drop)]
 pub(crate) struct Hall<'a, J: Run, C: QueueName, L: QueueNames, R, S> {
     pub(crate) rt: &'a R,
@@ -100,11 +102,14 @@ pub(crate) struct Hall<'a, J: Run, C: QueueName, L: QueueNames, R, S> {
     pub(crate) completions: &'a CompletionQueue<Completion<J>>,
     /// The submitter takes them and workers put them back; there is room for all tags of the run.
     pub(crate) free_tags: &'a SpareQueue<FreeTag<J>>,
-    of: PhantomData<L>,
+    /// The stations of the workers that sleep.
+    pub(crate) stations: &'a Shelf<Station<J, C, L>>,
+    /// The sectors that writes of one byte share.
+    pub(crate) uniform: &'a UniformSectors,
 }
 
-// A model shows some value: here for how many free tags there is room, which no clause reads. What else a hall is, its
-// invariant says by the run's names.
+// Clauses see for how many free tags there is room, which is as many as the run has tags. What else a hall is, its invariant says
+// by the run's names.
 impl<'a, J: Run, C: QueueName, L: QueueNames, R, S> Model for Hall<'a, J, C, L, R, S> {
     ghost use Rattle.std.specs.Prelude.{ℕ};
     ghost use Rattle.blk_workers.specs.Halls.{HasQueues, IsHall};
@@ -113,7 +118,7 @@ impl<'a, J: Run, C: QueueName, L: QueueNames, R, S> Model for Hall<'a, J, C, L, 
 
     ghost view = { λ h. h.free_tags.now.room };
 
-    ghost invariant = { λ h. IsHall J.script J.queue h.checked.now h.queue.now × HasQueues L.requests C.id L.free_tags h.requests.now.id h.completions.now.id h.free_tags.now.id };
+    ghost invariant = { λ h. IsHall J.script J.queue h.checked.now h.queue.now × HasQueues L.requests C.id L.free_tags h.requests.now h.completions.now h.free_tags.now };
 }
 
 impl<'a, J: Run, C: QueueName, L: QueueNames, R, S> Hall<'a, J, C, L, R, S> {
@@ -124,9 +129,11 @@ impl<'a, J: Run, C: QueueName, L: QueueNames, R, S> Hall<'a, J, C, L, R, S> {
         checked: &'a Checked<'a>,
         stall: &'a S,
         queues: &'a Queues<J, C>,
+        stations: &'a Shelf<Station<J, C, L>>,
+        uniform: &'a UniformSectors,
     ) -> Hall<'a, J, C, L, R, S>
         requires hall { IsHall J.script J.queue checked.now queues.now.queue }
-        requires queues { HasQueues L.requests C.id L.free_tags queues.now.requests.id queues.now.completions.id queues.now.free_tags.id }
+        requires queues { HasQueues L.requests C.id L.free_tags queues.now.requests queues.now.completions queues.now.free_tags }
     {
         Hall {
             rt,
@@ -137,7 +144,8 @@ impl<'a, J: Run, C: QueueName, L: QueueNames, R, S> Hall<'a, J, C, L, R, S> {
             requests: &queues.requests,
             completions: &queues.completions,
             free_tags: &queues.free_tags,
-            of: PhantomData,
+            stations,
+            uniform,
         }
     }
 }

@@ -1,14 +1,15 @@
 //! How an accepted request is handed to the workers.
-ghost use Rattle.std.specs.Prelude.{◌≡◌, ◌+◌, ◌<◌, ◌^◌, true, Some, IfErr, OnOk, length};
+ghost use Rattle.std.specs.Prelude.{◌≡◌, ◌+◌, ◌<◌, ◌≤◌, ◌^◌, true, Some, IfErr, OnOk, length};
 ghost use Rattle.run_queues.specs.Parts.{one_more};
-ghost use Rattle.run_desk.specs.Desk.{Stands};
-ghost use Rattle.blk_workers.specs.Progress.{AreHandedOver, HasHandedOver, IsReady};
+ghost use Rattle.run_desk.specs.Desk.{Stands, owed_count};
+ghost use Rattle.blk_workers.specs.Progress.{AreHandedOver, HasHandedOver, HasRoomForEach, IsReady};
 
 use crate::fault::RunFault;
 use crate::hall::Hall;
 use crate::job::{Completion, FreeTag, Job};
 use crate::naming::{QueueName, QueueNames, Run};
 use crate::stall::{Point, Stall};
+use crate::worker::help;
 use freeze_queue::Tag;
 use queue_limits::Limits;
 use run_desk::Desk;
@@ -27,7 +28,20 @@ pub(crate) struct Ends<J: Run, C: QueueName> {
     pub(crate) source: Source<Job<J, C>>,
     pub(crate) collector: Collector<Completion<J>>,
     pub(crate) taker: Taker<FreeTag<J>>,
+    /// How many requests in a row, up to the last that was handed over, were small.
+    pub(crate) small: usize,
 }
+
+impl<J: Run, C: QueueName> Ends<J, C> {
+    // Whether each request that waits is small, and the stall holds none: then the thread that submits does them itself as soon as it
+    // has no tag left, which takes less time than a wake.
+    fn helps<L: QueueNames, R, S: Stall>(&self, hall: &Hall<'_, J, C, L, R, S>) -> bool {
+        hall.free_tags.room() <= self.small && !hall.stall.may_hold()
+    }
+}
+
+/// The most sectors of a small request.
+const SMALL: u32 = 4;
 
 /// An accepted request of the next line: its number among the accepted ones, and the limits in force.
 #[derive(Clone, Copy)]
@@ -37,21 +51,37 @@ pub(crate) struct Accepted {
     pub(crate) limits: Limits,
 }
 
-// Takes a free tag, which it waits for, and enters the queue with it: a tag that was told these limits. They never differ,
-// since this thread set them, which no proof says; so it looks, and a tag that is told others leaves and enters again.
-fn entered<J: Run, C: QueueName, L: QueueNames, R: Wait, S>(
+// Takes a free tag, and waits for it. Where there is none now, this thread does the requests that wait, if they are small.
+fn free_tag<J: Run, C: QueueName, L: QueueNames, R: Wait, S: Stall>(
     hall: &Hall<'_, J, C, L, R, S>,
     taker: &mut Taker<FreeTag<J>>,
-    limits: Limits,
-) -> Box<Tag>
+    helps: bool,
+) -> FreeTag<J>
     requires its_queue { taker.old.queue ≡ L.free_tags }
     requires room { taker.old.count + 1 < 2 ^ 64 }
     ensures one { taker.new ≡ one_more taker.old }
+{
+    if helps {
+        if let Some(tag) = hall.free_tags.try_take(hall.rt, taker) {
+            return tag;
+        }
+        help(hall);
+    }
+    hall.free_tags.take(hall.rt, taker)
+}
+
+// Enters the queue with a free tag, and looks whether the queue gave the tag these limits. If not, the tag leaves and enters again.
+// That never happens, since this thread alone sets the limits, but no proof says so.
+fn entered<J: Run, C: QueueName, L: QueueNames, R: Wait, S>(
+    hall: &Hall<'_, J, C, L, R, S>,
+    tag: FreeTag<J>,
+    limits: Limits,
+) -> Box<Tag>
     ensures own { result.value.queue ≡ J.queue }
     ensures entered { result.value.entered ≡ true }
     ensures told { result.value.limits ≡ Some limits }
 {
-    let mut tag = hall.free_tags.take(hall.rt, taker).into_tag();
+    let mut tag = tag.into_tag();
     for _ in hall.rt.forever() {
         hall.queue.enter(hall.rt, &mut tag, SUBMITTER_SLOT);
         if hall.queue.limits(&mut tag) == limits {
@@ -62,7 +92,27 @@ fn entered<J: Run, C: QueueName, L: QueueNames, R: Wait, S>(
     unreachable!()
 }
 
-/// Hands an accepted request to the workers: it enters the queue with one free tag, under the limits in force, and is owed.
+// Pushes a request. Where this thread helps, it wakes no worker for it.
+fn push<J: Run, C: QueueName, L: QueueNames, R: Wait, S>(
+    hall: &Hall<'_, J, C, L, R, S>,
+    source: &mut Source<Job<J, C>>,
+    job: Job<J, C>,
+    helps: bool,
+)
+    requires own { source.old.queue ≡ L.requests }
+    requires open { source.old.marks ≡ 0 }
+    requires number { job.duty.number ≡ source.old.pushed }
+    ensures { source.new ≡ record source.old { pushed = source.old.pushed + 1 } }
+{
+    if helps {
+        hall.requests.push_quietly(hall.rt, source, job);
+    } else {
+        hall.requests.push(hall.rt, source, job);
+    }
+}
+
+/// Hands an accepted request to the workers: it enters the queue with one free tag, under the limits in force, and is owed. Here alone
+/// a duty is given, and there is room for its completion, whenever it is told (`room`).
 pub(crate) fn hand_over<J: Run, C: QueueName, L: QueueNames, R: Wait, S: Stall>(
     hall: &Hall<'_, J, C, L, R, S>,
     desk: &mut Desk,
@@ -72,10 +122,12 @@ pub(crate) fn hand_over<J: Run, C: QueueName, L: QueueNames, R: Wait, S: Stall>(
     requires handed_over { AreHandedOver J.script L.requests C.id (length desk.old.replies) desk.old.replies ends.old.source ends.old.collector }
     requires stands { Stands J.script desk.old.replies desk.old.disk }
     requires ready { IsReady J.script desk.old.replies accepted }
+    requires few { owed_count desk.old.replies ≤ hall.now }
     requires tags { ends.old.taker.queue ≡ L.free_tags }
     requires room { ends.old.taker.count + 1 < 2 ^ 64 }
     ensures handed_over { OnOk result (HasHandedOver J.script L.requests C.id desk.old desk.new ends.new.source ends.new.collector) }
     ensures tag { OnOk result (ends.new.taker ≡ one_more ends.old.taker) }
+    ensures room { HasRoomForEach (hall.now + 1) ends.new.collector }
     ensures memory { IfErr result (λ fault. fault ≡ RunFault.Memory) }
     ensures source { ends.new.source ≡ record ends.old.source { pushed = ends.new.source.pushed } }
 {
@@ -86,10 +138,18 @@ pub(crate) fn hand_over<J: Run, C: QueueName, L: QueueNames, R: Wait, S: Stall>(
     } = accepted;
     let position = desk.replies.len();
     let found = desk.submit(hall.alloc, hall.checked.script(), request)?;
-    let tag = entered(hall, &mut ends.taker, limits);
+    let helps = ends.helps(hall);
+    let tag = free_tag(hall, &mut ends.taker, helps);
+    let tag = entered(hall, tag, limits);
     hall.stall.at(number, Point::Entered);
     let duty = hall.completions.duty(&mut ends.collector, number);
     let job = Job::new(duty, position, tag, found);
-    hall.requests.push(hall.rt, &mut ends.source, job);
+    ends.small = if request.count <= SMALL {
+        ends.small.saturating_add(1)
+    } else {
+        0
+    };
+    let helps = ends.helps(hall);
+    push(hall, &mut ends.source, job, helps);
     Ok(())
 }

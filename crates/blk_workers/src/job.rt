@@ -6,7 +6,7 @@ ghost use Rattle.blk_workers.specs.Jobs.{HasOnlyAsked, HasOnlyLeft, IsJob, IsRea
 use crate::naming::{QueueName, Run};
 use freeze_queue::{BlockQueue, Tag};
 use ram_disk::Sector;
-use run_desk::{Answer, answer_to};
+use run_desk::{Answer, UniformSectors, answer_to};
 use run_queues::{CompletionQueue, Duty, Numbered, Receipt};
 use script_meaning::Script;
 use std::alloc::{AllocError, Global};
@@ -60,7 +60,13 @@ impl<J: Run, C: QueueName> Job<J, C> {
     /// Does the request: reads the limits under its tag, cuts the pieces, and makes the line of its reply and the
     /// sectors that a write leaves. It says once more that the request is an accepted one of the script: by that a worker's list
     /// has room for its number.
-    pub(crate) fn done(self, alloc: Global, queue: &BlockQueue, script: &Script) -> DoneJob<J, C>
+    pub(crate) fn done(
+        self,
+        alloc: Global,
+        uniform: &UniformSectors,
+        queue: &BlockQueue,
+        script: &Script,
+    ) -> DoneJob<J, C>
         requires queue { queue.now ≡ J.queue }
         requires script { script.now ≡ J.script }
         ensures request { IsAcceptedAt J.script self.duty.number self.position }
@@ -76,7 +82,7 @@ impl<J: Run, C: QueueName> Job<J, C> {
             of: _,
         } = self;
         let limits = queue.limits(&mut tag);
-        let answer = answer_to(alloc, script, position, limits, &found);
+        let answer = answer_to(alloc, uniform, script, position, limits, &found);
         let completion = Completion::new(duty.number(), position, answer);
         DoneJob {
             tag,

@@ -13,6 +13,10 @@
 //! said and proved in `run_desk`, where no thread and no gate has a part: [`reads_stand_in_a_span`] and
 //! [`answers_come_in_any_order`].
 //!
+//! To wake a worker costs more than a small request. Where every request that waits is small, and the stall holds none, the submitter
+//! wakes nobody for it, and does what waits itself once it has no tag left, and before each drain. It does so in the name of a worker
+//! that sleeps, whose station it takes meanwhile: each list of drawn requests stays a worker's.
+//!
 //! What threads hand to one another is known by its type alone, so the types of requests, completions and free
 //! tags keep what [`run`]'s contract rests on; `specs/Jobs.antt` says what a request's type keeps. Requests,
 //! completions and free tags stand in queues under a rule (`run_queues`) of a fixed room, whose memory is taken before
@@ -34,6 +38,8 @@
 //! - *position*: a line's place in the script, from 0. *number*: a request's place among the accepted ones, from 0.
 //! - *slot*: a place over which the queue's gate (`freeze_queue`) spreads its count of entered tags, so that threads which name
 //!   different ones share no word while it counts on slots. A tag may leave on another than it entered on.
+//! - *station*: what a worker works with, which is its drawer, its slot and its counts. A worker that sleeps leaves it on a shelf, and
+//!   takes any of those there when it wakes.
 //! - *job*: an accepted request on its way to a worker, with its tag. Its *answer* is the line of its reply and the sectors that a
 //!   write leaves; its *completion* brings the answer back. Once the completion is told, a *receipt* is left of the duty: a
 //!   worker comes back with as many receipts as it drew requests.

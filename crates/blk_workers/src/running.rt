@@ -1,5 +1,5 @@
 //! A script's run on several threads.
-ghost use Rattle.std.specs.Prelude.{◌≡◌, ◌≤◌, IfOk, map};
+ghost use Rattle.std.specs.Prelude.{◌≡◌, ◌≤◌, IfOk, length, map};
 ghost use Rattle.script_overlap.specs.Overlap.{HasNoOverlap};
 ghost use Rattle.run_queues.specs.Parts.{none_counted};
 ghost use Rattle.blk_workers.specs.Halls.{HasQueues, IsHall};
@@ -17,7 +17,8 @@ use crate::submitter::Submitter;
 use crate::team::{drawers, with_workers};
 use freeze_queue::{BlockQueue, NewQueue, Tag};
 use queue_limits::Limits;
-use run_queues::{Collector, CompletionQueue};
+use run_desk::UniformSectors;
+use run_queues::{Collector, CompletionQueue, Shelf};
 use script_meaning::Script;
 use script_overlap::Checked;
 use std::alloc::Global;
@@ -50,7 +51,7 @@ fn run_in<
     mut ends: Ends<J, C>,
 ) -> Result<Ran, RunFault>
     requires hall { IsHall J.script J.queue inputs.now.checked.now queues.now.queue }
-    requires queues { HasQueues L.requests C.id L.free_tags queues.now.requests.id queues.now.completions.id queues.now.free_tags.id }
+    requires queues { HasQueues L.requests C.id L.free_tags queues.now.requests queues.now.completions queues.now.free_tags }
     requires start { IsAt J.script J.queue 0 submitter }
     requires ends { AreNewEnds L.requests C.id 0 ends.source ends.collector }
     requires tags { ends.taker ≡ none_counted L.free_tags }
@@ -58,12 +59,16 @@ fn run_in<
     ensures ran { IfOk result (IsRanBy J.script inputs.now.config.workers) }
 {
     let workers = inputs.config.workers();
+    let stations = Shelf::new(inputs.alloc, workers as usize)?;
+    let uniform = UniformSectors::of(inputs.alloc, inputs.checked.script())?;
     let hall = Hall::<J, C, L, R, S>::new(
         inputs.rt,
         inputs.alloc,
         inputs.checked,
         inputs.stall,
         queues,
+        &stations,
+        &uniform,
     );
     // One place more than there are numbers to draw: a draw makes sure of one before it takes an end mark too.
     let numbers_each = inputs.checked.accepted() + 1;
@@ -82,7 +87,7 @@ fn run_on<J: Run + Send + Sync, C: QueueName + Send + Sync, R: Threads + Wait + 
     submitter: Submitter,
 ) -> Result<Ran, RunFault>
     requires own { (inputs.now.checked.now ≡ J.script) × (queue ≡ J.queue) × Suits J.script inputs.now.config.slots J.queue }
-    requires completions { AreNewCompletions J.script C.id completions.room completions.id collector }
+    requires completions { AreNewCompletions (length tags.items) C.id completions.room completions.id collector }
     requires start { IsAt J.script J.queue 0 submitter }
     requires tags { AreFreeTags J.queue tags.items }
     ensures ran { IfOk result (IsRanBy J.script inputs.now.config.workers) }
@@ -100,6 +105,7 @@ fn run_on<J: Run + Send + Sync, C: QueueName + Send + Sync, R: Threads + Wait + 
         source,
         collector,
         taker,
+        small: 0,
     };
     run_in::<J, C, Brand, R, S>(inputs, &queues, submitter, ends)
 }
@@ -115,8 +121,8 @@ fn run_as<J: Run + Send + Sync, R: Threads + Wait + Sync, S: Stall>(
     ensures ran { IfOk result (IsRanBy J.script inputs.now.config.workers) }
 {
     let (queue, freezer, tags) = parts;
-    // Room for each, so that no worker waits to tell one; a queue has one place at least.
-    let room = inputs.checked.accepted().max(1);
+    // No more are under way (`hand_over`), so no thread waits to tell one.
+    let room = tags.len() + 1;
     let (completions, collector) = CompletionQueue::new(inputs.alloc, room)?;
     let submitter = Submitter::new(inputs.alloc, inputs.checked.script(), freezer)?;
     run_on::<J, Brand, R, S>(inputs, queue, tags, completions, collector, submitter)

@@ -1,5 +1,5 @@
 //! The thread that submits and collects.
-ghost use Rattle.std.specs.Prelude.{◌≡◌, ◌+◌, ◌<◌, ◌⊎◌, true, IfErr, IfOk, None, OnOk, length};
+ghost use Rattle.std.specs.Prelude.{◌≡◌, ◌+◌, ◌<◌, ◌≤◌, ◌⊎◌, true, IfErr, IfOk, None, OnOk, length};
 ghost use Rattle.script_meaning.specs.Script.{Meant};
 ghost use Rattle.script_meaning.specs.Requests.{accepted_at, accepted_in_all, drains_at};
 ghost use Rattle.script_overlap.specs.Ordered.{IsOrdered};
@@ -8,7 +8,7 @@ ghost use Rattle.blk_workers.specs.Progress.{HasCollected, HasCounted, HasDraine
 ghost use Rattle.blk_workers.specs.Following.{IsInStep};
 ghost use Rattle.run_desk.specs.Desk.{MayJoin, MayPass, MayTakeReply, Stands, owed_count};
 
-use crate::collecting::{collect_all, collect_some};
+use crate::collecting::{collect_some, collect_until};
 use crate::fault::RunFault;
 use crate::following::{follow, freeze};
 use crate::hall::Hall;
@@ -17,6 +17,7 @@ use crate::job::Completion;
 use crate::naming::{QueueName, QueueNames, Run};
 use crate::ran::Ran;
 use crate::stall::{Point, Stall};
+use crate::worker::help;
 use blk_script::render;
 use freeze_queue::Freezer;
 use ram_disk::Disk;
@@ -108,6 +109,7 @@ impl Submitter {
         requires collecting { IsCollecting J.script C.id self.old.desk collector.old }
         ensures collected { HasCollected J.script J.queue C.id self.old self.new collector.old collector.new }
         ensures may_join { OnOk result (MayJoin J.script self.new.desk.replies) }
+        ensures few { OnOk result (owed_count self.new.desk.replies ≤ hall.now) }
         ensures kept { (self.new.freezer ≡ self.old.freezer) ⊎ IsOrdered J.script (length self.old.desk.replies) }
         ensures in_step { OnOk result (IsInStep self.new.state self.new.freezer) }
         ensures memory { IfErr result (λ fault. fault ≡ RunFault.Memory) }
@@ -166,11 +168,13 @@ impl Submitter {
         ensures none_owed { OnOk result (owed_count self.new.desk.replies ≡ 0) }
         ensures memory { IfErr result (λ fault. fault ≡ RunFault.Memory) }
     {
+        help(hall);
         // For the contract of `freeze` alone: each line taken killed the gate once at most.
         let kills = self.desk.replies.len();
         freeze(hall.rt, &mut self.freezer, hall.queue, kills);
         hall.stall.at(self.accepted, Point::Drained);
-        collect_all(hall, collector, &mut self.desk)
+        collect_until(hall, collector, &mut self.desk, 0)?;
+        Ok(())
     }
 
     // Takes the next line, whose reply is there and after which the script's queue is `next`.
@@ -273,7 +277,8 @@ impl Submitter {
     {
         for position in 0..hall.checked.script().lines().len() {
             if let Err(why) = self.take_next(hall, ends) {
-                // What is under way ends: every tag leaves. Completions aren't waited for, since one brought no answer.
+                // What is under way ends, or is done by this thread: every tag leaves. Completions aren't waited for, since one brought no answer.
+                help(hall);
                 freeze(hall.rt, &mut self.freezer, hall.queue, position + 1);
                 hall.stall.at(self.accepted, Point::Drained);
                 return Err(why);

@@ -240,6 +240,7 @@ pub(crate) fn with_workers<
                 source,
                 collector: _,
                 taker: _,
+                small: _,
             } = ends;
             Ok((submitter, source))
         },

@@ -101,7 +101,7 @@ pub extern "C" fn browser_race(
     ensures statuses { Contains (0 ∷ 2 ∷ 4 ∷ []) result }
     ensures no_line { result ≢ 2 → line.new ≡ 0 }
 {
-    match outcomes_text(alloc, input) {
+    match outcomes_text(alloc, input, None) {
         Ok(text) => {
             *size = hand(text.as_slice(), room);
             *line = 0;

@@ -48,7 +48,7 @@ impl Model for BlockQueue {
 }
 
 impl BlockQueue {
-    /// A live queue of these limits that counts on its slots (1 to 64), with so many tags (1 to 63), none of them
+    /// A live queue of these limits that counts on its slots (1 to 512), with so many tags (1 to 1,023), none of them
     /// entered, and its freezer. Memory where a growth was refused. Linux: `blk_mq_alloc_queue` (block/blk-mq.c).
     pub fn new(alloc: Global, limits: Limits, slots: u32, tags: u32) -> Result<NewQueue, Memory>
         requires slots { (1 ≤ slots) × (slots ≤ SLOT_LIMIT) }
@@ -66,7 +66,7 @@ impl BlockQueue {
         Ok((queue, Freezer { core: freezer }, made))
     }
 
-    /// The slots of the queue: 1 to 64.
+    /// The slots of the queue: 1 to 512.
     #[inline]
     pub fn slots(&self) -> u32
         ensures value { result ≡ self.now.gate.slots }
@@ -152,6 +152,7 @@ impl BlockQueue {
 
     /// Enters, and waits while the queue is frozen. Linux: `blk_queue_enter` (block/blk-core.c), which sleeps on
     /// `mq_freeze_wq`.
+    #[inline]
     pub fn enter<R: Wait>(&self, rt: &R, tag: &mut Tag, slot: u32)
         requires own { tag.old.queue ≡ self.now }
         requires slot { slot < self.now.gate.slots }
@@ -161,6 +162,23 @@ impl BlockQueue {
         ensures counted { tag.new.seat.live_given ≡ tag.old.seat.live_given + 1 }
         ensures finds { EndsWithEntering self.now.gate slot tag.old.seat }
         // It loads the shared word at no time: each try is one addition at most.
+        ensures looks { tag.new.seat.looks ≡ tag.old.seat.looks }
+        ensures times { tag.old.seat.found_dead_times ≤ tag.new.seat.found_dead_times }
+    {
+        if self.try_enter(tag, slot) == Enter::Again {
+            self.enter_once_thawed(rt, tag, slot);
+        }
+    }
+
+    // Waits between its tries. It is no part of `enter`, so that a call of `enter` on a live queue is one try and no more.
+    fn enter_once_thawed<R: Wait>(&self, rt: &R, tag: &mut Tag, slot: u32)
+        requires own { tag.old.queue ≡ self.now }
+        requires slot { slot < self.now.gate.slots }
+        requires out { tag.old.entered ≡ false }
+        ensures entered { tag.new ≡ record (after_entering tag.new.seat tag.old) { releases = tag.new.releases } }
+        ensures releases { tag.old.releases ≤ tag.new.releases }
+        ensures counted { tag.new.seat.live_given ≡ tag.old.seat.live_given + 1 }
+        ensures finds { EndsWithEntering self.now.gate slot tag.old.seat }
         ensures looks { tag.new.seat.looks ≡ tag.old.seat.looks }
         ensures times { tag.old.seat.found_dead_times ≤ tag.new.seat.found_dead_times }
     {

@@ -1,8 +1,7 @@
 //! The removal of a queue.
-ghost use Rattle.std.specs.Prelude.{◌≡◌, ◌≤◌, ◌+◌, All, vec_len, true, false, IfOk, IfErr};
-ghost use Rattle.queue_limits.specs.Words.{to_words};
+ghost use Rattle.std.specs.Prelude.{◌≡◌, All, vec_len, false, IfOk, IfErr};
 ghost use Rattle.queue_core.specs.Queue.{remove_refusal};
-ghost use Rattle.queue_core.specs.Removal.{AtTheEnd, kills_after, ReleasesAdd};
+ghost use Rattle.queue_core.specs.Removal.{HasEnded};
 ghost use Rattle.freeze_queue.specs.Removal.{why_of};
 
 use crate::freezer::Freezer;
@@ -32,22 +31,9 @@ impl Freezer {
         requires out { All (λ t. t.entered ≡ false) tags.items }
         ensures refused { why_of result ≡ remove_refusal self (vec_len tags) }
         ensures unchanged { IfErr result (λ f. (f.freezer ≡ self) × (f.queue ≡ queue) × (f.tags ≡ tags)) }
-        ensures dead { IfOk result (λ left. left.dead ≡ true) }
-        ensures drained { IfOk result (λ left. AtTheEnd queue.gate left) }
-        ensures kills { IfOk result (λ left. left.kills ≡ kills_after self) }
-        ensures words { IfOk result (λ left. left.words ≡ to_words self.limits) }
-        // No release was lost: each drain that a thaw ended had one, and so had the last.
-        ensures drains { IfOk result (λ left. left.releases ≡ self.seat.zeros_cleared + 1) }
-        ensures at_most { IfOk result (λ left. left.releases ≤ left.kills) }
-        ensures releases { IfOk result (λ left. ReleasesAdd self tags.items left.releases) }
+        ensures ended { IfOk result (HasEnded queue.gate self tags.items) }
     {
-        let Self { core: freezer } = self;
-        let BlockQueue {
-            core,
-            drained,
-            thawed,
-        } = queue;
-        match freezer.remove(core, tags) {
+        match self.core.remove(queue.core, tags) {
             Ok(left) => Ok(left),
             Err(fault) => Err(RemoveFault {
                 why: fault.why,
@@ -56,8 +42,8 @@ impl Freezer {
                 },
                 queue: BlockQueue {
                     core: fault.queue,
-                    drained,
-                    thawed,
+                    drained: queue.drained,
+                    thawed: queue.thawed,
                 },
                 tags: fault.tags,
             }),

@@ -117,7 +117,6 @@ impl<'q> SharedFreezer<'q> {
 
     /// The freezer and its queue.
     pub fn into_inner(self) -> Pair<'q> {
-        let Self { pair } = self;
-        pair.into_inner()
+        self.pair.into_inner()
     }
 }

@@ -6,121 +6,38 @@
  * The header needs no exceptions and no RTTI; want of memory is Error::no_memory.
  *
  *     auto made = freeze_queue::Queue::make({64, 0, 0, 0}, slots, tags);       (hardware, max, chunk, physical)
+ *     if (!made)
+ *         return made.error();
  *     auto tag = made->next_tag();                                             (one for each thread, or a Pool)
+ *     if (!tag)
+ *         return tag.error();
  *     {
  *         auto request = tag->enter(slot);                                     (waits while the queue is frozen)
  *         if (!request)
  *             return request.error();
- *         request->each_piece(start, count, [](auto at, auto sectors) { .. }); (all pieces by one setting)
+ *         const auto submits = [](auto at, auto sectors) { .. };
+ *         if (auto cut = request->each_piece(start, count, submits); !cut)     (all pieces by one setting)
+ *             return cut.error();
  *     }                                                                        (here it leaves)
- *     made->update([](auto &limits) { limits.max = 8; });                      (and no other thread's change is lost)
+ *     if (auto set = made->update([](auto &limits) { limits.max = 8; }); !set) (and no other thread's change is lost)
+ *         return set.error();
  *
- * A Queue outlives its tags, pools, requests and freezes. Its destructor marks it dying, and waits until each tag is back.
+ * A Queue outlives its tags, pools, requests and freezes. Its destructor marks it dying, and waits until each tag is back. A
+ * move assignment first takes the new value, and then ends the old one as its destructor does.
  */
 #ifndef FREEZE_QUEUE_HPP
 #define FREEZE_QUEUE_HPP
 
+#include "freeze_queue/result.hpp"
 #include "freeze_queue_pool.h"
 
-#include <chrono>
 #include <cstdint>
 #include <memory>
 #include <new>
-#include <optional>
 #include <type_traits>
 #include <utility>
 
 namespace freeze_queue {
-
-/* Why a call was refused: the numbers of freeze_queue.h. */
-enum class Error : std::uint32_t {
-    not_entered = FREEZE_QUEUE_NOT_ENTERED, /* of a try: the queue is frozen, or no tag is free */
-    depth_full = FREEZE_QUEUE_ERR_DEPTH_FULL,
-    not_frozen = FREEZE_QUEUE_ERR_NOT_FROZEN,
-    not_drained = FREEZE_QUEUE_ERR_NOT_DRAINED,
-    tags_out = FREEZE_QUEUE_ERR_TAGS_OUT,
-    worn_out = FREEZE_QUEUE_ERR_WORN_OUT,
-    above_hardware = FREEZE_QUEUE_ERR_ABOVE_HARDWARE,
-    chunk_too_large = FREEZE_QUEUE_ERR_CHUNK_TOO_LARGE,
-    hardware_range = FREEZE_QUEUE_ERR_HARDWARE_RANGE,
-    bad_physical = FREEZE_QUEUE_ERR_BAD_PHYSICAL,
-    other_hardware = FREEZE_QUEUE_ERR_OTHER_HARDWARE,
-    timed_out = FREEZE_QUEUE_ERR_TIMED_OUT,
-    dying = FREEZE_QUEUE_ERR_DYING,
-    closed = FREEZE_QUEUE_ERR_CLOSED,
-    open = FREEZE_QUEUE_ERR_OPEN,
-    bad_slot = FREEZE_QUEUE_ERR_BAD_SLOT,
-    bad_size = FREEZE_QUEUE_ERR_BAD_SIZE,
-    no_memory = FREEZE_QUEUE_ERR_NO_MEMORY,
-    in_use = FREEZE_QUEUE_ERR_IN_USE,
-    other_queue = FREEZE_QUEUE_ERR_OTHER_QUEUE,
-    no_tag = FREEZE_QUEUE_ERR_NO_TAG,
-    already_entered = FREEZE_QUEUE_ERR_ALREADY_ENTERED,
-    tag_not_entered = FREEZE_QUEUE_ERR_TAG_NOT_ENTERED,
-    bad_mode = FREEZE_QUEUE_ERR_BAD_MODE,
-    bad_range = FREEZE_QUEUE_ERR_BAD_RANGE,
-    tag_not_out = FREEZE_QUEUE_ERR_TAG_NOT_OUT,
-};
-
-/* What an error says, in a few words. */
-inline const char *text(Error error) noexcept { return freeze_queue_text(static_cast<std::uint32_t>(error)); }
-
-/* How a live queue counts. */
-enum class Mode : std::uint32_t { slots = FREEZE_QUEUE_MODE_SLOTS, atomic = FREEZE_QUEUE_MODE_ATOMIC };
-
-/* Limits, in sectors; 0 is the default of each but hardware. */
-using Limits = freeze_queue_limits;
-
-/* A value, or the error for which there is none. A Result without a value converts to false. */
-template <class T> class [[nodiscard]] Result {
-  public:
-    Result(T value) noexcept : value_(std::move(value)) {}
-    Result(Error error) noexcept : error_(error) {}
-    explicit operator bool() const noexcept { return value_.has_value(); }
-    T &operator*() noexcept { return *value_; }
-    T *operator->() noexcept { return &*value_; }
-    Error error() const noexcept { return error_; }
-
-  private:
-    std::optional<T> value_;
-    Error error_ = Error::closed;
-};
-
-/* Done, or the error for which it wasn't. */
-template <> class [[nodiscard]] Result<void> {
-  public:
-    Result() noexcept = default;
-    Result(Error error) noexcept : error_(error) {}
-    explicit operator bool() const noexcept { return !error_; }
-    Error error() const noexcept { return error_.value_or(Error::closed); }
-
-  private:
-    std::optional<Error> error_;
-};
-
-/* A time until which a call waits: none, a time of std::chrono::steady_clock, or a duration from now on. */
-class Deadline {
-  public:
-    Deadline() noexcept = default;
-    template <class Duration>
-    Deadline(std::chrono::time_point<std::chrono::steady_clock, Duration> at) noexcept : has_(true)
-    {
-        const auto since = std::chrono::ceil<std::chrono::nanoseconds>(at.time_since_epoch()).count();
-        at_.tv_sec = static_cast<time_t>(since > 0 ? since / 1000000000 : 0);
-        at_.tv_nsec = static_cast<long>(since > 0 ? since % 1000000000 : 0);
-    }
-    template <class Rep, class Period>
-    Deadline(std::chrono::duration<Rep, Period> from_now) noexcept : has_(true)
-    {
-        const auto time = std::chrono::ceil<std::chrono::nanoseconds>(from_now).count();
-        at_ = freeze_queue_deadline(time > 0 ? static_cast<std::uint64_t>(time) : 0);
-    }
-    const timespec *get() const noexcept { return has_ ? &at_ : nullptr; }
-
-  private:
-    timespec at_{};
-    bool has_ = false;
-};
 
 namespace internal {
 
@@ -129,13 +46,14 @@ inline Result<void> done(std::uint32_t answer) noexcept
     return freeze_queue_is_refused(answer) ? Result<void>(static_cast<Error>(answer)) : Result<void>();
 }
 
-/* What an owner does at the end of its scope can't be refused, but for misuse that its type excludes. */
+/* The calls that an owner makes at the end of its scope can't be refused, but for misuse that its type excludes. */
 inline void ends(std::uint32_t) noexcept {}
 
 /* The freezer and its waits, at one place for the queue's life. */
 struct Core {
     freeze_queue_freezer freezer{};
     freeze_queue_waits waits{};
+    bool has_ended = false;
 };
 
 struct alignas(128) Handle {
@@ -157,10 +75,11 @@ class [[nodiscard]] Request {
     }
     Request &operator=(Request &&other) noexcept
     {
-        std::swap(waits_, other.waits_);
-        std::swap(tag_, other.tag_);
-        std::swap(pool_, other.pool_);
-        std::swap(slot_, other.slot_);
+        Request moved(std::move(other)); /* what this one had ends with it */
+        std::swap(waits_, moved.waits_);
+        std::swap(tag_, moved.tag_);
+        std::swap(pool_, moved.pool_);
+        std::swap(slot_, moved.slot_);
         return *this;
     }
     ~Request()
@@ -229,8 +148,9 @@ class [[nodiscard]] Tag {
     Tag(Tag &&) noexcept = default;
     Tag &operator=(Tag &&other) noexcept
     {
-        std::swap(waits_, other.waits_);
-        std::swap(handle_, other.handle_);
+        Tag moved(std::move(other)); /* what this one had ends with it */
+        std::swap(waits_, moved.waits_);
+        std::swap(handle_, moved.handle_);
         return *this;
     }
     ~Tag()
@@ -272,7 +192,8 @@ class [[nodiscard]] Freeze {
     Freeze(Freeze &&other) noexcept : waits_(std::exchange(other.waits_, nullptr)) {}
     Freeze &operator=(Freeze &&other) noexcept
     {
-        std::swap(waits_, other.waits_);
+        Freeze moved(std::move(other)); /* what this one had ends with it */
+        std::swap(waits_, moved.waits_);
         return *this;
     }
     ~Freeze()
@@ -293,7 +214,7 @@ class [[nodiscard]] Freeze {
 /* A queue, which its destructor ends: it waits until each tag is back, so tags and pools go before. */
 class [[nodiscard]] Queue {
   public:
-    /* A live queue of 1 to 64 slots and 1 to 63 tags: hardware_range, above_hardware, chunk_too_large, bad_physical, bad_size,
+    /* A live queue of 1 to 512 slots and 1 to 1,023 tags: hardware_range, above_hardware, chunk_too_large, bad_physical, bad_size,
      * no_memory. */
     static Result<Queue> make(const Limits &limits, std::uint32_t slots, std::uint32_t tags) noexcept
     {
@@ -312,13 +233,13 @@ class [[nodiscard]] Queue {
     Queue(Queue &&) noexcept = default;
     Queue &operator=(Queue &&other) noexcept
     {
-        std::swap(core_, other.core_);
+        Queue moved(std::move(other)); /* what this one had ends with it */
+        std::swap(core_, moved.core_);
         return *this;
     }
     ~Queue()
     {
-        freeze_queue_final last;
-        if (!core_ || freeze_queue_waits_end(&core_->waits, &last, nullptr) == FREEZE_QUEUE_OK)
+        if (!core_ || core_->has_ended || end())
             return;
         freeze_queue_waits_destroy(&core_->waits);
         freeze_queue_free_freezer(&core_->freezer);
@@ -344,13 +265,14 @@ class [[nodiscard]] Queue {
         return Freeze(&core_->waits);
     }
 
-    /* Sets all limits under a freeze. */
+    /* Sets all limits under a freeze, also in a dying queue. */
     Result<void> change(const Limits &limits, const Deadline &deadline = {}) noexcept
     {
         return internal::done(freeze_queue_waits_change(&core_->waits, &limits, deadline.get()));
     }
 
-    /* Lets a function change the limits under one freeze, where no other change comes between. It makes no call of the queue. */
+    /* Lets a function change the limits under one freeze, where no other change comes between. It makes no call of the queue, and
+     * doesn't throw: an exception that leaves it ends the program. */
     template <class Function> Result<void> update(Function &&function, const Deadline &deadline = {})
     {
         using Called = std::remove_reference_t<Function>;
@@ -382,10 +304,21 @@ class [[nodiscard]] Queue {
         return internal::done(freeze_queue_waits_mode(&core_->waits, static_cast<std::uint32_t>(mode)));
     }
 
-    /* Answers each call that waits to enter, and each later one, by dying: for ever. */
+    /* Answers each call that waits to enter, or enters later, by dying: for ever. Freezes and changes go on as before. A call of
+     * Pool::enter that waits for a tag is answered by Pool::end. */
     Result<void> mark_dying() noexcept { return internal::done(freeze_queue_waits_mark_dying(&core_->waits)); }
 
-    /* What the C header's calls take, as for events. */
+    /* Marks the queue dying, and waits until each tag is back and no call is inside. Pools end before. Once it is done only the
+     * destructor is left to call. After timed_out the queue is dying, for another call: depth_full, worn_out. */
+    Result<void> end(const Deadline &deadline = {}) noexcept
+    {
+        freeze_queue_final last;
+        const std::uint32_t answer = freeze_queue_waits_end(&core_->waits, &last, deadline.get());
+        core_->has_ended = answer == FREEZE_QUEUE_OK;
+        return internal::done(answer);
+    }
+
+    /* The waits, for calls of the C header, as for events. */
     freeze_queue_waits *waits() noexcept { return &core_->waits; }
 
   private:
@@ -394,76 +327,7 @@ class [[nodiscard]] Queue {
     std::unique_ptr<internal::Core> core_;
 };
 
-/* A pool of a queue's tags, for requests that end on other threads. Its destructor waits until each is back; no thread takes
- * any more by then. */
-class [[nodiscard]] Pool {
-  public:
-    /* A pool of 1 to 63 tags: bad_size, no_tag, no_memory. */
-    static Result<Pool> make(Queue &queue, std::uint32_t tags) noexcept
-    {
-        freeze_queue_pool *made = freeze_queue_pool_new();
-        if (made == nullptr)
-            return Error::no_memory;
-        freeze_queue_waits *waits = queue.waits();
-        pthread_mutex_lock(&waits->lock);
-        const std::uint32_t answer = freeze_queue_pool_fill(made, waits->freezer, tags);
-        pthread_mutex_unlock(&waits->lock);
-        if (answer == FREEZE_QUEUE_OK)
-            return Pool(waits, made);
-        freeze_queue_pool_free(made);
-        return static_cast<Error>(answer);
-    }
-    Pool(Pool &&other) noexcept : waits_(other.waits_), pool_(std::exchange(other.pool_, nullptr)) {}
-    Pool &operator=(Pool &&other) noexcept
-    {
-        std::swap(waits_, other.waits_);
-        std::swap(pool_, other.pool_);
-        return *this;
-    }
-    ~Pool()
-    {
-        if (pool_ == nullptr)
-            return;
-        internal::ends(freeze_queue_pool_end(pool_, waits_, nullptr));
-        freeze_queue_pool_free(pool_);
-    }
-
-    /* Waits for a tag, and enters with it: timed_out, dying, bad_slot. */
-    Result<Request> enter(std::uint32_t slot, const Deadline &deadline = {}) noexcept
-    {
-        freeze_queue_tag *tag = freeze_queue_pool_take_waiting(pool_, slot, deadline.get());
-        if (tag == nullptr)
-            return freeze_queue_waits_is_dying(waits_) ? Error::dying : Error::timed_out;
-        return entered(freeze_queue_waits_enter(waits_, tag, slot, deadline.get()), tag, slot);
-    }
-    /* Enters if a tag is there and the queue isn't frozen: not_entered, dying, bad_slot. */
-    Result<Request> try_enter(std::uint32_t slot) noexcept
-    {
-        freeze_queue_tag *tag = freeze_queue_pool_take(pool_, slot);
-        if (tag == nullptr)
-            return Error::not_entered;
-        return entered(freeze_queue_waits_try_enter(waits_, tag, slot), tag, slot);
-    }
-    /* Notes from now on, or no longer, when each tag is taken. */
-    void watch(bool watched) noexcept { freeze_queue_pool_watch(pool_, watched); }
-    /* Writes the tags that are out into a list with room for some, and returns how many are out. */
-    std::uint32_t in_flight(freeze_queue_taken *list, std::uint32_t room) noexcept
-    {
-        return freeze_queue_pool_in_flight(pool_, list, room);
-    }
-
-  private:
-    Pool(freeze_queue_waits *waits, freeze_queue_pool *pool) noexcept : waits_(waits), pool_(pool) {}
-    Result<Request> entered(std::uint32_t answer, freeze_queue_tag *tag, std::uint32_t slot) noexcept
-    {
-        if (answer == FREEZE_QUEUE_OK)
-            return Request(waits_, tag, pool_, slot);
-        internal::ends(freeze_queue_pool_give(pool_, tag));
-        return static_cast<Error>(answer);
-    }
-    freeze_queue_waits *waits_;
-    freeze_queue_pool *pool_;
-};
-
 } // namespace freeze_queue
+
+#include "freeze_queue/pool.hpp"
 #endif

@@ -8,7 +8,7 @@ use Rattle.std_heap.specs.contracts.GlobalAllocator.TheImpl.{ghosts, dict}
 use Rattle.std_heap.proofs.Global.TheLaws as heap
 use Rattle.freeze_queue_c.specs.contracts.open_freezer.OpenFreezer as OpenFreezer
 use Rattle.freeze_queue_c.proofs.open_freezer.OpenFreezer.TheLaws as freezer
-use Rattle.freeze_queue_c.specs.contracts.loose.Loose as Loose
+use Rattle.loose_box.specs.contracts.loose.Loose as Loose
 use Rattle.freeze_queue_c.specs.contracts.freezer_held.FreezerHeld as FreezerHeld
 
 abbrev pub E : Bx

@@ -8,7 +8,7 @@ use Rattle.std_heap.specs.contracts.GlobalAllocator.TheImpl.{ghosts, dict}
 use Rattle.std_heap.proofs.Global.TheLaws as heap
 use Rattle.freeze_queue_c.specs.contracts.open_tag.OpenTag as OpenTag
 use Rattle.freeze_queue_c.proofs.open_tag.OpenTag.TheLaws as tag
-use Rattle.freeze_queue_c.specs.contracts.loose.Loose as Loose
+use Rattle.loose_box.specs.contracts.loose.Loose as Loose
 use Rattle.freeze_queue_c.specs.contracts.tag_held.TagHeld as TagHeld
 
 abbrev pub E : Bx

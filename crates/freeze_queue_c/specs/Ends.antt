@@ -1,12 +1,13 @@
 -- How a queue ends.
-use Rattle.std.specs.Prelude.{◌≡◌, ℕ, ◌+◌, ◌-◌, ◌≤◌, ◌⊎◌, true, Option, Some, None, length}
+use Rattle.std.specs.Prelude.{◌≡◌, ℕ, ◌-◌, ◌⊎◌, Option, Some, None, Result, MatchResult, length}
 use Rattle.queue_limits.specs.Words.{to_words}
 use Rattle.queue_core.specs.declared.fault.FreezeFault.{FreezeFault}
 use Rattle.queue_core.specs.declared.fault.FreezeFault.TheVariants.{TagsOut, WornOut}
 use Rattle.queue_core.specs.Queue.{remove_refusal}
-use Rattle.queue_core.specs.Removal.{AtTheEnd, kills_after, ReleasesAdd}
+use Rattle.queue_core.specs.Removal.{HasEnded}
 use Rattle.freeze_queue_c.specs.declared.life.Final.{Final}
 use Rattle.freeze_queue_c.specs.declared.misuse.Misuse.TheVariants.{Memory, InUse}
+use Rattle.freeze_queue_c.specs.declared.open_freezer.ends.KeptFreezer.{KeptFreezer}
 use Rattle.freeze_queue_c.specs.declared.refusal.Refusal.{Refusal}
 use Rattle.freeze_queue_c.specs.declared.refusal.Refusal.TheVariants.{OfQueue, OfMisuse}
 use Rattle.freeze_queue_c.specs.Numbers.{refusal_number}
@@ -17,17 +18,10 @@ use Rattle.freeze_queue_c.specs.PlainLimits.{as_bounds}
 abbrev pub end_refusal : FreezerOpened → Option FreezeFault
 end_refusal f = remove_refusal f.freezer (length f.waiting)
 
--- what is left of a queue that has ended, with no release lost
+-- what is left of a queue that has ended, with its limits in place of the words that spell them
 pub record IsFinal (f : FreezerOpened) (left : Final) : Type 0 where
-  pub dead : left.dead ≡ true
-  pub kills : left.kills ≡ kills_after f.freezer
   pub limits : as_bounds left.limits ≡ f.freezer.limits
-  -- the count had reached zero
-  pub drained : AtTheEnd f.freezer.queue.gate (record { dead = left.dead; kills = left.kills; releases = left.releases; words = to_words f.freezer.limits })
-  -- each drain that a thaw ended had one release, and so had the last
-  pub drains : left.releases ≡ f.freezer.seat.zeros_cleared + 1
-  pub at_most : left.releases ≤ left.kills
-  pub releases : ReleasesAdd f.freezer f.waiting left.releases
+  pub ended : HasEnded f.freezer.queue.gate f.freezer f.waiting (record { dead = left.dead; kills = left.kills; releases = left.releases; words = to_words f.freezer.limits })
 
 -- the tags that were given out and aren't back
 abbrev pub missing_tags : FreezerOpened → ℕ
@@ -46,6 +40,10 @@ IsPutBack f fault None why = why ≡ OfMisuse Memory
 abbrev pub IsKeptAs : FreezerOpened → Option FreezerOpened → Refusal → Type 0
 IsKeptAs f (Some back) why = (back ≡ f) × ((why ≡ OfMisuse InUse) ⊎ ((fault : FreezeFault) × (end_refusal f ≡ Some fault) × (why ≡ OfQueue fault)))
 IsKeptAs f None why = why ≡ OfMisuse Memory
+
+-- what an end answers: what is left of the queue, or why it hasn't ended
+abbrev pub EndsOrIsKept : FreezerOpened → Result Final KeptFreezer → Type 0
+EndsOrIsKept f result = MatchResult result (IsEnd f) (λ kept. IsKeptAs f kept.freezer kept.why)
 
 -- somebody has a share of the queue, which is as it was; or it is gone, where there is no memory to put it back. No way of using handles leads there
 abbrev pub IsKept : FreezerOpened → Option FreezerOpened → ℕ → Type 0

@@ -23,7 +23,7 @@ abbrev pub freezer_number : Option FreezerOpened → ℕ
 freezer_number None = 0
 freezer_number (Some f) = f.number.drawn
 
--- a new queue has 1 to 64 slots and 1 to 63 tags
+-- a new queue has 1 to 512 slots and 1 to 1,023 tags
 abbrev pub size_misuse : ℕ → ℕ → Option Misuse
 size_misuse slots tags = if nat_eq slots 0 then Some Size else (if nat_lt SLOT_LIMIT slots then Some Size else (if nat_eq tags 0 then Some Size else (if nat_lt MOST_TAGS tags then Some Size else None)))
 

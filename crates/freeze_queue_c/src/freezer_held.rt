@@ -3,8 +3,8 @@ ghost use Rattle.std.specs.Prelude.{◌≡◌, Some, None, Option};
 ghost use Rattle.freeze_queue_c.specs.FreezerHolding.{freezer_owns, freezer_coded};
 ghost use Rattle.freeze_queue_c.specs.declared.open_freezer.OpenFreezer.{OpenFreezer};
 
-use crate::loose::Loose;
 use crate::open_freezer::OpenFreezer;
+use loose_box::Loose;
 use std::alloc::Global;
 use std::marker::Model;
 use std::ptr;

@@ -3,8 +3,8 @@ ghost use Rattle.std.specs.Prelude.{◌≡◌, Some, None, Option};
 ghost use Rattle.freeze_queue_c.specs.TagHolding.{tag_owns, tag_coded};
 ghost use Rattle.freeze_queue_c.specs.declared.open_tag.OpenTag.{OpenTag};
 
-use crate::loose::Loose;
 use crate::open_tag::OpenTag;
+use loose_box::Loose;
 use std::alloc::Global;
 use std::marker::Model;
 use std::ptr;

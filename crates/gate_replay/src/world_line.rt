@@ -7,8 +7,14 @@ ghost use Rattle.gate_replay.specs.WorldLine.{gate_of, start_of, values_of, with
 
 use crate::schedule::GuardedWords;
 use line_text::{ScriptFault, Why, Words, at_line, is_word, long_number, short_number};
-use percpu_core::{KILL_LIMIT, PASS_LIMIT, SLOT_LIMIT, Start, WORD_LIMIT};
+use percpu_core::{KILL_LIMIT, Start, WORD_LIMIT};
 use std::alloc::Global;
+
+/// The most slots that a `world` has: of the format `gate 1`, whatever a gate takes.
+const MOST_SLOTS: u32 = 64;
+
+/// The most passes that a `world` has.
+const MOST_PASSES: u32 = 64;
 
 /// The world that a line tells.
 #[derive(Debug, Drop)]
@@ -92,8 +98,8 @@ fn sizes(words: &mut Words<'_>) -> Result<WorldSizes, Why>
     ensures rest { MatchResult result
         (λ said. opening_of words.old ≡ with_words said.slots said.passes said.start said.kills words.new)
         (λ why. opening_of words.old ≡ Err why) }
-    ensures slots { IfOk result (λ said. (1 ≤ said.slots) × (said.slots ≤ SLOT_LIMIT)) }
-    ensures passes { IfOk result (λ said. (1 ≤ said.passes) × (said.passes ≤ PASS_LIMIT)) }
+    ensures slots { IfOk result (λ said. (1 ≤ said.slots) × (said.slots ≤ MOST_SLOTS)) }
+    ensures passes { IfOk result (λ said. (1 ≤ said.passes) × (said.passes ≤ MOST_PASSES)) }
     ensures kills { IfOk result (λ said. said.kills ≤ KILL_LIMIT) }
     ensures words { OnOk result (length words.new ≤ WORD_LIMIT) }
 {
@@ -101,8 +107,8 @@ fn sizes(words: &mut Words<'_>) -> Result<WorldSizes, Why>
     if words.count_left() > WORD_LIMIT {
         return Err(Why::ExtraWord);
     }
-    let slots = short_number(said.slots, 1, SLOT_LIMIT)?;
-    let passes = short_number(said.passes, 1, PASS_LIMIT)?;
+    let slots = short_number(said.slots, 1, MOST_SLOTS)?;
+    let passes = short_number(said.passes, 1, MOST_PASSES)?;
     let start = start_said(said.start)?;
     let kills = long_number(said.kills, 0, KILL_LIMIT)?;
     Ok(WorldSizes {

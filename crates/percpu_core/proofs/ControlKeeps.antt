@@ -87,7 +87,7 @@ module _ (o : Origin) (cells : Cells) (c : ControlView) (vs : List View) (l : La
       control_found_zero = λ h. let n = l.release.control_found_zero (sym g.found_zero ∙ h) in omega arith;
     };
     limit = record {
-      passes = subst (λ (n : ℕ). n ≤ 64) (sym g.passes) l.limit.passes;
+      passes = subst (λ (n : ℕ). n ≤ 1024) (sym g.passes) l.limit.passes;
       held = l.limit.held;
       some_slot = l.limit.some_slot;
       slots = l.limit.slots;

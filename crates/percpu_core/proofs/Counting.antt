@@ -28,10 +28,10 @@ balance v v' n n' k a b e h = omega (arith, ints)
 pub balance_slots : (v v' n n' k x y : ℕ) (a a' b : ℤ) → pos v +ℤ a +ℤ b -ℤ pos k ≡ pos n → pos v' +ℤ a' +ℤ pos x ≡ pos v +ℤ a +ℤ pos y → n' + x ≡ n + y → pos v' +ℤ a' +ℤ b -ℤ pos k ≡ pos n'
 balance_slots v v' n n' k x y a a' b e f h = omega (arith, ints)
 
-bounded : (v n k : ℕ) (a b : ℤ) → pos v +ℤ a +ℤ b -ℤ pos k ≡ pos n → a ≤ℤ pos 67108864 → neg_ℤ (pos 67108864) ≤ℤ a → b ≤ℤ pos 67108864 → neg_ℤ (pos 67108864) ≤ℤ b → v ≤ n + k + 134217728
+bounded : (v n k : ℕ) (a b : ℤ) → pos v +ℤ a +ℤ b -ℤ pos k ≡ pos n → a ≤ℤ pos 536870912 → neg_ℤ (pos 536870912) ≤ℤ a → b ≤ℤ pos 536870912 → neg_ℤ (pos 536870912) ≤ℤ b → v ≤ n + k + 1073741824
 bounded v n k a b e p q r s = omega (arith, ints)
 
-biased : (v n : ℕ) (a b : ℤ) → pos v +ℤ a +ℤ b -ℤ pos 281474976710656 ≡ pos n → a ≤ℤ pos 67108864 → b ≤ℤ pos 67108864 → n + 1 ≤ v
+biased : (v n : ℕ) (a b : ℤ) → pos v +ℤ a +ℤ b -ℤ pos 281474976710656 ≡ pos n → a ≤ℤ pos 536870912 → b ≤ℤ pos 536870912 → n + 1 ≤ v
 biased v n a b e p r = omega (arith, ints)
 
 unbiased : (v n : ℕ) (a b : ℤ) → pos v +ℤ a +ℤ b -ℤ pos 0 ≡ pos n → a ≡ pos 0 → b ≤ℤ pos 0 → neg_ℤ (pos 0) ≤ℤ b → v ≡ n
@@ -101,16 +101,16 @@ module _ (o : Origin) (cells : Cells) (c : ControlView) (vs : List View) (l : La
   abbrev counted : ℕ
   counted = count (holds_base c.standing.phase) + held_by_all vs + additions_to_undo vs
 
-  few : counted ≤ 1 + 65535 * 64 + 64
+  few : counted ≤ 1 + 65535 * 1024 + 1024
   few = let held = over_passes-most (λ p. p.standing.held) 65535 vs l.limit.held in
       let undo = over_passes-most (λ p. to_undo p.standing.pending) 1 vs (each_most vs l.limit.held) in
-      let base = count-most (holds_base c.standing.phase) in let size : passes_left vs ≤ 64 = subst (λ (n : ℕ). n ≤ 64) l.release.passes l.limit.passes in omega arith
+      let base = count-most (holds_base c.standing.phase) in let size : passes_left vs ≤ 1024 = subst (λ (n : ℕ). n ≤ 1024) l.release.passes l.limit.passes in omega arith
 
-  slots_few : most_delta * length cells.slots ≤ 67108864
-  slots_few = let h : length cells.slots ≤ 64 = l.limit.slots in omega arith
+  slots_few : most_delta * length cells.slots ≤ 536870912
+  slots_few = let h : length cells.slots ≤ 512 = l.limit.slots in omega arith
 
-  closed_few : most_delta * closed_so_far c.standing.phase ≤ 67108864
-  closed_few = let h : length cells.slots ≤ 64 = l.limit.slots in let g : closed_so_far c.standing.phase ≤ length cells.slots = l.phase.closed in omega arith
+  closed_few : most_delta * closed_so_far c.standing.phase ≤ 536870912
+  closed_few = let h : length cells.slots ≤ 512 = l.limit.slots in let g : closed_so_far c.standing.phase ≤ length cells.slots = l.phase.closed in omega arith
 
   -- where no bias is in force the shared value is all there is
   pub value-unbiased : has_bias c.standing.phase ≡ false → cells.shared.value ≡ counted

@@ -131,7 +131,7 @@ pub numbers_stay_small : NumbersStaySmall
 numbers_stay_small o events replies last reach = let m : Snapshot = snapshot_after_all (first_snapshot o) events in let h = laws_always o events replies last reach in
     let less = few (origin_of o) m h.0 in let most : m.control.standing.kills ≤ 2 ^ 40 = h.0.limit.kills in
     let sum = sum_few (origin_of o) m h.0 in
-    subst (λ (s : State). (s.cells.shared.value < 2 ^ 49) × (s.cells.front < 2 ^ 42) × (s.releases ≤ 2 ^ 40) × AreSmall s.cells.slots × (unsigned_abs s.control.uncollected ≤ 67108864)) h.1
+    subst (λ (s : State). (s.cells.shared.value < 2 ^ 49) × (s.cells.front < 2 ^ 42) × (s.releases ≤ 2 ^ 40) × AreSmall s.cells.slots × (unsigned_abs s.control.uncollected ≤ 536870912)) h.1
     (value-most (origin_of o) m.cells m.control m.others h.0, few_fronts (origin_of o) m h.0, omega arith, h.0.limit.deltas, omega arith)
 
 pub moves_of_the_counter : MovesOfTheCounter

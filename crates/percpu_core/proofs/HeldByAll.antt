@@ -18,6 +18,6 @@ pub held_same : (vs : List View) → sum_by held_in (map standing_of vs) ≡ hel
 held_same [] = refl
 held_same (v ∷ vs) = let r = held_same vs in let h = held_of v in sum_by-cons held_in (standing_of v) (map standing_of vs) ∙ (omega arith)
 
-pub few_held : (s : State) → IsLawful s → held_in_all s ≤ 4194240
-few_held s l = let m : Snapshot = l.1 in let most = over_passes-most (λ p. p.standing.held) 65535 m.others l.3.limit.held in let few : passes_left m.others ≤ 64 = subst (λ (n : ℕ). n ≤ 64) l.3.release.passes l.3.limit.passes in
-    let same = held_same m.others in subst (λ (s : State). held_in_all s ≤ 4194240) l.2 (omega arith)
+pub few_held : (s : State) → IsLawful s → held_in_all s ≤ 67107840
+few_held s l = let m : Snapshot = l.1 in let most = over_passes-most (λ p. p.standing.held) 65535 m.others l.3.limit.held in let few : passes_left m.others ≤ 1024 = subst (λ (n : ℕ). n ≤ 1024) l.3.release.passes l.3.limit.passes in
+    let same = held_same m.others in subst (λ (s : State). held_in_all s ≤ 67107840) l.2 (omega arith)

@@ -52,7 +52,7 @@ biased_is v n a e h = omega (arith, ints)
 sum_is : (v n : ℕ) (a : ℤ) → a ≡ pos 0 → v ≡ n → pos v +ℤ a +ℤ pos 0 -ℤ pos 0 ≡ pos n
 sum_is v n a e h = omega (arith, ints)
 
-module _ (o : Opening) (few_passes : o.passes ≤ 64) (some_slot : 1 ≤ o.slots) (few_slots : o.slots ≤ 64) (few_kills : o.kills ≤ 2 ^ 40) where
+module _ (o : Opening) (few_passes : o.passes ≤ 1024) (some_slot : 1 ≤ o.slots) (few_slots : o.slots ≤ 512) (few_kills : o.kills ≤ 2 ^ 40) where
   nobody : (n : ℕ) → n ≡ n + over_passes (λ p. p.standing.held) (replicate o.passes (OfPass first_pass)) + over_passes (λ p. to_undo p.standing.pending) (replicate o.passes (OfPass first_pass))
   nobody n = let none = over_first (λ p. p.standing.held) o.passes in let nothing = over_first (λ p. to_undo p.standing.pending) o.passes in omega arith
 

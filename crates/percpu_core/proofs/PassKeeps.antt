@@ -165,7 +165,7 @@ module _ (o : Origin) (cells : Cells) (c : ControlView) (vs : List View) (l : La
         passes = l.limit.passes;
         held = EachPass-set _ _ (λ q h. h) vs i (OfPass w) l.limit.held g.room;
         some_slot = subst (λ (n : ℕ). 1 ≤ n) (sym g.counts.size) l.limit.some_slot;
-        slots = subst (λ (n : ℕ). n ≤ 64) (sym g.counts.size) l.limit.slots;
+        slots = subst (λ (n : ℕ). n ≤ 512) (sym g.counts.size) l.limit.slots;
         deltas = g.counts.small;
         uncollected_most = l.limit.uncollected_most;
         uncollected_least = l.limit.uncollected_least;

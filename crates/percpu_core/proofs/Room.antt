@@ -75,10 +75,10 @@ few_delta d h = omega (arith, ints)
 some_delta : (d : ℤ) → IsDelta d → unsigned_abs d ≤ 2 ^ 32
 some_delta d h = omega (arith, ints)
 
-few_sum : (u : ℤ) (n : ℕ) → n ≤ 64 → u ≤ℤ pos (most_delta * n) → neg_ℤ (pos (most_delta * n)) ≤ℤ u → unsigned_abs u ≤ 2 ^ 26
+few_sum : (u : ℤ) (n : ℕ) → n ≤ 512 → u ≤ℤ pos (most_delta * n) → neg_ℤ (pos (most_delta * n)) ≤ℤ u → unsigned_abs u ≤ 2 ^ 29
 few_sum u n f h g = omega (arith, ints)
 
-moved_most : (u : ℤ) (v : ℕ) → unsigned_abs u ≤ 2 ^ 26 → v < 2 ^ 49 → controls.moved_by u v < 2 ^ 62
+moved_most : (u : ℤ) (v : ℕ) → unsigned_abs u ≤ 2 ^ 29 → v < 2 ^ 49 → controls.moved_by u v < 2 ^ 62
 moved_most (pos n) v h g = omega (arith, ints)
 moved_most (negsuc n) v h g = omega (arith, ints)
 
@@ -155,10 +155,10 @@ module _ (o : Origin) (m : Snapshot) (l : Holds o m) where
       same : (q r : PassStanding) → Some q ≡ Some r → q ≡ r
       same q r e = cc
 
-  few_slots : length m.cells.slots ≤ 64
+  few_slots : length m.cells.slots ≤ 512
   few_slots = l.limit.slots
 
-  next_few_in : (x : Phase) → m.control.standing.phase ≡ x → next_slot x ≤ 64
+  next_few_in : (x : Phase) → m.control.standing.phase ≡ x → next_slot x ≤ 512
   next_few_in (Closing i) is = let few = few_slots in let below : i ≤ length m.cells.slots = subst (λ (x : Phase). closed_so_far x ≤ length m.cells.slots) is l.phase.closed in omega arith
   next_few_in (Opening i) is = let few = few_slots in let below = l.phase.opening i is in omega arith
   next_few_in LiveSlots is = omega arith
@@ -169,10 +169,10 @@ module _ (o : Origin) (m : Snapshot) (l : Holds o m) where
   next_few_in Reviving is = omega arith
   next_few_in Fronted is = omega arith
 
-  pub next_few : next_slot m.control.standing.phase ≤ 64
+  pub next_few : next_slot m.control.standing.phase ≤ 512
   next_few = next_few_in m.control.standing.phase refl
 
-  pub sum_few : unsigned_abs m.control.standing.uncollected ≤ 2 ^ 26
+  pub sum_few : unsigned_abs m.control.standing.uncollected ≤ 2 ^ 29
   sum_few = let few = few_slots in let closed = l.phase.closed in few_sum m.control.standing.uncollected (closed_so_far m.control.standing.phase) (omega arith) l.limit.uncollected_most l.limit.uncollected_least
 
   close_there : (x : Phase) → not (controls.has_slot_to_close (length m.cells.slots) x) ≡ false → next_slot x < length m.cells.slots
@@ -263,7 +263,7 @@ pub record ControlRoom (s : State) (e : ControlEvent) : Type 0 where
   pub next : controls.NextIsThere e s.control.phase (length s.cells.slots)
   pub delta : unsigned_abs (controls.closed_delta (controls.control_reply e s.control s.cells)) ≤ 2 ^ 32
   pub sum : unsigned_abs s.control.uncollected ≤ 2 ^ 32
-  pub slot : next_slot s.control.phase ≤ 64
+  pub slot : next_slot s.control.phase ≤ 512
   pub kills : s.control.kills < 2 ^ 42
   pub front : s.cells.front < 2 ^ 42
   pub releases : s.releases < 2 ^ 42

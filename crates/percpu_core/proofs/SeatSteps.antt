@@ -70,7 +70,7 @@ each_more : (P : PassView → Type 0) (vs : List View) (v : View) → EachPass P
 each_more P [] v e h = (h, tt)
 each_more P (x ∷ xs) v e h = (e.0, each_more P xs v e.1 h)
 
-module _ (o : Origin) (cells : Cells) (c : ControlView) (vs : List View) (l : Laws o cells c vs) (few : c.passes + 1 ≤ 64) where
+module _ (o : Origin) (cells : Cells) (c : ControlView) (vs : List View) (l : Laws o cells c vs) (few : c.passes + 1 ≤ 1024) where
   abbrev vs' : List View
   vs' = vs ++ OfPass first_pass ∷ []
 

@@ -87,7 +87,7 @@ module _ (o : Origin) (cells : Cells) (c : ControlView) (vs : List View) (l : La
         passes = l.limit.passes;
         held = l.limit.held;
         some_slot = subst (λ (n : ℕ). 1 ≤ n) (sym g.size) l.limit.some_slot;
-        slots = subst (λ (n : ℕ). n ≤ 64) (sym g.size) l.limit.slots;
+        slots = subst (λ (n : ℕ). n ≤ 512) (sym g.size) l.limit.slots;
         deltas = g.small;
         uncollected_most = g.most;
         uncollected_least = g.least;

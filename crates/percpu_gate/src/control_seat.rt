@@ -62,7 +62,7 @@ impl ControlSeat {
         seat
     }
 
-    /// A seat of a new pass. A control has at most 64.
+    /// A seat of a new pass. A control has at most 1,024.
     pub(crate) fn make_pass(&mut self, gate: &GateTable) -> PassSeat
         requires own { self.old.gate ≡ facts_of gate.now }
         requires few { self.old.view.passes < PASS_LIMIT }

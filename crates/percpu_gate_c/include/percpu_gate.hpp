@@ -3,16 +3,22 @@
  * only, over percpu_gate.h. Nothing of it is proved.
  *
  * No call throws. A call that may be refused returns a Result: a value, or an Error with the number of the C library. The
- * gate has a function that the call of the release makes, once for each kill: it frees what the gate guards, or notifies a
- * thread that waits. It may run on any thread that puts, tries or kills.
+ * gate has a function that the call of the release makes, once for each kill. The function frees what the gate guards, or
+ * notifies a thread that waits. It may run on any thread that puts, tries or kills.
  *
  *     auto gate = percpu_gate::Gate::make(slots, passes, [](void *device) { free_device(device); }, device);
+ *     if (!gate)
+ *         return gate.error();
  *     auto pass = gate->next_pass();                                           (one for each thread)
+ *     if (!pass)
+ *         return pass.error();
  *     if (auto reference = pass->try_get_live(slot))
  *         send(device);                                                        (and here it is put)
- *     gate->kill();
+ *     if (auto killed = gate->kill(); !killed)
+ *         return killed.error();
  *
- * A gate outlives its passes, and a pass its references: each is a precondition.
+ * A gate outlives its passes, and a pass its references: each is a precondition. A move assignment first takes the new value,
+ * and then ends the old one as its destructor does.
  */
 #ifndef PERCPU_GATE_HPP
 #define PERCPU_GATE_HPP
@@ -52,7 +58,7 @@ enum class Error : std::uint32_t {
     bad_step = PERCPU_GATE_ERR_BAD_STEP,
 };
 
-/* What an error says, in a few words. */
+/* A text for an error, in a few words. */
 inline const char *text(Error error) noexcept { return percpu_gate_text(static_cast<std::uint32_t>(error)); }
 
 /* A value, or the error for which there is none. A Result without a value converts to false. */
@@ -96,8 +102,8 @@ struct alignas(128) Handle {
     Core *core = nullptr;
 };
 
-/* Makes the call of the release if this answer tells it. */
-inline std::uint32_t told(Core &core, std::uint32_t answer)
+/* Makes the call of the release if this answer is LAST or NOT_GIVEN_LAST. */
+inline std::uint32_t released(Core &core, std::uint32_t answer)
 {
     if (percpu_gate_is_last(answer) && core.on_last != nullptr)
         core.on_last(core.argument);
@@ -117,14 +123,15 @@ class [[nodiscard]] Reference {
     Reference(Reference &&other) noexcept : handle_(std::exchange(other.handle_, nullptr)), slot_(other.slot_) {}
     Reference &operator=(Reference &&other) noexcept
     {
-        std::swap(handle_, other.handle_);
-        std::swap(slot_, other.slot_);
+        Reference moved(std::move(other)); /* what this one had ends with it */
+        std::swap(handle_, moved.handle_);
+        std::swap(slot_, moved.slot_);
         return *this;
     }
     ~Reference()
     {
         if (handle_ != nullptr)
-            internal::told(*handle_->core, percpu_gate_put(&handle_->pass, slot_, 1));
+            internal::released(*handle_->core, percpu_gate_put(&handle_->pass, slot_, 1));
     }
 
     /* The guarded word k, one value until the reference is put: bad_word. */
@@ -150,7 +157,8 @@ class [[nodiscard]] Pass {
     Pass(Pass &&) noexcept = default;
     Pass &operator=(Pass &&other) noexcept
     {
-        std::swap(handle_, other.handle_);
+        Pass moved(std::move(other)); /* what this one had ends with it */
+        std::swap(handle_, moved.handle_);
         return *this;
     }
     ~Pass()
@@ -173,7 +181,7 @@ class [[nodiscard]] Pass {
     {
         if (answer == PERCPU_GATE_OK)
             return Reference(handle_.get(), slot);
-        internal::told(*handle_->core, answer);
+        internal::released(*handle_->core, answer);
         return answer < 16 ? Error::not_given : static_cast<Error>(answer);
     }
     std::unique_ptr<internal::Handle> handle_;
@@ -182,7 +190,7 @@ class [[nodiscard]] Pass {
 /* A gate, whose control is freed at the end of its scope. */
 class [[nodiscard]] Gate {
   public:
-    /* A live gate of 1 to 64 slots and 1 to 64 passes, whose release calls a function: bad_size, no_memory. */
+    /* A live gate of 1 to 512 slots and 1 to 1,024 passes, whose release calls a function: bad_size, no_memory. */
     static Result<Gate> make(std::uint32_t slots, std::uint32_t passes, void (*on_last)(void *), void *argument = nullptr,
                              std::uint32_t start = PERCPU_GATE_START_SLOTS) noexcept
     {
@@ -200,7 +208,8 @@ class [[nodiscard]] Gate {
     Gate(Gate &&) noexcept = default;
     Gate &operator=(Gate &&other) noexcept
     {
-        std::swap(core_, other.core_);
+        Gate moved(std::move(other)); /* what this one had ends with it */
+        std::swap(core_, moved.core_);
         return *this;
     }
     ~Gate()
@@ -227,7 +236,7 @@ class [[nodiscard]] Gate {
         return internal::done(percpu_gate_retire(&core_->control, &pass.handle_->pass));
     }
     /* Kills the gate: already_dead, mid_switch, worn_out. */
-    Result<void> kill() { return internal::done(internal::told(*core_, percpu_gate_kill(&core_->control))); }
+    Result<void> kill() { return internal::done(internal::released(*core_, percpu_gate_kill(&core_->control))); }
     /* Brings back a dead gate that has reached zero: not_dead, not_zero, mid_switch. */
     Result<void> reinit() noexcept { return internal::done(percpu_gate_reinit(&core_->control)); }
     bool is_zero() const noexcept { return percpu_gate_control_is_zero(&core_->control); }
@@ -236,7 +245,7 @@ class [[nodiscard]] Gate {
     {
         return internal::done(percpu_gate_store_word(&core_->control, k, word));
     }
-    /* What the C header's calls take. */
+    /* The control, for calls of the C header. */
     percpu_gate_control *control() noexcept { return &core_->control; }
 
   private:

@@ -8,7 +8,7 @@ use Rattle.std_heap.specs.contracts.GlobalAllocator.TheImpl.{ghosts, dict}
 use Rattle.std_heap.proofs.Global.TheLaws as heap
 use Rattle.percpu_gate_c.specs.contracts.open_control.OpenControl as OpenControl
 use Rattle.percpu_gate_c.proofs.open_control.OpenControl.TheLaws as control
-use Rattle.percpu_gate_c.specs.contracts.loose.Loose as Loose
+use Rattle.loose_box.specs.contracts.loose.Loose as Loose
 use Rattle.percpu_gate_c.specs.contracts.control_held.ControlHeld as ControlHeld
 
 abbrev pub E : Bx

@@ -8,7 +8,7 @@ use Rattle.std_heap.specs.contracts.GlobalAllocator.TheImpl.{ghosts, dict}
 use Rattle.std_heap.proofs.Global.TheLaws as heap
 use Rattle.percpu_gate_c.specs.contracts.open_pass.OpenPass as OpenPass
 use Rattle.percpu_gate_c.proofs.open_pass.OpenPass.TheLaws as pass
-use Rattle.percpu_gate_c.specs.contracts.loose.Loose as Loose
+use Rattle.loose_box.specs.contracts.loose.Loose as Loose
 use Rattle.percpu_gate_c.specs.contracts.pass_held.PassHeld as PassHeld
 
 abbrev pub E : Bx

@@ -80,7 +80,7 @@ pub record ToldWords (old new : ControlOpened) (told : List ℕ) : Type 0 where
   pub same : new ≡ old
   pub value : told ≡ old.control.view.words
 
--- a new gate has 1 to 64 slots and 1 to 64 passes
+-- a new gate has 1 to 512 slots and 1 to 1,024 passes
 abbrev pub size_misuse : ℕ → ℕ → Option Misuse
 size_misuse slots passes = if nat_eq slots 0 then Some Size else (if nat_lt SLOT_LIMIT slots then Some Size else (if nat_eq passes 0 then Some Size else (if nat_lt PASS_LIMIT passes then Some Size else None)))
 

@@ -3,8 +3,8 @@ ghost use Rattle.std.specs.Prelude.{◌≡◌, Some, None, Option};
 ghost use Rattle.percpu_gate_c.specs.ControlHolding.{control_owns, control_coded};
 ghost use Rattle.percpu_gate_c.specs.declared.open_control.OpenControl.{OpenControl};
 
-use crate::loose::Loose;
 use crate::open_control::OpenControl;
+use loose_box::Loose;
 use std::alloc::Global;
 use std::marker::Model;
 use std::ptr;

@@ -2,9 +2,9 @@
 //! include/percpu_gate.h.
 //!
 //! C has a handle for the control and one for each pass, a `bool` and a pointer, zero while closed
-//! (`control_handle`, `pass_handle`). An open one leads to a box, of which C knows no more (`control_held`, `pass_held`, and
-//! `loose` for the walks by hand): a share of the gate beside the control or the pass (`open_control`,
-//! `open_pass`). So no handle that C frees takes the gate from under another.
+//! (`control_handle`, `pass_handle`). An open one leads to a box, of which C knows no more (`control_held`, `pass_held`, over
+//! the crate `loose_box`): a share of the gate beside the control or the pass (`open_control`, `open_pass`).
+//! So no handle that C frees takes the gate from under another.
 //!
 //! Each export (`pass_calls`, `control_calls`, `kill_steps`, `life`) takes the box out of the handle, makes the call
 //! and puts the box back. What C may do wrong is tested before the gate is called, and answered by a number of
@@ -18,7 +18,6 @@ mod control_held;
 mod gate_number;
 mod kill_steps;
 mod life;
-mod loose;
 mod misuse;
 mod number;
 mod open_control;

@@ -3,8 +3,8 @@ ghost use Rattle.std.specs.Prelude.{◌≡◌, Some, None, Option};
 ghost use Rattle.percpu_gate_c.specs.PassHolding.{pass_owns, pass_coded};
 ghost use Rattle.percpu_gate_c.specs.declared.open_pass.OpenPass.{OpenPass};
 
-use crate::loose::Loose;
 use crate::open_pass::OpenPass;
+use loose_box::Loose;
 use std::alloc::Global;
 use std::marker::Model;
 use std::ptr;

@@ -155,7 +155,7 @@ fn misuse_of_a_control(rt: HostRuntime) {
     assert!(rt; last.kills == 5);
     percpu_gate_free_control(&mut control);
     assert!(rt; percpu_gate_exit(&mut control, &mut last) == 32);
-    assert!(rt; percpu_gate_new_numbered(&mut control, &NUMBER, 65, 2, 0, &WORDS) == 35);
+    assert!(rt; percpu_gate_new_numbered(&mut control, &NUMBER, 513, 2, 0, &WORDS) == 35);
     assert!(rt; percpu_gate_new_numbered(&mut control, &NUMBER, 2, 2, 3, &WORDS) == 35);
 }
 

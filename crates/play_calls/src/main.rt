@@ -1,12 +1,56 @@
 //! Rows of calls, played on a gate or a queue.
 //!
 //! The program reads a gate or a queue and its calls from standard input, makes these calls one after another, and writes the
-//! answer to each. docs/AGAINST.md has the format, and tests/rows the rows. `trials_rows` plays them; here are the standard streams.
+//! answer to each. docs/AGAINST.md has the format, and tests/rows the rows.
 #![tactic(auto)]
 
-use counted_io::Counted;
+mod answer;
+mod gate;
+mod gate_calls;
+mod queue;
+mod queue_calls;
+mod rows;
+
+use crate::rows::answered;
+use counted_io::{Counted, read_whole, write_whole};
+use line_text::{LONGEST_TEXT, ScriptFault};
+use std::alloc::Global;
+use std::io::{Read, Write};
 use std::process::ExitCode;
-use trials_rows::command;
+
+/// The most bytes that are read: one more than the longest text has.
+const MOST_READ: usize = LONGEST_TEXT + 1;
+
+/// Plays the calls that `reader` has, writes their answers, and gives the program's status: 0, or 2 if the text has a fault, and 4
+/// if reading, writing or memory was refused. Then there is a line of the fault.
+fn command<R: Read, W: Write, E: Write>(
+    alloc: Global,
+    reader: &mut Counted<R>,
+    writer: &mut Counted<W>,
+    errors: &mut E,
+) -> u8 {
+    let input = match read_whole(alloc, reader, MOST_READ) {
+        Ok(input) => input,
+        Err(fault) => {
+            let _ = errors.writeln(fault);
+            return 4;
+        }
+    };
+    let answers = match answered(alloc, &input) {
+        Ok(answers) => answers,
+        Err(fault) => {
+            let _ = errors.writeln(fault);
+            return if fault == ScriptFault::Memory { 4 } else { 2 };
+        }
+    };
+    match write_whole(writer, &answers) {
+        Ok(()) => 0,
+        Err(fault) => {
+            let _ = errors.writeln(fault);
+            4
+        }
+    }
+}
 
 fn main(rt: HostRuntime) -> ExitCode {
     let (mut reader, mut writer) = (Counted::new(rt.stdin()), Counted::new(rt.stdout()));

@@ -1,11 +1,12 @@
 -- The removal of a queue: what it refuses, and what is left. Linux: blk_mq_destroy_queue
-use Rattle.std.specs.Prelude.{◌≡◌, ℕ, ◌+◌, ◌==◌, true, false, if◌then◌else◌, Option, Some, None, Result, Ok, Err, List, length, sum_by}
+use Rattle.std.specs.Prelude.{◌≡◌, ℕ, ◌+◌, ◌≤◌, ◌==◌, true, false, if◌then◌else◌, Option, Some, None, Result, Ok, Err, List, length, sum_by}
 use Rattle.percpu_core.specs.declared.view.ControlView.{ControlView}
 use Rattle.percpu_core.specs.declared.view.View.TheVariants.{OfControl}
 use Rattle.percpu_gate.specs.declared.exit.Final.{Final}
 use Rattle.percpu_gate.specs.declared.tried.Put.{Put}
 use Rattle.percpu_gate.specs.Calls.{released}
 use Rattle.percpu_gate.specs.Seats.{GateFacts, Moment, zero_at}
+use Rattle.queue_limits.specs.Words.{to_words}
 use Rattle.queue_core.specs.declared.fault.FreezeFault.{FreezeFault}
 use Rattle.queue_core.specs.declared.remove.RemoveFault.{RemoveFault}
 use Rattle.queue_core.specs.declared.limit_words.TheConstants.{LIMIT_WORDS}
@@ -42,3 +43,14 @@ pub record IsFrozenToEnd (old new : FreezerFacts) : Type 0 where
 -- the releases: those of the freezer, of that last freeze and of the tags, if all came back and no more
 abbrev pub ReleasesAdd : FreezerFacts → List TagFacts → ℕ → Type 0
 ReleasesAdd f tags releases = (last : Put) × (length tags ≡ f.tags → releases ≡ releases_after last f + sum_by (λ t. t.releases) tags)
+
+-- what is left of a queue that has ended with these tags
+pub record HasEnded (gate : GateFacts) (f : FreezerFacts) (tags : List TagFacts) (left : Final LIMIT_WORDS) : Type 0 where
+  pub dead : left.dead ≡ true
+  pub drained : AtTheEnd gate left
+  pub kills : left.kills ≡ kills_after f
+  pub words : left.words ≡ to_words f.limits
+  -- no release was lost: each drain that a thaw ended had one, and so had the last
+  pub drains : left.releases ≡ f.seat.zeros_cleared + 1
+  pub at_most : left.releases ≤ left.kills
+  pub releases : ReleasesAdd f tags left.releases

@@ -122,13 +122,13 @@ impl Freezer {
         if self.depth >= MOST_DEPTH {
             return Err(FreezeFault::DepthFull);
         }
-        let mut put = Put::NotLast;
-        if self.depth == 0 {
-            match self.control.kill(&queue.gate) {
-                Ok(last) => put = last,
-                Err(_) => return Err(FreezeFault::WornOut),
-            }
-        }
+        let put = if self.depth == 0 {
+            self.control
+                .kill(&queue.gate)
+                .map_err(|_| FreezeFault::WornOut)?
+        } else {
+            Put::NotLast
+        };
         self.depth += 1;
         Ok(Frozen {
             depth: self.depth,
@@ -184,10 +184,11 @@ impl Freezer {
         requires own { self.old.queue ≡ queue.now }
         ensures { self.new ≡ after_mode mode self.old }
     {
-        let _switched = match mode {
+        let switched = match mode {
             Mode::Atomic => self.control.switch_to_atomic(&queue.gate),
             Mode::Slots => self.control.switch_to_slots(&queue.gate),
         };
+        prove!(switched.is_ok());
     }
 
     /// Ends a freeze: the depth that is left, and whether the queue is live again: then those who wait to enter are to be
@@ -222,7 +223,8 @@ impl Freezer {
         requires last { self.old.depth ≡ 1 }
         ensures { (at_zero : Bool) × (self.new ≡ after_thaw at_zero self.old) × FindsZero queue.now.gate self.old.seat at_zero }
     {
-        let _revived = self.control.resurrect(&queue.gate);
+        let revived = self.control.resurrect(&queue.gate);
+        prove!(revived.is_ok());
         self.depth = 0;
     }
 
@@ -243,11 +245,6 @@ impl Freezer {
         ensures counts { (result.view.standing.kills ≡ self.kills) × (result.view.releases ≡ self.releases) × (result.view.passes ≡ self.tags) }
         ensures words { result.view.words ≡ to_words self.limits }
     {
-        let Self {
-            control,
-            depth: _,
-            limits: _,
-        } = self;
-        control
+        self.control
     }
 }

@@ -10,7 +10,7 @@ use crate::queue::MOST_TAGS;
 /// does nothing; its contract is the law.
 pub fn sizes_in_numbers()
     ensures depth { MOST_DEPTH ≡ 1000 }
-    ensures tags { MOST_TAGS ≡ 63 }
+    ensures tags { MOST_TAGS ≡ 1023 }
     ensures words { LIMIT_WORDS ≡ 3 }
 {}
 

@@ -44,6 +44,7 @@ pub(crate) fn store_words(
     ensures { control.new ≡ record control.old { view = record control.old.view { words = words; knows_zero = true } } }
 {
     for k in 0..LIMIT_WORDS {
-        let _stored = control.store_word(gate, k as u32, words[k]);
+        let stored = control.store_word(gate, k as u32, words[k]);
+        prove!(stored.is_ok());
     }
 }

@@ -1,5 +1,5 @@
 //! The queue: what tags enter and leave.
-ghost use Rattle.std.specs.Prelude.{◌≡◌, ◌+◌, ◌<◌, ◌≤◌, true, false, All, vec_len, replicate, IfSome, IfOk};
+ghost use Rattle.std.specs.Prelude.{◌≡◌, ◌+◌, ◌<◌, ◌≤◌, true, false, All, map, replicate, IfSome, IfOk};
 ghost use Rattle.percpu_core.specs.declared.limits.TheConstants.{SLOT_LIMIT};
 ghost use Rattle.percpu_gate.specs.Seats.{fresh_pass};
 ghost use Rattle.queue_core.specs.Queue.{IsQueue, first_tag, first_freezer, after_asking, after_leaving};
@@ -19,7 +19,7 @@ use std::alloc::{AllocError, Global};
 use std::marker::Model;
 
 /// The most tags of a queue.
-pub const MOST_TAGS: u32 = 63;
+pub const MOST_TAGS: u32 = 1_023;
 
 /// A queue, its freezer and its tags.
 pub type NewQueue = (BlockQueue, Freezer, Vec<Tag>);
@@ -42,15 +42,14 @@ impl Model for BlockQueue {
     ghost invariant = { λ q. IsQueue (record { gate = q.gate; hardware = q.hardware }) };
 }
 
-/// A tag for each of the new passes of a gate.
+/// A tag for each of these passes, which are new.
 fn make_tags(
     alloc: Global,
-    gate: &Gate<LIMIT_WORDS>,
     passes: Vec<Pass<LIMIT_WORDS>>,
     hardware: u32,
 ) -> Result<Vec<Tag>, AllocError>
-    requires new { All (λ p. p ≡ fresh_pass gate.now) passes.items }
-    ensures { IfOk result (λ made. made.items ≡ replicate (vec_len passes) (first_tag (record { gate = gate.now; hardware = hardware }))) }
+    requires new { All (λ p. p ≡ fresh_pass p.gate) passes.items }
+    ensures { IfOk result (λ made. made.items ≡ map (λ p. first_tag (record { gate = p.gate; hardware = hardware })) passes.items) }
 {
     let mut tags = Vec::with_capacity(alloc, passes.len())?;
     for pass in passes {
@@ -60,8 +59,8 @@ fn make_tags(
 }
 
 impl BlockQueue {
-    /// A live queue of these limits that counts on its slots (1 to 64), with so many tags (1 to 63), none of them
-    /// entered, and its freezer. Memory where a growth was refused. Linux: `blk_mq_alloc_queue` (block/blk-mq.c).
+    /// A live queue of these limits that counts on its slots (1 to 512), with so many tags (1 to 1,023), none of
+    /// them entered, and its freezer. Memory where a growth was refused. Linux: `blk_mq_alloc_queue` (block/blk-mq.c).
     pub fn new(alloc: Global, limits: Limits, slots: u32, tags: u32) -> Result<NewQueue, Memory>
         requires slots { (1 ≤ slots) × (slots ≤ SLOT_LIMIT) }
         requires tags { (1 ≤ tags) × (tags ≤ MOST_TAGS) }
@@ -71,14 +70,15 @@ impl BlockQueue {
     {
         let words = limits.to_words();
         let (gate, mut control, passes) = Gate::new(alloc, slots, tags, Start::Atomic, words)?;
-        let _switched = control.switch_to_slots(&gate);
+        let switched = control.switch_to_slots(&gate);
+        prove!(switched.is_ok());
         let hardware = limits.hw();
-        let made = make_tags(alloc, &gate, passes, hardware)?;
+        let made = make_tags(alloc, passes, hardware)?;
         let queue = BlockQueue { gate, hardware };
         Ok((queue, Freezer::new(control, limits), made))
     }
 
-    /// The slots of the queue: 1 to 64.
+    /// The slots of the queue: 1 to 512.
     #[inline]
     pub fn slots(&self) -> u32
         ensures value { result ≡ self.now.gate.slots }
@@ -184,7 +184,6 @@ impl BlockQueue {
         ensures own { result ≡ self.gate }
         ensures kept { IsQueue self }
     {
-        let Self { gate, hardware: _ } = self;
-        gate
+        self.gate
     }
 }

@@ -2,7 +2,7 @@
 ghost use Rattle.std.specs.Prelude.{◌≡◌, ◌≤◌, ◌+◌, All, vec_len, length, sum_by, true, false, IfOk, IfErr, OnOk, OnErr};
 ghost use Rattle.queue_limits.specs.Words.{to_words};
 ghost use Rattle.queue_core.specs.Queue.{fault_of, remove_refusal};
-ghost use Rattle.queue_core.specs.Removal.{why_of, AtTheEnd, IsFrozenToEnd, kills_after, ReleasesAdd};
+ghost use Rattle.queue_core.specs.Removal.{why_of, AtTheEnd, HasEnded, IsFrozenToEnd};
 
 use crate::fault::FreezeFault;
 use crate::freezer::Freezer;
@@ -45,17 +45,20 @@ fn end(mut freezer: Freezer, queue: BlockQueue, tags: Vec<Tag>) -> Final<LIMIT_W
 }
 
 impl Freezer {
-    /// Freezes a queue that is to end, unless it is frozen already. Refuses WornOut.
-    fn freeze_to_end(&mut self, queue: &BlockQueue) -> Result<(), FreezeFault>
+    /// Freezes a queue that is to end with so many tags, unless it is frozen already. Refuses TagsOut, WornOut.
+    fn freeze_to_end(&mut self, queue: &BlockQueue, tags: usize) -> Result<(), FreezeFault>
         requires own { self.old.queue ≡ queue.now }
-        ensures refused { fault_of result ≡ remove_refusal self.old self.old.tags }
+        ensures refused { fault_of result ≡ remove_refusal self.old tags }
         ensures unchanged { OnErr result (self.new ≡ self.old) }
         ensures frozen { OnOk result (IsFrozenToEnd self.old self.new) }
     {
-        if self.depth() > 0 {
-            return Ok(());
+        let missing = (self.tags() as usize).saturating_sub(tags);
+        if missing > 0 {
+            return Err(FreezeFault::TagsOut(missing as u32));
         }
-        self.start_freeze(queue)?;
+        if self.depth() == 0 {
+            self.start_freeze(queue)?;
+        }
         Ok(())
     }
 
@@ -72,35 +75,16 @@ impl Freezer {
         requires out { All (λ t. t.entered ≡ false) tags.items }
         ensures refused { why_of result ≡ remove_refusal self (vec_len tags) }
         ensures unchanged { IfErr result (λ f. (f.freezer ≡ self) × (f.queue ≡ queue) × (f.tags ≡ tags)) }
-        ensures dead { IfOk result (λ left. left.dead ≡ true) }
-        ensures drained { IfOk result (λ left. AtTheEnd queue.gate left) }
-        ensures kills { IfOk result (λ left. left.kills ≡ kills_after self) }
-        ensures words { IfOk result (λ left. left.words ≡ to_words self.limits) }
-        // No release was lost: each drain that a thaw ended had one, and so had the last.
-        ensures drains { IfOk result (λ left. left.releases ≡ self.seat.zeros_cleared + 1) }
-        ensures at_most { IfOk result (λ left. left.releases ≤ left.kills) }
-        ensures releases { IfOk result (λ left. ReleasesAdd self tags.items left.releases) }
+        ensures ended { IfOk result (HasEnded queue.gate self tags.items) }
     {
-        let missing = (self.tags() as usize).saturating_sub(tags.len());
-        if missing > 0 {
-            let why = FreezeFault::TagsOut(missing as u32);
-            let freezer = self;
-            return Err(RemoveFault {
+        match self.freeze_to_end(&queue, tags.len()) {
+            Ok(()) => Ok(end(self, queue, tags)),
+            Err(why) => Err(RemoveFault {
                 why,
-                freezer,
+                freezer: self,
                 queue,
                 tags,
-            });
+            }),
         }
-        if let Err(why) = self.freeze_to_end(&queue) {
-            let freezer = self;
-            return Err(RemoveFault {
-                why,
-                freezer,
-                queue,
-                tags,
-            });
-        }
-        Ok(end(self, queue, tags))
     }
 }

@@ -157,7 +157,6 @@ impl Tag {
         ensures releases { result.view.releases ≡ self.releases }
         ensures out { self.entered ≡ false → result.view.standing.held ≡ 0 }
     {
-        let Self { pass, hardware: _ } = self;
-        pass
+        self.pass
     }
 }

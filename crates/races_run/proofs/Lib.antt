@@ -1,3 +1,6 @@
--- What was read is answered as the whole input is (Answering), and the statuses of faults (Ending).
+-- What was read is answered as the whole input is (Answering), how many states a race has (Bounds), the statuses of faults (Ending), and
+-- a list of two words (Wording).
 pub mod Answering
+pub mod Bounds
 pub mod Ending
+pub mod Wording

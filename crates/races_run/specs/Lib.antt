@@ -1,4 +1,6 @@
--- Answer: what an input is answered. Faults: what a fault says, and its status. Statuses: what the program's status tells.
+-- Answer: what an input is answered. Faults: what a fault says, and its status. Requests: what the words after the program's name ask
+-- for. Statuses: what the program's status tells.
 pub mod Answer
 pub mod Faults
+pub mod Requests
 pub mod Statuses

@@ -5,6 +5,7 @@ ghost use Rattle.races_run.specs.Faults.{number_of, status_of};
 use counted_io::{InputFault, WriteFault};
 use line_text::ParseFault;
 use percpu_core::Memory;
+use race_outcomes::SearchFault;
 use thiserror::Error;
 
 /// Why a race isn't answered, or not by all of its answer.
@@ -25,6 +26,9 @@ pub enum Fault {
     /// The input is no race.
     #[error("{0}")]
     Parse(ParseFault),
+    /// The race has more states than the bound on them.
+    #[error("states")]
+    States,
 }
 
 impl Fault {
@@ -37,6 +41,7 @@ impl Fault {
             Fault::Read => 2,
             Fault::Write { .. } => 3,
             Fault::Parse(_) => 4,
+            Fault::States => 5,
         }
     }
 
@@ -46,7 +51,7 @@ impl Fault {
     {
         match self {
             Fault::Parse(_) => 2,
-            Fault::Memory | Fault::Read | Fault::Write { .. } => 4,
+            Fault::Memory | Fault::Read | Fault::Write { .. } | Fault::States => 4,
         }
     }
 }
@@ -81,5 +86,18 @@ impl From<Memory> for Fault {
 
     fn from(_refused: Memory) -> Self {
         Fault::Memory
+    }
+}
+
+impl From<SearchFault> for Fault {
+    ghost use Rattle.races_run.specs.Faults.{fault_of_search};
+
+    ghost from_gives = { λ e fault. fault ≡ fault_of_search e };
+
+    fn from(e: SearchFault) -> Self {
+        match e {
+            SearchFault::Memory => Fault::Memory,
+            SearchFault::States => Fault::States,
+        }
     }
 }

@@ -8,9 +8,10 @@ ghost use Rattle.blk_script.specs.Texts.{reply_line};
 ghost use Rattle.script_meaning.specs.declared.reply.Reply.TheVariants.{Data};
 ghost use Rattle.run_desk.specs.Requests.{IsDue, IsAnswerTo, IsReadAnswer, IsWriteAnswer};
 
+use crate::uniform::UniformSectors;
 use blk_script::{render, render_read};
 use queue_limits::Limits;
-use ram_disk::{Sector, patterned};
+use ram_disk::Sector;
 use script_meaning::{Pattern, PieceLengths, Reply, Script, What};
 use std::alloc::{AllocError, Global};
 
@@ -51,10 +52,15 @@ fn read_text(
 }
 
 // The sectors of a write.
-fn sectors_of(alloc: Global, pattern: &Pattern, count: u32) -> Result<Vec<Sector>, AllocError>
+fn sectors_of(
+    alloc: Global,
+    uniform: &UniformSectors,
+    pattern: &Pattern,
+    count: u32,
+) -> Result<Vec<Sector>, AllocError>
     ensures { IfOk result (λ sectors. sectors.items ≡ pattern_sectors pattern.now count) }
 {
-    patterned(alloc, pattern.bytes(), count).map_err(|_| AllocError)
+    uniform.patterned(alloc, pattern.bytes(), count)
 }
 
 // The answer to a read, which found these sectors.
@@ -80,6 +86,7 @@ fn read(
 // The answer to a write.
 fn write(
     alloc: Global,
+    uniform: &UniformSectors,
     number: u32,
     limits: Limits,
     start: u32,
@@ -90,7 +97,7 @@ fn write(
 {
     let pieces = pieces(alloc, limits, start, count)?;
     let text = reply_text(alloc, number, &Reply::Written { pieces })?;
-    let sectors = sectors_of(alloc, pattern, count)?;
+    let sectors = sectors_of(alloc, uniform, pattern, count)?;
     Ok(Answer {
         text,
         start,
@@ -99,9 +106,10 @@ fn write(
 }
 
 /// The answer to the request at a position of the script, by the limits in force there and the sectors that a
-/// read finds. Refused only where memory was.
+/// read finds. Writes of one byte share the sectors of `uniform`. Refused only where memory was.
 pub fn answer_to(
     alloc: Global,
+    uniform: &UniformSectors,
     script: &Script,
     position: usize,
     limits: Limits,
@@ -117,7 +125,7 @@ pub fn answer_to(
             start,
             count,
             pattern,
-        } => write(alloc, line.number, limits, *start, *count, pattern),
+        } => write(alloc, uniform, line.number, limits, *start, *count, pattern),
         // No other line makes a request that is accepted.
         _ => unreachable!(),
     }

@@ -16,8 +16,10 @@ mod desk;
 mod laws;
 mod lines;
 mod replies;
+mod uniform;
 
 pub use answer::{Answer, answer_to};
 pub use desk::Desk;
 pub use laws::{answers_come_in_any_order, reads_stand_in_a_span};
 pub use replies::Replies;
+pub use uniform::UniformSectors;

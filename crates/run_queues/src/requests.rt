@@ -1,17 +1,18 @@
 //! The queue of the requests.
-ghost use Rattle.std.specs.Prelude.{◌≡◌, ◌+◌, ◌-◌, ◌<◌, ◌≤◌, true, false, [], IfOk, OnOk, OnErr, length, map};
+ghost use Rattle.std.specs.Prelude.{◌≡◌, ◌+◌, ◌-◌, ◌<◌, ◌≤◌, true, false, [], IfNone, IfOk, IfSome, OnOk, OnErr, length, map};
 ghost use Rattle.run_queues.specs.Numbers.{Draws, IsIncreasing};
 ghost use Rattle.run_queues.specs.Requests.{all_parts};
 ghost use Rattle.run_queues.specs.Parts.{after_draw, after_gather, new_source};
 
 use crate::numbered::Numbered;
-use crate::ruled_queue::RuledQueue;
+use crate::ruled_queue::{Effort, RuledQueue};
 use crossbeam_queue::Pass;
 use crossbeam_queue::protocol::{Join, Lesson, Outcome, Protocol, Split};
 use std::alloc::{AllocError, Global};
 use std::collections::LinkedList;
 use std::marker::Model;
 use std::sync::Wait;
+use wait_queue::Tries;
 
 /// What a pass of the queue knows: its parts of all that draw; whether it pushes, how many requests it pushed and
 /// how many end marks; whether it took an end mark, and the numbers that it drew. It stands in proofs alone.
@@ -217,7 +218,18 @@ impl<T: Numbered + Drop> RequestQueue<T> {
             .push_as::<Pushed, R>(rt, &mut source.seat, Some(request));
     }
 
-    /// Pushes one end mark, and waits while there is no room: one call of `draw` then answers `None`.
+    /// The same, and no thread is woken. The caller draws the request itself, or calls [`RequestQueue::wake`], before it waits for it.
+    pub fn push_quietly<R: Wait>(&self, rt: &R, source: &mut Source<T>, request: T)
+        requires own { source.old.queue ≡ self.now.id }
+        requires open { source.old.marks ≡ 0 }
+        requires number { T.number request ≡ source.old.pushed }
+        ensures { source.new ≡ record source.old { pushed = source.old.pushed + 1 } }
+    {
+        self.line
+            .push_quietly_as::<Pushed, R>(rt, &mut source.seat, Some(request));
+    }
+
+    /// Pushes one end mark, and waits while there is no room: one call of `draw` then answers `Some(None)`.
     pub fn end<R: Wait>(&self, rt: &R, source: &mut Source<T>)
         requires { source.old.queue ≡ self.now.id }
         ensures { source.new ≡ record source.old { marks = source.old.marks + 1 } }
@@ -225,22 +237,46 @@ impl<T: Numbered + Drop> RequestQueue<T> {
         self.line.push_as::<Ended, R>(rt, &mut source.seat, None);
     }
 
-    /// Takes the first request, or `None` where an end mark is first. It waits while there is neither. `AllocError`,
-    /// with nothing taken, where the list has no room left and is refused more.
-    pub fn draw<R: Wait>(&self, rt: &R, drawer: &mut Drawer<T>) -> Result<Option<T>, AllocError>
+    /// Takes what is first, and tries as hard as `effort` says: a request, or `Some(None)` where it is an end mark. `None` only
+    /// where there was neither at one moment of the call. `AllocError`, with nothing taken, where the list has no room left and is
+    /// refused more.
+    pub fn draw<R: Wait>(
+        &self,
+        rt: &R,
+        drawer: &mut Drawer<T>,
+        effort: Effort,
+    ) -> Result<Option<Option<T>>, AllocError>
         requires { drawer.old.queue ≡ self.now.id }
-        ensures drawn { IfOk result (λ item. drawer.new ≡ record (after_draw T.number item drawer.old) { room = drawer.new.room }) }
+        ensures drawn { IfOk result (λ drawn. IfSome drawn (λ item. drawer.new ≡ record (after_draw T.number item drawer.old) { room = drawer.new.room })) }
+        ensures none { IfOk result (λ drawn. IfNone drawn (drawer.new ≡ record drawer.old { room = drawer.new.room })) }
         ensures increasing { IsIncreasing drawer.new.drawn }
         ensures room { drawer.old.room ≤ drawer.new.room }
         ensures full { OnErr result (drawer.old.room ≤ length drawer.old.drawn) }
         ensures err { OnErr result (drawer.new ≡ drawer.old) }
     {
         drawer.drawn.reserve(1)?;
-        let item = self.line.pop_as::<Popped, R>(rt, &mut drawer.seat);
-        if let Some(request) = &item {
+        let drawn = self
+            .line
+            .try_pop_as::<Popped, R>(rt, &mut drawer.seat, effort);
+        if let Some(Some(request)) = &drawn {
             drawer.drawn.push_reserved(request.number());
         }
-        Ok(item)
+        Ok(drawn)
+    }
+
+    /// Says that this thread is about to sleep: from here on a push wakes it, until it draws with [`Effort::Woken`].
+    pub fn announce(&self) {
+        self.line.announce();
+    }
+
+    /// A turn for each draw of a thread that announced itself, the first at once. It sleeps between them until a push wakes it.
+    pub fn turns<'q, R: Wait>(&'q self, rt: &'q R) -> Tries<'q, R> {
+        self.line.turns(rt)
+    }
+
+    /// Wakes a thread that sleeps, for what was pushed quietly.
+    pub fn wake(&self) {
+        self.line.wake();
     }
 
     /// Takes the right to draw back, with the list of what was drawn. `AllocError` where there is no room for one

@@ -10,10 +10,21 @@ use crossbeam_utils::CachePadded;
 use std::alloc::{AllocError, Global};
 use std::sync::Wait;
 use std::sync::atomic::{AtomicBool, AtomicUsize, Ordering};
-use wait_queue::WaitQueue;
+use wait_queue::{Tries, WaitQueue};
 
 /// How many threads look at most. More of them would be in each other's way, and in that of whoever pushes.
 const LOOKERS: usize = 4;
+
+/// How hard a thread tries to take an item.
+#[derive(Clone, Copy, Debug, PartialEq, Eq)]
+pub enum Effort {
+    /// It looks once, and wakes no thread for what it leaves.
+    Quiet,
+    /// It looks for as long as that is worth it.
+    Patient,
+    /// It looks once, in a turn of its sleep: an item ends that.
+    Woken,
+}
 
 /// A queue under a rule, and those who sleep at it.
 ///
@@ -62,8 +73,24 @@ impl<T: Drop, V, P: Protocol<T, V>> RuledQueue<T, V, P> {
         Ok((line, pass))
     }
 
-    /// Pushes an item, and waits while there is no room.
+    /// Pushes an item, and waits while there is no room. A thread that sleeps is woken.
     pub(crate) fn push_as<M: Outcome<T, V> + Lesson<T, V>, R: Wait>(
+        &self,
+        rt: &R,
+        pass: &mut Pass<T, V>,
+        item: T,
+    )
+        requires queue { IsPassOf self.now.ring pass.old }
+        requires rule { MayPush P.holds (ruled_capacity self.now.ring) pass.old item M.then M.fact }
+        ensures queue { IsSamePass pass.old pass.new }
+        ensures rule { M.then (view pass.old) item (view pass.new) }
+    {
+        self.push_quietly_as::<M, R>(rt, pass, item);
+        self.wake();
+    }
+
+    /// The same, and no thread is woken. The caller pops the item itself, or wakes a thread for it, before it waits.
+    pub(crate) fn push_quietly_as<M: Outcome<T, V> + Lesson<T, V>, R: Wait>(
         &self,
         rt: &R,
         pass: &mut Pass<T, V>,
@@ -77,10 +104,7 @@ impl<T: Drop, V, P: Protocol<T, V>> RuledQueue<T, V, P> {
         let mut item = item;
         for _ in self.taken.tries(rt) {
             match self.ring.push_as::<M, R>(rt, pass, item) {
-                Ok(()) => {
-                    self.wake();
-                    return;
-                }
+                Ok(()) => return,
                 Err(back) => item = back,
             }
         }
@@ -98,13 +122,71 @@ impl<T: Drop, V, P: Protocol<T, V>> RuledQueue<T, V, P> {
         ensures queue { IsSamePass pass.old pass.new }
         ensures rule { M.then (view pass.old) result (view pass.new) }
     {
+        if let Some(item) = self.pop_soon_as::<M, R>(rt, pass) {
+            return item;
+        }
+        self.announce();
+        for _ in self.turns(rt) {
+            if let Some(item) = self.pop_woken_as::<M, R>(rt, pass) {
+                return item;
+            }
+        }
+        unreachable!()
+    }
+
+    /// Takes the first item, and tries as hard as `effort` says. `None` only where there was none at one moment of the call.
+    pub(crate) fn try_pop_as<M: Outcome<T, V> + Lesson<T, V>, R: Wait>(
+        &self,
+        rt: &R,
+        pass: &mut Pass<T, V>,
+        effort: Effort,
+    ) -> Option<T>
+        requires queue { IsPassOf self.now.ring pass.old }
+        requires rule { MayPop P.holds pass.old M.then M.fact }
+        ensures queue { IsSamePass pass.old pass.new }
+        ensures none { IfNone result (view pass.new ≡ view pass.old) }
+        ensures rule { IfSome result (λ item. M.then (view pass.old) item (view pass.new)) }
+    {
+        match effort {
+            Effort::Quiet => self.pop_quietly_as::<M, R>(rt, pass),
+            Effort::Patient => self.pop_soon_as::<M, R>(rt, pass),
+            Effort::Woken => self.pop_woken_as::<M, R>(rt, pass),
+        }
+    }
+
+    // Takes the first item where there is one now, or soon: it looks for one as long as that is worth it.
+    fn pop_soon_as<M: Outcome<T, V> + Lesson<T, V>, R: Wait>(
+        &self,
+        rt: &R,
+        pass: &mut Pass<T, V>,
+    ) -> Option<T>
+        requires queue { IsPassOf self.now.ring pass.old }
+        requires rule { MayPop P.holds pass.old M.then M.fact }
+        ensures queue { IsSamePass pass.old pass.new }
+        ensures none { IfNone result (view pass.new ≡ view pass.old) }
+        ensures rule { IfSome result (λ item. M.then (view pass.old) item (view pass.new)) }
+    {
         if let Some(item) = self.pop_now_as::<M, R>(rt, pass) {
-            return item;
+            return Some(item);
         }
-        if let Some(item) = self.look_as::<M, R>(rt, pass) {
-            return item;
-        }
-        self.sleep_as::<M, R>(rt, pass)
+        self.look_as::<M, R>(rt, pass)
+    }
+
+    // Takes the first item where there is one now. No thread is woken for what is left.
+    fn pop_quietly_as<M: Outcome<T, V> + Lesson<T, V>, R: Wait>(
+        &self,
+        rt: &R,
+        pass: &mut Pass<T, V>,
+    ) -> Option<T>
+        requires queue { IsPassOf self.now.ring pass.old }
+        requires rule { MayPop P.holds pass.old M.then M.fact }
+        ensures queue { IsSamePass pass.old pass.new }
+        ensures none { IfNone result (view pass.new ≡ view pass.old) }
+        ensures rule { IfSome result (λ item. M.then (view pass.old) item (view pass.new)) }
+    {
+        let item = self.ring.pop_as::<M, R>(rt, pass)?;
+        self.taken.wake_one();
+        Some(item)
     }
 
     /// Takes the first item where there is one now, and `None` only where there was none at one moment of the call.
@@ -171,35 +253,34 @@ impl<T: Drop, V, P: Protocol<T, V>> RuledQueue<T, V, P> {
         None
     }
 
-    // Takes the first item, and sleeps while there is none.
-    fn sleep_as<M: Outcome<T, V> + Lesson<T, V>, R: Wait>(&self, rt: &R, pass: &mut Pass<T, V>) -> T
-        requires queue { IsPassOf self.now.ring pass.old }
-        requires rule { MayPop P.holds pass.old M.then M.fact }
-        ensures queue { IsSamePass pass.old pass.new }
-        ensures rule { M.then (view pass.old) result (view pass.new) }
-    {
+    /// Counts this thread as one that sleeps, or is about to, until its [`RuledQueue::pop_woken_as`] takes an item.
+    pub(crate) fn announce(&self) {
         self.sleeping.fetch_add(1, Ordering::SeqCst);
-        let item = self.wait_as::<M, R>(rt, pass);
-        self.sleeping.fetch_sub(1, Ordering::SeqCst);
-        self.pass_on(pass);
-        item
     }
 
-    // Takes the first item as one of those who wait for it. Before each try it says that it has come: a push behind that wakes one
-    // again.
-    fn wait_as<M: Outcome<T, V> + Lesson<T, V>, R: Wait>(&self, rt: &R, pass: &mut Pass<T, V>) -> T
+    /// A turn for each try of a thread that announced itself. It sleeps between them, and a push wakes it.
+    pub(crate) fn turns<'q, R: Wait>(&'q self, rt: &'q R) -> Tries<'q, R> {
+        self.added.announced_tries(rt)
+    }
+
+    // Takes the first item where there is one now, in a turn of a thread that announced itself. Before its try the thread says that it
+    // has come: a push behind that wakes one again.
+    fn pop_woken_as<M: Outcome<T, V> + Lesson<T, V>, R: Wait>(
+        &self,
+        rt: &R,
+        pass: &mut Pass<T, V>,
+    ) -> Option<T>
         requires queue { IsPassOf self.now.ring pass.old }
         requires rule { MayPop P.holds pass.old M.then M.fact }
         ensures queue { IsSamePass pass.old pass.new }
-        ensures rule { M.then (view pass.old) result (view pass.new) }
+        ensures none { IfNone result (view pass.new ≡ view pass.old) }
+        ensures rule { IfSome result (λ item. M.then (view pass.old) item (view pass.new)) }
     {
-        for _ in self.added.announced_tries(rt) {
-            self.coming.store(false, Ordering::SeqCst);
-            if let Some(item) = self.ring.pop_as::<M, R>(rt, pass) {
-                return item;
-            }
-        }
-        unreachable!()
+        self.coming.store(false, Ordering::SeqCst);
+        let item = self.ring.pop_as::<M, R>(rt, pass)?;
+        self.sleeping.fetch_sub(1, Ordering::SeqCst);
+        self.pass_on(pass);
+        Some(item)
     }
 
     // After a pop: there is room, and what is left is for the next. The queue is looked at only for one who sleeps,
@@ -214,8 +295,8 @@ impl<T: Drop, V, P: Protocol<T, V>> RuledQueue<T, V, P> {
         }
     }
 
-    // Wakes a sleeper, where there is one, no thread looks for what it would find, and none is on its way.
-    fn wake(&self) {
+    /// Wakes a sleeper, where there is one, no thread looks for what it would find, and none is on its way.
+    pub(crate) fn wake(&self) {
         if self.sleeping.load(Ordering::SeqCst) > 0
             && self.looking.load(Ordering::SeqCst) == 0
             && !self.coming.load(Ordering::SeqCst)

@@ -1,5 +1,5 @@
 //! The queue of what isn't in use.
-ghost use Rattle.std.specs.Prelude.{◌≡◌, ◌+◌, ◌<◌, ◌^◌, IfOk};
+ghost use Rattle.std.specs.Prelude.{◌≡◌, ◌+◌, ◌<◌, ◌^◌, IfNone, IfOk, OnSome};
 ghost use Rattle.run_queues.specs.Parts.{none_counted, one_more};
 
 use crate::ruled_queue::RuledQueue;
@@ -99,6 +99,18 @@ impl<T: Drop> SpareQueue<T> {
     {
         self.line.push_as::<Free, R>(rt, &mut count.seat, item);
         count.put += 1;
+    }
+
+    /// Takes the first where there is one now. It is counted.
+    pub fn try_take<R: Wait>(&self, rt: &R, taker: &mut Taker<T>) -> Option<T>
+        requires own { taker.old.queue ≡ self.now.id }
+        requires room { taker.old.count + 1 < 2 ^ 64 }
+        ensures counted { OnSome result (taker.new ≡ one_more taker.old) }
+        ensures none { IfNone result (taker.new ≡ taker.old) }
+    {
+        let item = self.line.pop_now_as::<Free, R>(rt, &mut taker.seat)?;
+        taker.taken += 1;
+        Some(item)
     }
 
     /// Takes the first, and waits while there is none. It is counted.

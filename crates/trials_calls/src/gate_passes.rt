@@ -11,8 +11,8 @@ pub fn new<const W: usize>(
     start: Start,
     words: [u64; W],
 ) -> Result<(Gate<W>, Control<W>, Vec<Pass<W>>), Memory>
-    requires slots { (1 ≤ slots) × (slots ≤ 64) }
-    requires passes { (1 ≤ passes) × (passes ≤ 64) }
+    requires slots { (1 ≤ slots) × (slots ≤ 512) }
+    requires passes { (1 ≤ passes) × (passes ≤ 1024) }
     requires words { W ≤ 8 }
 {
     Gate::<W>::new(alloc, slots, passes, start, words)

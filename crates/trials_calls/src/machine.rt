@@ -14,8 +14,8 @@ pub fn new(
     start: Start,
     words: &[u64],
 ) -> Result<World, Memory>
-    requires slots { (1 ≤ slots) × (slots ≤ 64) }
-    requires passes { (1 ≤ passes) × (passes ≤ 64) }
+    requires slots { (1 ≤ slots) × (slots ≤ 512) }
+    requires passes { (1 ≤ passes) × (passes ≤ 1024) }
     requires words { length words.now ≤ 8 }
 {
     World::new(alloc, slots, passes, start, words)
@@ -29,8 +29,8 @@ pub fn with_kills(
     kills: u64,
     words: &[u64],
 ) -> Result<World, Memory>
-    requires slots { (1 ≤ slots) × (slots ≤ 64) }
-    requires passes { (1 ≤ passes) × (passes ≤ 64) }
+    requires slots { (1 ≤ slots) × (slots ≤ 512) }
+    requires passes { (1 ≤ passes) × (passes ≤ 1024) }
     requires kills { kills ≤ 2 ^ 40 }
     requires words { length words.now ≤ 8 }
 {

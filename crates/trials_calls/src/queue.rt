@@ -4,7 +4,7 @@ ghost use Rattle.freeze_queue.specs.Queue.{fault_number};
 
 use freeze_queue::{
     BlockQueue, Enter, Final, FreezeFault, Freezer, Limits, Memory, Mode, Pair, Put, RemoveFault,
-    SharedFreezer, Tag,
+    SharedFreezer, Stay, StayOrEnter, Tag,
 };
 use std::alloc::Global;
 use std::sync::{MutexGuard, Wait};
@@ -15,8 +15,8 @@ pub fn new(
     slots: u32,
     tags: u32,
 ) -> Result<(BlockQueue, Freezer, Vec<Tag>), Memory>
-    requires slots { (1 ≤ slots) × (slots ≤ 64) }
-    requires tags { (1 ≤ tags) × (tags ≤ 63) }
+    requires slots { (1 ≤ slots) × (slots ≤ 512) }
+    requires tags { (1 ≤ tags) × (tags ≤ 1023) }
 {
     BlockQueue::new(alloc, limits, slots, tags)
 }
@@ -47,6 +47,22 @@ pub fn leave(queue: &BlockQueue, tag: &mut Tag, slot: u32) -> Put
     requires entered { tag.old.entered ≡ true }
 {
     queue.leave(tag, slot)
+}
+
+pub fn stay(queue: &BlockQueue, tag: &mut Tag, slot: u32) -> Stay
+    requires own { tag.old.queue ≡ queue.now }
+    requires slot { slot < queue.now.gate.slots }
+    requires entered { tag.old.entered ≡ true }
+{
+    queue.stay(tag, slot)
+}
+
+pub fn stay_or_enter<R: Wait>(rt: &R, queue: &BlockQueue, tag: &mut Tag, slot: u32) -> StayOrEnter
+    requires own { tag.old.queue ≡ queue.now }
+    requires slot { slot < queue.now.gate.slots }
+    requires entered { tag.old.entered ≡ true }
+{
+    queue.stay_or_enter(rt, tag, slot)
 }
 
 pub fn limits_under(queue: &BlockQueue, tag: &mut Tag) -> Limits

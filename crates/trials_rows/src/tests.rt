@@ -1,16 +1,6 @@
-//! Proofs of callers from the contracts, what the proved build alone shows, and a row of each crate below.
-mod disk;
-mod failing;
-mod fakes;
+//! Callers that reason from the contracts of a gate and of a queue, and a row of each library of a gate, a queue, a disk and a script.
 mod fixture;
 mod gate_caller;
 mod handed;
-mod limits;
-mod memory;
-mod overlaps;
 mod queue_caller;
-mod run_memory;
-mod runs;
-mod schedules;
-mod script;
-mod waking;
+mod rows;

@@ -30,6 +30,6 @@ use crate::text::Text;
 /// ```
 pub fn outcomes(race: &[u8]) -> Result<Vec<u8>, RaceError> {
     let mut text = Text::default();
-    outcomes_bytes(&mut Counted::new(race), &mut Counted::new(&mut text))?;
+    outcomes_bytes(&mut Counted::new(race), &mut Counted::new(&mut text), None)?;
     Ok(text.0)
 }

@@ -1,12 +1,14 @@
 //! Memory from C's `malloc`, `realloc` and `free` for the libraries for C, and pointers whose allocation may be refused.
 //!
-//! This file has all handwritten `unsafe` of these libraries. Its argument has three parts. *Room*: C's `malloc` and `realloc` return
+//! This file has all handwritten `unsafe` of these libraries. Its argument has three parts, beside the instruction of [`trap`]. *Room*: C's `malloc` and `realloc` return
 //! room of the requested size, aligned to 16 bytes, which belongs to the caller until it is freed; a greater alignment is refused.
 //! *Life*: the last [`Arc`] at a value frees its room; the count begins at 1, a clone adds one, a drop takes one away. *Threads*: the
 //! count is atomic; a drop releases, and the last one acquires. Another thread's use of the value therefore comes before its end.
 #![no_std]
 
 extern crate alloc;
+
+pub mod erased;
 
 use alloc::alloc::alloc;
 use alloc::boxed::Box;
@@ -65,6 +67,18 @@ unsafe impl GlobalAlloc for Memory {
 pub fn end() -> ! {
     // SAFETY: it may be called anywhere, and doesn't return.
     unsafe { abort() }
+}
+
+/// Ends the program by one instruction. The function around it calls nothing for it, so it makes no frame on the stack.
+#[inline]
+pub fn trap() -> ! {
+    #[cfg(target_arch = "x86_64")]
+    // SAFETY: it is an invalid instruction, by which the system ends the program.
+    unsafe {
+        core::arch::asm!("ud2", options(noreturn, nomem, nostack))
+    }
+    #[cfg(not(target_arch = "x86_64"))]
+    end()
 }
 
 /// The making of a `Box`, which may be refused.

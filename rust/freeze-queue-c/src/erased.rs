@@ -1,6 +1,6 @@
 //! The library's sources without their contracts. tools/erase writes the files that say so in their first line.
 //!
-//! C's pointers need `unsafe`: `loose` takes a box apart and puts it together, and a handle may cross threads.
+//! C's pointers need `unsafe`: a handle hides the type of its pointer, and may cross threads.
 #![allow(
     missing_docs,
     missing_debug_implementations,
@@ -18,6 +18,17 @@ pub mod steps {
     pub mod queue_limits;
 }
 
-pub use ::percpu_gate::erased::{fallible, percpu_core, percpu_gate};
+/// The gate's steps, from the package percpu-gate, over the table that c-memory compiles.
+#[path = "../../percpu-gate/src/erased"]
+pub mod gate {
+    pub mod percpu_core;
+    pub mod percpu_gate;
+    pub mod percpu_words;
+}
+
+pub use ::percpu_gate::erased::fallible;
 pub use c_memory as pointers;
+pub use c_memory::erased::atomic_table;
+pub use c_memory::erased::loose_box;
+pub use gate::{percpu_core, percpu_gate, percpu_words};
 pub use steps::{queue_core, queue_limits};

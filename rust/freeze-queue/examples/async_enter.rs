@@ -1,5 +1,5 @@
 //! Requests that enter by futures, with no runtime: one thread has 60 of them, and polls those that were woken, while
-//! another freezes the queue, changes its limits and thaws it. Whoever is refused sleeps by its waker alone.
+//! another freezes the queue, changes its limits and thaws it. A refused future sleeps by its waker alone.
 use freeze_queue::{EnterError, Limits, Queue, Tag};
 use std::error::Error;
 use std::future::Future;

@@ -60,30 +60,30 @@ async fn turn() {
     .await;
 }
 
-/// What the tasks did.
+/// Counts of the tasks.
 #[derive(Default)]
-struct Told {
+struct Counts {
     sectors: Cell<u64>,
     now: Cell<u32>,
     most: Cell<u32>,
 }
 
-async fn submit(queue: &Queue, told: &Told, start: u64) {
+async fn submit(queue: &Queue, counts: &Counts, start: u64) {
     let request = queue.enter_any_async().await.expect("the device stays");
-    told.now.set(told.now.get() + 1);
-    told.most.set(told.most.get().max(told.now.get()));
+    counts.now.set(counts.now.get() + 1);
+    counts.most.set(counts.most.get().max(counts.now.get()));
     let before = *request.limits();
     turn().await;
     assert_eq!(*request.limits(), before);
     let pieces = request.pieces(start, 100).expect("it is within the device");
-    told.sectors.set(told.sectors.get() + pieces.map(|piece| u64::from(piece.sectors)).sum::<u64>());
-    told.now.set(told.now.get() - 1);
+    counts.sectors.set(counts.sectors.get() + pieces.map(|piece| u64::from(piece.sectors)).sum::<u64>());
+    counts.now.set(counts.now.get() - 1);
 }
 
-async fn change(queue: &Queue, told: &Told) {
+async fn change(queue: &Queue, counts: &Counts) {
     for change in 0..CHANGES {
         let frozen = queue.freeze_async().await.expect("nobody else freezes");
-        assert_eq!(told.now.get(), 0, "no request is in flight");
+        assert_eq!(counts.now.get(), 0, "no request is in flight");
         frozen.set(frozen.limits().with_max(1 + change % 64)).expect("they are limits");
         drop(frozen);
         turn().await;
@@ -92,11 +92,11 @@ async fn change(queue: &Queue, told: &Told) {
 
 fn main() -> Result<(), Box<dyn Error>> {
     let queue = Queue::new(Limits::of_hardware(64), 1, TAGS)?;
-    let told = Told::default();
-    let mut tasks: Vec<Task<'_>> = vec![Box::pin(change(&queue, &told))];
-    tasks.extend((0..TASKS as u64).map(|task| Box::pin(submit(&queue, &told, task * 100)) as Task<'_>));
+    let counts = Counts::default();
+    let mut tasks: Vec<Task<'_>> = vec![Box::pin(change(&queue, &counts))];
+    tasks.extend((0..TASKS as u64).map(|task| Box::pin(submit(&queue, &counts, task * 100)) as Task<'_>));
     run(tasks);
-    println!("{TASKS} tasks sent {} sectors, at most {} requests at once", told.sectors.get(), told.most.get());
+    println!("{TASKS} tasks sent {} sectors, at most {} requests at once", counts.sectors.get(), counts.most.get());
     let last = queue.remove()?; // which freezes it once more
     println!("frozen {} times, at most {} sectors", last.kills, last.limits.max);
     Ok(())

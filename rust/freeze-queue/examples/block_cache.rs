@@ -22,7 +22,7 @@ const BLOCKS: u64 = 500;
 const CACHED: usize = 50;
 const SECTORS: u32 = 20;
 
-/// What the device has at a sector.
+/// The content of a sector of the device.
 fn content(sector: u64) -> u64 {
     sector.wrapping_mul(0x9e37_79b9_7f4a_7c15)
 }
@@ -226,7 +226,7 @@ fn remove_device(queue: &Queue) -> usize {
 }
 
 fn main() -> Result<(), Box<dyn Error>> {
-    let reads = env::var("BLOCK_CACHE_READS").ok().and_then(|told| told.parse().ok()).unwrap_or(500);
+    let reads = env::var("BLOCK_CACHE_READS").ok().and_then(|text| text.parse().ok()).unwrap_or(500);
     let queue = Arc::new(Queue::new(Limits::of_hardware(64), 4, 6)?);
     let (sent, received) = mpsc::channel();
     let received = Arc::new(Mutex::new(received));

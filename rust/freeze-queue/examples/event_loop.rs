@@ -32,7 +32,7 @@ fn serve_all(queue: &Queue, reads: &Receiver<Read>, replies: &Sender<Commands>) 
     Ok(())
 }
 
-/// Asks for so many reads of 12 sectors, and tells the commands of the last one.
+/// Asks for so many reads of 12 sectors, and returns the commands of the last one.
 fn ask(asked: &Sender<Read>, replies: &Receiver<Commands>, count: u64) -> Result<Commands, Box<dyn Error>> {
     for number in 0..count {
         asked.send(Read { start: 64 * number, sectors: 12 })?;

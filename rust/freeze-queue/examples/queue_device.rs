@@ -1,5 +1,5 @@
-//! A device that is removed while four threads submit requests to it, some of whom wait to enter then: each request that
-//! entered is done, nobody enters after, and who waited is let go.
+//! A device that is removed while four threads submit requests to it, some of which wait to enter then: each request that
+//! entered is done, no request enters after, and a thread that waits is let go.
 use freeze_queue::{EnterError, Limits, Queue, Tag};
 use std::error::Error;
 use std::sync::atomic::{AtomicBool, AtomicU64, Ordering};

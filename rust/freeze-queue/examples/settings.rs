@@ -8,7 +8,7 @@ const REQUESTS: u64 = 20_000;
 const CHANGES: u32 = 1000;
 const SECTORS: u32 = 100;
 
-/// Of a setting the chunk is four times the most of a piece, or there is none: so a request of two settings would show.
+/// In a setting the chunk is four times the most of a piece, or there is none: a request of two settings would show.
 fn setting(of: u32) -> Limits {
     let max = 1 + of % 64;
     Limits::of_hardware(64).with_max(max).with_chunk(if of % 3 == 0 { 0 } else { 4 * max })

@@ -1,11 +1,11 @@
-//! What a tag is, in its place: it has its own share of its queue, so a request counts none.
+//! A tag in its place. It has its own share of its queue, so a request counts none.
 use crate::erased::queue_core as erased;
 use crate::lent::Lent;
 use crate::shared::Shared;
 use std::ops::{Deref, DerefMut};
 use std::sync::Arc;
 
-/// What changes as a tag is used.
+/// The part of a tag that changes as it is used.
 pub(crate) struct TagState {
     pub(crate) erased: erased::Tag,
     /// Below the queue's slots.
@@ -29,7 +29,7 @@ pub(crate) struct Parts {
 pub(crate) struct Body(Lent<'static, Option<Parts>>);
 
 impl Body {
-    /// Of a place that has a tag.
+    /// The body of a place that has a tag.
     #[inline]
     pub(crate) fn of(lent: Lent<'static, Option<Parts>>) -> Body {
         Body(lent)

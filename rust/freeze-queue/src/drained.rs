@@ -44,7 +44,7 @@ impl<'q> Drained<'q> {
 
     /// Whether the queue is drained. If it isn't the context's waker is noted.
     fn is_drained_or_noted(&mut self, context: &Context<'_>) -> bool {
-        let queue = &self.freeze.as_ref().expect("it isn't polled once it is done").queue;
+        let queue = self.freeze.as_ref().expect("it isn't polled once it is done").queue();
         let mut waker = Some(context.waker().clone()); // before the lock, since it is somebody's code
         let mut held = queue.waits.lock();
         let is_drained = held.freezer.poll_drained(&queue.erased);
@@ -61,7 +61,7 @@ impl<'q> Drained<'q> {
     /// The waker that was noted, if it is there still.
     fn forget(&mut self) -> Option<Waker> {
         let (freeze, number) = (self.freeze.as_ref()?, self.noted.take()?);
-        freeze.queue.waits.lock().drains.forget(number)
+        freeze.queue().waits.lock().drains.forget(number)
     }
 }
 

@@ -15,10 +15,10 @@ use std::pin::Pin;
 use std::task::{Context, Poll};
 use std::time::Instant;
 
-/// How one comes to a tag that found none.
+/// How an entering that found no tag gets one.
 enum Joined {
-    /// One came home meanwhile.
-    Has(Body),
+    /// One came home meanwhile. The other comes back, since a waker isn't dropped under the lock.
+    Has(Body, Notify),
     /// It is in line, by this number.
     Waits(u64),
 }
@@ -30,7 +30,7 @@ fn join(queue: &Shared, held: &mut Held, notify: Notify) -> Result<Joined, (Ente
     }
     if held.line.is_empty() {
         if let Some(tag) = queue.places.take_or_ask() {
-            return Ok(Joined::Has(tag));
+            return Ok(Joined::Has(tag, notify));
         }
     }
     held.line.join(notify).map(Joined::Waits).map_err(|notify| (EnterAnyError::NoMemory, notify))
@@ -48,7 +48,7 @@ pub(crate) fn wait_for_tag(queue: &Shared, deadline: Option<Instant>) -> Result<
     let notify = Notify::Thread(sync::current());
     let mut held = queue.waits.lock();
     let number = match join(queue, &mut held, notify) {
-        Ok(Joined::Has(tag)) => return Ok(on_slot_of_thread(queue, tag)),
+        Ok(Joined::Has(tag, _)) => return Ok(on_slot_of_thread(queue, tag)),
         Ok(Joined::Waits(number)) => number,
         Err((why, _)) => return Err(why.into()),
     };
@@ -112,6 +112,9 @@ enum At {
     End,
 }
 
+/// A tag, if there is one; and a waker that isn't needed any more.
+type Looked = (Poll<Result<Tag, EnterAnyError>>, Option<Notify>);
+
 impl<'q> EnterAny<'q> {
     pub(crate) fn of(queue: &'q Shared) -> EnterAny<'q> {
         EnterAny { queue, at: At::Begin }
@@ -119,49 +122,49 @@ impl<'q> EnterAny<'q> {
 
     /// The future of the tag, once there is one.
     fn tag(&mut self, context: &Context<'_>) -> Poll<Result<&mut EnterOwnedAsync, EnterAnyError>> {
-        let tag = match self.at {
+        let (tag, unneeded) = match self.at {
             At::Begin => self.join_line(context),
             At::Line(number) => self.look(number, context),
-            At::Entering(_) => Poll::Pending,
+            At::Entering(_) => (Poll::Pending, None),
             At::End => panic!("it isn't polled once it is done"),
         };
         match tag {
-            Poll::Ready(Ok(tag)) => {
-                self.at = At::Entering(EnterOwnedAsync::of(on_slot_of_thread(self.queue, tag), true));
-            }
+            Poll::Ready(Ok(tag)) => self.at = At::Entering(EnterOwnedAsync::of(tag, true)),
             Poll::Ready(Err(why)) => return Poll::Ready(Err(why)),
             Poll::Pending => {}
         }
+        drop(unneeded); // which may panic: the future has its tag by then
         match &mut self.at {
             At::Entering(entering) => Poll::Ready(Ok(entering)),
             _ => Poll::Pending,
         }
     }
 
-    fn join_line(&mut self, context: &Context<'_>) -> Poll<Result<Body, EnterAnyError>> {
+    fn join_line(&mut self, context: &Context<'_>) -> Looked {
         if let Some(tag) = self.queue.try_any() {
-            return Poll::Ready(Ok(tag));
+            return (Poll::Ready(Ok(Tag::of(tag))), None);
         }
         let notify = Notify::Task(context.waker().clone()); // before the lock, since it is somebody's code
         let joined = join(self.queue, &mut self.queue.waits.lock(), notify);
         match joined {
-            Ok(Joined::Has(tag)) => Poll::Ready(Ok(tag)),
+            Ok(Joined::Has(tag, notify)) => (Poll::Ready(Ok(on_slot_of_thread(self.queue, tag))), Some(notify)),
             Ok(Joined::Waits(number)) => {
                 self.at = At::Line(number);
-                Poll::Pending
+                (Poll::Pending, None)
             }
-            Err((why, _)) => Poll::Ready(Err(why)),
+            Err((why, notify)) => (Poll::Ready(Err(why)), Some(notify)),
         }
     }
 
-    fn look(&mut self, number: u64, context: &Context<'_>) -> Poll<Result<Body, EnterAnyError>> {
+    fn look(&mut self, number: u64, context: &Context<'_>) -> Looked {
         let mut waker = Some(context.waker().clone());
         let turn = self.queue.waits.lock().line.look(number, &mut waker);
-        match turn {
-            Turn::Has(tag) => Poll::Ready(Ok(tag)),
+        let tag = match turn {
+            Turn::Has(tag) => Poll::Ready(Ok(on_slot_of_thread(self.queue, tag))),
             Turn::Waits => Poll::Pending,
             Turn::SentAway => Poll::Ready(Err(EnterAnyError::Dying)),
-        }
+        };
+        (tag, waker.map(Notify::Task))
     }
 }
 

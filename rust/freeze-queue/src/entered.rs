@@ -10,8 +10,8 @@ use std::mem::ManuallyDrop;
 
 /// A request that has entered its queue: while it is there the queue doesn't drain, and its limits hold still.
 ///
-/// It borrows the tag that it entered with, and the queue. Dropping it leaves: on whichever thread, on the slot that the
-/// tag uses then. Where it was the last of a freeze, that wakes who waits for the drain. One that is forgotten
+/// It borrows the tag that it entered with, and the queue. Dropping it leaves, on any thread, on the slot that the tag uses
+/// then. If it was the last of a freeze, the drop wakes the threads that wait for the drain. A request that is forgotten
 /// (`mem::forget`) has entered for ever: its queue never drains, and its tag can't enter again or be given back. Linux:
 /// `blk_queue_exit`.
 ///
@@ -30,13 +30,13 @@ use std::mem::ManuallyDrop;
 #[must_use = "a request leaves where it is dropped"]
 pub struct Entered<'e> {
     queue: &'e Shared,
-    /// Of this queue, and entered.
+    /// A tag of this queue that has entered.
     tag: &'e mut TagState,
     limits: Limits,
 }
 
 impl<'e> Entered<'e> {
-    /// Of a tag that has entered this queue, of which it is.
+    /// The request of a tag of this queue that has entered.
     #[inline]
     pub(crate) fn of(queue: &'e Shared, tag: &'e mut TagState) -> Entered<'e> {
         let limits = queue.limits_under(tag);
@@ -47,6 +47,23 @@ impl<'e> Entered<'e> {
     #[inline]
     pub(crate) fn queue_number(&self) -> u64 {
         self.queue.number.get()
+    }
+
+    /// The number of its tag ([`Tag::number`](crate::Tag::number)), by which [`Queue::in_flight`](crate::Queue::in_flight) lists it.
+    ///
+    /// ```
+    /// # use freeze_queue::{Limits, Queue};
+    /// # let queue = Queue::new(Limits::of_hardware(64), 1, 1)?;
+    /// # let mut tag = queue.next_tag(0)?;
+    /// queue.watch(true);
+    /// let request = queue.enter(&mut tag)?;
+    /// assert!(queue.in_flight().any(|it| it.tag == request.tag_number()));
+    /// # Ok::<(), Box<dyn std::error::Error>>(())
+    /// ```
+    #[inline]
+    #[must_use]
+    pub fn tag_number(&self) -> usize {
+        self.tag.number
     }
 
     /// The limits in force, the same until it leaves.
@@ -121,7 +138,7 @@ impl<'e> Entered<'e> {
         }
     }
 
-    /// Of a tag that has left, and that was answered so. A waker or a wait that panics has it leave no second time.
+    /// The request of a tag that has left, by this answer. If a waker or a wait panics, the tag doesn't leave a second time.
     #[cold]
     fn enter_again(self, put: Put) -> Result<Entered<'e>, EnterError> {
         let mut left = ManuallyDrop::new(self);

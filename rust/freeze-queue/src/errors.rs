@@ -1,4 +1,4 @@
-//! What a call may refuse. A refusal leaves everything as it was.
+//! The refusals of calls. A refusal leaves everything as it was.
 use std::error::Error;
 use std::fmt;
 
@@ -68,8 +68,8 @@ pub enum LimitsError {
 /// ```
 /// use freeze_queue::{Limits, LimitsError, NewError, Queue};
 ///
-/// assert_eq!(Queue::new(Limits::of_hardware(64), 1, 64).unwrap_err(), NewError::Size);
-/// let refused = Queue::new(Limits::of_hardware(64).with_max(65), 1, 64);
+/// assert_eq!(Queue::new(Limits::of_hardware(64), 1, 1024).unwrap_err(), NewError::Size);
+/// let refused = Queue::new(Limits::of_hardware(64).with_max(65), 1, 1024);
 /// assert_eq!(refused.unwrap_err(), NewError::Limits(LimitsError::AboveHardware));
 /// ```
 #[derive(Clone, Copy, Debug, PartialEq, Eq, Hash)]
@@ -77,7 +77,7 @@ pub enum LimitsError {
 pub enum NewError {
     /// The limits are refused.
     Limits(LimitsError),
-    /// A queue has 1 to 64 slots and 1 to 63 tags.
+    /// A queue has 1 to 512 slots and 1 to 1,023 tags.
     Size,
     /// There is no memory for it.
     NoMemory,
@@ -150,7 +150,7 @@ pub enum GiveBackError {
 pub enum RemoveError {
     /// A tag is out, or a request that was forgotten (`mem::forget`) has it for ever: then drop the queue.
     TagsOut,
-    /// A freeze with a share of the queue is there ([`OwnedFrozen`](crate::OwnedFrozen)), or was forgotten.
+    /// A freeze with a share of the queue is there ([`OwnedFrozen`](crate::OwnedFrozen)), or was forgotten, or its thaw still wakes tasks.
     FreezeOut,
     /// The queue was frozen 2^40 times.
     WornOut,

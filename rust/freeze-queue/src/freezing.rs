@@ -2,33 +2,42 @@
 use crate::drained::Drained;
 use crate::errors::FreezeError;
 use crate::frozen::Frozen;
-use crate::shared::Share;
+use crate::shared::{Share, Shared};
 use std::fmt;
 use std::time::{Duration, Instant};
 
 /// A freeze that is thawed where this is dropped.
 pub(crate) struct Freeze<'q> {
-    pub(crate) queue: Share<'q>,
-    /// It isn't thawed any more, since the device is gone.
-    is_for_ever: bool,
+    /// None once it is thawed, or is for ever.
+    queue: Option<Share<'q>>,
 }
 
 impl Freeze<'_> {
-    pub(crate) fn is_drained(&self) -> bool {
-        self.queue.waits.lock().freezer.poll_drained(&self.queue.erased)
+    pub(crate) fn queue(&self) -> &Shared {
+        self.queue.as_deref().expect("it is there until the freeze ends")
     }
 
-    /// Never thaws it, and sends those away that wait to enter. A waker may panic by that.
+    pub(crate) fn is_drained(&self) -> bool {
+        self.queue().waits.lock().freezer.poll_drained(&self.queue().erased)
+    }
+
+    /// Whether it is drained by the deadline, for which it waits.
+    fn until_drained(&self, deadline: Option<Instant>) -> bool {
+        self.queue().waits.until_drained(&self.queue().erased, deadline)
+    }
+
+    /// Never thaws it, and sends those away that wait to enter. A waker may panic by that: it is for ever by then.
     pub(crate) fn mark_dying(mut self) {
-        self.is_for_ever = true; // before a waker is called
-        self.queue.waits.mark_dying(self.queue.shares());
+        if let Some(queue) = self.queue.take() {
+            queue.mark_dying();
+        }
     }
 }
 
 impl Drop for Freeze<'_> {
     fn drop(&mut self) {
-        if !self.is_for_ever {
-            self.queue.waits.thaw(&self.queue.erased, self.queue.shares());
+        if let Some(queue) = self.queue.take() {
+            queue.thaw();
         }
     }
 }
@@ -61,7 +70,7 @@ pub type OwnedFreezing = Freezing<'static>;
 impl<'q> Freezing<'q> {
     pub(crate) fn begin(queue: Share<'q>) -> Result<Freezing<'q>, FreezeError> {
         queue.waits.begin_freeze(&queue.erased, queue.shares())?;
-        Ok(Freezing { freeze: Freeze { queue, is_for_ever: false } })
+        Ok(Freezing { freeze: Freeze { queue: Some(queue) } })
     }
 
     /// Whether each request has left, at a moment of the call. Once it is so it stays so until the last thaw. Linux:
@@ -88,7 +97,7 @@ impl<'q> Freezing<'q> {
     /// # Ok::<(), Box<dyn std::error::Error>>(())
     /// ```
     pub fn wait(self) -> Frozen<'q> {
-        self.freeze.queue.waits.until_drained(&self.freeze.queue.erased, None);
+        self.freeze.until_drained(None);
         Frozen::of(self.freeze)
     }
 
@@ -113,11 +122,7 @@ impl<'q> Freezing<'q> {
     /// ```
     pub fn wait_timeout(self, patience: Duration) -> Result<Frozen<'q>, Freezing<'q>> {
         let deadline = Instant::now().checked_add(patience);
-        if self.freeze.queue.waits.until_drained(&self.freeze.queue.erased, deadline) {
-            Ok(Frozen::of(self.freeze))
-        } else {
-            Err(self)
-        }
+        if self.freeze.until_drained(deadline) { Ok(Frozen::of(self.freeze)) } else { Err(self) }
     }
 
     /// Waits by a future until each request has left: the call that leaves last wakes it. Dropping the future thaws.
@@ -140,10 +145,29 @@ impl<'q> Freezing<'q> {
     pub fn drained(self) -> Drained<'q> {
         Drained::of(self.freeze)
     }
+
+    /// Never thaws this freeze, as [`Frozen::mark_dying`], and waits for no request: those in flight run to their end. A queue dies
+    /// also while a request hangs. Linux: `blk_queue_start_drain` with `QUEUE_FLAG_DYING`.
+    ///
+    /// ```
+    /// # use freeze_queue::{Limits, Queue, TryEnterError};
+    /// # let queue = Queue::new(Limits::of_hardware(64), 1, 2)?;
+    /// let (mut tag, mut other) = (queue.next_tag(0)?, queue.next_tag(0)?);
+    /// let request = queue.enter(&mut tag)?; // its device may never answer
+    /// queue.begin_freeze()?.mark_dying();
+    /// assert_eq!(queue.try_enter(&mut other).unwrap_err(), TryEnterError::Dying);
+    /// assert!(!queue.is_drained());
+    /// drop(request);
+    /// assert!(queue.is_drained());
+    /// # Ok::<(), Box<dyn std::error::Error>>(())
+    /// ```
+    pub fn mark_dying(self) {
+        self.freeze.mark_dying();
+    }
 }
 
 impl fmt::Debug for Freezing<'_> {
     fn fmt(&self, f: &mut fmt::Formatter<'_>) -> fmt::Result {
-        f.debug_struct("Freezing").field("queue", &self.freeze.queue.number).finish_non_exhaustive()
+        f.debug_struct("Freezing").field("queue", &self.freeze.queue().number).finish_non_exhaustive()
     }
 }

@@ -24,7 +24,7 @@ use std::fmt;
 /// ```
 #[must_use = "a freeze is thawed where it is dropped"]
 pub struct Frozen<'q> {
-    /// Of a drained queue.
+    /// A freeze of a drained queue.
     freeze: Freeze<'q>,
 }
 
@@ -33,17 +33,17 @@ pub struct Frozen<'q> {
 pub type OwnedFrozen = Frozen<'static>;
 
 impl<'q> Frozen<'q> {
-    /// Of a queue that is drained.
+    /// The freeze of a queue that is drained.
     pub(crate) fn of(freeze: Freeze<'q>) -> Frozen<'q> {
         Frozen { freeze }
     }
 
     /// The number of its queue.
     pub(crate) fn queue_number(&self) -> u64 {
-        self.freeze.queue.number.get()
+        self.freeze.queue().number.get()
     }
 
-    /// Sets the limits, for whoever enters after the thaw. Linux: `queue_limits_commit_update`, under a freeze.
+    /// Sets the limits, for the requests that enter after the thaw. Linux: `queue_limits_commit_update`, under a freeze.
     ///
     /// # Errors
     ///
@@ -63,12 +63,12 @@ impl<'q> Frozen<'q> {
     /// # Ok::<(), Box<dyn std::error::Error>>(())
     /// ```
     pub fn set(&self, limits: Limits) -> Result<(), SetError> {
-        self.freeze.queue.store_limits(limits.checked()?)
+        self.freeze.queue().store_limits(limits.checked()?)
     }
 
     /// Sets limits of the same hardware in place of those seen before. If others are in force by now, it sets nothing.
     pub(crate) fn replace(&self, seen: Limits, limits: queue_core::Limits) -> bool {
-        self.freeze.queue.replace_limits(seen, limits)
+        self.freeze.queue().replace_limits(seen, limits)
     }
 
     /// The limits that were set last. Only holders of a freeze change them.
@@ -83,12 +83,12 @@ impl<'q> Frozen<'q> {
     /// ```
     #[must_use]
     pub fn limits(&self) -> Limits {
-        self.freeze.queue.waits.lock().freezer.limits().into()
+        self.freeze.queue().waits.lock().freezer.limits().into()
     }
 
     /// Never thaws this freeze, since the device is gone: no request enters any more, and those that wait to enter, or
-    /// will, are refused ([`EnterError::Dying`](crate::EnterError::Dying)). Linux: `QUEUE_FLAG_DYING`, by which
-    /// `blk_queue_enter` refuses.
+    /// will, are refused ([`EnterError::Dying`](crate::EnterError::Dying)). Later freezes and updates are done as before.
+    /// Linux: `QUEUE_FLAG_DYING`, by which `blk_queue_enter` refuses.
     ///
     /// ```
     /// # use freeze_queue::{EnterError, Limits, Queue};
@@ -112,6 +112,6 @@ impl<'q> Frozen<'q> {
 
 impl fmt::Debug for Frozen<'_> {
     fn fmt(&self, f: &mut fmt::Formatter<'_>) -> fmt::Result {
-        f.debug_struct("Frozen").field("queue", &self.freeze.queue.number).finish_non_exhaustive()
+        f.debug_struct("Frozen").field("queue", &self.freeze.queue().number).finish_non_exhaustive()
     }
 }

@@ -71,7 +71,7 @@
 //! # Ok::<(), Box<dyn std::error::Error>>(())
 //! ```
 //!
-//! A queue isn't poisoned, unlike a `Mutex`: a thread that panics under a freeze leaves the value as it stands, and thaws. The value needs to
+//! A queue isn't poisoned, unlike a `Mutex`: a thread that panics under a freeze leaves the value as it is, and thaws. The value needs to
 //! be `Send` and `Sync` for threads to share its queue, as in an `RwLock`. [`misuse`] shows the misuse that doesn't compile.
 use crate::{
     EnterError, EnterFrozenError, EnterTimeoutError, Final, FreezeError, FreezeTimeoutError, GiveBackError, HandedBack,
@@ -102,7 +102,7 @@ pub use request::Entered;
 /// Threads share it by `&`, or by an `Arc`. A queue that is dropped drops its T.
 pub struct Queue<T> {
     queue: crate::Queue,
-    /// Of this queue.
+    /// The value of this queue.
     value: Value<T>,
 }
 
@@ -118,7 +118,7 @@ impl<T> Queue<T> {
     /// ```
     /// use freeze_queue::{Limits, guarded::Queue};
     ///
-    /// let refused = Queue::new("disk", Limits::of_hardware(64), 65, 1).unwrap_err();
+    /// let refused = Queue::new("disk", Limits::of_hardware(64), 513, 1).unwrap_err();
     /// let queue = Queue::new(refused.value, Limits::of_hardware(64), 1, 1)?;
     /// # Ok::<(), Box<dyn std::error::Error>>(())
     /// ```

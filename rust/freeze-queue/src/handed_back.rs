@@ -7,7 +7,7 @@ use std::fmt;
 
 /// A refusal of a call that takes a value: it hands the value back.
 ///
-/// `?` turns it into its reason, and so drops the value.
+/// `?` into the reason's type drops the value; into a boxed error it keeps the value in the box.
 ///
 /// ```
 /// # use freeze_queue::{HandedBack, Limits, Queue, RemoveError};
@@ -19,7 +19,7 @@ use std::fmt;
 /// # Ok::<(), Box<dyn std::error::Error>>(())
 /// ```
 pub struct HandedBack<T, E> {
-    /// What the call was given, as it was.
+    /// The value that the call was given, as it was.
     pub value: T,
     /// Why the call refused.
     pub reason: E,

@@ -22,7 +22,7 @@ use std::time::Instant;
 #[derive(Clone, Copy, Debug, PartialEq, Eq)]
 #[non_exhaustive]
 pub struct InFlight {
-    /// Its tag, from 0 on.
+    /// The number of its tag ([`Tag::number`](crate::Tag::number)).
     pub tag: usize,
     /// The slot that it entered on.
     pub slot: u32,

@@ -2,7 +2,7 @@
 //! it is one exchange, and to bring it home another. (A mutex of std's takes two for each, and its guard stays on its thread.)
 //!
 //! A [`Lent`] is made by the step that finds the value at home and leaves it out, and no other. It is gone before the step that leaves the
-//! value at home. So there is one at a time, and a value that nobody brings stays out for ever. Each step is sequentially consistent.
+//! value at home. There is one at a time, and a value that isn't brought back stays out for ever. Each step is sequentially consistent.
 #![expect(unsafe_code, reason = "the compiler can't know that there is one `Lent` at a time")]
 use crate::sync::AtomicU32;
 use std::cell::UnsafeCell;

@@ -30,12 +30,12 @@
 //!
 //! # A queue's parts
 //!
-//! A [`Queue`] is shared, by `&` or by an `Arc`, and has 1 to 63 [`Tag`]s, each with one request in flight at a time. A request
+//! A [`Queue`] is shared, by `&` or by an `Arc`, and has 1 to 1,023 [`Tag`]s, each with one request in flight at a time. A request
 //! borrows a tag that a thread keeps ([`Queue::enter`]). Or the tag goes along with it ([`OwnedEntered`]), so that the request ends
 //! on any thread: a tag that the caller has ([`Queue::enter_owned`]), or any that is free ([`Queue::enter_any`]). A tag that is
 //! dropped, alone or with its request, goes home to its queue, and to the first that waits for one.
 //!
-//! Entering and leaving count on one of 1 to 64 slots: let each thread have a slot of its own. Threads may share a slot, which is
+//! Entering and leaving count on one of 1 to 512 slots: let each thread have a slot of its own. Threads may share a slot, which is
 //! slower, and a request may leave on another slot than it entered. `enter_any` picks the slot by the thread.
 //!
 //! A busy thread stays entered between two requests, for the price of one load ([`Entered::stay_or_enter`],
@@ -68,27 +68,31 @@
 //! A thread that waits looks for some microseconds before it sleeps, and less if that was in vain before. If a freeze hangs, a queue that is
 //! [watched](Queue::watch) lists the requests in flight, since when, and by which thread ([`Queue::in_flight`]).
 //!
-//! Only the slow path touches them: a refused entering, the leaving that drains the queue, a wait for a tag, and each call that
-//! freezes, thaws or asks. A thread that waits for itself waits for ever: one that freezes while its own request is in flight,
-//! enters while it has a [`Frozen`], or waits for a tag while it has all of them.
+//! Only the slow path touches the mutex and the condition variables: a refused entering, the leaving that drains the queue, a wait for
+//! a tag, and each call that freezes, thaws or asks. A thread that waits for itself waits for ever: one that freezes while its own
+//! request is in flight, enters while it has a [`Frozen`], or waits for a tag while it has all of them. A thread that has a request and
+//! enters again waits for ever if another thread freezes, which waits for that request: [`Queue::try_enter_frozen`] lets it in at once.
 //!
-//! If a waker panics, the others are woken, and the panic goes on in the call that woke it, unless its thread unwinds already. A task
-//! that is woken by a call within a waker is woken once that waker has returned.
+//! A future may be dropped while it waits: an enter has entered nothing, a place in line passes on, and a freeze thaws. No waker is
+//! called, cloned or dropped under a lock. A thaw wakes all that wait; a tag that comes home wakes one. If a waker panics, the others
+//! are woken, and the panic goes on in the call that woke it, unless its thread unwinds already. A task that is woken by a call within
+//! a waker is woken once that waker has returned.
 //!
 //! [`Queue::new`] asks for memory, and so does the line of those that wait for a tag. Want of it is an ordinary refusal, but for one
-//! allocation of `Queue::new`, an `Arc`, which stable Rust can't refuse. The holder of a [`Frozen`] sees all writes from before the
-//! freeze, and from requests that were in flight. A request that enters after a thaw sees all writes from before the thaw.
+//! allocation of `Queue::new`, an `Arc`, which stable Rust can't refuse. A future that waits for the drain asks for memory too; without
+//! it, it polls again and again. The holder of a [`Frozen`] sees all writes of requests that left before or during the freeze. A request
+//! that enters after a thaw sees all writes from before the thaw.
 //!
 //! # What is proved, and what isn't
 //!
 //! The steps of the queue are in `src/erased`. A program cut this Rust out of sources with contracts, all of which are
 //! proved, in any order of the atomic steps of all threads. The proof is of those sources, for callers that meet the
-//! preconditions. No proof covers the program that cuts, its stand-ins, the Rust compiler, this crate around the steps, or
-//! its waits and wakes (`src/waits.rs`, `src/line.rs`). Its types enforce the preconditions: [`misuse`] shows the misuse
-//! that doesn't compile, and an error refuses the misuse that types can't exclude. A refusal that they do exclude is a bug
-//! of this crate, and panics. There is no `unsafe` in any of it but for two short files. By `src/lent.rs` a tag has one holder at a time,
-//! whatever the rest does. By `src/guarded/value.rs` a [`guarded::Queue<T>`](guarded::Queue) lends its T. A mistake elsewhere could break the
-//! laws of the queue. It could break the safety of memory for users of that type alone.
+//! preconditions. No proof covers the program that cuts, its stand-ins, the Rust compiler, or this crate around the steps with its
+//! waits and wakes: all of `src` but `src/erased`. Its types enforce the preconditions: [`misuse`] shows the misuse
+//! that doesn't compile, and an error refuses the misuse that types can't exclude. If the inner steps refuse what the types should have
+//! excluded, this crate has a bug, and panics. There is no `unsafe` in any of it but for two short files. By `src/lent.rs` a tag has one
+//! holder at a time, whatever the rest does. By `src/guarded/value.rs` a [`guarded::Queue<T>`](guarded::Queue) lends its T. A mistake
+//! elsewhere could break the laws of the queue. It could break the safety of memory for users of that type alone.
 //!
 //! The module `erased` is public for the crates above this one, and no part of the API that versions promise: its functions
 //! trust their preconditions, so no user calls them.

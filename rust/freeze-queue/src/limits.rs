@@ -16,7 +16,7 @@ use crate::pieces::Pieces;
 #[derive(Clone, Copy, Debug, PartialEq, Eq, Hash)]
 #[non_exhaustive]
 pub struct Limits {
-    /// What the hardware takes in one command: 1 to 65,535, and one number for the whole life of a queue.
+    /// The most sectors that the hardware takes in one command: 1 to 65,535, and one number for the whole life of a queue.
     pub hardware: u32,
     /// The most that is sent in one command: 1 to `hardware`; 0 asks for `hardware`.
     pub max: u32,
@@ -105,8 +105,8 @@ impl Limits {
         self.checked().map(drop)
     }
 
-    /// The pieces of the `count` sectors from `start` on, in order: each within these limits. Who has entered a queue has
-    /// them by its limits in force ([`Entered::pieces`](crate::Entered::pieces)). Linux: `get_max_io_size`
+    /// The pieces of the `count` sectors from `start` on, in order: each within these limits. A request that has entered a
+    /// queue has them by its limits in force ([`Entered::pieces`](crate::Entered::pieces)). Linux: `get_max_io_size`
     /// (block/blk-merge.c).
     ///
     /// # Errors

@@ -24,7 +24,7 @@ impl Notify {
     }
 }
 
-/// What one sees that is in line.
+/// The state that a waiter in line sees.
 pub(crate) enum Turn {
     /// It isn't its turn yet.
     Waits,
@@ -75,7 +75,7 @@ impl Line {
         }
     }
 
-    /// What the one of this number sees. If it waits it is woken by this waker from now on, and the old one comes back.
+    /// The state that the waiter of this number sees. If it waits, this waker wakes it from now on, and the call returns the old one.
     pub(crate) fn look(&mut self, number: u64, waker: &mut Option<Waker>) -> Turn {
         if let Some(at) = self.handed.iter().position(|(of, _)| *of == number) {
             return Turn::Has(self.handed.swap_remove(at).1);

@@ -33,7 +33,7 @@ impl Order {
     fn step(&self) {}
 }
 
-/// A value that one thread has at a time. If that thread panics, the next one finds it as it stands.
+/// A value that one thread has at a time. If that thread panics, the next one finds it as it is.
 pub(crate) struct Lock<T> {
     value: Mutex<T>,
     order: Order,

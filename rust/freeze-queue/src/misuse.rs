@@ -1,5 +1,5 @@
-//! What doesn't compile: each misuse that would break a precondition of the erased queue, or that its header for C forbids, and
-//! that the types here exclude. Each stands behind the same lines without it, which do compile, and has the compiler's number.
+//! Misuse that doesn't compile: each one that would break a precondition of the erased queue, or that its header for C forbids, and
+//! that the types here exclude. Each follows the same lines without it, which do compile, and has the compiler's number.
 //!
 //! # A tag that enters twice
 //!

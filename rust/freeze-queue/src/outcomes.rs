@@ -1,7 +1,7 @@
-//! What calls tell.
+//! The outcomes of calls.
 use crate::limits::Limits;
 
-/// What is left of a queue that was removed.
+/// The last state of a queue that was removed.
 ///
 /// ```
 /// use freeze_queue::{Limits, Queue};
@@ -17,7 +17,7 @@ use crate::limits::Limits;
 pub struct Final {
     /// How often it was frozen from live.
     pub kills: u64,
-    /// How often it was drained, that somebody was told of.
+    /// How often a call found it drained.
     pub releases: u64,
     /// Its limits.
     pub limits: Limits,

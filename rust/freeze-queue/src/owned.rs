@@ -36,7 +36,7 @@ pub struct OwnedEntered {
 }
 
 impl OwnedEntered {
-    /// Of a tag that has entered its queue.
+    /// The request of a tag that has entered its queue.
     #[inline]
     pub(crate) fn of(mut tag: Tag) -> OwnedEntered {
         let (queue, state) = tag.parts_mut();
@@ -48,6 +48,22 @@ impl OwnedEntered {
     #[inline]
     pub(crate) fn queue_number(&self) -> u64 {
         self.tag.queue_number()
+    }
+
+    /// The number of its tag ([`Tag::number`]), by which [`Queue::in_flight`](crate::Queue::in_flight) lists it.
+    ///
+    /// ```
+    /// # use freeze_queue::{Limits, Queue};
+    /// # let queue = Queue::new(Limits::of_hardware(64), 1, 1)?;
+    /// queue.watch(true);
+    /// let request = queue.enter_any()?;
+    /// assert!(queue.in_flight().any(|it| it.tag == request.tag_number()));
+    /// # Ok::<(), Box<dyn std::error::Error>>(())
+    /// ```
+    #[inline]
+    #[must_use]
+    pub fn tag_number(&self) -> usize {
+        self.tag.number()
     }
 
     /// The request of a tag that entered; or why it didn't, with the tag.
@@ -113,7 +129,7 @@ impl OwnedEntered {
         Pieces::of(self.limits.in_force(), start, count)
     }
 
-    /// Leaves on this slot, and its tag counts there from now on: as on that of the thread which ends it.
+    /// Leaves on this slot, and its tag counts there from now on: for one, on the slot of the thread that ends it.
     ///
     /// # Errors
     ///

@@ -18,7 +18,7 @@ pub(crate) struct Patience {
 }
 
 impl Patience {
-    /// So long at most, which is below a second.
+    /// A patience of at most this time, which is below a second.
     pub(crate) const fn new(most: Duration) -> Patience {
         let most = most.subsec_nanos();
         Patience { most, nanoseconds: AtomicU32::new(most), waits: AtomicU32::new(0) }

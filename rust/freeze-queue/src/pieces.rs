@@ -49,7 +49,7 @@ pub struct Pieces<'l> {
 }
 
 impl<'l> Pieces<'l> {
-    /// Of a range below 2^33.
+    /// The pieces of a range below 2^33.
     pub(crate) fn of(limits: erased::Limits, start: u64, count: u32) -> Result<Pieces<'l>, RangeError> {
         match start.checked_add(u64::from(count)) {
             Some(end) if end <= SECTORS => Ok(Pieces { limits, start, left: count, of: PhantomData }),

@@ -2,7 +2,8 @@
 //!
 //! A request that ends on any thread brings its tag home, and asks nothing of what other threads write. It therefore counts no
 //! share of its queue: the memory of places is never freed, and goes from a queue that ended to the next one. A program has as
-//! many places as its queues had tags at once, at most, and one for each tag whose request was forgotten.
+//! many places as its queues had tags at once, at most, and one for each tag that was dropped after its request was forgotten. (A tag or an
+//! owned request that is forgotten keeps its whole queue.)
 use crate::body::{Body, Parts};
 use crate::in_flight::InFlight;
 use crate::lent::Home;
@@ -65,7 +66,7 @@ static STORE: Lock<Store> = Lock::new(Store { free: Vec::new(), made: 0 });
 pub(crate) struct Places(Vec<&'static Place>);
 
 impl Places {
-    /// So many places; none if memory is refused.
+    /// Makes this many places; none if memory is refused.
     pub(crate) fn new(count: usize) -> Option<Places> {
         let mut mine: Vec<&'static Place> = Vec::new();
         mine.try_reserve_exact(count).ok()?;

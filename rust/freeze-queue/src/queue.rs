@@ -1,5 +1,6 @@
 //! A queue: made and ended, its tags, and what it is asked.
 use crate::body::{Parts, TagState};
+use crate::erased::percpu_core::SLOT_LIMIT;
 use crate::erased::queue_core::{self as erased, BlockQueue, Mode};
 use crate::errors::{GiveBackError, NewError, NextTagError, RemoveError};
 use crate::handed_back::HandedBack;
@@ -8,8 +9,9 @@ use crate::limits::Limits;
 use crate::line::Line;
 use crate::outcomes::Final;
 use crate::places::Places;
+use crate::seats::Seats;
 use crate::shared::{Share, Shared};
-use crate::sync::yield_now;
+use crate::sync::{MOST_PATIENCE, sleep};
 use crate::tag::Tag;
 use crate::waits::{Held, Waits};
 use std::fmt;
@@ -23,11 +25,11 @@ mod enters_owned;
 mod freezes;
 mod stays;
 
-/// A queue, which requests enter and leave by many threads, and which can be frozen to change its limits.
+/// A queue that requests enter and leave on many threads, and that a freeze changes the limits of.
 ///
-/// Threads share it by `&`, or by an `Arc`. A request that enters a live queue or leaves it takes no lock and waits for
-/// nobody. Tags, owned requests and owned freezes have shares of the queue of their own, and may outlive this handle. A
-/// queue that is dropped ends with the last of them; one that is [removed](Queue::remove) tells what is left of it.
+/// Threads share it by `&`, or by an `Arc`. With a tag at hand, on a live queue that isn't [watched](Queue::watch), entering and leaving
+/// take no lock, and wait for no thread. Tags, owned requests and owned freezes have shares of the queue of their own, and may
+/// outlive this handle. A queue that is dropped ends with the last of them; [removing](Queue::remove) it returns its last state.
 ///
 /// ```
 /// use freeze_queue::{Limits, Queue};
@@ -55,14 +57,14 @@ impl Queue {
     /// Slots of a queue at most.
     ///
     /// ```
-    /// assert_eq!(freeze_queue::Queue::MOST_SLOTS, 64);
+    /// assert_eq!(freeze_queue::Queue::MOST_SLOTS, 512);
     /// ```
-    pub const MOST_SLOTS: u32 = 64;
+    pub const MOST_SLOTS: u32 = SLOT_LIMIT;
 
     /// Tags of a queue at most.
     ///
     /// ```
-    /// assert_eq!(freeze_queue::Queue::MOST_TAGS, 63);
+    /// assert_eq!(freeze_queue::Queue::MOST_TAGS, 1_023);
     /// ```
     pub const MOST_TAGS: u32 = erased::MOST_TAGS;
 
@@ -73,7 +75,7 @@ impl Queue {
     /// ```
     pub const MOST_DEPTH: u32 = erased::MOST_DEPTH;
 
-    /// Makes a live queue of these limits that counts on 1 to 64 slots, with 1 to 63 tags. Linux: `blk_mq_alloc_queue`.
+    /// Makes a live queue of these limits that counts on 1 to 512 slots, with 1 to 1,023 tags. Linux: `blk_mq_alloc_queue`.
     ///
     /// # Errors
     ///
@@ -86,7 +88,7 @@ impl Queue {
     ///
     /// let queue = Queue::new(Limits::of_hardware(64), 4, 4)?;
     /// assert_eq!(queue.limits().max, 64);
-    /// assert_eq!(Queue::new(Limits::of_hardware(64), 65, 4).unwrap_err(), NewError::Size);
+    /// assert_eq!(Queue::new(Limits::of_hardware(64), 513, 4).unwrap_err(), NewError::Size);
     /// # Ok::<(), Box<dyn std::error::Error>>(())
     /// ```
     pub fn new(limits: Limits, slots: u32, tags: u32) -> Result<Queue, NewError> {
@@ -102,11 +104,11 @@ impl Queue {
         static NUMBERS: AtomicU64 = AtomicU64::new(0);
         let (erased, freezer, mut tags) = BlockQueue::new(limits, slots, tags).ok()?;
         let count = tags.len();
-        let (places, line) = (Places::new(count)?, Line::new(count)?);
+        let (seats, places, line) = (Seats::new(count)?, Places::new(count)?, Line::new(count)?);
         let mut kept = Vec::new();
         kept.try_reserve_exact(count).ok()?;
         let number = NonZeroU64::MIN.saturating_add(NUMBERS.fetch_add(1, Relaxed));
-        let waits = Waits::of(Held::new(freezer, line, kept));
+        let waits = Waits::of(Held::new(freezer, seats, line, kept));
         let shared = Arc::new(Shared { number, watch: Watch::new(), erased, places, waits });
         for (number, (erased, place)) in tags.drain(..).zip(shared.places.all()).enumerate() {
             let state = TagState { erased, slot: 0, number, is_noted: false, is_watched: false };
@@ -184,6 +186,9 @@ impl Queue {
 
     /// Ends a queue, live or frozen, whose tags were all given back or dropped. Needs no memory. Linux: `blk_mq_destroy_queue`.
     ///
+    /// It waits while another thread returns from the call that gave a tag back, or that thawed a freeze with a share of the queue: for
+    /// some steps, and for no waker. A waker may call it.
+    ///
     /// # Errors
     ///
     /// [`RemoveError`] has each. They hand the queue back.
@@ -208,13 +213,14 @@ impl Queue {
         }
         let mut shared = Arc::clone(&self.shared);
         drop(self);
-        // A thread that gave a tag back may have its share for some steps more.
+        // Another thread that gave a tag back, or ended a freeze, may have its share for some steps more, in which it calls no waker. A
+        // sleep in place of a yield lets a thread of a lower real-time priority take them.
         let Shared { erased, waits, .. } = loop {
             match Arc::try_unwrap(shared) {
                 Ok(alone) => break alone,
                 Err(again) => shared = again,
             }
-            yield_now();
+            sleep(MOST_PATIENCE);
         };
         let held = waits.into_held();
         let limits = held.freezer.limits().into();
@@ -266,7 +272,7 @@ impl Queue {
         self.shared.waits.lock().freezer.mode(&self.shared.erased, Mode::Slots);
     }
 
-    /// The limits, as they were at a moment of the call. (Who has entered has those that hold still.)
+    /// The limits, as they were at a moment of the call. (An entered request has limits that hold still.)
     ///
     /// ```
     /// # use freeze_queue::{Limits, Queue};
@@ -326,7 +332,7 @@ impl Queue {
     }
 
     /// Whether requests note from now on when they enter, for [`in_flight`](Queue::in_flight). A request of a queue that is watched takes
-    /// some 100 nanoseconds more, and else one look at a flag.
+    /// some 100 nanoseconds more, and a lock of its own tag; else it takes one look at a flag.
     ///
     /// ```
     /// # use freeze_queue::{FreezeTimeoutError, Limits, Queue};
@@ -346,8 +352,8 @@ impl Queue {
         self.shared.watch.set(on);
     }
 
-    /// The requests in flight that entered while the queue was [watched](Queue::watch), each as it was when the iterator came to it. One
-    /// that was forgotten (`mem::forget`) is in flight for ever. Needs no memory. Linux: the list `busy` of debugfs
+    /// The requests in flight that entered while the queue was [watched](Queue::watch), each as it was when the iterator reached it. A
+    /// request that was forgotten (`mem::forget`) is in flight for ever. Needs no memory. Linux: the list `busy` of debugfs
     /// (block/blk-mq-debugfs.c).
     ///
     /// ```

@@ -1,32 +1,34 @@
 //! Where the futures of a queue leave their wakers: a seat for each tag, so that none asks for memory.
 use crate::line::Notify;
-use crate::queue::Queue;
 use std::any::Any;
 use std::array;
 use std::cell::RefCell;
 use std::collections::VecDeque;
+use std::iter::{self, Flatten};
 use std::mem;
 use std::panic::{AssertUnwindSafe, catch_unwind, resume_unwind};
 use std::task::Waker;
 use std::thread;
 
-/// Tags of a queue at most.
-const MOST_TAGS: usize = Queue::MOST_TAGS as usize;
+/// Wakers that are taken under one lock at most. They lie on the stack, so that a wake asks for no memory either.
+const MOST_AT_ONCE: usize = 64;
 
 /// The seats of a queue, by the numbers of its tags: each has the waker of the future that waits with its tag, if one does.
 pub(crate) struct Seats {
-    seats: [Option<Waker>; MOST_TAGS],
+    seats: Vec<Option<Waker>>,
     /// How many wait.
     waiting: usize,
 }
 
-impl Default for Seats {
-    fn default() -> Seats {
-        Seats { seats: array::from_fn(|_| None), waiting: 0 }
-    }
-}
-
 impl Seats {
+    /// For a queue of so many tags. None if memory is refused.
+    pub(crate) fn new(tags: usize) -> Option<Seats> {
+        let mut seats = Vec::new();
+        seats.try_reserve_exact(tags).ok()?;
+        seats.resize_with(tags, || None);
+        Some(Seats { seats, waiting: 0 })
+    }
+
     /// Notes a waker, in place of the one that was there.
     pub(crate) fn note(&mut self, seat: usize, waker: Waker) -> Option<Waker> {
         let old = self.seats[seat].replace(waker);
@@ -41,22 +43,50 @@ impl Seats {
         old
     }
 
-    /// All that wait.
-    pub(crate) fn take_wakers(&mut self) -> Wakers {
-        if mem::take(&mut self.waiting) == 0 {
-            return Wakers(None);
+    /// Those that wait in the seats from this one on, as many as may be taken at once.
+    pub(crate) fn take_wakers(&mut self, from: usize) -> Wakers {
+        if self.waiting == 0 || from >= self.seats.len() {
+            return Wakers::none();
         }
-        Wakers(Some(mem::replace(&mut self.seats, array::from_fn(|_| None))))
+        let mut taken = array::from_fn(|_| None);
+        let (mut next, mut count) = (from, 0);
+        while count < MOST_AT_ONCE && self.waiting > 0 && next < self.seats.len() {
+            taken[count] = self.forget(next);
+            count += usize::from(taken[count].is_some());
+            next += 1;
+        }
+        let is_more = self.waiting > 0 && next < self.seats.len();
+        Wakers { taken: Some(taken.into_iter().flatten()), next: is_more.then_some(next) }
     }
 }
 
-/// Futures to be woken, if there are any.
+/// Futures to be woken, if there are any; and the seat from which on the others are to be taken, if these aren't the last.
 #[must_use = "what waits is to be woken"]
-pub(crate) struct Wakers(Option<[Option<Waker>; MOST_TAGS]>);
+pub(crate) struct Wakers {
+    taken: Option<Flatten<array::IntoIter<Option<Waker>, MOST_AT_ONCE>>>,
+    next: Option<usize>,
+}
 
 impl Wakers {
-    pub(crate) fn into_iter(self) -> impl Iterator<Item = Notify> {
-        self.0.into_iter().flatten().flatten().map(Notify::Task)
+    pub(crate) fn none() -> Wakers {
+        Wakers { taken: None, next: None }
+    }
+
+    /// Whether no future waits in a later seat.
+    pub(crate) fn are_last(&self) -> bool {
+        self.next.is_none()
+    }
+
+    /// Each of them, and then each that `take` finds from the next seat on. It is called without the lock, and takes it.
+    pub(crate) fn and_then(mut self, mut take: impl FnMut(usize) -> Wakers) -> impl Iterator<Item = Notify> {
+        iter::from_fn(move || {
+            loop {
+                if let Some(waker) = self.taken.as_mut().and_then(Iterator::next) {
+                    return Some(Notify::Task(waker));
+                }
+                self = take(self.next?);
+            }
+        })
     }
 }
 

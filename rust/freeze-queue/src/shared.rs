@@ -1,13 +1,16 @@
-//! What a queue, its tags and its freezes have a share of.
+//! The part of a queue that it shares with its tags and its freezes.
 use crate::body::{Body, TagState};
 use crate::erased::queue_core::{self, BlockQueue, Entry, Put, Stay};
 use crate::errors::{EnterError, EnterFrozenError, EnterTimeoutError, SetError, TryEnterError};
 use crate::excluded::excluded;
 use crate::in_flight::{InFlight, Watch};
 use crate::limits::Limits;
+use crate::line::Notify;
 use crate::places::Places;
+use crate::seats::{Wakers, wake_each};
 use crate::threads;
 use crate::waits::{Held, Seen, Waits};
+use std::collections::VecDeque;
 use std::mem;
 use std::num::NonZeroU64;
 use std::ops::Deref;
@@ -205,7 +208,7 @@ impl Shared {
         self.places.all()[tag.number].note(None);
     }
 
-    /// Whether a tag of this queue that has entered stays entered. If not, it has left: the caller tells of the dropped count.
+    /// Whether a tag of this queue that has entered stays entered. If not, it has left: the caller reports the dropped count.
     #[inline]
     pub(crate) fn stays(&self, tag: &mut TagState) -> Stay {
         let stay = self.erased.stay(&mut tag.erased, tag.slot);
@@ -259,7 +262,9 @@ pub(crate) fn bring_home(tag: Body) {
 #[cold]
 pub(crate) fn hand_over(tag: Body) {
     let shared = Arc::clone(&tag.shared);
-    shared.waits.hand_over(tag);
+    let first = shared.waits.hand_over(tag);
+    drop(shared); // before a waker is called, which may remove the queue
+    wake_each(first.into_iter());
 }
 
 /// A queue that is borrowed, or that a freeze has a share of.
@@ -272,6 +277,29 @@ impl Share<'_> {
     /// How many shares it counts for, of those that a queue knows of.
     pub(crate) fn shares(&self) -> u32 {
         u32::from(matches!(self, Share::Own(_)))
+    }
+
+    /// Ends a freeze, and wakes those that wait to enter if it was the last.
+    pub(crate) fn thaw(self) {
+        let wakers = self.waits.thaw(&self.erased, self.shares());
+        self.wake(VecDeque::new(), wakers);
+    }
+
+    /// Notes that a freeze is never thawed, and sends those away that wait to enter, or for a tag.
+    pub(crate) fn mark_dying(self) {
+        let (line, wakers) = self.waits.mark_dying(self.shares());
+        self.wake(line, wakers);
+    }
+
+    /// Wakes these, and the futures of later seats. The share is over before the last futures are woken, one of which may remove the queue.
+    fn wake(self, line: VecDeque<(u64, Notify)>, wakers: Wakers) {
+        let mut share = (!wakers.are_last()).then_some(self); // else it is over here
+        let later = |next| {
+            let wakers = share.as_ref().map_or_else(Wakers::none, |it| it.waits.later_wakers(next, it.shares()));
+            share = share.take().filter(|_| !wakers.are_last());
+            wakers
+        };
+        wake_each(line.into_iter().map(|(_, one)| one).chain(wakers.and_then(later)));
     }
 }
 

@@ -11,7 +11,7 @@ use std::sync::Arc;
 /// A thread that ends what it begins keeps a tag; else a tag goes along with its request
 /// ([`OwnedEntered`](crate::OwnedEntered)). It is one pointer, to a place with a share of its queue. Dropping it gives
 /// it back to its queue, on whichever thread; [`Queue::give_back`](crate::Queue::give_back) does the same, and checks that it
-/// is that queue's. A tag under a forgotten request (`mem::forget`) is out for ever.
+/// is that queue's. A tag under a forgotten request (`mem::forget`) is out for ever. One that is forgotten itself keeps its queue for ever.
 ///
 /// ```
 /// use freeze_queue::{Limits, Queue};
@@ -67,11 +67,28 @@ impl Tag {
         self.body.is_some()
     }
 
-    /// What changes as it is used, if it is a tag of this queue.
+    /// The part that changes as it is used, if it is a tag of this queue.
     #[inline]
     pub(crate) fn state_of(&mut self, queue: &Shared) -> Option<&mut TagState> {
         let (shared, state) = self.parts_mut();
         ptr::eq(Arc::as_ptr(shared), queue).then_some(state)
+    }
+
+    /// Its number, from 0 on, which no other tag of its queue has. It stays the same while the tag comes and goes, and is the one of
+    /// [`InFlight::tag`](crate::InFlight::tag). Linux: the `tag` of a `struct request`.
+    ///
+    /// ```
+    /// # use freeze_queue::{Limits, Queue};
+    /// # let queue = Queue::new(Limits::of_hardware(64), 1, 2)?;
+    /// let (tag, other) = (queue.next_tag(0)?, queue.next_tag(0)?);
+    /// assert!(tag.number() < 2 && other.number() < 2);
+    /// assert_ne!(tag.number(), other.number());
+    /// # Ok::<(), Box<dyn std::error::Error>>(())
+    /// ```
+    #[inline]
+    #[must_use]
+    pub fn number(&self) -> usize {
+        self.parts().state.number
     }
 
     /// The slot that it counts on.
@@ -89,7 +106,7 @@ impl Tag {
         self.parts().state.slot
     }
 
-    /// Counts on this slot from now on, as on that of the thread which has the tag now. A request may leave on another
+    /// Counts on this slot from now on: for one, on the slot of the thread that has the tag now. A request may leave on another
     /// slot than it entered.
     ///
     /// # Errors

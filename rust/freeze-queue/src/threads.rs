@@ -2,7 +2,7 @@
 use std::cell::Cell;
 use std::sync::atomic::{AtomicU32, Ordering::Relaxed};
 
-/// Of a thread that has no number yet.
+/// For a thread that has no number yet.
 const NONE: u32 = u32::MAX;
 
 thread_local! {

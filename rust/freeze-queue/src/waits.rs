@@ -8,13 +8,13 @@ use crate::drains::Drains;
 use crate::erased::queue_core::{BlockQueue, Final, FreezeFault, Freezer, LIMIT_WORDS, RemoveFault, Tag};
 use crate::errors::{FreezeError, RemoveError};
 use crate::excluded::excluded;
-use crate::line::Line;
+use crate::line::{Line, Notify};
 use crate::locked::{Lock, Locked};
 use crate::patience::Patience;
 use crate::places::Place;
 use crate::seats::{Seats, Wakers, wake_each};
 use crate::sync::{Condvar, MOST_PATIENCE};
-use std::iter;
+use std::collections::VecDeque;
 use std::mem;
 use std::sync::atomic::{AtomicBool, Ordering::Relaxed};
 use std::task::Waker;
@@ -48,8 +48,8 @@ pub(crate) enum Seen {
 
 impl Held {
     /// For a queue at which no thread waits, with room for all its tags.
-    pub(crate) fn new(freezer: Freezer, line: Line, room: Vec<Tag>) -> Held {
-        let (seats, drains) = (Seats::default(), Drains::default());
+    pub(crate) fn new(freezer: Freezer, seats: Seats, line: Line, room: Vec<Tag>) -> Held {
+        let drains = Drains::default();
         let (is_dying, is_closed) = (false, false);
         Held { freezer, seats, line, drains, room, shares: 0, is_dying, is_closed, entering: 0, draining: 0 }
     }
@@ -87,8 +87,8 @@ impl Held {
         }
     }
 
-    /// What somebody sees who would enter. Where it is nothing yet, the waker is noted in this seat, to be called once there
-    /// is something, and the one that was there takes its place. No waker is dropped here, since that is somebody's code.
+    /// The state that an entering sees. If it has to wait, the waker is noted in this seat, to be called once it need not, and
+    /// the caller gets the seat's old waker. No waker is dropped here, since a drop runs code of the user.
     pub(crate) fn seen_or_noted(&mut self, seat: usize, waker: &mut Option<Waker>) -> Option<Seen> {
         let seen = self.seen();
         if seen.is_none() {
@@ -96,13 +96,22 @@ impl Held {
         }
         seen
     }
+
+    /// The futures that wait to enter, in the seats from this one on. With the last of them the shares of the freeze that ends are over.
+    fn take_wakers(&mut self, from: usize, shares: u32) -> Wakers {
+        let wakers = self.seats.take_wakers(from);
+        if wakers.are_last() {
+            self.shares -= shares;
+        }
+        wakers
+    }
 }
 
 /// On lines of its own, apart from what each request reads of its queue.
 #[repr(align(128))]
 pub(crate) struct Waits {
     held: Lock<Held>,
-    /// Where those sleep who wait to enter, and those who wait for the drain.
+    /// Where threads sleep that wait to enter, and threads that wait for the drain.
     live: Condvar,
     drained: Condvar,
     for_live: Patience,
@@ -110,7 +119,7 @@ pub(crate) struct Waits {
     shut: Shut,
 }
 
-/// Whether those who would enter have to wait, on a line of its own: a hint for those who are about to sleep, set under the lock.
+/// Whether an entering has to wait, on a line of its own: a hint for a thread that is about to sleep, set under the lock.
 #[repr(align(128))]
 struct Shut(AtomicBool);
 
@@ -131,7 +140,7 @@ impl Waits {
         self.held.lock()
     }
 
-    /// What the lock guards, of a queue that nobody else has.
+    /// The state that the lock guards, of a queue that no other thread has.
     pub(crate) fn into_held(self) -> Held {
         self.held.into_inner()
     }
@@ -187,49 +196,47 @@ impl Waits {
         drained
     }
 
-    /// Ends a freeze, which may have had a share of the queue, and wakes those that wait to enter if it was the last.
-    pub(crate) fn thaw(&self, queue: &BlockQueue, shares: u32) {
+    /// Ends a freeze, which may have had a share of the queue. If it was the last, it wakes the threads that wait to enter, and the caller
+    /// wakes these futures.
+    pub(crate) fn thaw(&self, queue: &BlockQueue, shares: u32) -> Wakers {
         let mut held = self.lock();
-        held.shares -= shares;
         match held.freezer.thaw(queue) {
-            Ok(thawed) if thawed.live => self.wake_those_who_enter(held),
-            Ok(_) => {}
+            Ok(thawed) if thawed.live => self.all_who_enter(&mut held, shares),
+            Ok(_) => {
+                held.shares -= shares;
+                Wakers::none()
+            }
             Err(fault) => excluded("thaw", fault),
         }
     }
 
-    /// Notes that the freeze of the caller is never thawed, and sends those away that wait to enter, or for a tag.
-    pub(crate) fn mark_dying(&self, shares: u32) {
+    /// Notes that the freeze of the caller is never thawed, and sends those away that wait to enter, or for a tag. The caller wakes these.
+    pub(crate) fn mark_dying(&self, shares: u32) -> (VecDeque<(u64, Notify)>, Wakers) {
         let mut held = self.lock();
-        held.shares -= shares;
         held.is_dying = true;
-        self.shut.0.store(false, Relaxed);
         let sent_away = held.line.send_away();
-        let wakers = self.all_who_enter(&mut held);
-        drop(held);
-        wake_each(sent_away.into_iter().map(|(_, one)| one).chain(wakers.into_iter()));
+        (sent_away, self.all_who_enter(&mut held, shares))
     }
 
     pub(crate) fn is_dying(&self) -> bool {
         self.lock().is_dying
     }
 
-    fn wake_those_who_enter(&self, mut held: Locked<'_, Held>) {
-        self.shut.0.store(false, Relaxed);
-        let wakers = self.all_who_enter(&mut held);
-        drop(held);
-        wake_each(wakers.into_iter());
+    /// The futures of later seats, for which it locks again: one that the queue is frozen for once more meanwhile is woken for nothing.
+    pub(crate) fn later_wakers(&self, next: usize, shares: u32) -> Wakers {
+        self.lock().take_wakers(next, shares)
     }
 
     /// Wakes the threads that wait to enter. The wakers of the futures are to be called without the lock.
-    fn all_who_enter(&self, held: &mut Held) -> Wakers {
+    fn all_who_enter(&self, held: &mut Held, shares: u32) -> Wakers {
+        self.shut.0.store(false, Relaxed);
         if held.entering > 0 {
             self.live.notify_all();
         }
-        held.seats.take_wakers()
+        held.take_wakers(0, shares)
     }
 
-    /// Wakes those that wait for the drain: by the call that was told of it.
+    /// Wakes the threads that wait for the drain: by the call that found the queue drained.
     #[cold]
     pub(crate) fn tell_drained(&self) {
         let mut held = self.lock();
@@ -241,26 +248,16 @@ impl Waits {
         wake_each(wakers.into_iter());
     }
 
-    /// A tag comes home that is asked for: the first in line has it, or its place. It ends if the queue was dropped.
-    pub(crate) fn hand_over(&self, tag: Body) {
+    /// A tag comes home that is asked for: the first in line has it, which the caller wakes, or its place. It ends if the queue was
+    /// dropped.
+    #[must_use = "the first in line is to be woken"]
+    pub(crate) fn hand_over(&self, tag: Body) -> Option<Notify> {
         let mut held = self.lock();
-        let ended = if held.is_closed {
-            Some(tag)
-        } else {
-            match held.line.hand(tag) {
-                Ok(first) => {
-                    drop(held);
-                    wake_each(iter::once(first));
-                    return;
-                }
-                Err(tag) => {
-                    tag.bring();
-                    None
-                }
-            }
-        };
-        drop(held);
-        ended.map(Body::end); // without the lock, since the queue may end with it
+        if held.is_closed {
+            tag.end();
+            return None;
+        }
+        held.line.hand(tag).map_err(Body::bring).ok()
     }
 
     /// The queue was dropped: each tag that is home ends, and any other as it comes home.

@@ -1,5 +1,5 @@
-//! Misuses that compile: each is refused by an error, or does what its documentation says. (Those that don't compile
-//! stand in src/misuse.rs.) An answer that the types exclude would panic as a bug of the crate, and fail the test.
+//! Misuses that compile: each is refused by an error, or does what its documentation says. (src/misuse.rs
+//! has the ones that don't compile.) An answer that the types exclude would panic as a bug of the crate, and fail the test.
 use freeze_queue::{
     EnterError, EnterFrozenError, FreezeTimeoutError, GiveBackError, Limits, OwnedEntered, Queue, RemoveError, Tag,
     TryEnterError, TryFreezeError,

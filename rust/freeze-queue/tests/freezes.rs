@@ -10,7 +10,7 @@ use std::thread;
 use std::time::Duration;
 
 mod shared;
-use shared::{LIMITS, Woken, block_on, ends, told};
+use shared::{LIMITS, Woken, block_on, ends, number_of};
 
 fn with_tags() -> (Queue, Tag, Tag) {
     let queue = Queue::new(LIMITS, 1, 2).unwrap();
@@ -111,14 +111,14 @@ fn a_freeze_by_a_future() {
 fn a_freeze_is_kept_between_messages() {
     let (queue, mut tag, _other) = with_tags();
     let (sent, messages) = mpsc::channel::<bool>();
-    let (told, answers) = mpsc::channel();
+    let (asks, answers) = mpsc::channel();
     let queue = Arc::new(queue);
     let its = Arc::clone(&queue);
     let service = thread::spawn(move || {
         let mut kept: Option<OwnedFrozen> = None;
         for freezes in messages {
             kept = freezes.then(|| its.freeze_owned().unwrap());
-            told.send(()).unwrap();
+            asks.send(()).unwrap();
         }
         kept
     });
@@ -159,7 +159,7 @@ fn shares_of_freezes() {
 fn tasks_freeze_under_load() {
     ends(|| {
         let (queue, over) = (Queue::new(LIMITS, 2, 4).unwrap(), AtomicBool::new(false));
-        let rounds = told("FREEZE_QUEUE_ROUNDS", 100_000) / 50;
+        let rounds = number_of("FREEZE_QUEUE_ROUNDS", 100_000) / 50;
         thread::scope(|threads| {
             for _ in 0..3 {
                 threads.spawn(|| {

@@ -1,4 +1,4 @@
-//! Entering by futures: who is woken, when, and that one which is cancelled takes nothing along.
+//! Entering by futures: which is woken, when, and that a future which is cancelled takes nothing along.
 use freeze_queue::{EnterAsync, EnterError, Entered, OwnedFrozen, Queue, Tag};
 use std::pin::Pin;
 use std::sync::{Arc, Mutex};
@@ -6,7 +6,7 @@ use std::task::{Context, Poll, Wake, Waker};
 use std::thread;
 
 mod shared;
-use shared::{Chance, LIMITS, Woken, block_on, told};
+use shared::{Chance, LIMITS, Woken, block_on, number_of};
 
 fn queue(tags: u32) -> (Queue, Vec<Tag>) {
     let queue = Queue::new(LIMITS, 1, tags).unwrap();
@@ -145,10 +145,10 @@ fn the_end_of_a_device_wakes_a_future() {
     assert!(matches!(polled(&mut entering, &woken), Poll::Ready(Err(EnterError::Dying))));
 }
 
-/// Each seat of 63 is its own tag's, also where tags come and go.
+/// Each seat of 1,023 is its own tag's, also where tags come and go.
 #[test]
 fn as_many_futures_as_there_are_tags() {
-    let (queue, mut tags) = queue(63);
+    let (queue, mut tags) = queue(1_023);
     let mut chance = Chance(7);
     for _ in 0..50 {
         for _ in 0..20 {
@@ -157,7 +157,7 @@ fn as_many_futures_as_there_are_tags() {
         }
         (0..20).for_each(|_| tags.push(queue.next_tag(0).unwrap()));
         let frozen = queue.freeze().unwrap();
-        let all: Vec<Arc<Woken>> = (0..63).map(|_| never_woken()).collect();
+        let all: Vec<Arc<Woken>> = (0..1_023).map(|_| never_woken()).collect();
         let mut entering: Vec<_> = tags.iter_mut().map(|tag| queue.enter_async(tag)).collect();
         for (future, woken) in entering.iter_mut().zip(&all) {
             assert!(polled(future, woken).is_pending());
@@ -192,7 +192,7 @@ fn enter_and_cancel(queue: &Queue, tag: &mut Tag, seed: u64, rounds: u64) -> u64
 #[test]
 fn futures_under_freezes() {
     let (queue, mut tags) = queue(4);
-    let rounds = told("FREEZE_QUEUE_ROUNDS", 100_000) / 10;
+    let rounds = number_of("FREEZE_QUEUE_ROUNDS", 100_000) / 10;
     thread::scope(|threads| {
         let all: Vec<_> = (1..)
             .zip(&mut tags)

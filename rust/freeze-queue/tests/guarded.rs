@@ -1,7 +1,7 @@
-//! Plain memory under the queue's guard, from freeze to freeze: threads write it while their requests are under way, and
-//! who has frozen the queue reads what they wrote, frees it, and makes it anew. Built for the thread sanitizer with
-//! `--cfg freeze_queue_tsan` this is a race wherever the crate doesn't tell it the queue's order. The queue alone guards
-//! the memory, which no type of Rust's can know: so this test has `unsafe` of its own.
+//! Plain memory under the queue's guard, from freeze to freeze: threads write it while their requests are in flight, and a
+//! thread that has frozen the queue reads what they wrote, frees it, and makes it anew. Built for the thread sanitizer with
+//! `--cfg freeze_queue_tsan`, this is a race wherever the crate doesn't announce the queue's order to it. The queue alone
+//! guards the memory, which no type of Rust can know, so this test has `unsafe` of its own.
 #![allow(unsafe_code)]
 
 use freeze_queue::{Queue, Tag};
@@ -12,7 +12,7 @@ use std::thread;
 use std::time::Duration;
 
 mod shared;
-use shared::{LIMITS, told};
+use shared::{LIMITS, number_of};
 
 const THREADS: u32 = 4;
 
@@ -21,8 +21,8 @@ type Counts = [u64; THREADS as usize];
 /// A device that is there while the queue isn't drained, with a count for each thread, and a setting beside the queue's.
 struct Device(UnsafeCell<*mut (Counts, u32)>);
 
-// SAFETY: the queue guards it: each thread changes its own count while its request is under way; who has frozen the queue
-// has it alone.
+// SAFETY: the queue guards it: each thread changes its own count while its request is in flight; a thread that has frozen the
+// queue has it alone.
 unsafe impl Sync for Device {}
 
 impl Device {
@@ -57,7 +57,7 @@ impl Drop for Device {
     }
 }
 
-/// Serves until the end, and tells how often. All but `over` is relaxed: it orders nothing.
+/// Serves until the end, and returns how often. All but `over` is relaxed: it orders nothing.
 fn serve(queue: &Queue, tag: &mut Tag, device: &Device, over: &AtomicBool, requests: &AtomicU64) -> u64 {
     let (thread, mut served) = (tag.slot(), 0);
     while !over.load(Ordering::Relaxed) {
@@ -97,7 +97,7 @@ fn change(queue: &Queue, device: &Device, requests: &AtomicU64, lives: u64) -> u
 
 #[test]
 fn memory_that_the_queue_guards() {
-    let lives = told("FREEZE_QUEUE_LIVES", 300);
+    let lives = number_of("FREEZE_QUEUE_LIVES", 300);
     let queue = Queue::new(LIMITS, THREADS, THREADS).unwrap();
     let mut tags: Vec<Tag> = (0..THREADS).map(|slot| queue.next_tag(slot).unwrap()).collect();
     let device = Device(UnsafeCell::new(Device::of(Counts::default(), LIMITS.max)));

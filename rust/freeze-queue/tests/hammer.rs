@@ -1,5 +1,5 @@
 //! Four threads enter while two freeze, 100,000 times in all, and change the setting: a request sees one setting, each
-//! who waits comes in, and the releases that are told are the drains. `FREEZE_QUEUE_ROUNDS` changes how many freezes.
+//! thread that waits comes in, and the releases are the drains. `FREEZE_QUEUE_ROUNDS` changes how many freezes.
 use freeze_queue::{
     EnterTimeoutError, Entered, FreezeTimeoutError, Limits, OwnedEntered, Queue, Tag, TryEnterError, TryFreezeError,
 };
@@ -9,11 +9,11 @@ use std::thread;
 use std::time::Duration;
 
 mod shared;
-use shared::{Chance, block_on, told};
+use shared::{Chance, block_on, number_of};
 
 const THREADS: u32 = 4;
 
-/// Of a setting the chunk is four times the most of a piece: so one that was changed in between would show.
+/// In a setting the chunk is four times the most of a piece: a setting that was changed in between would show.
 fn setting(of: u64) -> Limits {
     let max = 1 + u32::try_from(of % 64).unwrap();
     Limits::of_hardware(64).with_max(max).with_chunk(4 * max)
@@ -24,7 +24,7 @@ fn is_one_setting(limits: &Limits) -> bool {
 }
 
 fn freezes() -> u64 {
-    told("FREEZE_QUEUE_ROUNDS", 100_000)
+    number_of("FREEZE_QUEUE_ROUNDS", 100_000)
 }
 
 /// One of the ways in; none where it isn't let in, as it may be.

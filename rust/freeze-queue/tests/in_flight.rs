@@ -35,7 +35,7 @@ fn a_request_is_listed_from_entering_to_leaving() {
     assert_eq!(listed(&queue), [], "a tag that a caller keeps is not in flight");
     let mut request = queue.enter(&mut tag).unwrap();
     let noted = only(&queue);
-    assert_eq!((noted.slot, noted.thread), (3, thread::current().id()));
+    assert_eq!((noted.tag, noted.slot, noted.thread), (request.tag_number(), 3, thread::current().id()));
     assert!((before..=Instant::now()).contains(&noted.since));
     request.use_slot(1).unwrap();
     request = request.stay().unwrap();
@@ -73,7 +73,29 @@ fn each_form_is_listed() {
     assert_eq!((listed(&queue), seen), (vec![], 6));
 }
 
-/// A freeze that hangs is told by which request.
+/// Each listed request is found by the number of its tag, whichever holds the tag. No number changes, and no two tags have one.
+#[test]
+fn a_tag_has_its_number() {
+    let queue = watched(3);
+    let (mut kept, owned) = (queue.next_tag(1).unwrap(), queue.next_tag(2).unwrap());
+    let numbers = [kept.number(), owned.number()];
+    let (borrowing, owning, any) =
+        (queue.enter(&mut kept).unwrap(), queue.enter_owned(owned).unwrap(), queue.enter_any().unwrap());
+    assert_eq!([borrowing.tag_number(), owning.tag_number()], numbers);
+    let slot_of = |number| queue.in_flight().find(|it| it.tag == number).map(|it| it.slot);
+    assert_eq!(numbers.map(slot_of), [Some(1), Some(2)]);
+    let mut all = [numbers[0], numbers[1], any.tag_number()];
+    assert!(slot_of(all[2]).is_some());
+    all.sort_unstable();
+    assert_eq!(all, [0, 1, 2]);
+    drop((borrowing, any));
+    assert_eq!((kept.number(), owning.leave().number()), (numbers[0], numbers[1]));
+    drop(kept);
+    let again: Vec<_> = (0..3).map(|_| queue.next_tag(0).unwrap()).collect();
+    assert!((0..3).all(|number| again.iter().any(|tag| tag.number() == number)));
+}
+
+/// The list shows by which request a freeze hangs.
 #[test]
 fn a_freeze_that_hangs_is_explained() {
     ends(|| {
@@ -123,7 +145,7 @@ fn a_request_that_left_by_a_stay_is_not_listed() {
     });
 }
 
-/// What entered before, or after the watch ended, is not listed; what entered meanwhile is, until it leaves.
+/// A request that entered before the watch began or after it ended is not listed; one that entered meanwhile is, until it leaves.
 #[test]
 fn a_watch_begins_and_ends() {
     let queue = Queue::new(LIMITS, 1, 3).unwrap();
@@ -155,13 +177,13 @@ fn a_forgotten_request_is_listed() {
 #[test]
 fn the_next_queue_lists_its_own() {
     for _ in 0..10 {
-        let queue = Queue::new(Limits::of_hardware(8), 1, 63).unwrap();
+        let queue = Queue::new(Limits::of_hardware(8), 1, 1_023).unwrap();
         assert_eq!(listed(&queue), []);
         queue.watch(true);
-        let all: Vec<_> = (0..63).map(|_| queue.enter_any().unwrap()).collect();
+        let all: Vec<_> = (0..1_023).map(|_| queue.enter_any().unwrap()).collect();
         let mut tags: Vec<usize> = queue.in_flight().map(|it| it.tag).collect();
         tags.sort_unstable();
-        assert_eq!(tags, (0..63).collect::<Vec<_>>());
+        assert_eq!(tags, (0..1_023).collect::<Vec<_>>());
         drop(all);
         queue.remove().unwrap();
     }

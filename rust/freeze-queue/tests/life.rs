@@ -1,4 +1,4 @@
-//! Each call on one thread: what it tells, each refusal, and that a refusal leaves everything as it was.
+//! Each call on one thread: its outcome, each refusal, and that a refusal leaves everything as it was.
 use freeze_queue::{
     EnterError, EnterFrozenError, EnterTimeoutError, Final, FreezeError, FreezeTimeoutError, GiveBackError, HandedBack,
     Limits, LimitsError, NewError, NextTagError, OwnedEntered, Piece, PiecesError, Queue, RangeError, RemoveError,
@@ -7,6 +7,7 @@ use freeze_queue::{
 use std::error::Error;
 use std::mem;
 use std::panic::{AssertUnwindSafe, catch_unwind};
+use std::thread;
 use std::time::{Duration, Instant};
 
 mod shared;
@@ -14,10 +15,10 @@ use shared::{LIMITS, queue, with_tag};
 
 #[test]
 fn sizes() {
-    for (slots, tags) in [(0, 1), (65, 1), (1, 0), (1, 64), (u32::MAX, u32::MAX)] {
+    for (slots, tags) in [(0, 1), (513, 1), (1, 0), (1, 1024), (u32::MAX, u32::MAX)] {
         assert_eq!(Queue::new(LIMITS, slots, tags).unwrap_err(), NewError::Size);
     }
-    for (slots, tags) in [(1, 1), (64, 63), (1, 63), (64, 1)] {
+    for (slots, tags) in [(1, 1), (512, 1023), (1, 1023), (512, 1), (64, 63)] {
         let queue = queue(slots, tags);
         let mut all: Vec<Tag> = (0..tags).map(|i| queue.next_tag(i % slots).unwrap()).collect();
         assert_eq!(queue.next_tag(slots).unwrap_err(), NextTagError::NoSlot);
@@ -197,12 +198,35 @@ fn a_device_that_is_gone() {
     assert_eq!(queue.try_enter(&mut tag).unwrap_err(), TryEnterError::Dying);
     assert_eq!(queue.enter_timeout(&mut tag, Duration::MAX).unwrap_err(), EnterTimeoutError::Dying);
     assert_eq!(queue.try_enter_frozen(&mut tag).unwrap_err(), EnterFrozenError::Drained);
+    let changed = Limits::of_hardware(64).with_max(9);
+    assert_eq!((queue.update(|_| changed), queue.limits()), (Ok(changed), changed));
     queue.freeze().unwrap().set(Limits::of_hardware(64)).unwrap();
     assert_eq!((queue.is_dying(), queue.depth()), (true, 1));
     let another = queue.next_tag(1).unwrap();
     queue.give_back(another).unwrap();
     queue.give_back(tag).unwrap();
     assert_eq!(queue.remove().unwrap(), Final { kills: 1, releases: 1, limits: Limits::of_hardware(64) });
+}
+
+/// A queue dies while a request is in flight: one that waits is sent away, the request leaves, and a freeze drains.
+#[test]
+fn a_device_that_is_gone_while_a_request_hangs() {
+    let (queue, mut tag) = with_tag();
+    let mut waiting = queue.next_tag(1).unwrap();
+    let hung = queue.enter(&mut tag).unwrap();
+    let freezing = queue.begin_freeze().unwrap();
+    thread::scope(|threads| {
+        let sent_away = threads.spawn(|| queue.enter(&mut waiting).map(drop));
+        freezing.mark_dying();
+        assert_eq!(sent_away.join().unwrap(), Err(EnterError::Dying));
+    });
+    assert_eq!((queue.is_dying(), queue.depth(), queue.is_drained()), (true, 1, false));
+    assert_eq!(queue.freeze_timeout(Duration::ZERO).unwrap_err(), FreezeTimeoutError::TimedOut);
+    drop(hung);
+    assert_eq!((queue.is_drained(), queue.freeze().unwrap().limits()), (true, LIMITS));
+    assert_eq!(queue.enter(&mut tag).unwrap_err(), EnterError::Dying);
+    drop((tag, waiting));
+    assert_eq!(queue.remove().unwrap(), Final { kills: 1, releases: 1, limits: LIMITS });
 }
 
 #[test]

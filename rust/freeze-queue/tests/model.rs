@@ -16,7 +16,7 @@ mod shared;
 
 use life::Life;
 use plain::Plain;
-use shared::{Chance, told};
+use shared::{Chance, number_of};
 
 /// Mostly limits that are allowed, near to each bound.
 fn some_limits(chance: &mut Chance) -> Limits {
@@ -33,9 +33,9 @@ fn some_limits(chance: &mut Chance) -> Limits {
 /// Makes a queue, where its limits and its size are allowed, and says why not where they aren't.
 fn some_queue(chance: &mut Chance, made: &mut Vec<u64>) -> Option<(Queue, Plain)> {
     let limits = some_limits(chance);
-    let slots = if chance.one_in(6) { chance.below(70) } else { 1 + chance.below(4) };
-    let tags = if chance.one_in(6) { chance.below(70) } else { 1 + chance.below(6) };
-    let fits = (1..=64).contains(&slots) && (1..=63).contains(&tags);
+    let slots = if chance.one_in(6) { chance.below(600) } else { 1 + chance.below(4) };
+    let tags = if chance.one_in(6) { chance.below(1_200) } else { 1 + chance.below(6) };
+    let fits = (1..=512).contains(&slots) && (1..=1_023).contains(&tags);
     let want = plain::refusal(&limits).map_or(if fits { Ok(()) } else { Err(NewError::Size) }, |why| Err(why.into()));
     match Queue::new(limits, slots, tags) {
         Ok(queue) => {
@@ -51,7 +51,7 @@ fn some_queue(chance: &mut Chance, made: &mut Vec<u64>) -> Option<(Queue, Plain)
     }
 }
 
-/// A range is cut as the definition of its pieces says, or refused as that of the refusals says.
+/// A range is cut as the definition of its pieces says, or refused as the definition of the refusals says.
 fn cut(chance: &mut Chance) {
     const COUNTS: [u32; 8] = [0, 1, 2, 5, 8, 9, 100, 500];
     let mut limits = some_limits(chance);
@@ -71,8 +71,8 @@ fn cut(chance: &mut Chance) {
 
 #[test]
 fn random_calls() {
-    let mut chance = Chance(told("FREEZE_QUEUE_SEED", 1));
-    let (mut left, mut made, mut releases) = (told("FREEZE_QUEUE_CALLS", 2_000_000), vec![], 0);
+    let mut chance = Chance(number_of("FREEZE_QUEUE_SEED", 1));
+    let (mut left, mut made, mut releases) = (number_of("FREEZE_QUEUE_CALLS", 2_000_000), vec![], 0);
     while left > 0 {
         let mut queues: Vec<(Arc<Queue>, Plain)> = vec![];
         while queues.len() < 3 {

@@ -7,7 +7,7 @@ use std::thread;
 use std::time::Duration;
 
 mod shared;
-use shared::{Chance, LIMITS, block_on, ends, told};
+use shared::{Chance, LIMITS, block_on, ends, number_of};
 
 /// In which round a thread is.
 #[derive(Default)]
@@ -35,7 +35,7 @@ fn linger(times: u32) {
 }
 
 fn rounds() -> u64 {
-    told("FREEZE_QUEUE_ROUNDS", 100_000) / 10
+    number_of("FREEZE_QUEUE_ROUNDS", 100_000) / 10
 }
 
 /// A thaw at any moment of an entering, after which nobody freezes.

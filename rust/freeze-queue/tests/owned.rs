@@ -13,7 +13,7 @@ use std::time::Duration;
 mod shared;
 use shared::{LIMITS, queue, with_tag};
 
-/// What goes from thread to thread, and is looked at by several.
+/// Values that move from thread to thread, and that several look at.
 #[test]
 fn threads_share() {
     fn is_shared<T: Send + Sync>() {}

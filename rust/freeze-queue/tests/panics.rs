@@ -25,7 +25,7 @@ impl Wake for Panics {
     }
 }
 
-/// What a panic carries that panics again where it is dropped.
+/// The payload of a panic, which panics again where it is dropped.
 struct PanicsAgain;
 
 impl Drop for PanicsAgain {
@@ -82,6 +82,20 @@ fn polled<F: Future + Unpin>(future: &mut F, waker: &Waker) -> Poll<F::Output> {
     Pin::new(future).poll(&mut Context::from_waker(waker))
 }
 
+/// Each future waits, by its waker.
+fn all_wait<F: Future + Unpin>(futures: &mut [F], wakers: &[Waker]) {
+    for (future, waker) in futures.iter_mut().zip(wakers) {
+        assert!(polled(future, waker).is_pending());
+    }
+}
+
+/// A waker that panics and one that counts.
+fn one_panics() -> (Arc<Woken>, [Waker; 2]) {
+    let woken = Arc::<Woken>::default();
+    let wakers = [Waker::from(Arc::new(Panics)), Waker::from(Arc::clone(&woken))];
+    (woken, wakers)
+}
+
 fn with_tags(tags: u32) -> (Queue, Vec<Tag>) {
     let queue = Queue::new(LIMITS, 1, tags).unwrap();
     let all = (0..tags).map(|_| queue.next_tag(0).unwrap()).collect();
@@ -121,9 +135,7 @@ fn panics_that_carry_panics() {
     let wakers = [Arc::new(PanicsTwice).into(), Arc::new(PanicsTwice).into(), Waker::from(Arc::clone(&woken))];
     let frozen = queue.freeze().unwrap();
     let mut entering: Vec<_> = tags.iter_mut().map(|tag| queue.enter_async(tag)).collect();
-    for (future, waker) in entering.iter_mut().zip(&wakers) {
-        assert!(polled(future, waker).is_pending());
-    }
+    all_wait(&mut entering, &wakers);
     let carried = catch_unwind(AssertUnwindSafe(|| drop(frozen))).unwrap_err();
     assert!(carried.is::<PanicsAgain>() && woken.times() == 1 && queue.depth() == 0);
     mem::forget(carried);
@@ -212,12 +224,9 @@ fn a_waker_of_the_drain_panics() {
     for way in 0..3 {
         let queue = Queue::new(LIMITS, 1, 1).unwrap();
         let request = queue.enter_any().unwrap();
-        let woken = Arc::<Woken>::default();
-        let wakers = [Waker::from(Arc::new(Panics)), Waker::from(Arc::clone(&woken))];
+        let (woken, wakers) = one_panics();
         let mut all: Vec<_> = (0..2).map(|_| queue.begin_freeze().unwrap().drained()).collect();
-        for (future, waker) in all.iter_mut().zip(&wakers) {
-            assert!(polled(future, waker).is_pending());
-        }
+        all_wait(&mut all, &wakers);
         match way {
             0 => assert!(panics(|| drop(request))),
             1 => assert!(panics(|| request.leave().slot())),
@@ -240,12 +249,9 @@ fn a_waker_of_the_drain_panics() {
 fn a_waker_in_line_panics() {
     let queue = Queue::new(LIMITS, 1, 1).unwrap();
     let request = queue.enter_any().unwrap();
-    let woken = Arc::<Woken>::default();
-    let wakers = [Waker::from(Arc::new(Panics)), Waker::from(Arc::clone(&woken))];
+    let (woken, wakers) = one_panics();
     let mut line = [queue.enter_any_async(), queue.enter_any_async()];
-    for (future, waker) in line.iter_mut().zip(&wakers) {
-        assert!(polled(future, waker).is_pending());
-    }
+    all_wait(&mut line, &wakers);
     assert!(panics(|| drop(request)));
     assert_eq!(woken.times(), 0);
     let [first, second] = &mut line;
@@ -266,9 +272,7 @@ fn a_waker_in_line_panics_as_the_device_goes() {
     let woken = Arc::<Woken>::default();
     let wakers = [Waker::from(Arc::new(Panics)), Waker::from(Arc::clone(&woken)), Waker::from(Arc::new(Panics))];
     let mut line = [queue.enter_any_async(), queue.enter_any_async(), queue.enter_any_async()];
-    for (future, waker) in line.iter_mut().zip(&wakers) {
-        assert!(polled(future, waker).is_pending());
-    }
+    all_wait(&mut line, &wakers);
     let frozen = queue.freeze_owned().unwrap();
     assert!(panics(|| frozen.mark_dying()));
     assert_eq!((woken.times(), queue.depth(), queue.is_dying()), (1, 1, true));

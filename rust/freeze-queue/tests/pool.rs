@@ -9,10 +9,17 @@ use std::thread;
 use std::time::Duration;
 
 mod shared;
-use shared::{Chance, LIMITS, Woken, block_on, ends, told, until};
+use shared::{Chance, LIMITS, Woken, block_on, ends, number_of, until};
 
 fn queue(tags: u32) -> Arc<Queue> {
     Arc::new(Queue::new(LIMITS, 2, tags).unwrap())
+}
+
+/// A queue whose one tag is out, with the request that has it.
+fn whose_tag_is_out() -> (Arc<Queue>, OwnedEntered) {
+    let queue = queue(1);
+    let request = queue.enter_any().unwrap();
+    (queue, request)
 }
 
 fn polled(future: &mut EnterAny<'_>, woken: &Arc<Woken>) -> Poll<Result<OwnedEntered, EnterAnyError>> {
@@ -35,8 +42,7 @@ fn remove(queue: Arc<Queue>) {
 /// A tag that comes home is handed to the first, and to nobody else: neither a try nor a tag asked for overtakes.
 #[test]
 fn in_order_of_arrival() {
-    let queue = queue(1);
-    let mut request = queue.enter_any().unwrap();
+    let (queue, mut request) = whose_tag_is_out();
     let mut line = in_line(&queue, 20);
     while !line.is_empty() {
         drop(request);
@@ -56,8 +62,7 @@ fn in_order_of_arrival() {
 /// One that leaves the line takes nobody's turn, and passes a tag on that it was handed.
 #[test]
 fn one_is_cancelled_in_line() {
-    let queue = queue(1);
-    let request = queue.enter_any().unwrap();
+    let (queue, request) = whose_tag_is_out();
     let mut line = in_line(&queue, 5);
     drop(line.remove(1));
     drop(line.remove(3));
@@ -75,8 +80,7 @@ fn one_is_cancelled_in_line() {
 /// The waker that was there last is woken.
 #[test]
 fn a_future_in_line_changes_its_waker() {
-    let queue = queue(1);
-    let request = queue.enter_any().unwrap();
+    let (queue, request) = whose_tag_is_out();
     let mut line = in_line(&queue, 1);
     let (mut future, first) = line.pop().unwrap();
     let last = Arc::<Woken>::default();
@@ -148,8 +152,7 @@ fn wakers_come_back_to_the_queue() {
 /// The device goes: those in line are sent away, and those that come later, and with a tag.
 #[test]
 fn the_device_goes() {
-    let queue = queue(1);
-    let request = queue.enter_any().unwrap();
+    let (queue, request) = whose_tag_is_out();
     let mut line = in_line(&queue, 3);
     let freezing = queue.begin_freeze().unwrap();
     drop(request);
@@ -190,7 +193,7 @@ fn the_handle_is_dropped() {
 /// Places go from one queue to the next, in any order, on several threads: no tag is in a place of another queue.
 #[test]
 fn queues_come_and_go() {
-    let lives = told("FREEZE_QUEUE_LIVES", 300) / 3;
+    let lives = number_of("FREEZE_QUEUE_LIVES", 300) / 3;
     thread::scope(|threads| {
         for seed in 0..4 {
             threads.spawn(move || {
@@ -218,7 +221,7 @@ fn queues_come_and_go() {
 fn more_that_enter_than_tags() {
     ends(|| {
         let (queue, over) = (queue(3), AtomicBool::new(false));
-        let rounds = told("FREEZE_QUEUE_ROUNDS", 100_000) / 200;
+        let rounds = number_of("FREEZE_QUEUE_ROUNDS", 100_000) / 200;
         let (most, now) = (AtomicU32::new(0), AtomicU32::new(0));
         let serve = |request: OwnedEntered| {
             most.fetch_max(now.fetch_add(1, Ordering::SeqCst) + 1, Ordering::SeqCst);

@@ -26,6 +26,8 @@ thread_local! {
     static ASKED: Cell<u64> = const { Cell::new(0) };
     /// Blocks that were allocated, less those that were freed.
     static BLOCKS: Cell<i64> = const { Cell::new(0) };
+    /// The bytes of those blocks.
+    static BYTES: Cell<i64> = const { Cell::new(0) };
 }
 
 /// The system's allocator, which refuses and counts.
@@ -43,11 +45,13 @@ unsafe impl GlobalAlloc for Refusing {
         // SAFETY: the caller meets the precondition, which is the same.
         let at = unsafe { System.alloc(layout) };
         BLOCKS.set(BLOCKS.get() + i64::from(!at.is_null()));
+        BYTES.set(BYTES.get() + if at.is_null() { 0 } else { i64::try_from(layout.size()).unwrap_or(0) });
         at
     }
 
     unsafe fn dealloc(&self, at: *mut u8, layout: Layout) {
         BLOCKS.set(BLOCKS.get() - 1);
+        BYTES.set(BYTES.get() - i64::try_from(layout.size()).unwrap_or(0));
         // SAFETY: the block is the system's, of this layout.
         unsafe { System.dealloc(at, layout) }
     }
@@ -56,7 +60,7 @@ unsafe impl GlobalAlloc for Refusing {
 #[global_allocator]
 static ALLOCATOR: Refusing = Refusing;
 
-/// What a call returns if so many allocations succeed and the next is refused.
+/// The result of a call if so many allocations succeed and the next one fails.
 fn after<T>(allowed: u64, call: impl FnOnce() -> T) -> T {
     ALLOWED.set(Some(allowed));
     let answer = call();
@@ -68,7 +72,7 @@ fn after<T>(allowed: u64, call: impl FnOnce() -> T) -> T {
 fn with_places() -> MutexGuard<'static, ()> {
     static ONE: Mutex<()> = Mutex::new(());
     let one = ONE.lock().unwrap_or_else(PoisonError::into_inner);
-    drop(Queue::new(LIMITS, 1, 63).unwrap());
+    drop(Queue::new(LIMITS, 1, 1023).unwrap());
     one
 }
 
@@ -77,11 +81,24 @@ fn end(queue: Queue, tag: Tag) {
     assert_eq!(queue.remove().unwrap().limits, LIMITS);
 }
 
-/// Each but the last, which is that of the `Arc` that the queue and its tags share: stable Rust can't refuse it.
+/// The bytes of a queue are those of rust/README.md, beside its tags' places, which are kept.
+#[test]
+fn a_queue_has_the_bytes_of_the_page() {
+    let _one = with_places();
+    for (slots, tags) in [(1, 1), (512, 1), (1, 1_023), (512, 1_023)] {
+        let before = BYTES.get();
+        let queue = Queue::new(LIMITS, slots, tags).unwrap();
+        let rest = BYTES.get() - before - 128 * i64::from(slots) - 200 * i64::from(tags);
+        assert!((1_400..1_700).contains(&rest), "{rest} bytes beside {slots} slots and {tags} tags");
+        queue.remove().unwrap();
+    }
+}
+
+/// Each allocation but the last, the `Arc` that the queue and its tags share: stable Rust can't refuse it.
 #[test]
 fn each_allocation_refused() {
     let _one = with_places();
-    let new = || Queue::new(LIMITS, 64, 2);
+    let new = || Queue::new(LIMITS, 512, 2);
     let (asked, blocks) = (ASKED.get(), BLOCKS.get());
     let queue = new().unwrap();
     let asked = ASKED.get() - asked;
@@ -131,11 +148,32 @@ fn the_rest_needs_no_memory() {
     assert_eq!(BLOCKS.get(), blocks, "nothing leaks");
 }
 
+/// A queue takes 128 bytes for each slot, and the same for each tag as for any other, whatever the greatest queue takes: counts lie in lines of their
+/// own. (The places of its tags are in the store.)
+#[test]
+fn memory_grows_by_what_is_asked_for() {
+    let _one = with_places();
+    let taken = |slots, tags| {
+        let before = BYTES.get();
+        let queue = Queue::new(LIMITS, slots, tags).unwrap();
+        let taken = BYTES.get() - before;
+        queue.remove().unwrap();
+        assert_eq!(BYTES.get(), before);
+        taken
+    };
+    let least = taken(1, 1);
+    let of_a_tag = taken(1, 2) - least;
+    assert!(least < 4_096 && of_a_tag < 1_024, "{least} and {of_a_tag} bytes");
+    for (slots, tags) in [(2, 1), (64, 1), (512, 1), (1, 63), (1, 1_023), (8, 100), (512, 1_023)] {
+        assert_eq!(taken(slots, tags), least + 128 * i64::from(slots - 1) + of_a_tag * i64::from(tags - 1));
+    }
+}
+
 /// The memory of places is refused, where the store has too few: nothing is lost, and the store has what was made.
 #[test]
 fn the_memory_of_places_is_refused() {
     let _one = with_places();
-    let new = || Queue::new(LIMITS, 1, 63);
+    let new = || Queue::new(LIMITS, 1, 1023);
     let asked = ASKED.get();
     drop(new().unwrap());
     let (usual, mut all) = (ASKED.get() - asked, vec![]);
@@ -209,7 +247,7 @@ fn a_drain_is_waited_for_without_memory() {
     assert!(drained.poll(&mut context).is_ready());
 }
 
-/// What is dropped rather than ended leaks nothing: a tag that a request takes along, one whose request was forgotten, and
+/// Dropping in place of ending leaks nothing: a tag that a request takes along, one whose request was forgotten, and
 /// a share of the queue that a request has.
 #[test]
 fn what_is_dropped_is_freed() {
@@ -228,14 +266,14 @@ fn what_is_dropped_is_freed() {
     assert_ne!(BLOCKS.get(), blocks, "a freeze has a share");
     drop(freezing);
     assert_eq!(BLOCKS.get(), blocks);
-    drop(Queue::new(LIMITS, 1, 63).unwrap()); // the place of a forgotten request goes to no other queue
+    drop(Queue::new(LIMITS, 1, 1023).unwrap()); // the place of a forgotten request goes to no other queue
 }
 
 /// The place of a tag that ends its queue goes to the next one.
 #[test]
 fn the_last_tag_gives_its_place_back() {
     let _one = with_places();
-    let new = || Queue::new(LIMITS, 1, 63).unwrap();
+    let new = || Queue::new(LIMITS, 1, 1023).unwrap();
     let asked = ASKED.get();
     let queue = new();
     let usual = ASKED.get() - asked;

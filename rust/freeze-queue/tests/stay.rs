@@ -1,4 +1,4 @@
-//! Requests that stay entered: what they are told beside freezes, and that a drain ends while threads stay without a pause.
+//! Requests that stay entered: their answers beside freezes, and that a drain ends while threads stay without a pause.
 use freeze_queue::{EnterError, Limits, Queue, StayError, Tag};
 use std::ops::ControlFlow::{Break, Continue};
 use std::panic::{AssertUnwindSafe, catch_unwind};

@@ -1,10 +1,10 @@
 //! Updates of the limits, of several threads, beside freezes that set limits, and within one another: none is lost.
-use freeze_queue::{Limits, Queue};
+use freeze_queue::{Limits, Queue, UpdateError};
 use std::hint;
 use std::thread;
 
 mod shared;
-use shared::told;
+use shared::number_of;
 
 const THREADS: u32 = 4;
 
@@ -21,7 +21,7 @@ fn one_more(limits: Limits) -> Limits {
 }
 
 fn rounds() -> u32 {
-    u32::try_from(told("FREEZE_QUEUE_ROUNDS", 2_000).min(2_000)).unwrap()
+    u32::try_from(number_of("FREEZE_QUEUE_ROUNDS", 2_000).min(2_000)).unwrap()
 }
 
 #[test]
@@ -39,17 +39,32 @@ fn each_update_of_each_thread_is_kept() {
     assert_eq!(queue.limits().max, 1 + THREADS * rounds);
 }
 
-/// A set of another freeze, between what the closure reads and what it returns.
-#[test]
-fn a_set_while_the_closure_runs_is_kept() {
-    let (queue, mut calls) = (queue(), 0);
+/// An update, and what comes between the first run of its closure and its end: what was set, and how often the closure ran.
+fn update_beside(
+    queue: &Queue,
+    change: fn(Limits) -> Limits,
+    between: impl Fn(Limits),
+) -> (Result<Limits, UpdateError>, u32) {
+    let mut calls = 0;
     let set = queue.update(|limits| {
         calls += 1;
         if calls == 1 {
-            queue.freeze().unwrap().set(limits.with_chunk(8)).unwrap();
+            between(limits);
         }
-        limits.with_max(100)
+        change(limits)
     });
+    (set, calls)
+}
+
+/// A set of another freeze, between what the closure reads and what it returns.
+#[test]
+fn a_set_while_the_closure_runs_is_kept() {
+    let queue = queue();
+    let (set, calls) = update_beside(
+        &queue,
+        |limits| limits.with_max(100),
+        |limits| queue.freeze().unwrap().set(limits.with_chunk(8)).unwrap(),
+    );
     let both = LIMITS.with_max(100).with_chunk(8);
     assert_eq!((set, queue.limits(), calls, queue.depth()), (Ok(both), both, 2, 0));
 }
@@ -73,14 +88,10 @@ fn updates_beside_freezes_that_set() {
 
 #[test]
 fn an_update_within_an_update() {
-    let (queue, mut calls) = (queue(), 0);
-    let set = queue.update(|limits| {
-        calls += 1;
-        if calls == 1 {
-            assert_eq!(queue.update(one_more).unwrap().max, 2);
-            drop(queue.enter_any().unwrap()); // the closure isn't called under a freeze
-        }
-        one_more(limits)
+    let queue = queue();
+    let (set, calls) = update_beside(&queue, one_more, |_| {
+        assert_eq!(queue.update(one_more).unwrap().max, 2);
+        drop(queue.enter_any().unwrap()); // the closure isn't called under a freeze
     });
     assert_eq!((set.unwrap().max, queue.limits().max, calls), (3, 3, 2));
 }

@@ -132,7 +132,7 @@ fn each_call_lends_the_value() {
     assert_eq!(refused.value.remove().unwrap().0, "disks");
 }
 
-/// Who panics under a freeze leaves the value as it stands, and thaws; who panics under a request leaves.
+/// A thread that panics under a freeze leaves the value as it is, and thaws; one that panics under a request leaves.
 #[test]
 fn panics_in_the_middle() {
     let queue = queue(vec![1]);
@@ -181,7 +181,7 @@ fn the_value_is_dropped_once() {
     let value = || Dropped(Arc::clone(&dropped));
     drop(queue(value()));
     assert_eq!(dropped.load(Relaxed), 1);
-    let refused = Queue::new(value(), Limits::of_hardware(64), 65, 1).unwrap_err();
+    let refused = Queue::new(value(), Limits::of_hardware(64), 513, 1).unwrap_err();
     assert_eq!(refused.reason, NewError::Size);
     drop(refused);
     assert_eq!(dropped.load(Relaxed), 2);

@@ -1,5 +1,5 @@
-//! Who waits is woken: what is waited for comes about some milliseconds later, on another thread, and a wake that is lost
-//! is seen since nobody comes within a minute.
+//! A thread that waits is woken. The event comes some milliseconds later, on another thread. A lost wake is seen: the thread
+//! doesn't return within a minute.
 use freeze_queue::{EnterError, EnterTimeoutError, FreezeTimeoutError, Queue, Tag, TryEnterError};
 use std::sync::atomic::{AtomicBool, AtomicU32, Ordering};
 use std::thread;
@@ -65,7 +65,7 @@ fn the_end_of_a_device_wakes_all_who_enter() {
     });
 }
 
-/// The last of two requests that leave wakes two who freeze.
+/// The last of two requests that leave wakes two threads that freeze.
 #[test]
 fn the_last_to_leave_wakes_all_who_freeze() {
     ends(|| {
@@ -96,8 +96,8 @@ fn the_last_to_leave_wakes_all_who_freeze() {
     });
 }
 
-/// A freeze whose patience is at an end thaws: those who wait to enter are woken by that. Until one was seen there is another, since
-/// who looks for it may not run for as long as one stands.
+/// A freeze whose patience is at an end thaws, and wakes the threads that wait to enter. The test freezes again until one was seen,
+/// since the thread that looks for it may not run while one lasts.
 #[test]
 fn a_late_freeze_wakes_those_who_enter() {
     ends(|| {
@@ -153,7 +153,7 @@ fn a_late_request_leaves_nothing() {
     });
 }
 
-/// The drop of an owned request, and of one that looked at a frozen queue, wake who freezes as well.
+/// The drop of an owned request, and of one that looked at a frozen queue, wake a thread that freezes as well.
 #[test]
 fn other_guards_wake_who_freezes() {
     ends(|| {
@@ -179,7 +179,7 @@ fn other_guards_wake_who_freezes() {
     });
 }
 
-/// Entering goes on while others' refused tries come and go: each of them may be the one that is told of the drain.
+/// Entering goes on while others' refused tries come and go: each of them may be the one that finds the queue drained.
 #[test]
 fn refused_tries_tell_of_the_drain() {
     ends(|| {
@@ -207,7 +207,7 @@ fn refused_tries_tell_of_the_drain() {
     });
 }
 
-/// What a thread that waits to enter isn't given: a tag of it that it has entered with, or another's queue, at once.
+/// A thread that waits to enter is refused at once with a tag that has entered, or with another queue's tag.
 #[test]
 fn refusals_that_no_thaw_ends_come_at_once() {
     ends(|| {

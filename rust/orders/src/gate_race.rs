@@ -149,12 +149,12 @@ impl Race for GateRace {
     fn act(&self, actor: usize) -> Self::Answer {
         let (gate, mut control, mut passes) = at_once(|| self.make());
         if let (Some(pass), Some(calls)) = (passes.get_mut(actor), self.passes.get(actor)) {
-            let told = calls.iter().map(|call| pass_call(self, &gate, pass, call)).collect();
-            return (told, vec![u64::from(pass.held())]);
+            let answered = calls.iter().map(|call| pass_call(self, &gate, pass, call)).collect();
+            return (answered, vec![u64::from(pass.held())]);
         }
         if actor == self.passes.len() {
-            let told = self.control.iter().map(|call| control_call(self, &gate, &mut control, call)).collect();
-            return (told, vec![control.kills()]);
+            let answered = self.control.iter().map(|call| control_call(self, &gate, &mut control, call)).collect();
+            return (answered, vec![control.kills()]);
         }
         join();
         let shared = &gate.table.table.shared;
@@ -209,8 +209,8 @@ fn pass_call(race: &GateRace, gate: &Gate<WORDS>, pass: &mut Pass<WORDS>, call: 
     }
 }
 
-fn done<T>(done: Result<T, ControlFault>, told: impl FnOnce(T) -> String) -> String {
-    done.map_or_else(|why| why.to_string(), told)
+fn done<T>(done: Result<T, ControlFault>, answered: impl FnOnce(T) -> String) -> String {
+    done.map_or_else(|why| why.to_string(), answered)
 }
 
 fn ok((): ()) -> String {

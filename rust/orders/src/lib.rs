@@ -1,6 +1,6 @@
-//! The erased gate and queue, in every order of their steps.
+//! The erased gate and queue, in all orders of their steps, or in all with a bound of context switches.
 //!
-//! A test with threads sees the orders that the machine happens to take. This crate takes all of them. It compiles the erased
+//! A test with threads sees the orders that the machine happens to take. This crate takes one after the other. It compiles the erased
 //! files of `percpu-gate` and `freeze-queue` again, the same files, over stand-ins of its own: each atomic step, each lock and
 //! unlock, each sleep and each wake goes to a scheduler.
 //!
@@ -12,7 +12,8 @@
 //! A lock and a condition are words too, and a step on them may have to wait. A state in which no actor can step, and one hasn't
 //! ended, is a deadlock or a lost wake: [`Fault::Stuck`] has a schedule that leads to it.
 //!
-//! If a race has too many orders, [`Orders::switches`] bounds the context switches beyond those that a wait needs.
+//! If a race has too many orders, [`Orders::switches`] bounds the context switches beyond those that a wait needs. The races of `gate`, and
+//! most of `queue`, have no bound. Two of `queue` have 4 and 6, those of `waits` 2 to 4, of `whole` 2 to 8, and of `whole_gate` 2, 3 and 9.
 //!
 //! The races are in `tests/`:
 //!
@@ -56,6 +57,6 @@ pub use actor::{at_once, join};
 pub use drain_race::{DrainRace, Drained, Finish, LookRace};
 pub use gate_race::{Call, GateRace};
 pub use orders::{Ending, Fault, Found, Orders, Race};
-pub use queue_race::{FIRST_MOST, Freezing, QueueRace, Told, Visit};
+pub use queue_race::{FIRST_MOST, Freezing, QueueAnswer, QueueRace, Visit};
 pub use stay_race::StayRace;
 pub use wait_race::{FIRST, WaitRace, Waited};

@@ -40,7 +40,7 @@ pub struct QueueRace {
 
 /// An answer.
 #[derive(Clone, Copy, Debug, PartialEq, Eq, PartialOrd, Ord)]
-pub enum Told {
+pub enum QueueAnswer {
     /// A visit: the largest request at both looks, and whether the tag was the last to leave.
     Visited(u32, u32, bool),
     /// A visit of a tag that didn't stay: the largest request at its one look, and whether it was the last to leave.
@@ -66,60 +66,60 @@ pub enum Told {
 /// The largest request at the start.
 pub const FIRST_MOST: u32 = 8;
 
-fn visit(queue: &BlockQueue, tag: &mut Tag, slot: u32, visit: Visit) -> Told {
+fn visit(queue: &BlockQueue, tag: &mut Tag, slot: u32, visit: Visit) -> QueueAnswer {
     let entry = match visit {
         Visit::Enter | Visit::Stay => queue.try_enter(tag, slot),
         Visit::Look => queue.try_enter_frozen(tag, slot),
     };
     if let Entry::Refused(put) = entry {
-        return Told::Refused(put == Put::Last);
+        return QueueAnswer::Refused(put == Put::Last);
     }
     let one = queue.limits(tag).max();
     if visit == Visit::Stay {
         if let Stay::Left(put) = queue.stay(tag, slot) {
-            return Told::Left(one, put == Put::Last);
+            return QueueAnswer::Left(one, put == Put::Last);
         }
     }
     let other = queue.limits(tag).max();
-    Told::Visited(one, other, queue.leave(tag, slot) == Put::Last)
+    QueueAnswer::Visited(one, other, queue.leave(tag, slot) == Put::Last)
 }
 
-fn freezing(queue: &BlockQueue, freezer: &mut Freezer, call: Freezing) -> Result<Told, FreezeFault> {
+fn freezing(queue: &BlockQueue, freezer: &mut Freezer, call: Freezing) -> Result<QueueAnswer, FreezeFault> {
     Ok(match call {
         Freezing::Freeze => {
             let frozen = freezer.start_freeze(queue)?;
-            Told::Frozen(frozen.depth, frozen.put == Put::Last)
+            QueueAnswer::Frozen(frozen.depth, frozen.put == Put::Last)
         }
         Freezing::Set(most) => {
             freezer.set(queue, Limits::new(FIRST_MOST, most, 0).expect("limits"))?;
-            Told::Set
+            QueueAnswer::Set
         }
         Freezing::Thaw => {
             let thawed = freezer.thaw(queue)?;
-            Told::Thawed(thawed.depth, thawed.live)
+            QueueAnswer::Thawed(thawed.depth, thawed.live)
         }
         Freezing::Count(mode) => {
             freezer.mode(queue, mode);
-            Told::Counts
+            QueueAnswer::Counts
         }
     })
 }
 
-fn removed(freezer: Freezer, queue: BlockQueue, tags: Vec<Tag>) -> Told {
+fn removed(freezer: Freezer, queue: BlockQueue, tags: Vec<Tag>) -> QueueAnswer {
     match freezer.remove(queue, tags) {
-        Ok(Final { kills, releases, words, .. }) => Told::Removed(kills, releases, words[0]),
-        Err(fault) => Told::Fault(fault.why.number()),
+        Ok(Final { kills, releases, words, .. }) => QueueAnswer::Removed(kills, releases, words[0]),
+        Err(fault) => QueueAnswer::Fault(fault.why.number()),
     }
 }
 
 impl Race for QueueRace {
-    type Answer = Vec<Told>;
+    type Answer = Vec<QueueAnswer>;
 
     fn actors(&self) -> usize {
         self.tags.len() + 1
     }
 
-    fn act(&self, actor: usize) -> Vec<Told> {
+    fn act(&self, actor: usize) -> Vec<QueueAnswer> {
         let tags = u32::try_from(self.tags.len()).expect("few tags");
         let made = at_once(|| BlockQueue::new(Limits::start(FIRST_MOST).expect("limits"), tags, tags));
         let (queue, mut freezer, mut tags) = made.expect("memory");
@@ -128,14 +128,14 @@ impl Race for QueueRace {
             return visits.iter().map(|it| visit(&queue, &mut tags[actor], slot, *it)).collect();
         }
         let answer = |fault: FreezeFault| match fault {
-            FreezeFault::NotDrained => Told::NotDrained,
-            other => Told::Fault(other.number()),
+            FreezeFault::NotDrained => QueueAnswer::NotDrained,
+            other => QueueAnswer::Fault(other.number()),
         };
         let calls = self.freezer.iter();
-        let mut told: Vec<Told> =
+        let mut answered: Vec<QueueAnswer> =
             calls.map(|call| freezing(&queue, &mut freezer, *call).unwrap_or_else(answer)).collect();
         join();
-        told.push(removed(freezer, queue, tags));
-        told
+        answered.push(removed(freezer, queue, tags));
+        answered
     }
 }

@@ -18,15 +18,15 @@ fn found(race: &GateRace, most: u64) -> Option<(Outcomes, u64, u128)> {
     let found = Orders::of(race).states(most).find().ok()?;
     let mut ends: BTreeMap<Vec<String>, (BTreeSet<&[u64]>, usize)> = BTreeMap::new();
     for (answers, ending) in &found.outcomes {
-        let end = ends.entry(told(race, answers)).or_insert((BTreeSet::new(), usize::MAX));
+        let end = ends.entry(outcome_of(race, answers)).or_insert((BTreeSet::new(), usize::MAX));
         end.0.insert(&answers[answers.len() - 1].1);
         end.1 = end.1.min(ending.steps - race.last_steps());
     }
-    let outcomes = ends.into_iter().map(|(told, (ends, steps))| (told, (ends.len(), steps))).collect();
+    let outcomes = ends.into_iter().map(|(outcome, (ends, steps))| (outcome, (ends.len(), steps))).collect();
     Some((outcomes, found.states, found.interleavings))
 }
 
-fn told(race: &GateRace, answers: &[(Vec<String>, Vec<u64>)]) -> Vec<String> {
+fn outcome_of(race: &GateRace, answers: &[(Vec<String>, Vec<u64>)]) -> Vec<String> {
     let (control, passes) = (race.passes.len(), &answers[..race.passes.len()]);
     let name = |at| if at == control { "c".to_owned() } else { format!("{at}") };
     let calls = answers[..=control].iter().enumerate();
@@ -36,9 +36,14 @@ fn told(race: &GateRace, answers: &[(Vec<String>, Vec<u64>)]) -> Vec<String> {
     let held: u64 = passes.iter().map(|it| it.1[0]).sum();
     let (kills, shared, front) = (answers[control].1[0], answers[control + 1].1[0], answers[control + 1].1[1]);
     let marks = ["live", "dead", "zero", "zero"][(shared >> 62) as usize];
-    let value = shared & ((1 << 62) - 1);
-    lines.push(format!("# end {marks} {value} front {front} kills {kills} releases {releases} held {held}"));
+    lines.push(format!("# end {marks} front {front} kills {kills} releases {releases} held {held}"));
     lines
+}
+
+/// The line of an end without the value of the shared word: two ends that differ in it alone have one outcome.
+fn without_value(end: &str) -> String {
+    let words = end.split(' ').enumerate().filter(|(at, _)| *at != 3);
+    words.map(|(_, word)| word).collect::<Vec<_>>().join(" ")
 }
 
 /// By an answer of `gate_races`.
@@ -47,9 +52,9 @@ fn printed(answer: &str) -> Outcomes {
     for part in answer.split("\noutcome ").skip(1) {
         let lines: Vec<&str> = part.lines().filter(|line| !line.starts_with("outcomes ")).collect();
         let head: Vec<&str> = lines[0].split(' ').collect();
-        let told = lines[1..].iter().take_while(|line| **line != "gate 1").chain(lines.last());
-        let figures = (head[2].parse().unwrap(), head[4].parse().unwrap());
-        outcomes.insert(told.map(ToString::to_string).collect(), figures);
+        let answers = lines[1..].iter().take_while(|line| **line != "gate 1").map(ToString::to_string);
+        let outcome = answers.chain(lines.last().map(|end| without_value(end)));
+        outcomes.insert(outcome.collect(), (head[2].parse().unwrap(), head[4].parse().unwrap()));
     }
     outcomes
 }
@@ -77,21 +82,31 @@ fn compare(race: &GateRace, most: u64) -> Option<(u64, u128)> {
     Some((states, interleavings))
 }
 
+/// Whether a call of a race waits. The search of `gate_races` has such calls, and no gate has them.
+fn waits(text: &str) -> bool {
+    text.lines().any(|line| !line.starts_with('#') && line.contains(" await "))
+}
+
 #[test]
 fn the_races_of_the_examples() {
     let folder = concat!(env!("CARGO_MANIFEST_DIR"), "/../../examples");
     let mut races: Vec<_> = fs::read_dir(folder).unwrap().map(|entry| entry.unwrap().path()).collect();
     races.retain(|path| path.extension().is_some_and(|it| it == "races"));
     races.sort();
-    assert!(races.len() >= 4, "the examples are in {folder}");
+    let mut tried = 0;
     for path in races {
-        let race = GateRace::parse(&fs::read_to_string(&path).unwrap());
-        let (states, interleavings) = compare(&race, u64::MAX).unwrap();
+        let text = fs::read_to_string(&path).unwrap();
+        if waits(&text) {
+            continue;
+        }
+        let (states, interleavings) = compare(&GateRace::parse(&text), u64::MAX).unwrap();
         println!(
             "orders of {}: {states} states, {interleavings} interleavings",
             path.file_name().unwrap().to_string_lossy()
         );
+        tried += 1;
     }
+    assert!(tried >= 4, "the examples are in {folder}");
 }
 
 /// Races that random ones seldom are.

@@ -1,89 +1,95 @@
 //! Races of the queue that doesn't wait, in all interleavings.
 
 use orders::erased::percpu_words::Mode;
-use orders::{FIRST_MOST, Freezing, Orders, QueueRace, Told, Visit};
+use orders::{FIRST_MOST, Freezing, Orders, QueueAnswer, QueueRace, Visit};
 
 use Freezing::{Count, Freeze, Set, Thaw};
 use Visit::{Enter, Look, Stay};
 
-fn is_last(told: &Told) -> bool {
-    matches!(told, Told::Visited(_, _, true) | Told::Left(_, true) | Told::Refused(true) | Told::Frozen(_, true))
+fn is_last(answered: &QueueAnswer) -> bool {
+    matches!(
+        answered,
+        QueueAnswer::Visited(_, _, true)
+            | QueueAnswer::Left(_, true)
+            | QueueAnswer::Refused(true)
+            | QueueAnswer::Frozen(_, true)
+    )
 }
 
 /// The freezer's calls are answered as their contracts say, where that doesn't depend on the drain.
-fn check_freezer(race: &QueueRace, told: &[Told]) {
+fn check_freezer(race: &QueueRace, answered: &[QueueAnswer]) {
     let mut depth = 0;
-    for (call, answer) in race.freezer.iter().zip(told) {
+    for (call, answer) in race.freezer.iter().zip(answered) {
         let as_it_must = match call {
             Freeze => {
                 depth += 1;
-                matches!(answer, Told::Frozen(is, last) if *is == depth && (depth == 1 || !last))
+                matches!(answer, QueueAnswer::Frozen(is, last) if *is == depth && (depth == 1 || !last))
             }
             Set(_) => {
                 if depth == 0 {
-                    *answer == Told::Fault(2)
+                    *answer == QueueAnswer::Fault(2)
                 } else {
-                    matches!(answer, Told::Set | Told::NotDrained)
+                    matches!(answer, QueueAnswer::Set | QueueAnswer::NotDrained)
                 }
             }
-            Thaw if depth == 0 => *answer == Told::Fault(2),
+            Thaw if depth == 0 => *answer == QueueAnswer::Fault(2),
             Thaw => {
                 depth -= 1;
-                *answer == Told::Thawed(depth, depth == 0)
+                *answer == QueueAnswer::Thawed(depth, depth == 0)
             }
-            Count(_) => *answer == Told::Counts,
+            Count(_) => *answer == QueueAnswer::Counts,
         };
         assert!(as_it_must, "{call:?} was answered {answer:?}");
     }
 }
 
 /// The limits that were in force, in order; each freeze has at most one release, and one in which limits were set has it.
-fn check_outcome(race: &QueueRace, answers: &[Vec<Told>]) {
+fn check_outcome(race: &QueueRace, answers: &[Vec<QueueAnswer>]) {
     let (freezer, tags) = answers.split_last().unwrap();
     check_freezer(race, freezer);
     let set = race.freezer.iter().zip(freezer).filter_map(|(call, answer)| match call {
-        Set(most) if *answer == Told::Set => Some(*most),
+        Set(most) if *answer == QueueAnswer::Set => Some(*most),
         _ => None,
     });
     let in_force: Vec<u32> = [FIRST_MOST].into_iter().chain(set).collect();
-    let lasts = answers.iter().flatten().filter(|told| is_last(told)).count() as u64;
-    for (visit, told) in race.tags.iter().flatten().zip(tags.iter().flatten()) {
-        if let Told::Visited(one, other, _) = told {
+    let lasts = answers.iter().flatten().filter(|answered| is_last(answered)).count() as u64;
+    for (visit, answered) in race.tags.iter().flatten().zip(tags.iter().flatten()) {
+        if let QueueAnswer::Visited(one, other, _) = answered {
             assert_eq!(one, other, "limits changed under a tag");
             assert!(in_force.contains(one), "{one} of {in_force:?}");
-        } else if let Told::Left(one, _) = told {
+        } else if let QueueAnswer::Left(one, _) = answered {
             assert_eq!(*visit, Stay);
             assert!(in_force.contains(one), "{one} of {in_force:?}");
         } else {
             assert!(*visit != Look || lasts > 0, "a look in is refused by a drained queue alone");
         }
     }
-    let begun = |told: &&Told| matches!(told, Told::Frozen(1, _));
+    let begun = |answered: &&QueueAnswer| matches!(answered, QueueAnswer::Frozen(1, _));
     let kills = freezer.iter().filter(begun).count() as u64;
-    let drained = freezer.contains(&Told::Set);
+    let drained = freezer.contains(&QueueAnswer::Set);
     assert!(lasts <= kills && (lasts == kills || !drained || kills > 1), "{lasts} were last, of {kills} freezes");
     // A queue that is frozen to the end isn't killed again. Else the removal kills it, and is the last of that freeze.
-    let live = freezer.iter().rev().find_map(|told| match told {
-        Told::Thawed(depth, _) => Some(*depth == 0),
-        Told::Frozen(..) => Some(false),
+    let live = freezer.iter().rev().find_map(|answered| match answered {
+        QueueAnswer::Thawed(depth, _) => Some(*depth == 0),
+        QueueAnswer::Frozen(..) => Some(false),
         _ => None,
     });
     let more = u64::from(live.unwrap_or(true));
-    let of_freezer = freezer.iter().filter(|told| matches!(told, Told::Frozen(_, true))).count() as u64;
+    let of_freezer = freezer.iter().filter(|answered| matches!(answered, QueueAnswer::Frozen(_, true))).count() as u64;
     let most = u64::from(*in_force.last().unwrap());
-    assert_eq!(*freezer.last().unwrap(), Told::Removed(kills + more, of_freezer + more, most), "{answers:?}");
+    assert_eq!(*freezer.last().unwrap(), QueueAnswer::Removed(kills + more, of_freezer + more, most), "{answers:?}");
     if more == 0 {
         assert_eq!(lasts, kills, "a queue that ends frozen is drained");
     }
 }
 
-fn check(name: &str, tags: &[&[Visit]], freezer: &[Freezing]) -> Vec<Vec<Vec<Told>>> {
+fn check(name: &str, tags: &[&[Visit]], freezer: &[Freezing]) -> Vec<Vec<Vec<QueueAnswer>>> {
     let race = QueueRace { tags: tags.iter().map(|it| it.to_vec()).collect(), freezer: freezer.to_vec() };
     check_orders(name, &race, Orders::of(&race))
 }
 
 /// Checks each outcome of a race, and returns all of them.
-fn check_orders(name: &str, race: &QueueRace, mut orders: Orders<'_, QueueRace>) -> Vec<Vec<Vec<Told>>> {
+fn check_orders(name: &str, race: &QueueRace, mut orders: Orders<'_, QueueRace>) -> Vec<Vec<Vec<QueueAnswer>>> {
     let found = orders.find().unwrap_or_else(|fault| panic!("{name}: {fault:#?}"));
     println!(
         "orders of {name}: {} outcomes, {} states, {} interleavings",
@@ -138,7 +144,7 @@ fn two_enter_a_queue_that_stays_frozen() {
     let outcomes =
         check("two tags and a queue that stays frozen", &[&[Enter], &[Enter, Look]], &[Thaw, Freeze, Set(4)]);
     // While the one is in, the other can't enter any more, and can look in.
-    let looks = |it: &Vec<Vec<Told>>| matches!(it[1][..], [Told::Refused(_), Told::Visited(..)]);
+    let looks = |it: &Vec<Vec<QueueAnswer>>| matches!(it[1][..], [QueueAnswer::Refused(_), QueueAnswer::Visited(..)]);
     assert!(outcomes.iter().any(looks), "{outcomes:?}");
 }
 
@@ -146,13 +152,14 @@ fn two_enter_a_queue_that_stays_frozen() {
 #[test]
 fn two_stay_beside_a_change_of_limits() {
     let outcomes = check("two tags that stay beside a change of limits", &[&[Stay], &[Stay]], &[Freeze, Set(4), Thaw]);
-    let answers = |told: Told| outcomes.iter().filter(|it| it[0][0] == told && it[1][0] != told).count();
-    assert!(answers(Told::Visited(FIRST_MOST, FIRST_MOST, false)) > 0, "none stays");
-    assert!(answers(Told::Left(FIRST_MOST, true)) > 0, "none leaves as the last");
-    assert!(answers(Told::Left(FIRST_MOST, false)) > 0, "none leaves before another");
-    assert!(outcomes.iter().any(|it| it[0][0] == Told::Visited(4, 4, false)), "none stays after the thaw");
+    let answers =
+        |answered: QueueAnswer| outcomes.iter().filter(|it| it[0][0] == answered && it[1][0] != answered).count();
+    assert!(answers(QueueAnswer::Visited(FIRST_MOST, FIRST_MOST, false)) > 0, "none stays");
+    assert!(answers(QueueAnswer::Left(FIRST_MOST, true)) > 0, "none leaves as the last");
+    assert!(answers(QueueAnswer::Left(FIRST_MOST, false)) > 0, "none leaves before another");
+    assert!(outcomes.iter().any(|it| it[0][0] == QueueAnswer::Visited(4, 4, false)), "none stays after the thaw");
     let outcomes = check("two tags that stay in a live queue", &[&[Stay], &[Stay]], &[Thaw]);
-    let stayed = vec![Told::Visited(FIRST_MOST, FIRST_MOST, false)];
+    let stayed = vec![QueueAnswer::Visited(FIRST_MOST, FIRST_MOST, false)];
     assert!(outcomes.iter().all(|it| it[..2] == [stayed.clone(), stayed.clone()]), "one left: {outcomes:?}");
 }
 
@@ -163,11 +170,14 @@ fn one_stays_beside_two_freezes() {
     let race = QueueRace { tags, freezer };
     let outcomes =
         check_orders("a tag that stays beside two freezes, at most 6 switches", &race, Orders::of(&race).switches(6));
-    let is_told = |told: [Told; 2]| outcomes.iter().any(|it| it[0] == told);
-    assert!(is_told([Told::Left(FIRST_MOST, true), Told::Visited(4, 4, false)]), "none stays in the second life");
-    assert!(is_told([Told::Left(FIRST_MOST, true), Told::Left(4, true)]), "none leaves in both lives");
+    let is_found = |answered: [QueueAnswer; 2]| outcomes.iter().any(|it| it[0] == answered);
     assert!(
-        is_told([Told::Visited(FIRST_MOST, FIRST_MOST, false), Told::Left(4, true)]),
+        is_found([QueueAnswer::Left(FIRST_MOST, true), QueueAnswer::Visited(4, 4, false)]),
+        "none stays in the second life"
+    );
+    assert!(is_found([QueueAnswer::Left(FIRST_MOST, true), QueueAnswer::Left(4, true)]), "none leaves in both lives");
+    assert!(
+        is_found([QueueAnswer::Visited(FIRST_MOST, FIRST_MOST, false), QueueAnswer::Left(4, true)]),
         "none leaves in the second life alone"
     );
 }
@@ -176,5 +186,9 @@ fn one_stays_beside_two_freezes() {
 #[test]
 fn one_stays_in_a_queue_that_stays_frozen() {
     let outcomes = check("a tag that stays, and a look in, beside a freeze that stays", &[&[Stay], &[Look]], &[Freeze]);
-    assert!(outcomes.iter().any(|it| matches!(it[0][0], Told::Left(..)) && matches!(it[1][0], Told::Visited(..))));
+    assert!(
+        outcomes
+            .iter()
+            .any(|it| matches!(it[0][0], QueueAnswer::Left(..)) && matches!(it[1][0], QueueAnswer::Visited(..)))
+    );
 }

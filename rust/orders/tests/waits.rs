@@ -1,5 +1,5 @@
-//! Races of the queue that waits. Each wait ends: no state is stuck. They are gone through with up to two context switches more
-//! than the waits need.
+//! Races of the queue that waits. Each wait ends: no state is stuck. They are gone through with up to two, three or four context switches
+//! more than the waits need.
 
 use orders::erased::atomic_table::Table;
 use orders::erased::wait_queue::WaitQueue;
@@ -126,11 +126,15 @@ fn final_depth(race: DrainRace) -> u32 {
     race.depth + freezing - u32::from(race.finish == Finish::Thaw)
 }
 
+/// Two threads that wait for the drain of so many freezes: their answers, in each outcome.
+fn both_drained(depth: u32, finish: Finish) -> Vec<Vec<Drained>> {
+    drained(DrainRace { depth, waiting: 2, freezing: 0, finish }, 2)
+}
+
 /// Each of several waits for one drain ends, and leaves the queue frozen as it was.
 #[test]
 fn a_leave_ends_both_waits_for_the_drain() {
-    let race = DrainRace { depth: 2, waiting: 2, freezing: 0, finish: Finish::Leave };
-    assert_eq!(drained(race, 2), [[Drained::Waited(Ok(2)), Drained::Waited(Ok(2))]]);
+    assert_eq!(both_drained(2, Finish::Leave), [[Drained::Waited(Ok(2)), Drained::Waited(Ok(2))]]);
 }
 
 /// A nested freeze waits for the same drain: it is one freeze more, the gate is killed once, and its mode and limits stay.
@@ -146,15 +150,13 @@ fn a_nested_freeze_waits_for_the_same_drain() {
 /// Each of several waits for the drain of a freeze that is thawed ends.
 #[test]
 fn a_thaw_ends_both_waits_for_the_drain() {
-    let race = DrainRace { depth: 1, waiting: 2, freezing: 0, finish: Finish::Thaw };
-    assert_eq!(drained(race, 2), [[Drained::Waited(Err(2)), Drained::Waited(Err(2))]]);
+    assert_eq!(both_drained(1, Finish::Thaw), [[Drained::Waited(Err(2)), Drained::Waited(Err(2))]]);
 }
 
 /// A freeze that finds a thawed queue empty needs no wake: each thread that waits was woken by the thaw.
 #[test]
 fn a_freeze_of_an_empty_queue_ends_both_waits_for_the_drain() {
-    let race = DrainRace { depth: 1, waiting: 2, freezing: 0, finish: Finish::Refreeze };
-    let outcomes = drained(race, 2);
+    let outcomes = both_drained(1, Finish::Refreeze);
     assert!(outcomes.iter().flatten().all(|it| matches!(it, Drained::Waited(Ok(1) | Err(2)))), "{outcomes:?}");
 }
 

@@ -1,6 +1,6 @@
 //! The library's sources without their contracts. tools/erase writes the files that say so in their first line.
 //!
-//! C's pointers need `unsafe`: `loose` takes a box apart and puts it together, and a handle may cross threads.
+//! C's pointers need `unsafe`: a handle hides the type of its pointer, and may cross threads.
 #![allow(
     missing_docs,
     missing_debug_implementations,
@@ -11,5 +11,16 @@
 
 pub mod percpu_gate_c;
 
-pub use ::percpu_gate::erased::{fallible, percpu_gate};
+/// The gate's steps, from the package percpu-gate, over the table that c-memory compiles.
+#[path = "../../percpu-gate/src/erased"]
+pub mod gate {
+    pub mod percpu_core;
+    pub mod percpu_gate;
+    pub mod percpu_words;
+}
+
+pub use ::percpu_gate::erased::fallible;
 pub use c_memory as pointers;
+pub use c_memory::erased::atomic_table;
+pub use c_memory::erased::loose_box;
+pub use gate::{percpu_core, percpu_gate, percpu_words};

@@ -1,4 +1,4 @@
-//! A device that is removed while two threads submit requests to it: whoever drops the last reference powers it off.
+//! A device that is removed while two threads submit requests to it: the thread that drops the last reference powers it off.
 use percpu_gate::{Gate, Pass, Start, Word};
 use std::error::Error;
 use std::sync::atomic::{AtomicBool, AtomicU32, AtomicU64, Ordering};

@@ -40,9 +40,9 @@ impl Device {
 }
 
 /// Kills the gate, and waits until the last request is gone.
-fn drain(gate: &mut Gate<Device>, told: &Receiver<()>) -> Result<(), Box<dyn Error>> {
+fn drain(gate: &mut Gate<Device>, released: &Receiver<()>) -> Result<(), Box<dyn Error>> {
     gate.kill()?;
-    told.recv()?;
+    released.recv()?;
     Ok(())
 }
 
@@ -58,9 +58,9 @@ fn submit(pass: &Pass<Device>, thread: usize, is_over: &AtomicBool) {
 fn main() -> Result<(), Box<dyn Error>> {
     const THREADS: usize = 4;
     let devices = env::args().nth(1).map_or(Ok(200), |word| word.parse::<u64>())?;
-    let (tells, told) = channel();
-    let tells = Mutex::new(tells); // the thread that drops the last reference sends
-    let on_last: OnLast = Arc::new(move || tells.lock().unwrap().send(()).unwrap());
+    let (release, released) = channel();
+    let release = Mutex::new(release); // the thread that drops the last reference sends
+    let on_last: OnLast = Arc::new(move || release.lock().unwrap().send(()).unwrap());
     let mut gate = Gate::new(Device::plug_in(1, THREADS), 4, 4, Start::Slots, on_last)?;
     let is_over = Arc::new(AtomicBool::new(false));
     let mut threads = Vec::new();
@@ -70,18 +70,18 @@ fn main() -> Result<(), Box<dyn Error>> {
     }
     let mut served = 0;
     while served == 0 {
-        drain(&mut gate, &told)?; // until the threads run
+        drain(&mut gate, &released)?; // until the threads run
         served = *gate.get_mut()?.served.get_mut();
         gate.reinit()?;
     }
     for serial in 2..=devices {
-        drain(&mut gate, &told)?;
+        drain(&mut gate, &released)?;
         let device = gate.get_mut()?;
         served += device.power_off();
         *device = Device::plug_in(serial, THREADS);
         gate.reinit()?;
     }
-    drain(&mut gate, &told)?;
+    drain(&mut gate, &released)?;
     let mut device = gate.remove()?; // though its passes are out
     served += device.power_off();
     is_over.store(true, Relaxed);

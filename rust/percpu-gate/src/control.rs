@@ -1,4 +1,4 @@
-//! A control: who kills and revives.
+//! The control of a gate, which kills and revives it.
 use crate::erased::percpu_gate::{self as erased, ControlFault, Put};
 use crate::errors::{ExitError, KillError, NextPassError, ReinitError, ResurrectError, RetireError, StoreError};
 use crate::handed_back::HandedBack;
@@ -35,7 +35,7 @@ use confirmed::Confirmed;
 /// # Ok::<(), Box<dyn std::error::Error>>(())
 /// ```
 pub struct Control {
-    /// Of the gate of `shared`. No kill of it is under way but during a call of this control.
+    /// The control of the gate of `shared`. No kill is under way but during a call of this control.
     ///
     /// Borrowed during a call of it alone, and no such call comes back to this crate: so no borrow fails.
     erased: RefCell<ErasedControl>,
@@ -249,7 +249,7 @@ impl Control {
     /// ```
     /// # use percpu_gate::{Gate, Revived, Start};
     /// # use std::sync::Arc;
-    /// # let mut control = Gate::new(4, 4, Start::Slots, [0; 8], Arc::new(|| panic!("nobody is told")))?;
+    /// # let mut control = Gate::new(4, 4, Start::Slots, [0; 8], Arc::new(|| panic!("no release comes")))?;
     /// # let pass = control.next_pass(0)?;
     /// let reference = pass.try_get_live()?;
     /// control.kill()?;

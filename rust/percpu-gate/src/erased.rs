@@ -2,8 +2,8 @@
 //! above it. tools/erase writes the files that say so in their first line.
 //!
 //! `percpu_gate` is the running gate: a call of `Pass` or `Control` steps through a seat (`PassSeat`, `ControlSeat`), whose
-//! methods are one atomic step each. `percpu_words` spells its words, and `atomic_table` has the atomics. Of `percpu_core`, which
-//! replays a schedule of steps on a machine of plain numbers, the running gate takes the limits, `Start`, `Phase` and `Memory` alone.
+//! methods are one atomic step each. `percpu_words` spells its words, and `atomic_table` has the atomics. `percpu_core`
+//! replays a schedule of steps on a machine of plain numbers; the running gate uses its limits, `Start`, `Phase` and `Memory` alone.
 //!
 //! A precondition may name a `view`, as in `self.view.standing.held`: what the owner of a seat knows of the gate by its own steps
 //! (docs/GATE.md, "The running gate"). Proofs alone have it; it is no field.
@@ -15,3 +15,13 @@ pub mod fallible;
 pub mod percpu_core;
 pub mod percpu_gate;
 pub mod percpu_words;
+
+use core::sync::atomic::AtomicU64;
+
+/// A step on a word that its table doesn't have: no caller that meets the preconditions takes one.
+#[cold]
+#[inline(never)]
+#[track_caller]
+fn past_the_end(word: usize, words: usize) -> ! {
+    panic!("index out of bounds: a table of {words} words has no word {word}")
+}

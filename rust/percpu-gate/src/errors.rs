@@ -21,13 +21,13 @@ macro_rules! texts {
 /// use percpu_gate::{Gate, NewError, Start};
 /// use std::sync::Arc;
 ///
-/// let refused = Gate::new(65, 1, Start::Slots, [0; 8], Arc::new(|| {}));
+/// let refused = Gate::new(513, 1, Start::Slots, [0; 8], Arc::new(|| {}));
 /// assert_eq!(refused.unwrap_err(), NewError::Size);
 /// ```
 #[derive(Clone, Copy, Debug, PartialEq, Eq, Hash)]
 #[non_exhaustive]
 pub enum NewError {
-    /// A gate has 1 to 64 slots and 1 to 64 passes.
+    /// A gate has 1 to 512 slots and 1 to 1,024 passes.
     Size,
     /// There is no memory for it.
     NoMemory,

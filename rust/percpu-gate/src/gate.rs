@@ -21,7 +21,7 @@ pub enum Start {
     Slots,
     /// Live, counting on the shared word alone.
     Atomic,
-    /// Dead and at zero. (Nobody is told of that zero.)
+    /// Dead and at zero. (`on_last` isn't called for that zero.)
     Dead,
 }
 
@@ -35,7 +35,7 @@ impl From<Start> for erased::Start {
     }
 }
 
-/// A gate. It has no value of its own: who has its [`Control`] kills and revives it, and who has one of its passes counts.
+/// A gate. It has no value of its own: its [`Control`] kills and revives it, and its passes count.
 ///
 /// ```
 /// use percpu_gate::{Gate, Start};
@@ -51,14 +51,14 @@ impl Gate {
     /// Slots of a gate at most.
     ///
     /// ```
-    /// assert_eq!(percpu_gate::Gate::MOST_SLOTS, 64);
+    /// assert_eq!(percpu_gate::Gate::MOST_SLOTS, 512);
     /// ```
     pub const MOST_SLOTS: u32 = erased::SLOT_LIMIT;
 
     /// Passes of a gate that are out at a time, at most.
     ///
     /// ```
-    /// assert_eq!(percpu_gate::Gate::MOST_PASSES, 64);
+    /// assert_eq!(percpu_gate::Gate::MOST_PASSES, 1_024);
     /// ```
     pub const MOST_PASSES: u32 = erased::PASS_LIMIT;
 
@@ -69,14 +69,14 @@ impl Gate {
     /// ```
     pub const MOST_HELD: u32 = erased::HELD_LIMIT;
 
-    /// Makes a gate of 1 to 64 slots and 1 to 64 passes with these guarded words. Linux: `percpu_ref_init`.
+    /// Makes a gate of 1 to 512 slots and 1 to 1,024 passes with these guarded words. Linux: `percpu_ref_init`.
     ///
-    /// `on_last` is called once for each release: by the call that is told that the last reference is gone, on its
-    /// thread, before that call returns. That is the drop of a reference, a kill, or a try that is refused.
+    /// `on_last` is called once for each release: by the call that finds the last reference gone, on its thread, before
+    /// it returns. That call is the drop of a reference, a kill, or a try that is refused.
     ///
     /// # Errors
     ///
-    /// [`NewError::Size`] or [`NewError::NoMemory`]. (The block that the control and its passes share, of some 400 bytes,
+    /// [`NewError::Size`] or [`NewError::NoMemory`]. (The block that the control and its passes share, of some 330 bytes,
     /// is an [`Arc`](alloc::sync::Arc): stable Rust can't refuse it, and ends the program where the allocator does.)
     ///
     /// # Examples

@@ -43,7 +43,7 @@
 //! ```
 //!
 //! A reference costs what one of the plain gate does. No call waits, takes a lock or tries again. Unlike a `Mutex`, a gate isn't poisoned:
-//! a thread that panics leaves the value as it stands. [`misuse`] shows the misuse that doesn't compile.
+//! a thread that panics leaves the value as it is. [`misuse`] shows the misuse that doesn't compile.
 //!
 //! The value needs to be `Send` and `Sync` for its passes to move to other threads, as in an `RwLock` that threads share.
 use crate::{Control, HandedBack, Killed, NewError, NextPassError, OnLast, Phase, RetireError, Start};
@@ -69,12 +69,12 @@ pub use reference::{OwnedReference, Reference};
 /// the last pass.
 pub struct Gate<T> {
     control: Control,
-    /// Of the gate of this control.
+    /// The value of the gate of this control.
     value: Arc<Value<T>>,
 }
 
 impl<T> Gate<T> {
-    /// Makes a gate around this value, of 1 to 64 slots and 1 to 64 passes. [`Gate::new`](crate::Gate::new) says when `on_last` is
+    /// Makes a gate around this value, of 1 to 512 slots and 1 to 1,024 passes. [`Gate::new`](crate::Gate::new) says when `on_last` is
     /// called.
     ///
     /// # Errors
@@ -89,7 +89,7 @@ impl<T> Gate<T> {
     /// use percpu_gate::guarded::Gate;
     /// use std::sync::Arc;
     ///
-    /// let refused = Gate::new("disk", 65, 1, Start::Slots, Arc::new(|| {})).unwrap_err();
+    /// let refused = Gate::new("disk", 513, 1, Start::Slots, Arc::new(|| {})).unwrap_err();
     /// let gate = Gate::new(refused.value, 1, 1, Start::Slots, Arc::new(|| {}))?;
     /// # Ok::<(), Box<dyn std::error::Error>>(())
     /// ```

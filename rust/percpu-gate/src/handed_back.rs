@@ -22,7 +22,7 @@ use core::fmt;
 /// # Ok::<(), Box<dyn std::error::Error>>(())
 /// ```
 pub struct HandedBack<T, E> {
-    /// What the call was given, as it was.
+    /// The value that the call was given, as it was.
     pub value: T,
     /// Why the call refused.
     pub reason: E,

@@ -28,7 +28,7 @@
 //!
 //! # A gate's parts
 //!
-//! A gate has one [`Control`] and 1 to 64 [`Pass`]es; each thread counts with a pass of its own, on a slot of its own.
+//! A gate has one [`Control`] and 1 to 1,024 [`Pass`]es; each thread counts with a pass of its own, on a slot of its own.
 //! Threads may share a slot, which is slower. A reference belongs to the pass that took it, unlike `percpu_ref`'s; a
 //! request that ends on another thread takes its pass along ([`OwnedReference`]). Threads may come and go: a thread that
 //! goes has its pass retired ([`Control::retire`]), and the control gives it out again.
@@ -42,16 +42,16 @@
 //! use std::sync::{Arc, Condvar, Mutex};
 //!
 //! const SECTOR_LIMIT: Word = Word::new(0).unwrap();
-//! let told = Arc::new((Mutex::new(0), Condvar::new()));
-//! let tell = Arc::clone(&told);
+//! let released = Arc::new((Mutex::new(0), Condvar::new()));
+//! let count = Arc::clone(&released);
 //! let on_last = Arc::new(move || {
-//!     *tell.0.lock().unwrap() += 1;
-//!     tell.1.notify_all();
+//!     *count.0.lock().unwrap() += 1;
+//!     count.1.notify_all();
 //! });
 //! let mut control = Gate::new(4, 4, Start::Slots, [512, 0, 0, 0, 0, 0, 0, 0], on_last)?;
 //! let kills = 1;
 //! control.kill()?;
-//! drop(told.1.wait_while(told.0.lock().unwrap(), |told| *told < kills).unwrap());
+//! drop(released.1.wait_while(released.0.lock().unwrap(), |released| *released < kills).unwrap());
 //! control.store_word(SECTOR_LIMIT, 1024)?;
 //! control.reinit()?;
 //! # assert_eq!(control.words()[0], 1024);
@@ -71,10 +71,10 @@
 //! proved, in any order of the atomic steps of all threads. The proof is of those sources, for callers that meet the
 //! preconditions. No proof covers the program that cuts, its stand-in for the words that threads step on
 //! (`src/erased/atomic_table.rs`), the Rust compiler, or this crate around the steps. Its types enforce the preconditions:
-//! [`misuse`] shows the misuse that doesn't compile, and an error refuses the misuse that types can't exclude. A refusal that
-//! they do exclude is a bug of this crate, and panics. There is no `unsafe` in any of it but for one file of 57 lines,
-//! `src/guarded/value.rs`, by which a [`guarded::Gate<T>`](guarded::Gate) lends its T. A mistake elsewhere could break the laws of the gate. It
-//! could break the safety of memory for users of that type alone.
+//! [`misuse`] shows the misuse that doesn't compile, and an error refuses the misuse that types can't exclude. If the inner steps
+//! refuse what the types should have excluded, this crate has a bug, and panics. There is no `unsafe` in any of it but for one file of
+//! 60 lines, `src/guarded/value.rs`, by which a [`guarded::Gate<T>`](guarded::Gate) lends its T. A mistake elsewhere could break the
+//! laws of the gate. It could break the safety of memory for users of that type alone.
 //!
 //! The module `erased` is public for the crates above this one, and no part of the API that versions promise: its functions
 //! trust their preconditions, so no user calls them.
@@ -140,12 +140,12 @@ use shared::WORD_COUNT;
 /// use std::sync::Arc;
 /// use std::sync::atomic::{AtomicU32, Ordering};
 ///
-/// let told = Arc::new(AtomicU32::new(0));
-/// let count = Arc::clone(&told);
+/// let released = Arc::new(AtomicU32::new(0));
+/// let count = Arc::clone(&released);
 /// let on_last: OnLast = Arc::new(move || { count.fetch_add(1, Ordering::SeqCst); });
 /// let mut control = Gate::new(1, 1, Start::Slots, [0; 8], on_last)?;
 /// control.kill()?;
-/// assert_eq!(told.load(Ordering::SeqCst), 1);
+/// assert_eq!(released.load(Ordering::SeqCst), 1);
 /// # Ok::<(), Box<dyn std::error::Error>>(())
 /// ```
 pub type OnLast = Arc<dyn Fn() + Send + Sync>;

@@ -1,5 +1,5 @@
-//! What doesn't compile: each misuse that would break a precondition of the erased gate, or that percpu_gate.h forbids to C, and
-//! that the types here exclude. Each stands behind the same lines without it, which do compile, and has the compiler's number.
+//! Misuse that doesn't compile: each one that would break a precondition of the erased gate, or that percpu_gate.h forbids to C, and
+//! that the types here exclude. Each follows the same lines without it, which do compile, and has the compiler's number.
 //!
 //! # A pass on two threads
 //!
@@ -311,19 +311,19 @@
 //!
 //! # An `on_last` that only one thread may call
 //!
-//! It is called on whichever thread is told:
+//! It is called on the thread whose call finds the last reference gone:
 //!
 //! ```
 //! # use percpu_gate::{Gate, Start};
 //! # use std::sync::{Arc, atomic::{AtomicU32, Ordering}};
-//! let told = Arc::new(AtomicU32::new(0));
-//! let on_last = Arc::new(move || { told.fetch_add(1, Ordering::SeqCst); });
+//! let released = Arc::new(AtomicU32::new(0));
+//! let on_last = Arc::new(move || { released.fetch_add(1, Ordering::SeqCst); });
 //! Gate::new(1, 1, Start::Slots, [0; 8], on_last).unwrap();
 //! ```
 //! ```compile_fail,E0277
 //! # use percpu_gate::{Gate, Start};
 //! # use std::{cell::Cell, rc::Rc, sync::Arc};
-//! let told = Rc::new(Cell::new(0));
-//! let on_last = Arc::new(move || told.set(told.get() + 1));
+//! let released = Rc::new(Cell::new(0));
+//! let on_last = Arc::new(move || released.set(released.get() + 1));
 //! Gate::new(1, 1, Start::Slots, [0; 8], on_last).unwrap();
 //! ```

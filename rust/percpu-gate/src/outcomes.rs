@@ -1,8 +1,8 @@
-//! What calls of a control tell.
+//! The outcomes of calls of a control.
 use crate::WORD_COUNT;
 use crate::erased::percpu_gate as erased;
 
-/// What a kill found.
+/// The outcome of a kill.
 ///
 /// ```
 /// use percpu_gate::{Gate, Killed, Start};
@@ -16,13 +16,13 @@ use crate::erased::percpu_gate as erased;
 /// ```
 #[derive(Clone, Copy, Debug, PartialEq, Eq, Hash)]
 pub enum Killed {
-    /// Nobody held a reference, and this call was told so: `on_last` was called in it.
+    /// No reference was held, and this call has called `on_last`.
     AtZero,
-    /// Another call is told of the last, maybe before this one returned; or none, where `resurrect` comes first.
+    /// A reference was held. Another call calls `on_last`, perhaps before this one returned, or none does if `resurrect` comes first.
     WhileHeld,
 }
 
-/// What a revival by [`Control::resurrect`](crate::Control::resurrect) found.
+/// The outcome of a revival by [`Control::resurrect`](crate::Control::resurrect).
 ///
 /// ```
 /// use percpu_gate::{Gate, Revived, Start};
@@ -40,7 +40,7 @@ pub enum Revived {
     WhileHeld,
 }
 
-/// Where a gate stands.
+/// The phase of a gate.
 ///
 /// ```
 /// use percpu_gate::{Gate, Phase, Start};
@@ -62,7 +62,7 @@ pub enum Phase {
     Dead,
 }
 
-/// What is left of a gate that has ended.
+/// The last state of a gate that has ended.
 ///
 /// ```
 /// use percpu_gate::{Gate, Start};

@@ -1,4 +1,4 @@
-//! A pass: who counts.
+//! A pass of a gate, which counts references.
 use crate::erased::percpu_gate::{HELD_LIMIT, Put, Tried};
 use crate::errors::{GetError, SlotError, TryGetError};
 use crate::handed_back::HandedBack;
@@ -39,7 +39,7 @@ use core::fmt;
 /// ```
 #[repr(align(128))]
 pub struct Pass {
-    /// Of the gate of `shared`. It holds a reference for each [`Reference`] that is there or was forgotten.
+    /// The pass of the gate of `shared`. It holds a reference for each [`Reference`] that is there or was forgotten.
     ///
     /// Borrowed during a call of it alone, and no such call comes back to this crate: so no borrow fails.
     erased: RefCell<ErasedPass>,

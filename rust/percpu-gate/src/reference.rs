@@ -18,16 +18,16 @@ use core::fmt;
 /// use std::sync::Arc;
 /// use std::sync::atomic::{AtomicU32, Ordering};
 ///
-/// let told = Arc::new(AtomicU32::new(0));
-/// let count = Arc::clone(&told);
+/// let released = Arc::new(AtomicU32::new(0));
+/// let count = Arc::clone(&released);
 /// let on_last = Arc::new(move || { count.fetch_add(1, Ordering::SeqCst); });
 /// let mut control = Gate::new(1, 1, Start::Slots, [0; 8], on_last)?;
 /// let pass = control.next_pass(0)?;
 /// let reference = pass.try_get_live()?;
 /// control.kill()?;
-/// assert_eq!(told.load(Ordering::SeqCst), 0);
+/// assert_eq!(released.load(Ordering::SeqCst), 0);
 /// drop(reference);
-/// assert_eq!(told.load(Ordering::SeqCst), 1);
+/// assert_eq!(released.load(Ordering::SeqCst), 1);
 /// # Ok::<(), Box<dyn std::error::Error>>(())
 /// ```
 #[must_use = "a reference is put where it is dropped"]
@@ -47,8 +47,7 @@ impl<'p> Reference<'p> {
         self.pass.gate_number()
     }
 
-    /// One reference more, live or dead: who holds one is always given another, but for the last of 65,535. Linux:
-    /// `percpu_ref_get`.
+    /// One more reference, live or dead. A pass that holds one always gets another, up to 65,535. Linux: `percpu_ref_get`.
     ///
     /// # Errors
     ///

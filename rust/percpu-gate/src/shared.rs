@@ -1,4 +1,4 @@
-//! What a gate's control and its passes share.
+//! The parts of a gate that its control and its passes share.
 use crate::OnLast;
 use crate::erased::percpu_gate as erased;
 use core::sync::atomic::{AtomicU64, Ordering::Relaxed};

@@ -9,12 +9,12 @@ use std::thread;
 type Boxed = Box<dyn Error + Send + Sync>;
 
 fn gate(passes: u32) -> (Control, Arc<AtomicU64>) {
-    let told = Arc::new(AtomicU64::new(0));
-    let count = Arc::clone(&told);
+    let released = Arc::new(AtomicU64::new(0));
+    let count = Arc::clone(&released);
     let on_last: OnLast = Arc::new(move || {
         count.fetch_add(1, Ordering::SeqCst);
     });
-    (Gate::new(2, passes, Start::Slots, [0; 8], on_last).unwrap(), told)
+    (Gate::new(2, passes, Start::Slots, [0; 8], on_last).unwrap(), released)
 }
 
 /// A gate of two passes serves ten thousand threads that come and go, while no more than two are there.
@@ -36,7 +36,7 @@ fn a_retired_pass_is_given_again() {
 /// Each release is counted once, by the pass that it fell to while it was out, however often that pass is given.
 #[test]
 fn a_pass_that_is_given_again_tells_its_releases_once() {
-    let (mut control, told) = gate(1);
+    let (mut control, released) = gate(1);
     for life in 1..=5 {
         let pass = control.next_pass(0).unwrap();
         let reference = pass.try_get_live().unwrap();
@@ -44,7 +44,7 @@ fn a_pass_that_is_given_again_tells_its_releases_once() {
         drop(reference);
         assert_eq!(control.releases(), life - 1, "it isn't retired yet");
         control.retire(pass).unwrap();
-        assert_eq!((control.releases(), told.load(Ordering::SeqCst)), (life, life));
+        assert_eq!((control.releases(), released.load(Ordering::SeqCst)), (life, life));
         let quiet = control.next_pass(1).unwrap();
         control.retire(quiet).unwrap();
         assert_eq!(control.releases(), life);
@@ -65,7 +65,7 @@ fn a_pass_that_is_forgotten_or_dropped_is_not_given_again() {
 
 #[test]
 fn several_references_in_one_step() {
-    let (mut control, told) = gate(1);
+    let (mut control, released) = gate(1);
     let pass = control.next_pass(0).unwrap();
     let first = pass.try_get_live().unwrap();
     let mut many = first.get_many(10).unwrap();
@@ -80,15 +80,15 @@ fn several_references_in_one_step() {
     many.put_many(u32::MAX); // all five
     assert_eq!((many.count(), many.split_one().is_none(), control.is_zero()), (0, true, false));
     drop(many); // none is left
-    assert_eq!(told.load(Ordering::SeqCst), 0);
+    assert_eq!(released.load(Ordering::SeqCst), 0);
     drop(one);
-    assert_eq!((told.load(Ordering::SeqCst), control.is_zero()), (1, true));
+    assert_eq!((released.load(Ordering::SeqCst), control.is_zero()), (1, true));
     control.retire(pass).unwrap();
 }
 
 #[test]
 fn the_most_references_by_one_step() {
-    let (mut control, told) = gate(1);
+    let (mut control, released) = gate(1);
     let pass = control.next_pass(0).unwrap();
     let first = pass.try_get_live().unwrap();
     for too_many in [Gate::MOST_HELD, u32::MAX] {
@@ -100,9 +100,9 @@ fn the_most_references_by_one_step() {
     assert!(format!("{most:?}").ends_with("count: 65534 }"));
     control.kill().unwrap();
     drop(first);
-    assert_eq!(told.load(Ordering::SeqCst), 0);
+    assert_eq!(released.load(Ordering::SeqCst), 0);
     drop(most);
-    assert_eq!(told.load(Ordering::SeqCst), 1);
+    assert_eq!(released.load(Ordering::SeqCst), 1);
 }
 
 /// `?` leads into a boxed error that crosses threads, from each refusal that hands something back too.
@@ -121,8 +121,8 @@ fn errors_are_boxed() {
     }
     let ((mut control, _), (mut other, _)) = (gate(3), gate(1));
     let [one, two] = [control.next_pass(0).unwrap(), control.next_pass(0).unwrap()];
-    let told = thread::spawn(move || retires(&mut other, one).unwrap_err()).join().unwrap();
-    assert_eq!(told.to_string(), "the pass is of another gate");
+    let why = thread::spawn(move || retires(&mut other, one).unwrap_err()).join().unwrap();
+    assert_eq!(why.to_string(), "the pass is of another gate");
     control.kill().unwrap();
     assert_eq!(*enters(two).unwrap_err().downcast::<TryGetError>().unwrap(), TryGetError::NotGiven);
     assert_eq!(ends(control).unwrap_err().to_string(), "passes aren't retired");

@@ -1,5 +1,5 @@
-//! Misuses that compile: each is refused by an error, or does what its documentation says. (Those that don't compile
-//! stand in src/misuse.rs.) An answer that the types exclude would panic as a bug of the crate, and fail the test.
+//! Misuses that compile: each is refused by an error, or does what its documentation says. (src/misuse.rs
+//! has the ones that don't compile.) An answer that the types exclude would panic as a bug of the crate, and fail the test.
 use percpu_gate::{
     Control, ExitError, Gate, GetError, KillError, Killed, OnLast, Pass, Phase, RetireError, Start, TryGetError, Word,
 };
@@ -12,27 +12,27 @@ use std::sync::{Arc, Mutex, mpsc};
 use std::thread;
 
 fn counted() -> (OnLast, Arc<AtomicU64>) {
-    let told = Arc::new(AtomicU64::new(0));
-    let count = Arc::clone(&told);
+    let released = Arc::new(AtomicU64::new(0));
+    let count = Arc::clone(&released);
     let on_last: OnLast = Arc::new(move || {
         count.fetch_add(1, Ordering::SeqCst);
     });
-    (on_last, told)
+    (on_last, released)
 }
 
 fn gate(passes: u32) -> (Control, Arc<AtomicU64>) {
-    let (on_last, told) = counted();
-    (Gate::new(2, passes, Start::Slots, [0; 8], on_last).unwrap(), told)
+    let (on_last, released) = counted();
+    (Gate::new(2, passes, Start::Slots, [0; 8], on_last).unwrap(), released)
 }
 
 fn panics<T>(call: impl FnOnce() -> T) -> bool {
     catch_unwind(AssertUnwindSafe(call)).is_err()
 }
 
-/// A reference that is forgotten is held for ever: never told, never retired, and refused at the most.
+/// A reference that is forgotten is held for ever: no release comes, its pass never retires, and the most are refused.
 #[test]
 fn references_are_forgotten() {
-    let (mut control, told) = gate(2);
+    let (mut control, released) = gate(2);
     let pass = control.next_pass(0).unwrap();
     for _ in 0..Gate::MOST_HELD {
         mem::forget(pass.try_get_live().unwrap());
@@ -45,19 +45,19 @@ fn references_are_forgotten() {
     assert_eq!(control.kill(), Ok(Killed::WhileHeld));
     drop(refused);
     assert!(!control.is_zero());
-    assert_eq!(told.load(Ordering::SeqCst), 0);
+    assert_eq!(released.load(Ordering::SeqCst), 0);
     assert_eq!(control.exit().unwrap_err().reason, ExitError::PassesOut);
 }
 
 /// A forgotten owned reference takes its pass along, into nowhere.
 #[test]
 fn an_owned_reference_is_forgotten() {
-    let (mut control, told) = gate(1);
+    let (mut control, released) = gate(1);
     mem::forget(control.next_pass(0).unwrap().into_reference_live().unwrap());
     assert_eq!(control.kill(), Ok(Killed::WhileHeld));
     let refused = control.exit().unwrap_err();
     drop(refused);
-    assert_eq!(told.load(Ordering::SeqCst), 0);
+    assert_eq!(released.load(Ordering::SeqCst), 0);
 }
 
 /// Passes of two gates are swapped, and each still counts for its own gate.
@@ -92,10 +92,10 @@ fn controls_are_swapped() {
     there.retire(here.retire(pass).unwrap_err().value).unwrap();
 }
 
-/// The control goes first: passes count on, and who puts the last reference is told still.
+/// The control goes first: passes still count, and the put of the last reference still calls `on_last`.
 #[test]
 fn the_control_is_dropped_first() {
-    let (mut control, told) = gate(2);
+    let (mut control, released) = gate(2);
     let (pass, other) = (control.next_pass(0).unwrap(), control.next_pass(1).unwrap());
     let held = pass.try_get_live().unwrap();
     control.kill().unwrap();
@@ -104,7 +104,7 @@ fn the_control_is_dropped_first() {
     let more = other.try_get().unwrap();
     drop(held);
     drop(more);
-    assert_eq!(told.load(Ordering::SeqCst), 1);
+    assert_eq!(released.load(Ordering::SeqCst), 1);
     assert!(pass.is_zero());
     let (mut stranger, _) = gate(1);
     assert_eq!(stranger.retire(pass).unwrap_err().reason, RetireError::OtherGate);
@@ -120,11 +120,11 @@ fn a_pass_is_dropped() {
     assert_eq!(refused.reason, ExitError::PassesOut);
 }
 
-/// `on_last` panics, in a drop, in a kill and in the middle of nothing else: it was told once, and the gate goes on.
+/// `on_last` panics, in a drop, in a kill and in the middle of nothing else: it was called once, and the gate goes on.
 #[test]
 fn on_last_panics() {
-    let told = Arc::new(AtomicU64::new(0));
-    let count = Arc::clone(&told);
+    let released = Arc::new(AtomicU64::new(0));
+    let count = Arc::clone(&released);
     let on_last: OnLast = Arc::new(move || {
         count.fetch_add(1, Ordering::SeqCst);
         panic!("as the test wants");
@@ -134,41 +134,41 @@ fn on_last_panics() {
     let held = pass.try_get_live().unwrap();
     control.kill().unwrap();
     assert!(panics(|| drop(held)));
-    assert_eq!((told.load(Ordering::SeqCst), control.is_zero()), (1, true));
+    assert_eq!((released.load(Ordering::SeqCst), control.is_zero()), (1, true));
     control.reinit().unwrap();
     assert!(panics(|| control.kill()));
-    assert_eq!((told.load(Ordering::SeqCst), control.phase()), (2, Phase::Dead));
+    assert_eq!((released.load(Ordering::SeqCst), control.phase()), (2, Phase::Dead));
     assert_eq!(control.kill(), Err(KillError::AlreadyDead));
     control.reinit().unwrap();
     let request = pass.into_reference_live().unwrap();
     control.kill().unwrap();
     assert!(panics(|| drop(request.put()))); // and so the pass is dropped
-    assert_eq!(told.load(Ordering::SeqCst), 3);
+    assert_eq!(released.load(Ordering::SeqCst), 3);
     control.resurrect().unwrap();
     assert!(panics(|| control.kill_and_confirm(|_| ())));
-    assert_eq!((told.load(Ordering::SeqCst), control.kills()), (4, 4));
+    assert_eq!((released.load(Ordering::SeqCst), control.kills()), (4, 4));
     assert_eq!(control.exit().unwrap_err().reason, ExitError::PassesOut);
 }
 
-/// What is called at the confirmation panics: the kill is ended, and told, all the same.
+/// The function that is called at the confirmation panics: the kill ends, and `on_last` is called, all the same.
 #[test]
 fn confirm_panics() {
-    let (mut control, told) = gate(1);
+    let (mut control, released) = gate(1);
     let pass = control.next_pass(0).unwrap();
     assert!(panics(|| control.kill_and_confirm(|_| panic!("as the test wants"))));
-    assert_eq!((control.phase(), control.is_zero(), told.load(Ordering::SeqCst)), (Phase::Dead, true, 1));
+    assert_eq!((control.phase(), control.is_zero(), released.load(Ordering::SeqCst)), (Phase::Dead, true, 1));
     control.reinit().unwrap();
     let held = pass.try_get_live().unwrap();
     assert!(panics(|| control.kill_and_confirm(|_| panic!("as the test wants"))));
     drop(held);
-    assert_eq!((control.kills(), told.load(Ordering::SeqCst)), (2, 2));
+    assert_eq!((control.kills(), released.load(Ordering::SeqCst)), (2, 2));
     control.reinit().unwrap();
 }
 
 /// A thread that panics under a reference puts it as it unwinds.
 #[test]
 fn a_thread_panics_under_its_reference() {
-    let (mut control, told) = gate(1);
+    let (mut control, released) = gate(1);
     let pass = control.next_pass(0).unwrap();
     let done = thread::spawn(move || {
         let _held = pass.try_get_live().unwrap();
@@ -176,7 +176,7 @@ fn a_thread_panics_under_its_reference() {
     });
     assert!(done.join().is_err());
     assert_eq!(control.kill(), Ok(Killed::AtZero));
-    assert_eq!(told.load(Ordering::SeqCst), 1);
+    assert_eq!(released.load(Ordering::SeqCst), 1);
 }
 
 thread_local! {
@@ -203,12 +203,12 @@ fn on_last_comes_back_to_the_pass() {
     assert_eq!(seen.load(Ordering::SeqCst), 1);
 }
 
-/// `on_last` revives the gate under a lock, from another thread than the killer's, and kills it again: told in turn.
+/// `on_last` revives the gate under a lock, from another thread than the killer's, and kills it again: it is called in turn.
 #[test]
 fn on_last_has_the_control() {
     let shared: Arc<Mutex<Option<Control>>> = Arc::new(Mutex::new(None));
-    let told = Arc::new(AtomicU64::new(0));
-    let (control, count) = (Arc::clone(&shared), Arc::clone(&told));
+    let released = Arc::new(AtomicU64::new(0));
+    let (control, count) = (Arc::clone(&shared), Arc::clone(&released));
     let on_last: OnLast = Arc::new(move || {
         if count.fetch_add(1, Ordering::SeqCst) >= 2 {
             return;
@@ -225,7 +225,7 @@ fn on_last_has_the_control() {
         *shared.lock().unwrap() = Some(control);
         drop(held);
         control = shared.lock().unwrap().take().unwrap();
-        assert_eq!((told.load(Ordering::SeqCst), control.phase() == Phase::Dead), (life, life == 3));
+        assert_eq!((released.load(Ordering::SeqCst), control.phase() == Phase::Dead), (life, life == 3));
     }
 }
 
@@ -247,7 +247,7 @@ fn on_last_drops_the_control() {
 /// Owned references and passes travel through channels, and are let go on threads that never saw their gate.
 #[test]
 fn passes_travel() {
-    let (mut control, told) = gate(2);
+    let (mut control, released) = gate(2);
     let (send, receive) = mpsc::channel();
     let (back, returned) = mpsc::channel();
     let far = thread::spawn(move || {
@@ -264,13 +264,13 @@ fn passes_travel() {
     for pass in returned {
         control.retire(pass).unwrap();
     }
-    assert_eq!((control.exit().unwrap().releases, told.load(Ordering::SeqCst)), (1, 1));
+    assert_eq!((control.exit().unwrap().releases, released.load(Ordering::SeqCst)), (1, 1));
 }
 
 /// References outlive one another in any order, clones too, and one that is never dropped is one that is forgotten.
 #[test]
 fn references_are_dropped_in_any_order() {
-    let (mut control, told) = gate(1);
+    let (mut control, released) = gate(1);
     let pass = control.next_pass(0).unwrap();
     let first = pass.try_get_live().unwrap();
     let second = first.try_clone().unwrap();
@@ -284,19 +284,19 @@ fn references_are_dropped_in_any_order() {
     assert!(!control.is_zero());
     assert_eq!(kept.word(Word::ALL[0]), 0);
     drop(ManuallyDrop::into_inner(kept));
-    assert_eq!(told.load(Ordering::SeqCst), 1);
+    assert_eq!(released.load(Ordering::SeqCst), 1);
 }
 
 /// A reference leaks through a cycle: held for ever, as one that is forgotten.
 #[test]
 fn a_reference_leaks_in_a_cycle() {
     struct Node(RefCell<Option<Rc<Node>>>, #[expect(dead_code, reason = "it is held")] percpu_gate::OwnedReference);
-    let (mut control, told) = gate(1);
+    let (mut control, released) = gate(1);
     let node = Rc::new(Node(RefCell::new(None), control.next_pass(0).unwrap().into_reference().unwrap()));
     *node.0.borrow_mut() = Some(Rc::clone(&node));
     drop(node);
     control.kill().unwrap();
-    assert_eq!((control.is_zero(), told.load(Ordering::SeqCst)), (false, 0));
+    assert_eq!((control.is_zero(), released.load(Ordering::SeqCst)), (false, 0));
 }
 
 /// The most references at once, by clones, is an ordinary refusal.

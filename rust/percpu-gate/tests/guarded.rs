@@ -1,7 +1,7 @@
-//! Plain memory under the gate's guard, from life to life: threads write it while they hold a reference, who is told of
-//! the last reads what they wrote and frees it, and who revives the gate has made it anew. Built for the thread sanitizer
-//! with `--cfg percpu_gate_tsan` this is a race wherever the crate doesn't tell it the gate's order. The gate alone
-//! guards the memory, which no type of Rust's can know: so this test has `unsafe` of its own.
+//! Plain memory under the gate's guard, from life to life: threads write it while they hold a reference, and
+//! the call of the release reads what they wrote and frees it. The thread that revives the gate has made it anew. Built for
+//! the thread sanitizer with `--cfg percpu_gate_tsan`, this is a race wherever the crate doesn't announce the gate's order
+//! to it. The gate alone guards the memory, which no type of Rust can know, so this test has `unsafe` of its own.
 #![allow(unsafe_code)]
 
 use percpu_gate::{Control, Gate, Killed, OnLast, Pass, Revived, Start};
@@ -20,7 +20,7 @@ type Counts = [u64; THREADS as usize];
 /// A device that is there while the gate isn't at zero, with a count for each thread; null while it isn't.
 struct Device(UnsafeCell<*mut Counts>);
 
-// SAFETY: the gate guards it: each thread changes its own count under a reference; who is told of the last, or revives
+// SAFETY: the gate guards it: each thread changes its own count under a reference. The call of the release, or a revival of
 // the gate from zero, has it alone.
 unsafe impl Sync for Device {}
 // SAFETY: what it leads to is plain numbers.
@@ -36,13 +36,13 @@ impl Device {
 
     fn make(&self) {
         let counts = Box::into_raw(Box::new(Counts::default()));
-        // SAFETY: the gate is at zero, and its release was told and is done: nobody else is here.
+        // SAFETY: the gate is at zero, and its release is done: no other thread is here.
         let old = unsafe { self.0.get().replace(counts) };
         assert!(old.is_null());
     }
 
     fn free(&self) -> u64 {
-        // SAFETY: the caller was told of the last: nobody else is here before the revival.
+        // SAFETY: the caller is the release: no other thread is here before the revival.
         let counts = unsafe { self.0.get().replace(ptr::null_mut()) };
         assert!(!counts.is_null());
         // SAFETY: it came from a box, and isn't led to any more.
@@ -51,7 +51,7 @@ impl Device {
     }
 }
 
-/// What the threads are told, and what they tell. All but `over` is relaxed: it orders nothing.
+/// Signs to the threads, and from them. All but `over` is relaxed: it orders nothing.
 #[derive(Default)]
 struct Signs {
     over: AtomicBool,
@@ -61,7 +61,7 @@ struct Signs {
     requests: AtomicU64,
 }
 
-/// Serves until the end, and tells how often.
+/// Serves until the end, and returns how often.
 fn serve(pass: &Pass, thread: u32, device: &Device, signs: &Signs) -> u64 {
     let mut served = 0;
     while !signs.over.load(Ordering::SeqCst) {
@@ -115,14 +115,14 @@ fn live_and_die(control: &mut Control, device: &Device, freed: &AtomicU64, signs
 
 #[test]
 fn memory_that_the_gate_guards() {
-    let lives: u64 = env::var("PERCPU_GATE_LIVES").ok().and_then(|told| told.parse().ok()).unwrap_or(300);
+    let lives: u64 = env::var("PERCPU_GATE_LIVES").ok().and_then(|text| text.parse().ok()).unwrap_or(300);
     let device = Arc::new(Device(UnsafeCell::new(ptr::null_mut())));
     device.make();
     let (freed, all) = (Arc::new(AtomicU64::new(0)), Arc::new(AtomicU64::new(0)));
-    let (its, told, sum) = (Arc::clone(&device), Arc::clone(&freed), Arc::clone(&all));
+    let (its, releases, sum) = (Arc::clone(&device), Arc::clone(&freed), Arc::clone(&all));
     let on_last: OnLast = Arc::new(move || {
         sum.fetch_add(its.free(), Ordering::SeqCst);
-        told.fetch_add(1, Ordering::SeqCst);
+        releases.fetch_add(1, Ordering::SeqCst);
     });
     let mut control = Gate::new(THREADS, THREADS, Start::Slots, [0; 8], on_last).unwrap();
     let signs = Signs::default();

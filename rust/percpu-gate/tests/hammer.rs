@@ -13,7 +13,7 @@ const ONE: Word = Word::new(0).unwrap();
 const OTHER: Word = Word::new(7).unwrap();
 
 fn rounds() -> u64 {
-    env::var("PERCPU_GATE_ROUNDS").ok().and_then(|told| told.parse().ok()).unwrap_or(100_000)
+    env::var("PERCPU_GATE_ROUNDS").ok().and_then(|text| text.parse().ok()).unwrap_or(100_000)
 }
 
 fn count(pass: &Pass, rounds: u64) {
@@ -58,8 +58,8 @@ fn live_and_die(control: &mut Control, done: &AtomicU64) -> (u64, u64) {
 
 #[test]
 fn counts_under_kills() {
-    let told = Arc::new(AtomicU64::new(0));
-    let tells = Arc::clone(&told);
+    let released = Arc::new(AtomicU64::new(0));
+    let tells = Arc::clone(&released);
     let on_last = Arc::new(move || {
         tells.fetch_add(1, Ordering::SeqCst);
     });
@@ -80,12 +80,12 @@ fn counts_under_kills() {
         control.retire(thread.join().unwrap()).unwrap();
     }
     assert_eq!((control.kills(), control.releases()), (kills, at_zero));
-    assert_eq!(told.load(Ordering::SeqCst), at_zero);
+    assert_eq!(released.load(Ordering::SeqCst), at_zero);
     let Final { dead, releases, .. } = control.exit().unwrap();
     assert_eq!((dead, releases), (false, at_zero));
 }
 
-/// How many times the last was told, and a wait for it.
+/// The releases so far, and a wait for one.
 #[derive(Default)]
 struct Told(Mutex<u64>, Condvar);
 
@@ -96,7 +96,7 @@ impl Told {
     }
 
     fn wait_for(&self, kills: u64) {
-        drop(self.1.wait_while(self.0.lock().unwrap(), |told| *told < kills).unwrap());
+        drop(self.1.wait_while(self.0.lock().unwrap(), |released| *released < kills).unwrap());
     }
 }
 
@@ -132,10 +132,10 @@ fn complete(sent: &Mutex<mpsc::Receiver<OwnedReference>>, back: &mpsc::Sender<Pa
 }
 
 /// Changes the setting so many times, each when all requests under way are done.
-fn change(control: &mut Control, told: &Told, changes: u64) {
+fn change(control: &mut Control, released: &Told, changes: u64) {
     for change in 1..=changes {
         control.kill().unwrap();
-        told.wait_for(change);
+        released.wait_for(change);
         assert_eq!(control.phase(), Phase::Dead);
         control.store_word(ONE, change).unwrap();
         control.store_word(OTHER, change).unwrap();
@@ -145,8 +145,8 @@ fn change(control: &mut Control, told: &Told, changes: u64) {
 
 #[test]
 fn requests_end_on_other_threads() {
-    let told = Arc::new(Told::default());
-    let tells = Arc::clone(&told);
+    let released = Arc::new(Told::default());
+    let tells = Arc::clone(&released);
     let mut control = Gate::new(2, 8, Start::Slots, [0; 8], Arc::new(move || tells.tell())).unwrap();
     let ((back, free), (sent, begun)) = (mpsc::channel(), mpsc::channel());
     for tag in 0..8 {
@@ -163,7 +163,7 @@ fn requests_end_on_other_threads() {
             let (free, over) = (&free, &over);
             threads.spawn(move || submit(free, &back, &sent, over));
         }
-        change(&mut control, &told, changes);
+        change(&mut control, &released, changes);
         over.store(true, Ordering::SeqCst);
         drop(sent);
         for completer in completers {

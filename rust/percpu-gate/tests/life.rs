@@ -1,4 +1,4 @@
-//! Each call on one thread: what it tells, each refusal, and that a refusal leaves everything as it was.
+//! Each call on one thread: its outcome, each refusal, and that a refusal leaves everything as it was.
 use percpu_gate::{
     Control, ExitError, Final, Gate, GetError, KillError, Killed, NewError, NextPassError, OnLast, Pass, Phase,
     ReinitError, ResurrectError, RetireError, Revived, SlotError, Start, StoreError, TryGetError, Word,
@@ -12,15 +12,15 @@ const WORDS: [u64; 8] = [3, 0, 0, 0, 0, 0, 0, u64::MAX];
 
 /// A gate, and how many times its `on_last` was called.
 fn gate(slots: u32, passes: u32, start: Start) -> (Control, Arc<AtomicU64>) {
-    let told = Arc::new(AtomicU64::new(0));
-    let count = Arc::clone(&told);
+    let released = Arc::new(AtomicU64::new(0));
+    let count = Arc::clone(&released);
     let on_last: OnLast = Arc::new(move || {
         count.fetch_add(1, Ordering::SeqCst);
     });
-    (Gate::new(slots, passes, start, WORDS, on_last).unwrap(), told)
+    (Gate::new(slots, passes, start, WORDS, on_last).unwrap(), released)
 }
 
-fn told(count: &AtomicU64) -> u64 {
+fn released(count: &AtomicU64) -> u64 {
     count.load(Ordering::SeqCst)
 }
 
@@ -32,11 +32,11 @@ fn with_pass() -> (Control, Pass, Arc<AtomicU64>) {
 
 #[test]
 fn sizes() {
-    for (slots, passes) in [(0, 1), (65, 1), (1, 0), (1, 65), (u32::MAX, u32::MAX)] {
+    for (slots, passes) in [(0, 1), (513, 1), (1, 0), (1, 1025), (u32::MAX, u32::MAX)] {
         let refused = Gate::new(slots, passes, Start::Slots, WORDS, Arc::new(|| {}));
         assert_eq!(refused.unwrap_err(), NewError::Size);
     }
-    for (slots, passes) in [(1, 1), (64, 64), (1, 64), (64, 1)] {
+    for (slots, passes) in [(1, 1), (512, 1024), (1, 1024), (512, 1), (64, 64)] {
         let (mut control, _) = gate(slots, passes, Start::Slots);
         let all: Vec<Pass> = (0..passes).map(|i| control.next_pass(i % slots).unwrap()).collect();
         assert_eq!(control.next_pass(slots).unwrap_err(), NextPassError::NoSlot);
@@ -67,7 +67,7 @@ fn starts() {
         assert_eq!(control.words(), WORDS);
         control.retire(pass).unwrap();
         assert_eq!(control.exit().unwrap(), Final { dead: is_dead, kills: 0, releases: 0, words: WORDS });
-        assert_eq!(told(&count), 0);
+        assert_eq!(released(&count), 0);
     }
 }
 
@@ -75,7 +75,7 @@ fn starts() {
 fn a_kill_with_and_without_references() {
     let (mut control, pass, count) = with_pass();
     assert_eq!(control.kill(), Ok(Killed::AtZero));
-    assert_eq!(told(&count), 1);
+    assert_eq!(released(&count), 1);
     assert_eq!(control.kill(), Err(KillError::AlreadyDead));
     assert_eq!(control.kill_and_confirm(|_| unreachable!()), Err(KillError::AlreadyDead));
     assert_eq!(control.reinit(), Ok(()));
@@ -84,14 +84,14 @@ fn a_kill_with_and_without_references() {
     assert_eq!(pass.try_get_live().unwrap_err(), TryGetError::NotGiven);
     let more = pass.try_get().unwrap();
     drop((one, other));
-    assert_eq!((told(&count), control.is_zero()), (1, false));
+    assert_eq!((released(&count), control.is_zero()), (1, false));
     drop(more);
-    assert_eq!((told(&count), control.is_zero()), (2, true));
+    assert_eq!((released(&count), control.is_zero()), (2, true));
     assert_eq!(pass.try_get().unwrap_err(), TryGetError::NotGiven);
     assert_eq!((control.kills(), control.releases()), (2, 1)); // the pass's is counted when it is retired
     control.retire(pass).unwrap();
     assert_eq!((control.kills(), control.releases()), (2, 2));
-    assert_eq!(told(&count), 2);
+    assert_eq!(released(&count), 2);
 }
 
 #[test]
@@ -109,12 +109,12 @@ fn a_confirmed_kill() {
             drop(reference);
             assert!(!pass.is_zero()); // the initial reference is there still
         });
-        assert_eq!((killed, called, told(&count)), (Ok(Killed::AtZero), 1, 1));
+        assert_eq!((killed, called, released(&count)), (Ok(Killed::AtZero), 1, 1));
         assert_eq!(control.reinit(), Ok(()));
         let reference = pass.try_get_live().unwrap();
         assert_eq!(control.kill_and_confirm(|front| assert_eq!(front, 3)), Ok(Killed::WhileHeld));
         drop(reference);
-        assert_eq!(told(&count), 2);
+        assert_eq!(released(&count), 2);
     }
 }
 
@@ -129,12 +129,12 @@ fn revivals() {
     assert_eq!(control.phase(), Phase::Dead);
     assert_eq!(control.resurrect(), Ok(Revived::WhileHeld));
     drop(reference);
-    assert_eq!((told(&count), pass.front()), (0, 2)); // nobody is told of that kill's end
+    assert_eq!((released(&count), pass.front()), (0, 2)); // that kill has no release
     control.kill().unwrap();
     assert_eq!(control.resurrect(), Ok(Revived::FromZero));
     control.kill().unwrap();
     assert_eq!(control.reinit(), Ok(()));
-    assert_eq!((told(&count), pass.front(), control.kills()), (2, 6, 3));
+    assert_eq!((released(&count), pass.front(), control.kills()), (2, 6, 3));
 }
 
 #[test]
@@ -187,7 +187,7 @@ fn slots() {
     assert_eq!(pass.slot(), 1);
     drop(reference);
     assert_eq!(control.kill(), Ok(Killed::AtZero));
-    assert_eq!(told(&count), 1);
+    assert_eq!(released(&count), 1);
 }
 
 #[test]
@@ -201,7 +201,7 @@ fn as_many_references_as_there_are() {
     control.kill().unwrap();
     drop(first);
     drop(most);
-    assert_eq!(told(&count), 1);
+    assert_eq!(released(&count), 1);
     let refused = pass.into_reference().unwrap_err();
     assert_eq!(refused.reason, TryGetError::NotGiven);
     control.retire(refused.value).unwrap();
@@ -215,15 +215,15 @@ fn a_reference_that_takes_its_pass_along() {
     control.kill().unwrap();
     let another = request.pass().try_get().unwrap();
     drop(another);
-    assert_eq!(told(&count), 0);
+    assert_eq!(released(&count), 0);
     let pass = request.put();
-    assert_eq!(told(&count), 1);
+    assert_eq!(released(&count), 1);
     control.retire(pass).unwrap();
     control.reinit().unwrap();
     let request = control.next_pass(1).unwrap().into_reference().unwrap();
     control.kill().unwrap();
     drop(request); // its reference is put; its pass is out for ever
-    assert_eq!(told(&count), 2);
+    assert_eq!(released(&count), 2);
     assert_eq!(control.exit().unwrap_err().reason, ExitError::PassesOut);
 }
 

@@ -23,11 +23,11 @@ const SEATS: usize = 12;
 /// A gate that was made: its model, and what its `on_last` counts.
 struct Made {
     counter: Counter,
-    told: Arc<AtomicU64>,
+    releases: Arc<AtomicU64>,
     number: u64,
 }
 
-/// Who counts, in the forms that the crate has.
+/// The forms that the crate has of a pass that counts.
 enum Counting {
     Free(Pass),
     Owned(OwnedReference),
@@ -39,7 +39,7 @@ struct Seat {
     gate: usize,
     /// References that were forgotten, and releases that fell to this pass.
     forgotten: u64,
-    told: u64,
+    releases: u64,
     counting: Counting,
 }
 
@@ -53,8 +53,8 @@ impl Seat {
     }
 
     /// Notes a release that the model says fell to this pass.
-    fn notes(&mut self, told: bool) {
-        self.told += u64::from(told);
+    fn notes(&mut self, releases: bool) {
+        self.releases += u64::from(releases);
     }
 }
 
@@ -80,22 +80,22 @@ impl Run {
     }
 
     fn make(&mut self, c: usize) {
-        let slots = if self.chance(6) { self.below(70) } else { 1 + self.below(4) };
-        let passes = if self.chance(6) { self.below(70) } else { 1 + self.below(4) };
+        let slots = if self.chance(6) { self.below(600) } else { 1 + self.below(4) };
+        let passes = if self.chance(6) { self.below(1_200) } else { 1 + self.below(4) };
         let start = [Start::Slots, Start::Atomic, Start::Dead][self.below(3) as usize];
         let words = [(); 8].map(|()| u64::from(self.below(1000)));
-        let told = Arc::new(AtomicU64::new(0));
-        let tells = Arc::clone(&told);
+        let releases = Arc::new(AtomicU64::new(0));
+        let tells = Arc::clone(&releases);
         let on_last = Arc::new(move || {
             tells.fetch_add(1, Ordering::SeqCst);
         });
-        let fits = (1..=64).contains(&slots) && (1..=64).contains(&passes);
+        let fits = (1..=512).contains(&slots) && (1..=1_024).contains(&passes);
         match Gate::new(slots, passes, start, words, on_last) {
             Ok(control) => {
                 assert!(fits);
                 let number = control.gate_number();
                 assert!(self.made.iter().all(|other| other.number != number));
-                self.made.push(Made { counter: Counter::new(slots, passes, start, words), told, number });
+                self.made.push(Made { counter: Counter::new(slots, passes, start, words), releases, number });
                 self.controls[c] = Some((self.made.len() - 1, control));
             }
             Err(why) => assert!(!fits && why == NewError::Size),
@@ -114,12 +114,12 @@ impl Run {
         } else {
             (counter.waiting, counter.out) = (counter.waiting - 1, counter.out + 1);
             self.let_go(s);
-            self.seats[s] = Some(Seat { gate, forgotten: 0, told: 0, counting: Counting::Free(given.unwrap()) });
+            self.seats[s] = Some(Seat { gate, forgotten: 0, releases: 0, counting: Counting::Free(given.unwrap()) });
         }
         self.controls[c] = Some((gate, control));
     }
 
-    /// Drops whatever stands at a seat: what it held is put, but what was forgotten.
+    /// Drops the pass or reference of a seat: what it held is put, but for what was forgotten.
     fn let_go(&mut self, s: usize) {
         let Some(seat) = self.seats[s].take() else { return };
         let counter = &mut self.made[seat.gate].counter;
@@ -145,7 +145,7 @@ impl Run {
                 assert_eq!((seat.gate, seat.forgotten), (*gate, 0));
                 let counter = &mut self.made[*gate].counter;
                 (counter.out, counter.waiting) = (counter.out - 1, counter.waiting + 1);
-                counter.known += seat.told;
+                counter.known += seat.releases;
                 return;
             }
             Err(refusal) => refusal,
@@ -197,8 +197,8 @@ impl Run {
         if forgotten {
             seat.forgotten += 1;
         } else {
-            let told = counter.drops();
-            seat.notes(told);
+            let releases = counter.drops();
+            seat.notes(releases);
         }
     }
 
@@ -225,8 +225,8 @@ impl Run {
         } else {
             assert_eq!(references[at].words(), counter.words);
             drop(references.swap_remove(at));
-            let told = counter.drops();
-            seat.notes(told);
+            let releases = counter.drops();
+            seat.notes(releases);
         }
     }
 
@@ -253,8 +253,8 @@ impl Run {
             }
             Counting::Owned(request) => {
                 assert_eq!(request.words(), counter.words);
-                let told = counter.drops();
-                seat.told += u64::from(told);
+                let releases = counter.drops();
+                seat.releases += u64::from(releases);
                 Counting::Free(request.put())
             }
             many @ Counting::Many(..) => many,
@@ -290,30 +290,30 @@ impl Run {
             _ => {}
         }
         for made in self.made.iter().rev().take(10) {
-            assert_eq!(made.told.load(Ordering::SeqCst), made.counter.told);
+            assert_eq!(made.releases.load(Ordering::SeqCst), made.counter.releases);
         }
     }
 }
 
-fn told(name: &str, otherwise: u64) -> u64 {
-    env::var(name).ok().and_then(|told| told.parse().ok()).unwrap_or(otherwise)
+fn number_of(name: &str, otherwise: u64) -> u64 {
+    env::var(name).ok().and_then(|text| text.parse().ok()).unwrap_or(otherwise)
 }
 
 #[test]
 fn random_calls() {
     let mut run = Run {
-        seed: told("PERCPU_GATE_SEED", 1),
+        seed: number_of("PERCPU_GATE_SEED", 1),
         made: vec![],
         controls: Default::default(),
         seats: Default::default(),
     };
-    for _ in 0..told("PERCPU_GATE_CALLS", 2_000_000) {
+    for _ in 0..number_of("PERCPU_GATE_CALLS", 2_000_000) {
         run.call();
     }
     assert!(run.made.len() > 100, "{} gates", run.made.len());
-    let told: u64 = run.made.iter().map(|made| made.counter.told).sum();
-    assert!(told > 1000, "{told} releases");
+    let releases: u64 = run.made.iter().map(|made| made.counter.releases).sum();
+    assert!(releases > 1000, "{releases} releases");
     for made in &run.made {
-        assert_eq!(made.told.load(Ordering::SeqCst), made.counter.told);
+        assert_eq!(made.releases.load(Ordering::SeqCst), made.counter.releases);
     }
 }

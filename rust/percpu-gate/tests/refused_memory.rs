@@ -45,7 +45,7 @@ unsafe impl GlobalAlloc for Refusing {
 #[global_allocator]
 static ALLOCATOR: Refusing = Refusing;
 
-/// What a call returns if so many allocations succeed and the next is refused.
+/// The result of a call if so many allocations succeed and the next one fails.
 fn after<T>(allowed: u64, call: impl FnOnce() -> T) -> T {
     ALLOWED.set(Some(allowed));
     let answer = call();
@@ -58,11 +58,11 @@ fn end(mut control: Control, pass: percpu_gate::Pass) {
     assert_eq!(control.exit().unwrap().words, [3; 8]);
 }
 
-/// Each but the last, which is that of the `Arc` that the control and its passes share: stable Rust can't refuse it.
+/// Each allocation but the last, the `Arc` that the control and its passes share: stable Rust can't refuse it.
 #[test]
 fn each_allocation_refused() {
     let on_last: OnLast = Arc::new(|| {});
-    let new = || Gate::new(64, 2, Start::Slots, [3; 8], Arc::clone(&on_last));
+    let new = || Gate::new(512, 2, Start::Slots, [3; 8], Arc::clone(&on_last));
     let (asked, blocks) = (ASKED.get(), BLOCKS.get());
     let mut control = new().unwrap();
     let asked = ASKED.get() - asked;
@@ -104,7 +104,7 @@ fn the_rest_needs_no_memory() {
     assert_eq!(BLOCKS.get(), blocks, "nothing leaks");
 }
 
-/// What is dropped rather than ended leaks nothing: a pass after its control, and a pass under a forgotten reference.
+/// Dropping in place of ending leaks nothing: a pass after its control, and a pass under a forgotten reference.
 #[test]
 fn what_is_dropped_is_freed() {
     let on_last: OnLast = Arc::new(|| {});

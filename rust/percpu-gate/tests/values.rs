@@ -107,7 +107,7 @@ fn each_call_lends_the_value() -> Result<(), Box<dyn Error + Send + Sync>> {
 
 #[test]
 fn refusals_hand_back() {
-    let refused = Gate::new(String::from("disk"), 1, 65, Start::Slots, Arc::new(|| {})).unwrap_err();
+    let refused = Gate::new(String::from("disk"), 1, 1025, Start::Slots, Arc::new(|| {})).unwrap_err();
     assert_eq!((refused.value.as_str(), refused.reason), ("disk", NewError::Size));
     let (mut here, mut there) = (gate(1, Start::Slots), gate(2, Start::Dead));
     let refused = there.retire(here.next_pass(0).unwrap()).unwrap_err();
@@ -151,11 +151,11 @@ fn the_value_is_dropped_once() {
     drop(control.remove().unwrap());
     assert_eq!(dropped.load(Relaxed), 3);
     drop(pass);
-    drop(Gate::new(value(), 65, 1, Start::Slots, Arc::new(|| {})).unwrap_err());
+    drop(Gate::new(value(), 513, 1, Start::Slots, Arc::new(|| {})).unwrap_err());
     assert_eq!(dropped.load(Relaxed), 4);
 }
 
-/// A thread that panics under a reference puts it; one that panics while it changes the value leaves it as it stands.
+/// A thread that panics under a reference puts it; one that panics while it changes the value leaves it as it is.
 #[test]
 fn panics_in_the_middle() {
     let mut gate = gate(vec![1], Start::Slots);

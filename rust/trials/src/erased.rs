@@ -1,9 +1,8 @@
-//! The crates of ../../../crates that test others, without their contracts. tools/erase writes the files that say so in their
-//! first line.
+//! The crate ../../../crates/uses without its contracts, and the crates that it and the tests use. tools/erase writes the files that
+//! say so in their first line.
 #![forbid(unsafe_code)]
 #![allow(missing_docs, missing_debug_implementations, clippy::all, clippy::pedantic, rustdoc::all)]
 
-pub mod trials_rows;
 pub mod uses;
 
 pub use ::blkq::erased::{

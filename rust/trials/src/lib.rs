@@ -1,4 +1,4 @@
-//! The project's own tests, erased with what they test, and what a caller's code looks like (`uses`).
+//! The code of a caller (`uses`), erased. The project's own tests are in tests/, and `play_calls` plays rows of calls.
 
 #[doc(hidden)]
 pub mod erased;

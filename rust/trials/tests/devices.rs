@@ -132,6 +132,56 @@ fn nothing_is_flushed() {
     assert_eq!(device.flushes, 0);
 }
 
+/// Nor is a long text, or a long answer: each goes out in one write.
+#[test]
+fn nothing_long_is_flushed() {
+    let text = vec![b'#'; 3_000_000];
+    let mut device = Device::default();
+    assert_eq!(write_whole(&mut Counted::new(&mut device), &text), Ok(()));
+    assert_eq!((device.output == text, device.calls, device.flushes), (true, 1, 0));
+    let script: &[u8] = b"blkq 1\ndisk 600 hw 600\nwrite 0 600 6162\nstat\nread 0 600\n";
+    let mut device = Device::default();
+    let mut writer = Counted::new(&mut device);
+    assert_eq!(run_bytes(&mut Counted::new(script), &mut writer, Config::default(), &NoStall), Ok(()));
+    assert_eq!((device.output.len() > 3_000_000, device.calls, device.flushes), (true, 1, 0));
+}
+
+/// However often a device broke before, a call that is interrupted is tried as often as ever, and then given up.
+#[test]
+fn interrupted_after_it_broke() {
+    for broke in [1, 1_000] {
+        let does = || vec![TIMED_OUT; broke].into_iter().chain(vec![INTERRUPTED; TRIES as usize]);
+        let calls = broke + TRIES as usize;
+        let mut device = Device::with_input(TEXT, does());
+        let mut reader = Counted::new(&mut device);
+        assert!((0..=broke).all(|_| read_whole(&mut reader, 11) == Err(InputFault::Read)));
+        assert_eq!((reader.breaks(), device.calls), (broke as u64, calls));
+        let mut device = Device::with_input(b"", does());
+        let mut writer = Counted::new(&mut device);
+        assert!((0..=broke).all(|_| write_whole(&mut writer, TEXT) == Err(WriteFault { written: 0 })));
+        assert_eq!((writer.breaks(), device.calls), (broke as u64, calls));
+    }
+}
+
+/// A writer that is interrupted as often as it is tried has failed, and that is what the program says.
+#[test]
+fn interrupted_too_often() {
+    for (word, input, answer) in [("run", SCRIPT, ANSWER), ("replay", SCHEDULE, SHOWN)] {
+        for written in [0, 3] {
+            let taken = (written > 0).then_some(Does::Moves(written));
+            let mut from = Device::with_input(input, []);
+            let mut to = Device::with_input(b"", taken.into_iter().chain(vec![INTERRUPTED; TRIES as usize]));
+            let answered = status(word, &mut Counted::new(&mut from), &mut Counted::new(&mut to));
+            assert_eq!(answered, (4, "write\n".into()));
+            assert_eq!(to.output, &answer[..written]);
+        }
+        let mut from = Device::with_input(input, vec![INTERRUPTED; TRIES as usize]);
+        let mut to = Device::default();
+        let answered = status(word, &mut Counted::new(&mut from), &mut Counted::new(&mut to));
+        assert_eq!((answered, to.calls), ((4, "read\n".into()), 0));
+    }
+}
+
 /// The status of a program of this word, and its line of errors.
 fn status(word: &str, reader: &mut Counted<&mut Device>, writer: &mut Counted<&mut Device>) -> (u8, String) {
     let mut errors = Vec::new();
@@ -155,6 +205,18 @@ fn a_program_whose_devices_failed_before() {
         assert_eq!(status(word, &mut reader, &mut writer), (0, String::new()));
         assert_eq!((reader.breaks(), writer.breaks()), (2, 2));
         assert_eq!(to.output, [&answer[..2], answer].concat());
+    }
+}
+
+/// A program whose reader and writer are interrupted before each byte does its work.
+#[test]
+fn a_program_that_is_interrupted() {
+    let each = |text: &[u8]| text.iter().flat_map(|_| [INTERRUPTED, Does::Moves(1)]).collect::<Vec<_>>();
+    for (word, input, answer) in [("run", SCRIPT, ANSWER), ("replay", SCHEDULE, SHOWN)] {
+        let mut from = Device::with_input(input, each(input));
+        let mut to = Device::with_input(b"", each(answer));
+        let answered = status(word, &mut Counted::new(&mut from), &mut Counted::new(&mut to));
+        assert_eq!((answered, to.output.as_slice()), ((0, String::new()), answer));
     }
 }
 

@@ -1,7 +1,10 @@
 //! The disk from inside: examples by hand, and the calls compared with plain loops over bytes.
 
+use blkq::erased::blk_script::parse;
 use blkq::erased::fallible::TryClone;
+use blkq::erased::queue_limits::Limits;
 use blkq::erased::ram_disk::{Disk, DiskFault, SECTOR_BYTES, Sector, patterned, runs};
+use blkq::erased::run_desk::{UniformSectors, answer_to};
 
 // The bytes of sectors, one after another.
 fn joined(sectors: &[Sector]) -> Vec<u8> {
@@ -41,6 +44,19 @@ fn patterns_are_the_plain_ones() {
         let plain = plain_runs(&bytes);
         assert!(counted == plain, "length {length}");
     }
+}
+
+// All writes of one byte share one sector, also behind thousands of other lines.
+#[test]
+fn writes_of_one_byte_share_a_sector() {
+    const BEFORE: usize = 20_000;
+    let text = format!("blkq 1\ndisk 8 hw 8\n{}write 0 3 61\nread 7 1\nwrite 4 2 61\n", "read 0 1\n".repeat(BEFORE));
+    let script = parse(text.as_bytes()).unwrap();
+    let uniform = UniformSectors::of(&script).unwrap();
+    let limits = Limits::start(8).unwrap();
+    let answers = [BEFORE, BEFORE + 2].map(|position| answer_to(&uniform, &script, position, limits, &[]).unwrap());
+    let places: Vec<_> = answers.iter().flat_map(|it| &it.sectors).map(|sector| sector.bytes().as_ptr()).collect();
+    assert_eq!(places, [places[0]; 5]);
 }
 
 // The runs of so many sectors of a pattern.
@@ -115,6 +131,42 @@ fn the_largest_disk() {
     assert_eq!(disk.share(0, 4097).err(), Some(DiskFault::PastEnd));
     disk.install(0, patterned(&[255], 4096).unwrap());
     assert_eq!(disk.all_runs().unwrap(), [(255, 2_097_152)]);
+}
+
+// How many sectors a disk of 4 shares of a range.
+fn count_shared(start: u64, count: u32) -> Result<usize, DiskFault> {
+    let disk = Disk::new(4)?;
+    Ok(disk.share(start, count)?.len())
+}
+
+#[test]
+fn disk_by_hand() {
+    let rows = [
+        (0, 4, Ok(4)),
+        (3, 2, Err(DiskFault::PastEnd)),
+        (4, 0, Ok(0)),
+        (5, 0, Err(DiskFault::PastEnd)),
+        (u64::MAX, u32::MAX, Err(DiskFault::PastEnd)),
+    ];
+    for (start, count, shared) in rows {
+        assert_eq!(count_shared(start, count), shared, "{count} from {start}");
+    }
+}
+
+#[test]
+fn a_new_disk_by_hand() {
+    let disk = Disk::new(4).unwrap();
+    assert_eq!(disk.len(), 4);
+    let first = disk.share(0, 1).unwrap();
+    assert_eq!(runs(&first).unwrap(), [(0, 512)]);
+    assert_eq!(disk.all_runs().unwrap(), [(0, 2048)]);
+}
+
+#[test]
+fn a_second_sector_by_hand() {
+    let sectors = patterned(&[1, 2, 3], 2).unwrap();
+    let second = sectors[1].bytes();
+    assert_eq!((second.first(), second.last()), (Some(&3), Some(&1)));
 }
 
 #[test]

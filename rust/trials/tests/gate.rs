@@ -5,14 +5,20 @@ use blkq::erased::percpu_gate::Put::Last;
 use blkq::erased::percpu_gate::{Control, ControlFault, ExitWhy, Gate, Pass, Start, Tried};
 use std::thread;
 
+#[path = "shared/texts.rs"]
+mod texts;
+use texts::texts_of;
+
 /// Every number of slots is had with every start, and with the most passes and guarded words; every number of passes with one slot
 /// and no word.
 #[test]
 fn every_size_is_made() {
     for start in [Start::Slots, Start::Atomic, Start::Dead] {
-        for size in 1..=64 {
-            let (gate, control, passes) = Gate::<8>::new(size, 64, start, [9; 8]).unwrap();
-            assert_eq!((gate.slots(), passes.len(), control.words()), (size, 64, [9; 8]));
+        for size in 1..=512 {
+            let (gate, control, passes) = Gate::<8>::new(size, 1_024, start, [9; 8]).unwrap();
+            assert_eq!((gate.slots(), passes.len(), control.words()), (size, 1_024, [9; 8]));
+        }
+        for size in 1..=1_024 {
             let (gate, control, passes) = Gate::<0>::new(1, size, start, []).unwrap();
             assert_eq!((gate.slots(), passes.len(), control.words()), (1, size as usize, []));
         }
@@ -21,19 +27,23 @@ fn every_size_is_made() {
 
 #[test]
 fn texts_of_faults() {
-    let texts = [
-        (ControlFault::AlreadyDead, "already dead"),
-        (ControlFault::NotDead, "not dead"),
-        (ControlFault::NotZero, "not zero"),
-        (ControlFault::MidSwitch, "mid switch"),
-        (ControlFault::WornOut, "worn out"),
-    ];
-    for (fault, text) in texts {
-        assert_eq!(fault.to_string(), text);
-    }
+    use ControlFault::{AlreadyDead, MidSwitch, NotDead, NotZero, WornOut};
+    let texts = texts_of([AlreadyDead, NotDead, NotZero, MidSwitch, WornOut]);
+    assert_eq!(texts, ["already dead", "not dead", "not zero", "mid switch", "worn out"]);
     for (why, number, text) in [(ExitWhy::MidSwitch, 4, "mid switch"), (ExitWhy::PassesOut(1), 6, "1 passes out")] {
         assert_eq!((why.number(), why.to_string().as_str()), (number, text));
     }
+}
+
+/// A pass that was given a reference is given another by `try_get`, though the gate is killed between the two.
+#[test]
+fn given_once_given_again() {
+    let (gate, mut control, mut passes) = Gate::<0>::new(1, 1, Start::Atomic, []).unwrap();
+    let pass = &mut passes[0];
+    assert_eq!(pass.try_get(&gate, 0), Tried::Given);
+    control.kill(&gate).unwrap();
+    assert_eq!(pass.try_get(&gate, 0), Tried::Given);
+    assert_eq!((pass.put(&gate, 0, 2), pass.held()), (Last, 0));
 }
 
 /// While the closure of a kill runs, the front is stored and the initial reference still held: the gate is dying and not at zero, in

@@ -1,6 +1,9 @@
 //! The threads of a run hand requests, completions and spares to one another, by the queues of `run_queues`.
 
-use blkq::erased::run_queues::{CompletionQueue, Drawer, Duty, Numbered, RequestQueue, Source, SpareQueue, Taker};
+use blkq::erased::run_queues::{
+    CompletionQueue, Drawer, Duty, Effort, Numbered, RequestQueue, Shelf, Source, SpareQueue, Taker,
+};
+use std::sync::Barrier;
 use std::thread;
 
 /// A number, with a value beside it.
@@ -21,6 +24,27 @@ fn tenfold(number: u32) -> Valued {
     Valued { number, value: u64::from(number) * 10 }
 }
 
+/// Draws what is first, and sleeps while there is nothing. The drawer is on a shelf meanwhile, and another one may come back.
+fn drawn_or_slept<T: Numbered>(
+    queue: &RequestQueue<T>,
+    shelf: &Shelf<Drawer<T>>,
+    mut drawer: Drawer<T>,
+) -> (Option<T>, Drawer<T>) {
+    if let Some(drawn) = queue.draw(&mut drawer, Effort::Patient).expect("room in the list") {
+        return (drawn, drawer);
+    }
+    queue.announce();
+    shelf.put(drawer);
+    for () in queue.turns() {
+        let mut drawer = shelf.take();
+        if let Some(drawn) = queue.draw(&mut drawer, Effort::Woken).expect("room in the list") {
+            return (drawn, drawer);
+        }
+        shelf.put(drawer);
+    }
+    unreachable!()
+}
+
 /// This thread pushes requests through a queue of this room, and an end mark for each of so many threads that draw them. Then it
 /// runs the last closure. A list for each of the threads, of the requests that it drew.
 fn drawn<T: Numbered + Send>(
@@ -32,12 +56,15 @@ fn drawn<T: Numbered + Send>(
 ) -> Vec<Vec<u32>> {
     let (queue, mut source) = RequestQueue::new(room, threads as usize).expect("memory");
     let count = requests.len();
+    let shelf = Shelf::new(threads as usize).expect("memory");
     let drawers: Vec<_> = (0..threads).map(|_| queue.drawer(&mut source, count).expect("memory")).collect();
     let drain = |mut drawer: Drawer<T>| {
-        while let Some(request) = queue.draw(&mut drawer).expect("room in the list") {
+        loop {
+            let (drawn, back) = drawn_or_slept(&queue, &shelf, drawer);
+            drawer = back;
+            let Some(request) = drawn else { return drawer };
             work(request);
         }
-        drawer
     };
     let back: Vec<Drawer<T>> = thread::scope(|scope| {
         let drawing: Vec<_> = drawers.into_iter().map(|drawer| scope.spawn(|| drain(drawer))).collect();
@@ -83,6 +110,37 @@ fn four_threads() {
     }
 }
 
+/// A thread that announced its sleep is at its try, which found nothing, as a request is pushed that wakes nobody: a wake after that makes
+/// it try again.
+#[test]
+fn a_wake_ends_the_sleep_behind_a_try() {
+    let (queue, mut source) = RequestQueue::new(1, 1).expect("memory");
+    let mut drawer = queue.drawer(&mut source, 1).expect("memory");
+    let (is_tried, is_woken) = (Barrier::new(2), Barrier::new(2));
+    let sleep = || {
+        queue.announce();
+        for (turn, ()) in queue.turns().enumerate() {
+            match queue.draw(&mut drawer, Effort::Woken).expect("room in the list") {
+                Some(drawn) => return drawn,
+                None if turn == 0 => {
+                    is_tried.wait();
+                    is_woken.wait();
+                }
+                None => {}
+            }
+        }
+        unreachable!()
+    };
+    thread::scope(|scope| {
+        let sleeper = scope.spawn(sleep);
+        is_tried.wait();
+        queue.push_quietly(&mut source, tenfold(0));
+        queue.wake();
+        is_woken.wait();
+        assert_eq!(sleeper.join().expect("a thread that ends"), Some(tenfold(0)));
+    });
+}
+
 #[test]
 fn no_requests() {
     assert_eq!(drawn(1, 3, [].into_iter(), |_: Valued| {}, || {}), vec![vec![]; 3]);
@@ -112,6 +170,18 @@ fn two_workers() {
     assert_draws(&lists, 200);
     came.sort_unstable_by_key(|it| it.number);
     assert!(came.into_iter().eq((0..200).map(tenfold)));
+}
+
+/// A completion is there once it is handed over, and not before.
+#[test]
+fn none_is_there_yet() {
+    let (queue, mut collector) = CompletionQueue::new(1).expect("memory");
+    assert_eq!(queue.try_collect(&mut collector), None);
+    let duty = queue.duty(&mut collector, 0);
+    assert_eq!(queue.try_collect(&mut collector), None);
+    queue.tell(duty, Valued { number: 0, value: 7 });
+    assert_eq!(queue.try_collect(&mut collector), Some(Valued { number: 0, value: 7 }));
+    assert_eq!(queue.try_collect(&mut collector), None);
 }
 
 /// One thread hands completions over and another collects them, through a queue with room for one.

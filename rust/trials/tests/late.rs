@@ -3,11 +3,12 @@
 
 use blkq::erased::blk_script::{Checked, Script, parse, push_disk, run_alone};
 use blkq::erased::blk_workers::{Config, NoStall, Point, Stall, run, run_checked};
+use std::sync::Mutex;
 use std::sync::atomic::{AtomicBool, AtomicU32, Ordering::SeqCst};
 use std::thread::yield_now;
 
-/// The accepted requests before the `stat`, all of which are counted from 0.
-const FIRST: u32 = 3_000;
+/// The accepted requests before the `stat`, all of which are counted from 0: as many as a text has room for, with some behind it.
+const FIRST: u32 = 116_000;
 const TAGS: u32 = 8;
 /// How often a test that waits for another thread yields before it gives up.
 const TURNS: u32 = 1_000_000;
@@ -16,7 +17,7 @@ fn script(text: &str) -> Script {
     parse(text.as_bytes()).unwrap()
 }
 
-/// Holds each request behind the `stat` at `Drawn` until all tags have entered, and request 2,999 for a while at `Answered`.
+/// Holds each request behind the `stat` at `Drawn` until all tags have entered, and the last one before it for a while at `Answered`.
 #[derive(Default)]
 struct Late {
     entered: AtomicU32,
@@ -64,7 +65,7 @@ impl Stall for Late {
     }
 }
 
-/// A run of 3,000 reads, a `stat` and 16 reads drains twice: for the `stat`, once its requests have left, and at the end. All
+/// A run of 116,000 reads, a `stat` and 16 reads drains twice: for the `stat`, once its requests have left, and at the end. All
 /// tags are in use behind it.
 #[test]
 fn all_tags_serve_behind_thousands_of_requests() {
@@ -119,4 +120,50 @@ fn a_run_of_a_script_replies_as_one_thread() {
     let mut out = ran.replies;
     push_disk(&mut out, &ran.disk).unwrap();
     assert_eq!(out, run_alone(&script).unwrap());
+}
+
+/// The numbers with which a run passes each point.
+#[derive(Default)]
+struct Passed {
+    entered: Mutex<Vec<u32>>,
+    drawn: Mutex<Vec<u32>>,
+    answered: Mutex<Vec<u32>>,
+    drained: Mutex<Vec<u32>>,
+}
+
+impl Stall for Passed {
+    fn at(&self, number: u32, point: Point) {
+        let numbers = match point {
+            Point::Entered => &self.entered,
+            Point::Drawn => &self.drawn,
+            Point::Answered => &self.answered,
+            Point::Drained => &self.drained,
+        };
+        numbers.lock().unwrap().push(number);
+    }
+}
+
+impl Passed {
+    /// Whether each request up to this one passed each point once, and entered in order.
+    fn has_each_once(self, requests: u32) -> bool {
+        let all: Vec<u32> = (0..requests).collect();
+        let [mut drawn, mut answered] = [self.drawn, self.answered].map(|it| it.into_inner().unwrap());
+        drawn.sort_unstable();
+        answered.sort_unstable();
+        self.entered.into_inner().unwrap() == all && drawn == all && answered == all
+    }
+}
+
+/// There is memory for the most requests, each is counted and passes each point, and each drain tells how many were accepted before it.
+#[test]
+fn the_longest_run_of_a_script_replies_as_one_thread() {
+    let reads = "read 0 1\n".repeat(116_000);
+    let script = script(&format!("blkq 1\ndisk 1 hw 1\n{reads}stat\nread 0 1\n"));
+    let passed = Passed::default();
+    let ran = run(&script, Config::new(3, 2, 5).unwrap(), &passed).unwrap();
+    let mut out = ran.replies;
+    push_disk(&mut out, &ran.disk).unwrap();
+    assert!(out == run_alone(&script).unwrap());
+    assert_eq!(*passed.drained.lock().unwrap(), [116_000, 116_001]);
+    assert!(passed.has_each_once(116_001));
 }

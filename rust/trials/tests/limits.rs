@@ -1,6 +1,10 @@
-//! The limits from inside: ranges that are cut by hand, and the texts of refusals.
+//! The limits from inside: ranges that are cut by hand, each refusal with the ones that it goes before, and their texts.
 
 use blkq::erased::queue_limits::{LimitFault, Limits};
+
+#[path = "shared/texts.rs"]
+mod texts;
+use texts::texts_of;
 
 struct Row<'a> {
     limits: (u32, u32, u32),
@@ -116,16 +120,68 @@ fn pieces_where_blocks_do_not_fit() {
     check_rows(&rows)
 }
 
+fn numbers_of(limits: &Limits) -> (u32, u32, u32, u32) {
+    (limits.hw(), limits.max(), limits.chunk(), limits.physical())
+}
+
+#[test]
+fn limits_by_hand() {
+    let refused = [
+        ((0, 0, 0), LimitFault::HardwareRange),
+        ((65_536, 0, 0), LimitFault::HardwareRange),
+        ((0, 1, 65_536), LimitFault::HardwareRange),
+        ((8, 9, 65_536), LimitFault::AboveHardware),
+        ((8, 9, 0), LimitFault::AboveHardware),
+        ((8, 8, 65_536), LimitFault::ChunkTooLarge),
+    ];
+    for ((hw, max, chunk), fault) in refused {
+        assert_eq!(Limits::new(hw, max, chunk), Err(fault), "{hw} {max} {chunk}");
+    }
+    for (limits, numbers) in [
+        (Limits::new(65_535, 0, 65_535), (65_535, 65_535, 65_535, 1)),
+        (Limits::new(8, 3, 5), (8, 3, 5, 1)),
+        (Limits::start(8), (8, 8, 0, 1)),
+    ] {
+        assert_eq!(numbers_of(&limits.unwrap()), numbers);
+    }
+    assert_eq!(Limits::start(65_536), Err(LimitFault::HardwareRange));
+}
+
+#[test]
+fn settings_and_words() {
+    let mut limits = Limits::new(8, 3, 5).unwrap();
+    assert_eq!(limits.set_max(9), Err(LimitFault::AboveHardware));
+    assert_eq!(limits.set_chunk(65_536), Err(LimitFault::ChunkTooLarge));
+    for physical in [0, 3, 65_536] {
+        assert_eq!(limits.set_physical(physical), Err(LimitFault::BadPhysical));
+    }
+    assert_eq!(limits.to_words(), [3, 5, 1]);
+    limits.set_max(0).unwrap();
+    limits.set_chunk(65_535).unwrap();
+    limits.set_physical(32_768).unwrap();
+    assert_eq!(limits.to_words(), [8, 65_535, 32_768]);
+    for (words, max, chunk, physical) in [
+        ([9, 70_000, 3], 8, 0, 1),
+        ([0, 65_535, 0], 8, 65_535, 1),
+        ([8, 0, 65_536], 8, 0, 1),
+        ([1, 65_536, 32_768], 1, 0, 32_768),
+        ([1, 2, 1 << 32], 1, 2, 1),
+    ] {
+        let limits = Limits::from_words(8, words);
+        assert_eq!(numbers_of(&limits), (8, max, chunk, physical));
+    }
+}
+
 #[test]
 fn faults_have_numbers_and_texts() {
+    use LimitFault::{AboveHardware, BadPhysical, ChunkTooLarge, HardwareRange};
     let texts = [
-        (LimitFault::AboveHardware, 1, "more sectors than the hardware takes"),
-        (LimitFault::ChunkTooLarge, 2, "a chunk of more than 65535 sectors"),
-        (LimitFault::HardwareRange, 3, "a hardware limit outside 1 to 65535 sectors"),
-        (LimitFault::BadPhysical, 4, "a physical block that isn't a power of two from 1 to 32768 sectors"),
+        "more sectors than the hardware takes",
+        "a chunk of more than 65535 sectors",
+        "a hardware limit outside 1 to 65535 sectors",
+        "a physical block that isn't a power of two from 1 to 32768 sectors",
     ];
-    for (fault, number, text) in texts {
-        assert_eq!(fault.number(), number);
-        assert_eq!(fault.to_string().as_str(), text);
-    }
+    let faults = [AboveHardware, ChunkTooLarge, HardwareRange, BadPhysical];
+    assert_eq!(faults.map(|it| it.number()), [1, 2, 3, 4]);
+    assert_eq!(texts_of(faults), texts);
 }

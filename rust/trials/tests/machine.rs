@@ -43,6 +43,22 @@ fn rows_cut_anywhere() {
     }
 }
 
+/// The greatest world: its last pass counts on its last slot, and a kill closes each slot.
+#[test]
+fn the_greatest_world() {
+    let mut world = World::with_kills(512, 1_024, Start::Slots, (1 << 40) - 1, &[7; 8]).unwrap();
+    let mut events = vec![Pass(1_023, Take { slot: 511, seen: 0, n: 1 }), Control(ControlEvent::MarkDead)];
+    events.extend([Control(Close); 512]);
+    events.extend([Control(Collect), Pass(1_023, Sub(1))]);
+    let replies = replay(&mut world, &events).unwrap();
+    let closed = |delta| Reply::Collected(delta);
+    assert_eq!(replies[..3], [Reply::Won, Reply::Done, closed(0)]);
+    assert_eq!(replies[512..], [closed(0), closed(1), Reply::Done, Reply::NotLast]);
+    assert_eq!((world.shared() & (1 << 62), world.kills(), world.held_by_all()), (1 << 62, 1 << 40, 0));
+    refuses(&mut world, &[Pass(1_024, AddTry)], NotEnabled::NoSuchActor);
+    refuses(&mut world, &[Pass(1_023, Look(512))], NotEnabled::NoSuchSlot);
+}
+
 /// The last of these events is refused for this, and no other is.
 fn refuses(world: &mut World, events: &[Event], why: NotEnabled) {
     let at = events.len() - 1;

@@ -8,60 +8,13 @@ use blkq::erased::fallible::{AllocError, TryClone, TryCollect, TryRoom, TryText,
 use blkq::erased::hex;
 use blkq::erased::maps::{HashMap, TryMap};
 use blkq::erased::pointers::{Arc, Rc, TryBox};
-use std::alloc::{GlobalAlloc, Layout, System};
 use std::cell::Cell;
 use std::collections::VecDeque;
 use std::thread;
 
-thread_local! {
-    /// How many allocations succeed before one is refused. `None`: none is refused.
-    static ALLOWED: Cell<Option<u64>> = const { Cell::new(None) };
-    /// Blocks that were allocated, less those that were freed.
-    static BLOCKS: Cell<i64> = const { Cell::new(0) };
-}
-
-/// The system's allocator, which refuses and counts.
-struct Refusing;
-
-fn is_refused() -> bool {
-    match ALLOWED.get() {
-        Some(0) => true,
-        Some(left) => {
-            ALLOWED.set(Some(left - 1));
-            false
-        }
-        None => false,
-    }
-}
-
-// SAFETY: each block is the system's, of the same layout; a refusal is null, as the trait has it.
-unsafe impl GlobalAlloc for Refusing {
-    unsafe fn alloc(&self, layout: Layout) -> *mut u8 {
-        if is_refused() {
-            return std::ptr::null_mut();
-        }
-        BLOCKS.set(BLOCKS.get() + 1);
-        // SAFETY: the caller meets the precondition, which is the same.
-        unsafe { System.alloc(layout) }
-    }
-
-    unsafe fn dealloc(&self, at: *mut u8, layout: Layout) {
-        BLOCKS.set(BLOCKS.get() - 1);
-        // SAFETY: the block is the system's, of this layout.
-        unsafe { System.dealloc(at, layout) }
-    }
-
-    unsafe fn realloc(&self, at: *mut u8, layout: Layout, size: usize) -> *mut u8 {
-        if is_refused() {
-            return std::ptr::null_mut();
-        }
-        // SAFETY: the block is the system's, of this layout.
-        unsafe { System.realloc(at, layout, size) }
-    }
-}
-
-#[global_allocator]
-static ALLOCATOR: Refusing = Refusing;
+#[path = "shared/refused_thread.rs"]
+mod refused_thread;
+use refused_thread::{ALLOWED, BLOCKS};
 
 /// Makes a call with its first allocation refused, then anew with the second, until none is: each refusal is an error, and frees
 /// what was taken. How many allocations the call makes.

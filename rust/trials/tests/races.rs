@@ -1,16 +1,18 @@
 //! Races from inside: the calls that a text gives, and long lists of answers.
 
 use blkq::erased::percpu_core::Start;
-use blkq::erased::race_answers::Answers;
-use blkq::erased::race_calls::{Answer, Asked, ControlCall, Count, Mode, PassCall};
+use blkq::erased::race_calls::Answers;
+use blkq::erased::race_calls::{Answer, Asked, Awaited, ControlCall, Count, Flag, Mode, PassCall};
 use blkq::erased::races_text::parse_race;
 
-const EVERY_CALL: &str = "# A race of every call.\n\nraces 1\nworld 2 3 slots 5 7 8\n\
+const EVERY_CALL: &str = "# A race of every call.\n\nraces 1\nworld 2 4 slots 5 7 8\n\
     2 try 1 / live 0 / get 1 65535 / put 4294967295 1\n\
     c kill / mark_dead / close_next / collect / confirm / drop_base\n\
     0\tfront / dying /  zero / word 4294967295\r\n\
     c reinit / resurrect / store 1 18446744073709551615 / slots / atomic / zero\n\
-    02 put 0 0\n";
+    02 put 0 0\n\
+    1 await zero / await dead / await a / await z / set z\n\
+    c await zero / await dead / await z / set a\n";
 
 #[test]
 fn calls_of_every_kind() {
@@ -20,9 +22,12 @@ fn calls_of_every_kind() {
     let counts =
         [(1, Count::Try), (0, Count::TryLive), (1, Count::Get(65535)), (u32::MAX, Count::Put(1)), (0, Count::Put(0))]
             .map(|(slot, count)| PassCall::Counts { slot, count });
-    let [first, second, third] = race.passes() else { panic!("three passes") };
+    let [a, z] = [Flag { letter: b'a' }, Flag { letter: b'z' }];
+    let [first, second, third, fourth] = race.passes() else { panic!("four passes") };
     assert!(first.as_slice() == questions);
-    assert!(second.as_slice().is_empty());
+    let awaits = [Awaited::Zero, Awaited::Dead, Awaited::Flagged(a), Awaited::Flagged(z)].map(PassCall::Awaits);
+    assert!(second.as_slice() == [&awaits[..], &[PassCall::Sets(z)]].concat());
+    assert!(fourth.as_slice().is_empty());
     assert!(third.as_slice() == counts);
     let control = [
         ControlCall::Kill,
@@ -37,6 +42,10 @@ fn calls_of_every_kind() {
         ControlCall::SwitchTo(Mode::Slots),
         ControlCall::SwitchTo(Mode::Atomic),
         ControlCall::IsZero,
+        ControlCall::Awaits(Awaited::Zero),
+        ControlCall::Awaits(Awaited::Dead),
+        ControlCall::Awaits(Awaited::Flagged(z)),
+        ControlCall::Sets(a),
     ];
     assert!(race.control() == control);
 }

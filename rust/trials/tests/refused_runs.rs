@@ -1,5 +1,6 @@
 //! Whole runs with one allocation refused after another. Each run answers `memory` or `thread`, or completes if it didn't need
-//! the memory, frees its blocks, and has drained the queue after the last request that entered.
+//! the memory, frees its blocks, and has drained the queue after the last request that entered. Whatever it is refused, it isn't begun
+//! again: no request is at a point twice, and the input is read to its end once.
 //!
 //! Each run is a process of its own, since std aborts if memory for a thread is refused. The test counts these aborts, and checks
 //! that each is of a size that std asks for: no allocation of the erased code may abort.
@@ -10,14 +11,18 @@ use blkq::erased::blk_workers::{Config, Point, Stall};
 use blkq::erased::blkq_run::{self, replay_bytes, run_bytes};
 use blkq::erased::counted_io::Counted;
 use blkq::erased::races_run::{self, outcomes_bytes};
-use std::alloc::{GlobalAlloc, Layout, System};
 use std::env::{args, current_exe};
 use std::fs::{read, read_dir};
+use std::io::{self, Read};
 use std::path::{Path, PathBuf};
 use std::process::{Command, exit};
-use std::sync::atomic::{AtomicBool, AtomicI64, Ordering};
+use std::sync::atomic::{AtomicBool, AtomicI64, AtomicU32, Ordering};
 use std::thread::sleep;
 use std::time::Duration;
+
+#[path = "shared/refusing.rs"]
+mod refusing;
+use refusing::Refusing;
 
 /// Allocations that succeed before one is refused.
 static LEFT: AtomicI64 = AtomicI64::new(i64::MAX);
@@ -28,76 +33,109 @@ const WORKERS: u32 = 2;
 /// The most bytes that std asks for at once for a thread: 104 in Rust 1.85.
 const MOST_OF_STD: usize = 104;
 
-/// The system's allocator, which refuses one allocation and counts.
-struct Refusing;
-
+/// Whether this allocation is the one that is refused.
 fn is_refused() -> bool {
     LEFT.fetch_sub(1, Ordering::Relaxed) == 0
 }
 
-// SAFETY: each block is the system's, of the same layout; a refusal is null, as the trait has it.
-unsafe impl GlobalAlloc for Refusing {
-    unsafe fn alloc(&self, layout: Layout) -> *mut u8 {
-        if is_refused() {
-            return std::ptr::null_mut();
-        }
-        BLOCKS.fetch_add(1, Ordering::Relaxed);
-        // SAFETY: the caller meets the precondition, which is the same.
-        unsafe { System.alloc(layout) }
+#[global_allocator]
+static ALLOCATOR: Refusing = Refusing { is_refused, count: |more| _ = BLOCKS.fetch_add(more, Ordering::Relaxed) };
+
+/// The most requests of an example.
+const REQUESTS: usize = 200;
+
+/// How a run passes its points. It holds no request, so the submitting thread may do some, if `helps` says so.
+struct Points {
+    /// Whether a request entered after the last drain.
+    is_open: AtomicBool,
+    /// Whether a drain had another number than as many requests entered before it.
+    is_miscounted: AtomicBool,
+    /// How often each request entered, was drawn and was answered.
+    passed: [[AtomicU32; REQUESTS]; 3],
+    helps: bool,
+}
+
+impl Points {
+    fn new(helps: bool) -> Points {
+        let passed = [(); 3].map(|()| [(); REQUESTS].map(|()| AtomicU32::new(0)));
+        Points { is_open: AtomicBool::new(false), is_miscounted: AtomicBool::new(false), passed, helps }
     }
 
-    unsafe fn dealloc(&self, at: *mut u8, layout: Layout) {
-        BLOCKS.fetch_sub(1, Ordering::Relaxed);
-        // SAFETY: the block is the system's, of this layout.
-        unsafe { System.dealloc(at, layout) }
+    fn drained(&self, number: u32) {
+        self.is_open.store(false, Ordering::SeqCst);
+        let entered: u32 = self.passed[0].iter().map(|times| times.load(Ordering::SeqCst)).sum();
+        if entered != number {
+            self.is_miscounted.store(true, Ordering::SeqCst);
+        }
     }
 
-    unsafe fn realloc(&self, at: *mut u8, layout: Layout, size: usize) -> *mut u8 {
-        if is_refused() {
-            return std::ptr::null_mut();
+    /// The fault of a run whose points were passed so.
+    fn fault(self) -> Option<&'static str> {
+        if self.is_open.into_inner() {
+            return Some("a request entered, and the queue wasn't drained");
         }
-        // SAFETY: the block is the system's, of this layout.
-        unsafe { System.realloc(at, layout, size) }
+        if self.is_miscounted.into_inner() {
+            return Some("a drain had another number than as many requests entered");
+        }
+        let mut times = self.passed.into_iter().flatten();
+        times.any(|it| it.into_inner() > 1).then_some("a request was at a point twice")
     }
 }
 
-#[global_allocator]
-static ALLOCATOR: Refusing = Refusing;
-
-/// Whether a request entered after the last drain.
-#[derive(Default)]
-struct Open(AtomicBool);
-
-impl Stall for Open {
-    fn at(&self, _number: u32, point: Point) {
-        match point {
-            Point::Entered => self.0.store(true, Ordering::SeqCst),
-            Point::Drained => self.0.store(false, Ordering::SeqCst),
-            _ => {}
+impl Stall for Points {
+    fn at(&self, number: u32, point: Point) {
+        let place = match point {
+            Point::Entered => 0,
+            Point::Drawn => 1,
+            Point::Answered => 2,
+            Point::Drained => return self.drained(number),
+        };
+        if place == 0 {
+            self.is_open.store(true, Ordering::SeqCst);
         }
+        self.passed[place][number as usize].fetch_add(1, Ordering::SeqCst);
+    }
+
+    fn may_hold(&self) -> bool {
+        !self.helps
+    }
+}
+
+/// An input that comes whole, and counts how often it is read.
+struct Feed<'a> {
+    rest: &'a [u8],
+    reads: u32,
+}
+
+impl Read for Feed<'_> {
+    fn read(&mut self, buf: &mut [u8]) -> io::Result<usize> {
+        self.reads += 1;
+        self.rest.read(buf)
     }
 }
 
 /// Runs an example into this room: the number of its fault, if it is refused.
-fn answer(example: &Path, input: &[u8], room: &mut [u8]) -> Result<(), u8> {
-    let (mut reader, mut writer) = (Counted::new(input), Counted::new(room));
-    match kind_of(example) {
-        "races" => outcomes_bytes(&mut reader, &mut writer).map_err(|fault| match fault {
+fn answer(example: &Path, input: &[u8], room: &mut [u8], helps: bool) -> Result<(), u8> {
+    let mut feed = Feed { rest: input, reads: 0 };
+    let (mut reader, mut writer) = (Counted::new(&mut feed), Counted::new(room));
+    let points = Points::new(helps);
+    let answered = match kind_of(example) {
+        "races" => outcomes_bytes(&mut reader, &mut writer, None).map_err(|fault| match fault {
             races_run::Fault::Memory => MEMORY,
             _ => OTHER,
         }),
         "gate" => replay_bytes(&mut reader, &mut writer).map(drop).map_err(number),
         _ => {
             let config = Config::new(WORKERS, 2, 2).unwrap();
-            let open = Open::default();
-            let answered = run_bytes(&mut reader, &mut writer, config, &open);
-            if open.0.into_inner() {
-                eprintln!("a request entered, and the queue wasn't drained");
-                return Err(WRONG);
-            }
-            answered.map_err(number)
+            run_bytes(&mut reader, &mut writer, config, &points).map_err(number)
         }
+    };
+    let fault = points.fault().or((feed.reads > 2).then_some("the input was read again"));
+    if let Some(fault) = fault {
+        eprintln!("{fault}");
+        return Err(WRONG);
     }
+    answered
 }
 
 fn kind_of(example: &Path) -> &str {
@@ -119,13 +157,13 @@ fn number(fault: blkq_run::Fault) -> u8 {
 
 /// One run, with the allocation refused that comes after so many. It ends with 0 and the count of allocations, or with the
 /// number of what is refused; with `WRONG` if a block is left or another text is written.
-fn one_run(example: &Path, allowed: i64) -> u8 {
+fn one_run(example: &Path, allowed: i64, helps: bool) -> u8 {
     let input = read(example).unwrap();
     let wanted = read(example.with_extension("answer")).unwrap();
     let mut room = vec![0; wanted.len() + 1];
     let blocks = BLOCKS.load(Ordering::SeqCst);
     LEFT.store(allowed, Ordering::SeqCst);
-    let answered = answer(example, &input, &mut room);
+    let answered = answer(example, &input, &mut room, helps);
     let asked = allowed - LEFT.swap(i64::MAX, Ordering::SeqCst);
     // A thread of a scope that is over may still be about to free what std took for it.
     for _ in 0..1_000 {
@@ -162,10 +200,10 @@ fn fault_of(status: Option<i32>, said: &str) -> (Option<String>, bool) {
 }
 
 /// Runs an example with each of its allocations refused. Returns how often std aborted.
-fn each_refused(example: &Path) -> u32 {
+fn each_refused(example: &Path, helps: bool) -> u32 {
     let run = |allowed: i64| {
         let mut command = Command::new(current_exe().unwrap());
-        command.args(["--one", example.to_str().unwrap(), &allowed.to_string()]).output().unwrap()
+        command.args(["--one", example.to_str().unwrap(), &allowed.to_string(), &helps.to_string()]).output().unwrap()
     };
     let all = run(i64::MAX / 2);
     assert_eq!(all.status.code(), Some(0), "{example:?} with nothing refused");
@@ -184,18 +222,22 @@ fn each_refused(example: &Path) -> u32 {
 fn main() {
     let words: Vec<String> = args().collect();
     if words.get(1).is_some_and(|word| word == "--one") {
-        exit(one_run(Path::new(&words[2]), words[3].parse().unwrap()).into());
+        exit(one_run(Path::new(&words[2]), words[3].parse().unwrap(), words[4].parse().unwrap()).into());
     }
-    let folder = Path::new(env!("CARGO_MANIFEST_DIR")).join("../../examples");
-    let mut examples: Vec<PathBuf> = read_dir(folder).unwrap().map(|entry| entry.unwrap().path()).collect();
+    let here = Path::new(env!("CARGO_MANIFEST_DIR"));
+    let folders = [here.join("../../examples"), here.join("tests/refused")];
+    let files = folders.iter().flat_map(|folder| read_dir(folder).unwrap());
+    let mut examples: Vec<PathBuf> = files.map(|entry| entry.unwrap().path()).collect();
     examples.sort();
     for example in &examples {
         let kind = kind_of(example);
         let is_short = read(example).is_ok_and(|text| text.len() < 1_500);
         if matches!(kind, "blkq" | "gate" | "races") && is_short {
-            let aborts = each_refused(example);
-            // For a thread std allocates up to 4 blocks (a handle, a packet, a closure and its box), for all of them a scope.
-            assert!(aborts <= if kind == "blkq" { 4 * WORKERS + 1 } else { 0 }, "{example:?}: {aborts}");
+            for helps in if kind == "blkq" { &[false, true][..] } else { &[false] } {
+                let aborts = each_refused(example, *helps);
+                // For a thread std allocates up to 4 blocks (a handle, a packet, a closure and its box), for all of them a scope.
+                assert!(aborts <= if kind == "blkq" { 4 * WORKERS + 1 } else { 0 }, "{example:?}: {aborts}");
+            }
         }
     }
 }

@@ -1,11 +1,16 @@
 //! A run drains as often as its script asks, which no contract says. It writes the text that one thread does, whatever overlaps and
-//! however its threads are scheduled. trials_rows has the other tests of runs, which the proved build passes too.
+//! however its threads are scheduled. held_runs.rs has the tests of runs that are held at their points.
 
-use blkq::erased::blk_script::{Checked, parse, push_disk, run_alone};
+use blkq::erased::blk_script::{Checked, parse};
 use blkq::erased::blk_workers::{Config, NoStall, Point, Stall, run_checked};
 use std::fmt::Write;
 use std::sync::atomic::{AtomicU32, Ordering::SeqCst};
 use std::{hint, thread};
+
+#[path = "shared/both_texts.rs"]
+mod both_texts;
+
+use both_texts::both_texts;
 
 /// A script with a line of each kind.
 const MIXED: &str = "blkq 1\ndisk 16 hw 8\nwrite 0 4 01\nread 8 4\nset max_sectors 3\nread 0 4\nfreeze\nfreeze\nread 0 1\n\
@@ -13,13 +18,7 @@ const MIXED: &str = "blkq 1\ndisk 16 hw 8\nwrite 0 4 01\nread 8 4\nset max_secto
 
 /// Runs a script on this many workers, with this many tags: it writes the text that one thread does.
 fn agrees(text: &str, workers: u32, tags: u32, stall: &impl Stall) {
-    let script = parse(text.as_bytes()).expect("a script");
-    let checked = Checked::of(&script).expect("no overlap");
-    let config = Config::new(workers, 3, tags).expect("within the limits");
-    let ran = run_checked(&checked, config, stall).expect("memory and threads");
-    let mut out = ran.replies;
-    push_disk(&mut out, &ran.disk).expect("memory");
-    let wanted = run_alone(&script).expect("memory");
+    let [out, wanted] = both_texts(text.as_bytes(), [workers, 3, tags], stall);
     assert_eq!(
         String::from_utf8_lossy(&out),
         String::from_utf8_lossy(&wanted),
@@ -31,6 +30,21 @@ fn agrees(text: &str, workers: u32, tags: u32, stall: &impl Stall) {
 fn mixed_lines() {
     for (workers, tags) in [(1, 1), (2, 1), (4, 16), (32, 63)] {
         agrees(MIXED, workers, tags, &NoStall);
+    }
+}
+
+/// A run has each two of a number of workers, of slots and of tags: no two of them are refused together.
+#[test]
+fn any_two_sizes_go_together() {
+    let script = parse(b"blkq 1\ndisk 4 hw 2\nwrite 0 3 61\nread 3 1\n").expect("a script");
+    let checked = Checked::of(&script).expect("no overlap");
+    for slots in 1..=64 {
+        for tags in 1..=63 {
+            let workers = (slots + tags) % 32 + 1;
+            let config = Config::new(workers, slots, tags).expect("within the limits");
+            let ran = run_checked(&checked, config, &NoStall).expect("memory and threads");
+            assert_eq!(ran.replies, b"3 ok 2+1\n4 ok 1 00*512\n", "{workers} workers, {slots} slots, {tags} tags");
+        }
     }
 }
 
@@ -85,12 +99,22 @@ fn whatever_overlaps() {
     }
 }
 
-/// Spins at points for turns that look random, and yields at one of eight.
-struct Dallies(AtomicU32);
+/// Spins at points for turns that look random, and yields at one of eight. It waits for no other thread, so the submitting thread may
+/// do requests too, if `helps` says so.
+struct Dallies {
+    seed: AtomicU32,
+    helps: bool,
+}
+
+impl Dallies {
+    fn new(helps: bool) -> Dallies {
+        Dallies { seed: AtomicU32::new(1), helps }
+    }
+}
 
 impl Stall for Dallies {
     fn at(&self, _number: u32, _point: Point) {
-        let seed = self.0.fetch_add(2_654_435_769, SeqCst);
+        let seed = self.seed.fetch_add(2_654_435_769, SeqCst);
         for _ in 0..(seed >> 16) % 512 {
             hint::spin_loop();
         }
@@ -98,12 +122,41 @@ impl Stall for Dallies {
             thread::yield_now();
         }
     }
+
+    fn may_hold(&self) -> bool {
+        !self.helps
+    }
 }
 
 #[test]
 fn whatever_the_schedule() {
-    let dallies = Dallies(AtomicU32::new(1));
-    for _ in 0..2_000 {
-        agrees(MIXED, 4, 3, &dallies);
+    for helps in [false, true] {
+        let dallies = Dallies::new(helps);
+        for _ in 0..2_000 {
+            agrees(MIXED, 4, 3, &dallies);
+        }
+    }
+}
+
+/// Small requests in a row, which the submitting thread does itself, between large ones, which wake workers: each number of tags, and
+/// of small requests before a large one, a drain or the end.
+#[test]
+fn whoever_does_small_requests() {
+    for tags in 1..=4 {
+        for small in 0..10 {
+            let mut text = String::from("blkq 2\ndisk 64 hw 8\n");
+            for round in 1..=6 {
+                for sector in 0..small {
+                    writeln!(text, "write {sector} 2 {round}{sector}").expect("a text");
+                }
+                text.push_str(["write 20 40 ab\n", "read 20 40\n", "stat\n", "set max_sectors 3\n"][round % 4]);
+            }
+            for workers in [1, 3] {
+                let dallies = Dallies::new(true);
+                for _ in 0..20 {
+                    agrees(&text, workers, tags, &dallies);
+                }
+            }
+        }
     }
 }

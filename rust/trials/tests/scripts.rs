@@ -9,6 +9,10 @@ use blkq::erased::line_text::{
 };
 use blkq::erased::ram_disk::Disk;
 
+#[path = "shared/texts.rs"]
+mod texts;
+use texts::texts_of;
+
 // Four lines that come again and again, and the reply to each, by the number of its line.
 fn line_and_reply(number: u32) -> (&'static str, &'static str) {
     match number % 4 {
@@ -220,24 +224,13 @@ fn reasons_have_numbers_and_texts() {
 fn faults_have_texts() {
     let parse = ParseFault { line: 3, why: Why::BadHex };
     let pair = Overlap { line: 6, earlier: 5 };
-    let texts = [
-        (ScriptFault::Memory, "memory"),
-        (ScriptFault::Parse(parse), "line 3: bad hex"),
-        (ScriptFault::Overlap(pair), "line 6: overlaps line 5"),
-    ];
-    for (fault, text) in texts {
-        let told = fault.to_string();
-        assert!(told.as_str() == text, "{text}");
-    }
+    let texts = texts_of([ScriptFault::Memory, ScriptFault::Parse(parse), ScriptFault::Overlap(pair)]);
+    assert_eq!(texts, ["memory", "line 3: bad hex", "line 6: overlaps line 5"]);
 }
 
 #[test]
 fn faults_of_lines_have_texts() {
-    let texts = [(LineFault::Memory, "memory"), (LineFault::Refused(Why::BadHex), "bad hex")];
-    for (fault, text) in texts {
-        let told = fault.to_string();
-        assert!(told.as_str() == text, "{text}");
-    }
+    assert_eq!(texts_of([LineFault::Memory, LineFault::Refused(Why::BadHex)]), ["memory", "bad hex"]);
 }
 
 /// A word, and the bytes that it spells or why it is refused.
@@ -289,10 +282,11 @@ type Counted = (&'static [u8], i128, i128, bool, Result<i128, Why>);
 
 #[test]
 fn numbers_of_words() {
-    let rows: [Counted; 22] = [
+    let rows: [Counted; 23] = [
         (b"0", 0, 9, false, Ok(0)),
         (b"00000000000000000007", 0, 9, false, Ok(7)),
         (b"000000000000000000007", 0, 9, false, Err(Why::BadNumber)),
+        (b"10", 0, 10, false, Ok(10)),
         (b"10", 0, 9, false, Err(Why::OutOfRange)),
         (b"4", 5, 9, false, Err(Why::OutOfRange)),
         (b"5", 5, 5, false, Ok(5)),

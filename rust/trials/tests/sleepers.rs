@@ -1,13 +1,16 @@
 //! A thread that waits at a queue is woken, once, by what it waits for. How a freezer is shared, and two queues that are frozen
 //! together.
 
-use blkq::erased::freeze_queue::{BlockQueue, Enter, FreezeFault, Freezer, Limits, Put, SharedFreezer, Tag};
+use blkq::erased::freeze_queue::{BlockQueue, Enter, FreezeFault, Freezer, Limits, Put, SharedFreezer, Stay, Tag};
 use std::sync::atomic::{AtomicU64, Ordering::SeqCst};
 use std::thread;
 use std::time::Duration;
 
+#[path = "shared/texts.rs"]
+mod texts;
 #[path = "shared/turns.rs"]
 mod turns;
+use texts::texts_of;
 use turns::{PATIENCE, insist, pass_turn, wait_for};
 
 /// How long the other thread is given to fall asleep.
@@ -26,17 +29,27 @@ fn with_one_entered() -> (BlockQueue, Freezer, Tag) {
     (queue, freezer, tag)
 }
 
-#[test]
-fn the_last_leaver_wakes_the_freezer() {
+/// A freezer sleeps until the one tag that is in has left, by a call: what the freeze and that call answer.
+fn freezes_beside<T>(leaves: impl FnOnce(&BlockQueue, &mut Tag) -> T) -> (Result<u32, FreezeFault>, T) {
     let (queue, mut freezer, mut tag) = with_one_entered();
     assert_eq!(freezer.start_freeze(&queue), Ok(1));
-    let (frozen, put) = thread::scope(|scope| {
+    thread::scope(|scope| {
         let freezes = scope.spawn(|| freezer.freeze(&queue));
         thread::sleep(PAUSE);
-        let put = queue.leave(&mut tag, 0);
-        (freezes.join().expect("a freeze that ends"), put)
-    });
-    assert_eq!((frozen, put), (Ok(2), Put::Last));
+        let left = leaves(&queue, &mut tag);
+        (freezes.join().expect("a freeze that ends"), left)
+    })
+}
+
+#[test]
+fn the_last_leaver_wakes_the_freezer() {
+    assert_eq!(freezes_beside(|queue, tag| queue.leave(tag, 0)), (Ok(2), Put::Last));
+}
+
+/// A tag that would stay leaves a frozen queue: as the last to leave it wakes the freezer.
+#[test]
+fn a_stay_that_is_last_wakes_the_freezer() {
+    assert_eq!(freezes_beside(|queue, tag| queue.stay(tag, 0)), (Ok(2), Stay::Left(Put::Last)));
 }
 
 /// Thaws, under the lock.
@@ -166,14 +179,7 @@ fn the_last_frozen_drains_first() {
 
 #[test]
 fn faults_have_texts() {
-    let texts = [
-        (FreezeFault::DepthFull, "depth full"),
-        (FreezeFault::NotFrozen, "not frozen"),
-        (FreezeFault::NotDrained, "not drained"),
-        (FreezeFault::TagsOut(2), "2 tags out"),
-        (FreezeFault::WornOut, "worn out"),
-    ];
-    for (fault, text) in texts {
-        assert_eq!(fault.to_string(), text);
-    }
+    use FreezeFault::{DepthFull, NotDrained, NotFrozen, TagsOut, WornOut};
+    let texts = texts_of([DepthFull, NotFrozen, NotDrained, TagsOut(2), WornOut]);
+    assert_eq!(texts, ["depth full", "not frozen", "not drained", "2 tags out", "worn out"]);
 }

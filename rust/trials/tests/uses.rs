@@ -83,3 +83,15 @@ fn a_request_is_cut_by_the_limits_in_force() {
     let made = submit(&queue, tag, 0, 6, 6).unwrap().expect("entered");
     assert_eq!(made.len(), 2);
 }
+
+/// After a change of limits a tag that enters reads the new ones, and so does another thread, by the same tag.
+#[test]
+fn callers_by_hand() {
+    let narrow = Limits::new(8, 3, 2).unwrap();
+    let (queue, mut freezer, mut tags) = BlockQueue::new(Limits::start(8).unwrap(), 1, 1).expect("memory");
+    let mut tag = tags.pop().expect("a tag");
+    change_limits(&queue, &mut freezer, narrow).unwrap();
+    queue.enter(&mut tag, 0);
+    let there = std::thread::scope(|scope| scope.spawn(|| queue.limits(&mut tag)).join().expect("no panic"));
+    assert_eq!((queue.limits(&mut tag), there), (narrow, narrow));
+}

@@ -1,10 +1,10 @@
 //! Threads that wait: they sleep, they outlast wakes, and a shared wait changes nothing.
 
-use blkq::erased::freeze_queue::{BlockQueue, Enter, Freezer, Limits, Put, SharedFreezer, Tag};
+use blkq::erased::freeze_queue::{BlockQueue, Enter, Freezer, Limits, Put, SharedFreezer, StayOrEnter, Tag};
 use blkq::erased::wait_queue::WaitQueue;
 use std::sync::atomic::{AtomicBool, AtomicU64, Ordering::SeqCst};
-use std::thread;
 use std::time::Duration;
+use std::{fs, thread};
 use trials::erased::uses::commands;
 
 /// The most turns that a thread takes before it sleeps: some with no wait announced, and one with it.
@@ -55,6 +55,58 @@ fn with_one_tag(slots: u32) -> (BlockQueue, Freezer, Tag) {
     (queue, freezer, tags.swap_remove(0))
 }
 
+/// How long this thread has had a processor, as Linux counts it.
+fn processor_time() -> Option<Duration> {
+    let told = fs::read_to_string("/proc/thread-self/schedstat").ok()?;
+    told.split_whitespace().next()?.parse().ok().map(Duration::from_nanos)
+}
+
+/// A thread that waits until this ends its wait has a processor for a moment alone: it sleeps.
+fn sleeps(what: &str, wait: impl FnOnce() + Send, end: impl FnOnce()) {
+    let taken = thread::scope(|scope| {
+        let waits = scope.spawn(|| {
+            let before = processor_time()?;
+            wait();
+            processor_time()?.checked_sub(before)
+        });
+        thread::sleep(Duration::from_millis(200));
+        end();
+        waits.join().expect("a wait that ends")
+    });
+    assert!(taken.is_none_or(|it| it < Duration::from_millis(5)), "{what} took {taken:?}");
+}
+
+#[test]
+fn a_tag_that_waits_to_enter_sleeps() {
+    let (queue, mut freezer, mut tag) = with_one_tag(1);
+    assert_eq!(freezer.freeze(&queue), Ok(1));
+    sleeps("enter", || queue.enter(&mut tag, 0), || assert_eq!(freezer.thaw(&queue), Ok(0)));
+    assert_eq!(freezer.start_freeze(&queue), Ok(1));
+    let stays = || assert_eq!(queue.stay_or_enter(&mut tag, 0), StayOrEnter::EnteredAgain);
+    sleeps("stay_or_enter", stays, || assert_eq!(freezer.thaw(&queue), Ok(0)));
+}
+
+#[test]
+fn a_freezer_that_waits_for_the_drain_sleeps() {
+    let (queue, mut freezer, mut tag) = with_one_tag(1);
+    let leave = |tag: &mut Tag| assert_eq!(queue.leave(tag, 0), Put::Last);
+    let enter_again = |freezer: &mut Freezer, tag: &mut Tag| {
+        assert_eq!(freezer.thaw(&queue), Ok(0));
+        assert_eq!(queue.try_enter(tag, 0), Enter::Entered);
+    };
+    assert_eq!(queue.try_enter(&mut tag, 0), Enter::Entered);
+    sleeps("freeze", || assert_eq!(freezer.freeze(&queue), Ok(1)), || leave(&mut tag));
+    enter_again(&mut freezer, &mut tag);
+    assert_eq!(freezer.start_freeze(&queue), Ok(1));
+    sleeps("wait_drained", || assert_eq!(freezer.wait_drained(&queue), Ok(())), || leave(&mut tag));
+    enter_again(&mut freezer, &mut tag);
+    let shared = SharedFreezer::new(freezer, &queue);
+    sleeps("a shared freeze", || assert!(shared.freeze().is_ok()), || leave(&mut tag));
+    enter_again(&mut shared.lock().freezer, &mut tag);
+    assert_eq!(shared.lock().freezer.start_freeze(&queue), Ok(1));
+    sleeps("a shared wait", || assert!(shared.wait_drained().is_ok()), || leave(&mut tag));
+}
+
 /// A shared freeze nests in another: the depth is one more. It leaves the limits, and a wait leaves both.
 #[test]
 fn a_shared_freeze_nests() {
@@ -75,18 +127,19 @@ fn wake(shared: &SharedFreezer<'_>, queue: &BlockQueue) {
     assert_eq!(guard.freezer.start_freeze(queue), Ok(1));
 }
 
-/// Waits for the drain of a queue with so many slots, is woken again and again meanwhile, and sees the drain.
-fn outlast_wakes(slots: u32) {
+/// Waits for the drain of a queue with so many slots, is woken so often meanwhile, and sees the drain.
+fn outlast_wakes(slots: u32, wakes: u32) {
     let (queue, mut freezer, mut tag) = with_one_tag(slots);
     assert_eq!(queue.try_enter(&mut tag, slots - 1), Enter::Entered);
     assert_eq!(freezer.start_freeze(&queue), Ok(1));
     let shared = SharedFreezer::new(freezer, &queue);
     thread::scope(|scope| {
         let waits = scope.spawn(|| shared.wait_drained().map(|guard| guard.freezer.depth()));
-        for _ in 0..200 {
+        for _ in 0..wakes {
             wake(&shared, &queue);
-            thread::sleep(Duration::from_millis(1));
+            thread::sleep(Duration::from_micros(200));
         }
+        thread::sleep(Duration::from_millis(20)); // so that it sleeps again
         assert_eq!(queue.leave(&mut tag, 0), Put::Last);
         assert_eq!(waits.join().expect("a wait that ends"), Ok(1));
     });
@@ -95,9 +148,10 @@ fn outlast_wakes(slots: u32) {
 /// A wait ends with the drain, and not after so many looks, however many slots the queue has.
 #[test]
 fn a_wait_outlasts_many_wakes() {
-    for slots in [1, 2, 33, 64] {
-        outlast_wakes(slots);
+    for slots in (1..=64).chain([512]) {
+        outlast_wakes(slots, 5);
     }
+    outlast_wakes(1, 1_000);
 }
 
 /// There is memory for many commands of one request.

@@ -2,12 +2,8 @@
  * tests/rows/calls compares the answers. What this library can't tell is answered '?'. */
 #include "freeze_queue.h"
 
-#include <inttypes.h>
-#include <stdio.h>
+#include "../row.h"
 #include <stdlib.h>
-#include <string.h>
-
-enum { LONGEST_LINE = 128 };
 
 static freeze_queue_freezer freezer;
 static freeze_queue_tag tags[FREEZE_QUEUE_MOST_TAGS];
@@ -125,7 +121,7 @@ static void ask_freezer(const char *call, uint32_t max, uint32_t chunk, uint32_t
 }
 
 /* Makes the queue of a line 'queue SLOTS TAGS HARDWARE', and gives out its tags. */
-static bool make_queue(const char *line)
+static bool make_queue(char *line)
 {
     uint32_t slots, count;
     if (sscanf(line, "queue %" SCNu32 " %" SCNu32 " %" SCNu32, &slots, &count, &hardware) != 3)
@@ -139,27 +135,22 @@ static bool make_queue(const char *line)
     return true;
 }
 
+static void ask(const char *actor, const char *call, const uint64_t *numbers)
+{
+    unsigned long tag = strtoul(actor, NULL, 10);
+    if (!strcmp(actor, "f"))
+        ask_freezer(call, (uint32_t)numbers[0], (uint32_t)numbers[1], (uint32_t)numbers[2]);
+    else if (tag < FREEZE_QUEUE_MOST_TAGS)
+        ask_tag(&tags[tag], call, (uint32_t)numbers[0]);
+    else
+        puts("passed over");
+}
+
 int main(void)
 {
-    char line[LONGEST_LINE], actor[32], call[32];
-    if (!fgets(line, sizeof line, stdin) || strcmp(line, "calls 1\n") || !fgets(line, sizeof line, stdin) || !make_queue(line))
-        return 2;
-    while (fgets(line, sizeof line, stdin)) {
-        uint32_t first = 0, second = 0, third = 0;
-        if (sscanf(line, "%31s %31s %" SCNu32 " %" SCNu32 " %" SCNu32, actor, call, &first, &second, &third) < 2)
-            return 2;
-        if (!strcmp(actor, "f")) {
-            ask_freezer(call, first, second, third);
-            continue;
-        }
-        unsigned long tag = strtoul(actor, NULL, 10);
-        if (tag < FREEZE_QUEUE_MOST_TAGS)
-            ask_tag(&tags[tag], call, first);
-        else
-            puts("passed over");
-    }
+    int status = answers_row(make_queue, ask);
     for (size_t at = 0; at < FREEZE_QUEUE_MOST_TAGS; at++)
         freeze_queue_free_tag(&tags[at]);
     freeze_queue_free_freezer(&freezer);
-    return 0;
+    return status;
 }

@@ -2,17 +2,11 @@
  * are, and no program that the child starts inherits them. */
 #define _GNU_SOURCE
 #include "freeze_queue_waits.h"
+#include "readable.h"
 
 #include <fcntl.h>
-#include <poll.h>
 #include <stdio.h>
 #include <sys/wait.h>
-
-static bool is_readable(int event)
-{
-    struct pollfd polled = {.fd = event, .events = POLLIN};
-    return poll(&polled, 1, 0) == 1;
-}
 
 /* The child freezes, thaws, dies and destroys its copies. */
 static int child(freeze_queue_waits *waits)

@@ -2,6 +2,7 @@
  * leaves is told that the queue is drained by it. Word: how many queues. */
 #define _POSIX_C_SOURCE 200809L
 #include "freeze_queue.h"
+#include "../need.h"
 
 #include <pthread.h>
 #include <sched.h>
@@ -9,19 +10,11 @@
 #include <stdio.h>
 #include <stdlib.h>
 
-enum { TAGS = FREEZE_QUEUE_MOST_TAGS };
+enum { TAGS = 63 };
 
 static freeze_queue_freezer freezer;
 static freeze_queue_tag tags[TAGS]; /* the first is in */
 static atomic_long begun, ended;    /* queues */
-
-static void need(bool holds, const char *what)
-{
-    if (holds)
-        return;
-    fprintf(stderr, "freed: %s\n", what);
-    abort();
-}
 
 static void wait_for(atomic_long *count, long high)
 {

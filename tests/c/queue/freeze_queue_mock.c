@@ -19,15 +19,7 @@ struct queue {
 
 struct tag { struct queue *queue; bool entered; };
 
-/* Its calls are the library's own, and not what the header makes of them for the thread sanitizer. */
-#undef freeze_queue_try_enter
-#undef freeze_queue_try_enter_frozen
-#undef freeze_queue_stay
-#undef freeze_queue_leave
-#undef freeze_queue_start_freeze
-#undef freeze_queue_poll_drained
-#undef freeze_queue_set
-#undef freeze_queue_thaw
+#include "own_calls.h"
 
 static struct queue *locked(struct queue *queue)
 {

@@ -4,6 +4,7 @@
  * wherever the header doesn't tell it the queue's order. Words: freezes, threads. */
 #define _POSIX_C_SOURCE 200809L
 #include "freeze_queue.h"
+#include "../need.h"
 
 #include <pthread.h>
 #include <sched.h>
@@ -26,14 +27,6 @@ static long freeze, all_served, threads;   /* freeze: plain, written before each
 static atomic_bool over;                   /* relaxed: it orders nothing */
 static atomic_ulong told;                  /* looked at with no order before the counts are read, and with order after */
 static long told_freeze;                   /* plain, written by who is told */
-
-static void need(bool holds, const char *what)
-{
-    if (holds)
-        return;
-    fprintf(stderr, "guarded: %s\n", what);
-    abort();
-}
 
 static void if_drained(uint32_t answer)
 {

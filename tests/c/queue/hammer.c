@@ -5,6 +5,7 @@
  * one), freezers. */
 #define _POSIX_C_SOURCE 200809L
 #include "freeze_queue_pool.h"
+#include "../need.h"
 
 #include <stdio.h>
 #include <stdlib.h>
@@ -25,14 +26,6 @@ static struct submitter {
 } submitters[MOST];
 
 static struct changer { pthread_t thread; uint32_t number; long drained, gave_up; } changers[MOST_FREEZERS];
-
-static void need(bool holds, const char *what)
-{
-    if (holds)
-        return;
-    fprintf(stderr, "hammer: %s\n", what);
-    abort();
-}
 
 static bool enters(struct submitter *me, freeze_queue_tag *tag, long turn)
 {

@@ -4,10 +4,9 @@
 #include "freeze_queue.h"
 
 #include "../inside.h"
+#include "in_a_mode.h"
 
 enum { ROUNDS = 12345 };
-
-#define IS(call, want) is(#call, call, FREEZE_QUEUE_##want, __LINE__)
 
 static const freeze_queue_limits limits = {.hardware = 8, .max = 3, .chunk = 0, .physical = 1};
 static freeze_queue_freezer freezer;
@@ -94,20 +93,14 @@ static void worn_out_without_memory(void)
     }
 }
 
+static void gives(int t) { IS(freeze_queue_next_tag(&freezer, &tags[t]), OK); }
+static void takes_back(int t) { IS(freeze_queue_give_tag_back(&freezer, &tags[t]), OK); }
+
 /* A queue with all tags back, and the word that counts its shares. */
 static uint64_t *a_shared_queue(void)
 {
     IS(freeze_queue_new(&freezer, &limits, 1, 3), OK);
-    first_look(1);
-    for (uint64_t i = 0; i < 3; i++) {
-        IS(freeze_queue_next_tag(&freezer, &tags[i]), OK);
-        look_again(2 + i);
-    }
-    for (uint64_t i = 3; i-- > 0;) {
-        IS(freeze_queue_give_tag_back(&freezer, &tags[i]), OK);
-        look_again(1 + i);
-    }
-    return the_word("shares");
+    return word_of_shares(gives, takes_back);
 }
 
 static void in_use(void)
@@ -215,28 +208,6 @@ static void counts_on_the_slot_asked_for(void)
 
 /* ---- Freed handles ---- */
 
-static struct { uint64_t *at; uint64_t words[4096]; } kept[BLOCKS];
-
-/* Notes the words of all blocks. */
-static void keep_all(void)
-{
-    for (int i = 0; i < BLOCKS; i++) {
-        kept[i].at = blocks[i].words <= 4096 ? blocks[i].at : NULL;
-        if (kept[i].at)
-            memcpy(kept[i].words, kept[i].at, blocks[i].words * 8);
-    }
-}
-
-/* How many words aren't as they were, of the blocks that are there still. */
-static long words_changed(void)
-{
-    long changed = 0;
-    for (int i = 0; i < BLOCKS; i++)
-        for (size_t w = 0; kept[i].at && kept[i].at == blocks[i].at && w < blocks[i].words; w++)
-            changed += kept[i].words[w] != blocks[i].at[w];
-    return changed;
-}
-
 /* A handle that is freed changes one word of what is left, which counts the queue's shares. So it neither enters nor leaves, and
  * no freeze, limit or mode of the queue is another. */
 static void freed_handles(uint32_t mode, bool is_in, uint32_t freezes)
@@ -244,12 +215,7 @@ static void freed_handles(uint32_t mode, bool is_in, uint32_t freezes)
     IS(freeze_queue_new(&freezer, &limits, SLOTS, 3), OK);
     for (int t = 0; t < 3; t++)
         IS(freeze_queue_next_tag(&freezer, &tags[t]), OK);
-    IS(freeze_queue_mode(&freezer, mode), OK);
-    IS(freeze_queue_try_enter(&tags[2], 1), OK);
-    if (is_in)
-        IS(freeze_queue_try_enter(&tags[0], 2), OK);
-    for (uint32_t i = 0; i < freezes; i++)
-        IS(freeze_queue_start_freeze(&freezer, &depth), OK);
+    is_in_a_mode(&freezer, tags, mode, freezes, is_in);
     keep_all();
     freeze_queue_free_tag(&tags[0]);
     TELLS(words_changed(), 1);

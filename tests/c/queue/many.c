@@ -50,7 +50,7 @@ int main(int argc, char **argv)
     }
     for (uint32_t hardware = 1; hardware <= 16; hardware++) {
         const freeze_queue_limits limits = {hardware, 0, 0, 1};
-        gives_all(&limits, 1 + count / 1000);
+        gives_all(&limits, 1 + count / 16000);
     }
     printf("all ended\n");
     return 0;

@@ -81,7 +81,7 @@ static void refused_limits(freeze_queue_freezer *freezer)
 {
     freeze_queue_freezer closed = {0};
     for (int i = 0; i < WRONG; i++) {
-        TELLS(freeze_queue_new(&closed, &wrong[i].limits, 0, 64), wrong[i].want);
+        TELLS(freeze_queue_new(&closed, &wrong[i].limits, 0, 1024), wrong[i].want);
         TELLS(freeze_queue_set(freezer, &wrong[i].limits), wrong[i].want);
         TELLS(freeze_queue_first_piece(&wrong[i].limits, 0, 0, &number), wrong[i].want);
     }
@@ -207,13 +207,13 @@ static void two_queues(freeze_queue_freezer *freezer, freeze_queue_tag *tag)
     freeze_queue_freezer other = {0};
     freeze_queue_tag others = {0};
     freeze_queue_final left;
-    IS(freeze_queue_new(&other, &plain, 64, 63), OK);
+    IS(freeze_queue_new(&other, &plain, 512, 1023), OK);
     TELLS(freeze_queue_freezer_number(&other) > freeze_queue_freezer_number(freezer), true);
     IS(freeze_queue_next_tag(&other, &others), OK);
     TELLS(freeze_queue_tag_number(&others), freeze_queue_freezer_number(&other));
     IS(freeze_queue_give_tag_back(freezer, &others), ERR_OTHER_QUEUE);
     IS(freeze_queue_give_tag_back(&other, tag), ERR_OTHER_QUEUE);
-    IS(freeze_queue_try_enter(&others, 63), OK);
+    IS(freeze_queue_try_enter(&others, 511), OK);
     IS(freeze_queue_give_tag_back(freezer, &others), ERR_OTHER_QUEUE);
     IS(freeze_queue_leave(&others, 0), OK);
     IS(freeze_queue_remove(&other, &left), ERR_TAGS_OUT);
@@ -248,9 +248,9 @@ int main(void)
     closed_handles();
     numbers();
     IS(freeze_queue_new(&freezer, &plain, 0, 1), ERR_BAD_SIZE);
-    IS(freeze_queue_new(&freezer, &plain, 65, 1), ERR_BAD_SIZE);
+    IS(freeze_queue_new(&freezer, &plain, 513, 1), ERR_BAD_SIZE);
     IS(freeze_queue_new(&freezer, &plain, 1, 0), ERR_BAD_SIZE);
-    IS(freeze_queue_new(&freezer, &plain, 1, 64), ERR_BAD_SIZE);
+    IS(freeze_queue_new(&freezer, &plain, 1, 1024), ERR_BAD_SIZE);
     IS(freeze_queue_new(&freezer, &plain, 2, 2), OK);
     IS(freeze_queue_new(&freezer, &(freeze_queue_limits){0}, 0, 0), ERR_OPEN);
     IS(freeze_queue_next_tag(&freezer, &tag), OK);

@@ -100,10 +100,10 @@ static uint32_t some_slot(const struct queue *q)
 
 static void make(uint32_t f)
 {
-    uint32_t slots = any_below(6) ? 1 + any_below(4) : any_below(70);
-    uint32_t out = any_below(6) ? 1 + any_below(4) : any_below(70);
+    uint32_t slots = any_below(6) ? 1 + any_below(4) : any_below(600);
+    uint32_t out = any_below(6) ? 1 + any_below(4) : any_below(1200);
     freeze_queue_limits limits = some_limits();
-    bool fits = slots >= 1 && slots <= 64 && out >= 1 && out <= 63;
+    bool fits = slots >= 1 && slots <= 512 && out >= 1 && out <= 1023;
     uint32_t want = freezers[f].queue ? FREEZE_QUEUE_ERR_OPEN : refusal_of(&limits);
     if (want == FREEZE_QUEUE_OK && !fits)
         want = FREEZE_QUEUE_ERR_BAD_SIZE;

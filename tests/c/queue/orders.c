@@ -155,12 +155,20 @@ static void cant_die(int me)
 }
 static void is_as_it_was(void) { NEED(the_queue()->depth == FREEZE_QUEUE_MOST_DEPTH && !waits.is_dying); }
 
+/* After the end its caller may free waits. */
+static void ends_for_good(void)
+{
+    NEED(freeze_queue_waits_end(&waits, &last, NULL) == FREEZE_QUEUE_OK);
+    gone.from = (const char *)&waits;
+    gone.to = gone.from + sizeof waits;
+}
+
 /* The last call of each thread gives its tag back; the third, which freezes, hasn't one. */
 static void ends(int me)
 {
     if (me == 2) {
         NEED(freeze_queue_give_tag_back(&freezer, &tags[2]) == FREEZE_QUEUE_OK);
-        NEED(freeze_queue_waits_end(&waits, &last, NULL) == FREEZE_QUEUE_OK);
+        ends_for_good();
         return;
     }
     uint32_t answer = freeze_queue_waits_enter(&waits, &tags[me], (uint32_t)me, NULL);
@@ -172,30 +180,75 @@ static void ends(int me)
 }
 static void has_ended(void) { NEED(!freezer.is_open && last.dead && last.kills == last.releases); }
 
-/* A freeze sleeps while the last tag comes back: the end waits for it too. */
-static void a_tag_is_in(void)
+/* One tag is out, in a live queue or in one that another keeps frozen, and a call of thread 1 begins before the end. */
+static void with_a_tag_out(uint32_t depth)
 {
-    live();
-    if (enter(&tags[0], 0, false) != FREEZE_QUEUE_OK)
-        abort();
+    begin_at(depth);
     for (int i = 1; i < 3; i++)
         if (freeze_queue_give_tag_back(&freezer, &tags[i]))
             abort();
-    locks[place_of(&gate)].owner = 1;
+    locks[place_of(&gates[0])].owner = 1;
 }
-static void ends_beside_a_freeze(int me)
+static void a_tag_is_in(void)
+{
+    with_a_tag_out(0);
+    if (enter(&tags[0], 0, false) != FREEZE_QUEUE_OK)
+        abort();
+}
+static void another_keeps_it_frozen(void) { with_a_tag_out(1); }
+/* The same of two calls, the second of which is thread 3's. */
+static void two_begin_before(void)
+{
+    another_keeps_it_frozen();
+    locks[place_of(&gates[1])].owner = 3;
+}
+
+static void the_last_tag_comes_back(void)
+{
+    if (((struct tag *)tags[0].at)->entered)
+        NEED(freeze_queue_waits_leave(&waits, &tags[0], 0) == FREEZE_QUEUE_OK);
+    NEED(freeze_queue_waits_give_tag_back(&waits, &tags[0]) == FREEZE_QUEUE_OK);
+}
+static void changes_to_5(void)
+{
+    const freeze_queue_limits limits = {.hardware = 64, .max = 5, .chunk = 8};
+    NEED(freeze_queue_waits_change(&waits, &limits, NULL) == FREEZE_QUEUE_OK);
+}
+static void adds_1(void)
+{
+    uint32_t by = 1;
+    NEED(freeze_queue_waits_update(&waits, adds_to_max, &by, NULL) == FREEZE_QUEUE_OK);
+}
+
+/* The end waits for each call that has begun, and for the tag. A dying queue is frozen and changed as any other. */
+static void ends_beside(int me, void (*calls)(void))
 {
     if (me == 0) {
-        NEED(freeze_queue_waits_leave(&waits, &tags[0], 0) == FREEZE_QUEUE_OK);
-        NEED(freeze_queue_waits_give_tag_back(&waits, &tags[0]) == FREEZE_QUEUE_OK);
+        the_last_tag_comes_back();
     } else if (me == 1) {
-        uint32_t answer = freeze_queue_waits_freeze(&waits, NULL);
-        NEED(answer == FREEZE_QUEUE_OK);
+        calls();
+    } else if (me == 2) {
+        NEED(freeze_queue_waits_mark_dying(&waits) == FREEZE_QUEUE_OK);
+        pthread_mutex_lock(&gates[0]);
+        pthread_mutex_lock(&gates[1]);
+        ends_for_good();
     } else {
-        pthread_mutex_lock(&gate);
-        NEED(freeze_queue_waits_end(&waits, &last, NULL) == FREEZE_QUEUE_OK);
+        adds_1();
     }
 }
+static void freezes(void) { NEED(freeze_queue_waits_freeze(&waits, NULL) == FREEZE_QUEUE_OK); }
+static void ends_beside_a_freeze(int me) { ends_beside(me, freezes); }
+static void ends_beside_a_change(int me) { ends_beside(me, changes_to_5); }
+static void ends_beside_an_update(int me) { ends_beside(me, adds_1); }
+
+static void ends_with(uint32_t max)
+{
+    has_ended();
+    NEED(last.limits.max == max && last.limits.chunk == 8);
+}
+static void ends_with_5(void) { ends_with(5); }
+static void ends_with_9(void) { ends_with(9); }
+static void ends_with_5_or_6(void) { ends_with(last.limits.max == 6 ? 6 : 5); }
 
 int main(void)
 {
@@ -211,6 +264,11 @@ int main(void)
     explore("a mark that is refused", 2, no_room, cant_die, is_as_it_was);
     explore("a queue ends", 3, live, ends, has_ended);
     explore("a queue ends beside a freeze", 3, a_tag_is_in, ends_beside_a_freeze, has_ended);
+    explore("a queue ends beside a change", 3, a_tag_is_in, ends_beside_a_change, ends_with_5);
+    explore("a queue ends beside an update", 3, a_tag_is_in, ends_beside_an_update, ends_with_9);
+    explore("a frozen queue ends beside a change", 3, another_keeps_it_frozen, ends_beside_a_change, ends_with_5);
+    explore("a frozen queue ends beside an update", 3, another_keeps_it_frozen, ends_beside_an_update, ends_with_9);
+    explore("a frozen queue ends beside both", 4, two_begin_before, ends_beside_a_change, ends_with_5_or_6);
     printf("in all %lu orders, %lu states\n", (unsigned long)all_orders, (unsigned long)all_states);
     return 0;
 }

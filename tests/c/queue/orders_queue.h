@@ -1,5 +1,5 @@
 /* The queue of the plays of orders.c and orders_pool.c, over the stand-in for the proved part: its calls are steps of the
- * scheduler (orders.h), each with what it answers. */
+ * scheduler (orders.h), each with what it answers. A call of a freezer whose queue was removed fails the play. */
 #ifndef ORDERS_QUEUE_H
 #define ORDERS_QUEUE_H
 #define _GNU_SOURCE
@@ -69,27 +69,38 @@ static uint64_t saw_limits(uint32_t answer, const freeze_queue_limits *limits)
     return saw(answer);
 }
 
-/* A lock that a freeze opens when it begins, for a thread that begins later. */
-static pthread_mutex_t gate;
-static uint32_t opens_gate(void)
+/* Locks that threads open when a freeze or a change of theirs begins, for a thread that begins later. */
+static pthread_mutex_t gates[2];
+static void opens_gate(void)
 {
-    if (holds(&gate))
-        locks[place_of(&gate)].owner = -1;
-    return 0;
+    for (int i = 0; i < 2; i++)
+        if (holds(&gates[i]))
+            locks[place_of(&gates[i])].owner = -1;
 }
 
-#define OF_FREEZER(call) (step(__LINE__), (uint32_t)saw(call))
+/* The freezer of a call, whose queue wasn't removed. */
+static freeze_queue_freezer *still_there(freeze_queue_freezer *of)
+{
+    if (!of->is_open)
+        fail("a call is made of a queue that was removed");
+    return of;
+}
+
+#define OF_QUEUE(call) (step(__LINE__), (uint32_t)saw(call))
+#define OF_FREEZER(of) (opens_gate(), still_there(of))
 #define freeze_queue_try_enter(tag, slot) tries(tag, slot, false, __LINE__)
 #define freeze_queue_try_enter_frozen(tag, slot) tries(tag, slot, true, __LINE__)
 #define freeze_queue_stay(tag, slot) stays(tag, slot, __LINE__)
-#define freeze_queue_leave(tag, slot) OF_FREEZER(freeze_queue_leave(tag, slot))
-#define freeze_queue_start_freeze(of, depth) OF_FREEZER(opens_gate() + freeze_queue_start_freeze(of, depth))
-#define freeze_queue_poll_drained(of) (bool)OF_FREEZER(freeze_queue_poll_drained(of))
-#define freeze_queue_set(of, limits) OF_FREEZER(freeze_queue_set(of, limits))
-#define freeze_queue_thaw(of, depth) OF_FREEZER(freeze_queue_thaw(of, depth))
-#define freeze_queue_limits_in_force(of, limits) (uint32_t)saw_limits(freeze_queue_limits_in_force(of, limits), limits)
-#define freeze_queue_give_tag_back(of, tag) OF_FREEZER(freeze_queue_give_tag_back(of, tag))
-#define freeze_queue_remove(of, last) OF_FREEZER(freeze_queue_remove(of, last))
+#define freeze_queue_leave(tag, slot) OF_QUEUE(freeze_queue_leave(tag, slot))
+#define freeze_queue_start_freeze(of, depth) OF_QUEUE(freeze_queue_start_freeze(OF_FREEZER(of), depth))
+#define freeze_queue_poll_drained(of) (bool)OF_QUEUE(freeze_queue_poll_drained(OF_FREEZER(of)))
+#define freeze_queue_set(of, limits) OF_QUEUE(freeze_queue_set(OF_FREEZER(of), limits))
+#define freeze_queue_thaw(of, depth) OF_QUEUE(freeze_queue_thaw(OF_FREEZER(of), depth))
+#define freeze_queue_depth(of, depth) freeze_queue_depth(OF_FREEZER(of), depth)
+#define freeze_queue_limits_in_force(of, limits) \
+    (uint32_t)saw_limits(freeze_queue_limits_in_force(OF_FREEZER(of), limits), limits)
+#define freeze_queue_give_tag_back(of, tag) OF_QUEUE(freeze_queue_give_tag_back(OF_FREEZER(of), tag))
+#define freeze_queue_remove(of, last) OF_QUEUE(freeze_queue_remove(OF_FREEZER(of), last))
 #define posix_memalign takes_block
 #define free lets_block_go
 #include "freeze_queue_pool.h"

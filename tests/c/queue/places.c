@@ -13,23 +13,14 @@ static const freeze_queue_limits first = {.hardware = 64, .max = 32, .chunk = 24
 
 static void sizes(void)
 {
-    IS(sizeof(freeze_queue_freezer), 32);
-    IS(offsetof(freeze_queue_freezer, is_open), 0);
-    IS(offsetof(freeze_queue_freezer, at), 8);
-    IS(offsetof(freeze_queue_freezer, reserved), 16);
-    IS(sizeof(freeze_queue_tag), 32);
-    IS(offsetof(freeze_queue_tag, is_open), 0);
-    IS(offsetof(freeze_queue_tag, at), 8);
-    IS(offsetof(freeze_queue_tag, reserved), 16);
+    HANDLE_IS_LAID_OUT(freeze_queue_freezer);
+    HANDLE_IS_LAID_OUT(freeze_queue_tag);
     IS(sizeof(freeze_queue_limits), 16);
     IS(offsetof(freeze_queue_limits, hardware), 0);
     IS(offsetof(freeze_queue_limits, max), 4);
     IS(offsetof(freeze_queue_limits, chunk), 8);
     IS(offsetof(freeze_queue_limits, physical), 12);
-    IS(sizeof(freeze_queue_final), 40);
-    IS(offsetof(freeze_queue_final, dead), 0);
-    IS(offsetof(freeze_queue_final, kills), 8);
-    IS(offsetof(freeze_queue_final, releases), 16);
+    FINAL_IS_LAID_OUT(freeze_queue_final, 40);
     IS(offsetof(freeze_queue_final, limits), 24);
 }
 

@@ -17,7 +17,7 @@ static long life(long allow)
     freeze_queue_tag tag[2] = {{0}, {0}};
     freeze_queue_final last;
     allowed = allow;
-    uint32_t answer = freeze_queue_new(&freezer, &limits, 64, 2);
+    uint32_t answer = freeze_queue_new(&freezer, &limits, 512, 2);
     if (answer == FREEZE_QUEUE_ERR_NO_MEMORY) {
         allowed = -1;
         return freezer.is_open ? -2 : allow;

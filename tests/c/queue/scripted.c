@@ -3,9 +3,8 @@
  * none. */
 #define _POSIX_C_SOURCE 200809L
 #include "freeze_queue.h"
+#include "readable.h"
 #include "scripted.h"
-
-#include <poll.h>
 
 static freeze_queue_freezer freezer;
 static freeze_queue_tag tags[3];
@@ -54,12 +53,6 @@ static uint32_t tries(freeze_queue_tag *tag, uint32_t slot)
 static freeze_queue_waits waits;
 static const struct timespec soon = {1, 0};
 static freeze_queue_limits limits = {.hardware = 64, .max = 8, .chunk = 0, .physical = 1};
-
-static bool is_readable(int event)
-{
-    struct pollfd polled = {.fd = event, .events = POLLIN};
-    return poll(&polled, 1, 0) == 1;
-}
 
 /* What both events show. */
 static void shows(bool live, bool drained, int line)
@@ -139,6 +132,8 @@ static void nobody_waits(void)
     IS(freeze_queue_waits_leave(&waits, &tags[0], 0), OK);
     IS(freeze_queue_waits_leave(&waits, &tags[1], 1), OK);
     IS(freeze_queue_waits_leave(&waits, &tags[1], 1), ERR_TAG_NOT_ENTERED);
+    IS(freeze_queue_waits_stay(&waits, &tags[1], 1, NULL), ERR_TAG_NOT_ENTERED);
+    IS(freeze_queue_waits_stay(&waits, &tags[1], 9, NULL), ERR_BAD_SLOT);
     IS(freeze_queue_waits_enter(&waits, &tags[0], 9, NULL), ERR_BAD_SLOT);
     TELLS(locks - before, 0);
     SHOWS(true, false);
@@ -167,6 +162,16 @@ static void waits_for_the_drain(void)
     acts(third_is_refused, NULL, NULL);
     IS(freeze_queue_waits_freeze(&waits, NULL), OK);
     thaws();
+}
+
+/* A thaw right after the last leave: the leave has set the events by then, under the lock. */
+static void thaws_after_the_drain(void)
+{
+    IS(freeze_queue_waits_enter(&waits, &tags[0], 0, NULL), OK);
+    IS(freeze_queue_waits_begin_freeze(&waits), OK);
+    after_unlock = thaws;
+    IS(freeze_queue_waits_leave(&waits, &tags[0], 0), OK);
+    SHOWS(true, false);
 }
 
 /* Both freezers are woken by one leaving. */
@@ -238,8 +243,9 @@ static void is_frozen_before_the_next_try(void)
 {
     begins_a_freeze();
     acts(thaws_and_is_frozen_later, thaws, NULL);
-    IS(freeze_queue_waits_enter(&waits, &tags[0], 0, NULL), OK);
+    IS(freeze_queue_waits_enter(&waits, &tags[0], 1, NULL), OK);
     TELLS(have_acted(), true);
+    TELLS(tried_on, 1);
     leaves(0, false);
 }
 
@@ -343,17 +349,37 @@ static void the_greatest_depth(void)
     thaws();
 }
 
+/* The events of a queue show its own state, beside another. */
+static void another_queue(void)
+{
+    freeze_queue_freezer other = {0};
+    freeze_queue_waits others;
+    freeze_queue_final last;
+    TELLS(freeze_queue_new(&other, &limits, 1, 1) || freeze_queue_waits_init(&others, &other), false);
+    TELLS(freeze_queue_waits_open_events(&others), 0);
+    TELLS(is_readable(others.live_event), true);
+    begins_a_freeze();
+    IS(freeze_queue_waits_begin_freeze(&others), DRAINED);
+    TELLS(is_readable(others.live_event), false);
+    thaws();
+    IS(freeze_queue_waits_end(&others, &last, NULL), OK);
+}
+
 int main(void)
 {
     freeze_queue_final last;
-    if (freeze_queue_new(&freezer, &limits, 2, 3) || freeze_queue_waits_init(&waits, &freezer) ||
-        freeze_queue_waits_open_events(&waits))
+    if (freeze_queue_new(&freezer, &limits, 2, 3) || freeze_queue_waits_init(&waits, &freezer))
         return 1;
+    begins_a_freeze();
+    TELLS(freeze_queue_waits_open_events(&waits), 0);
+    SHOWS(false, true);
+    thaws();
     for (int i = 0; i < 3; i++)
         IS(freeze_queue_next_tag(&freezer, &tags[i]), OK);
     SHOWS(true, false);
     nobody_waits();
     waits_for_the_drain();
+    thaws_after_the_drain();
     two_wait_for_the_drain();
     waits_for_the_thaw();
     stays_until_a_freeze();
@@ -362,12 +388,12 @@ int main(void)
     changes();
     changes_while_frozen();
     the_greatest_depth();
+    another_queue();
     for (int i = 0; i < 3; i++)
         IS(freeze_queue_give_tag_back(&freezer, &tags[i]), OK);
     IS(freeze_queue_remove(&freezer, &last), OK);
     IS(freeze_queue_waits_begin_freeze(&waits), ERR_CLOSED);
     SHOWS(false, false); /* no queue is live, or drained */
     freeze_queue_waits_destroy(&waits);
-    printf("%s\n", failures ? "FAILED" : "as the script has it");
-    return failures != 0;
+    return told_at_the_end();
 }

@@ -5,6 +5,7 @@
 #ifndef SCRIPTED_H
 #define SCRIPTED_H
 #include "../is.h"
+#include "../need.h"
 
 #include <errno.h>
 #include <pthread.h>
@@ -28,14 +29,6 @@ static struct sleeper {
 } *asleep; /* the last one first */
 
 #define IS(call, want) is(#call, call, FREEZE_QUEUE_##want, __LINE__)
-
-static void need(bool holds, const char *what)
-{
-    if (holds)
-        return;
-    fprintf(stderr, "%s\n", what);
-    exit(1);
-}
 
 /* What acts while the next call sleeps, one after another until it is woken. */
 static void acts(scripted_act first, scripted_act second, scripted_act third)
@@ -108,6 +101,18 @@ static int scripted_wake(pthread_cond_t *on, bool all)
 
 /* Nobody woke it, and yet it wakes. */
 static void wakes_by_itself(void) { asleep->woken = true; }
+
+/* The last line of a test, and its status. */
+static int told_at_the_end(void)
+{
+    printf("%s\n", failures ? "FAILED" : "as the script has it");
+    return failures != 0;
+}
+
+/* A thread sleeps at once, unless a test has a script of the looks. */
+#ifndef FREEZE_QUEUE_LOOK
+#define FREEZE_QUEUE_LOOK 0
+#endif
 
 #define pthread_mutex_lock scripted_lock
 #define pthread_mutex_unlock scripted_unlock

@@ -2,9 +2,10 @@
  * done under the lock. */
 #define _POSIX_C_SOURCE 200809L
 #include "freeze_queue.h"
+#include "readable.h"
 #include "scripted.h"
 
-#include <poll.h>
+#include <fcntl.h>
 
 static freeze_queue_freezer freezer;
 
@@ -30,12 +31,6 @@ static freeze_queue_waits waits;
 static freeze_queue_tag tags[3];
 static const struct timespec soon = {1, 0};
 static freeze_queue_final last;
-
-static bool is_readable(int event)
-{
-    struct pollfd polled = {.fd = event, .events = POLLIN};
-    return poll(&polled, 1, 0) == 1;
-}
 
 static uint32_t depth_now(void)
 {
@@ -158,6 +153,26 @@ static void a_freeze_holds_the_end_off(void)
     TELLS(have_acted(), true);
 }
 
+/* A tag that would stay in a dying queue leaves. A freeze leaves both events readable, and the end closes them. */
+static void who_stays_is_answered(void)
+{
+    begins();
+    const int event = waits.live_event;
+    IS(freeze_queue_waits_enter(&waits, &tags[0], 0, NULL), OK);
+    dies();
+    acts(NULL, NULL, NULL);
+    IS(freeze_queue_waits_stay(&waits, &tags[0], 0, NULL), ERR_DYING);
+    IS(freeze_queue_waits_leave(&waits, &tags[0], 0), ERR_TAG_NOT_ENTERED);
+    IS(freeze_queue_waits_begin_freeze(&waits), DRAINED);
+    TELLS(is_readable(waits.live_event) && is_readable(waits.drained_event), true);
+    thaws_one();
+    first_is_back();
+    second_is_back();
+    third_is_back();
+    ends();
+    TELLS(fcntl(event, F_GETFD) == -1, true);
+}
+
 /* As many freezes as there may be: the mark is refused, and nobody is told that the queue dies. */
 static void the_greatest_depth(void)
 {
@@ -167,6 +182,7 @@ static void the_greatest_depth(void)
     acts(NULL, NULL, NULL);
     IS(freeze_queue_waits_mark_dying(&waits), ERR_DEPTH_FULL);
     IS(freeze_queue_waits_end(&waits, &last, NULL), ERR_DEPTH_FULL);
+    TELLS(fcntl(waits.live_event, F_GETFD), FD_CLOEXEC); /* still open */
     TELLS(freeze_queue_waits_is_dying(&waits), false);
     IS(freeze_queue_waits_enter(&waits, &tags[0], 0, &soon), ERR_TIMED_OUT);
     for (uint32_t depth = 1; depth < FREEZE_QUEUE_MOST_DEPTH; depth++)
@@ -222,6 +238,21 @@ static void two_changes(void)
     TELLS(depth_now() == 0 && is_readable(waits.live_event), true);
 }
 
+/* A dying queue changes as a live one, also by a call that sleeps while the queue is marked. */
+static void a_dying_queue_changes(void)
+{
+    const freeze_queue_limits limits = {.hardware = 64, .max = 5, .chunk = 8};
+    uint32_t refuses = 77;
+    IS(freeze_queue_waits_enter(&waits, &tags[0], 0, NULL), OK);
+    acts(dies, first_leaves, NULL);
+    IS(freeze_queue_waits_change(&waits, &limits, NULL), OK);
+    TELLS(have_acted() && limits_now().max == 5 && depth_now() == 1, true);
+    IS(freeze_queue_waits_update(&waits, doubles_chunk, &answer_of_all, NULL), OK);
+    TELLS(limits_now().chunk == 16 && depth_now() == 1, true);
+    TELLS(freeze_queue_waits_update(&waits, doubles_chunk, &refuses, NULL), 77);
+    TELLS(limits_now().chunk == 16 && depth_now() == 1, true);
+}
+
 int main(void)
 {
     waiting_calls_are_answered();
@@ -229,12 +260,13 @@ int main(void)
     ends_with_the_last_tag();
     the_end_looks_after_its_deadline();
     a_freeze_holds_the_end_off();
+    who_stays_is_answered();
     the_greatest_depth();
     fields_change();
     two_changes();
+    a_dying_queue_changes();
     for (int i = 0; i < 3; i++)
         IS(freeze_queue_waits_give_tag_back(&waits, &tags[i]), OK);
     IS(freeze_queue_waits_end(&waits, &last, NULL), OK);
-    printf("%s\n", failures ? "FAILED" : "as the script has it");
-    return failures != 0;
+    return told_at_the_end();
 }

@@ -132,7 +132,20 @@ static void tags_in_flight_are_listed(void)
 /* ---- The end ---- */
 
 static freeze_queue_waits waits;
-static void none_is_there(void) { TELLS(freeze_queue_pool_take_waiting(&pool, 1, NULL) == NULL, true); }
+/* The list has what is out, and not what an end has taken. It looks under the lock, under which the end takes tags. */
+static void lists(uint32_t count, uint32_t first)
+{
+    freeze_queue_taken list[2] = {{9, 9, 9, 9}, {9, 9, 9, 9}};
+    const long before = locks;
+    TELLS(freeze_queue_pool_in_flight(&pool, list, 2), count);
+    TELLS(list[0].place, first);
+    TELLS(locks - before, pool.count > 0);
+}
+static void none_is_there(void)
+{
+    TELLS(freeze_queue_pool_take_waiting(&pool, 1, NULL) == NULL, true);
+    lists(1, 1);
+}
 static void the_pool_ends(void)
 {
     TELLS(freeze_queue_waits_init(&waits, &freezer), 0);
@@ -140,10 +153,13 @@ static void the_pool_ends(void)
     acts(gives_first, none_is_there, NULL);
     IS(freeze_queue_pool_end(&pool, &waits, &soon), ERR_TIMED_OUT);
     TELLS(have_acted() && pool.count == 2 && !pool.is_ending, true);
+    lists(1, 1);
     TELLS((out[0] = freeze_queue_pool_take(&pool, 0)) == &pool.tags[0].tag, true);
+    lists(2, 0);
     acts(wakes_by_itself, gives_second, gives_first);
     IS(freeze_queue_pool_end(&pool, &waits, NULL), OK);
     TELLS(have_acted() && pool.count == 0 && locked == NULL, true);
+    lists(0, 9);
     IS(freeze_queue_pool_end(&pool, &waits, NULL), ERR_CLOSED);
     TELLS(freeze_queue_pool_take(&pool, 0) == NULL && freeze_queue_pool_take_waiting(&pool, 0, NULL) == NULL, true);
     IS(freeze_queue_pool_fill(&pool, &freezer, 2), ERR_OPEN);
@@ -153,6 +169,22 @@ static void the_pool_ends(void)
     takes_all();
     gives_first();
     gives_second();
+}
+
+/* The last tag comes back while the end sleeps, and nobody has notified it by its deadline: it looks once more. It locks the
+ * pool once, and waits for each of two tags. */
+static void the_end_looks_after_its_deadline(void)
+{
+    takes_all();
+    gives_second();
+    acts(gives_first_untold, NULL, NULL);
+    const long before = locks;
+    IS(freeze_queue_pool_end(&pool, &waits, &soon), OK);
+    TELLS(have_acted() && pool.count == 0, true);
+    TELLS(locks - before, 3);
+    freeze_queue_pool_destroy(&pool);
+    freeze_queue_waits_destroy(&waits);
+    IS(freeze_queue_pool_fill(&pool, &freezer, 2), OK);
 }
 
 /* Each tag, and each word, has 128 bytes for itself, wherever the pool lies. */
@@ -202,11 +234,10 @@ int main(void)
     giving_takes_no_lock_again();
     tags_in_flight_are_listed();
     the_pool_ends();
-    freeze_queue_waits_destroy(&waits);
+    the_end_looks_after_its_deadline();
     IS(freeze_queue_pool_empty(&pool, &freezer), OK);
     tags_are_aligned();
     IS(freeze_queue_remove(&freezer, &last), OK);
     each_tag_that_is_out_is_seen(&limits);
-    printf("%s\n", failures ? "FAILED" : "as the script has it");
-    return failures != 0;
+    return told_at_the_end();
 }

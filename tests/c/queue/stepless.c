@@ -4,51 +4,26 @@
 #include "freeze_queue.h"
 
 #include "../stepless.h"
+#include "in_a_mode.h"
 
 enum { SLOTS = 4 };
-
-#define IS(call, want) is(#call, call, FREEZE_QUEUE_##want, __LINE__)
 
 static const freeze_queue_limits limits = {.hardware = 8, .max = 3};
 static freeze_queue_freezer freezer;
 static freeze_queue_tag tags[3], closed;
 
-/* The words that count are in the one block that two tags write when they enter. */
-static void finds_the_table(void)
-{
-    int found = 0;
-    for (int i = 0; i < block_count; i++) {
-        int written = 0;
-        for (int t = 0; t < 2; t++) {
-            the_table = i;
-            guards(true);
-            IS(freeze_queue_try_enter(&tags[t], 0), OK);
-            guards(false);
-            written += writes;
-            IS(freeze_queue_leave(&tags[t], 0), OK);
-        }
-        if (written == 2)
-            found = i + 1;
-    }
-    TELLS(found > 0, true);
-    the_table = found - 1;
-}
+static void comes_in(int t) { IS(freeze_queue_try_enter(&tags[t], 0), OK); }
+static void goes_out(int t) { IS(freeze_queue_leave(&tags[t], 0), OK); }
 
 /* A queue in a mode, frozen so often, with its last tag in, and the first if asked for. */
 static void a_queue(uint32_t mode, uint32_t freezes, bool is_in)
 {
-    uint32_t depth;
     block_count = 0;
     IS(freeze_queue_new(&freezer, &limits, SLOTS, 3), OK);
     for (int t = 0; t < 3; t++)
         IS(freeze_queue_next_tag(&freezer, &tags[t]), OK);
-    finds_the_table();
-    IS(freeze_queue_mode(&freezer, mode), OK);
-    IS(freeze_queue_try_enter(&tags[2], 1), OK);
-    if (is_in)
-        IS(freeze_queue_try_enter(&tags[0], 2), OK);
-    for (uint32_t i = 0; i < freezes; i++)
-        IS(freeze_queue_start_freeze(&freezer, &depth), OK);
+    finds_the_table(comes_in, goes_out);
+    is_in_a_mode(&freezer, tags, mode, freezes, is_in);
 }
 
 static void questions(uint32_t freezes)

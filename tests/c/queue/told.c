@@ -13,14 +13,7 @@ static uint32_t (*const start_freeze)(freeze_queue_freezer *, uint32_t *) = free
 static bool (*const poll_drained)(freeze_queue_freezer *) = freeze_queue_poll_drained;
 static uint32_t (*const set)(freeze_queue_freezer *, const freeze_queue_limits *) = freeze_queue_set;
 static uint32_t (*const thaw)(freeze_queue_freezer *, uint32_t *) = freeze_queue_thaw;
-#undef freeze_queue_try_enter
-#undef freeze_queue_try_enter_frozen
-#undef freeze_queue_stay
-#undef freeze_queue_leave
-#undef freeze_queue_start_freeze
-#undef freeze_queue_poll_drained
-#undef freeze_queue_set
-#undef freeze_queue_thaw
+#include "own_calls.h"
 
 uint64_t freeze_queue_tag_number(freeze_queue_tag *tag) { return tag ? number : 0; }
 uint64_t freeze_queue_freezer_number(freeze_queue_freezer *freezer) { return freezer ? number : 0; }

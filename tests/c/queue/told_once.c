@@ -3,6 +3,7 @@
  * there are two processors: it is one freeze in some fifty. Words: the least freezes, and the most seconds. */
 #define _POSIX_C_SOURCE 200809L
 #include "freeze_queue.h"
+#include "../need.h"
 
 #include <pthread.h>
 #include <sched.h>
@@ -23,14 +24,6 @@ static struct caller {
 
 static freeze_queue_freezer freezer;
 static atomic_bool over;
-
-static void need(bool holds, const char *what)
-{
-    if (holds)
-        return;
-    fprintf(stderr, "told_once: %s\n", what);
-    abort();
-}
 
 /* Waits for the next freeze; false where there is none. */
 static bool next(struct caller *me)

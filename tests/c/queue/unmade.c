@@ -2,6 +2,7 @@
  * before is ended. Each condition looks at CLOCK_MONOTONIC. */
 #define _POSIX_C_SOURCE 200809L
 #include "freeze_queue.h"
+#include "readable.h"
 
 #include <errno.h>
 #include <fcntl.h>
@@ -57,6 +58,8 @@ static int takes_block(void **at, size_t alignment, size_t size)
     return makes(ENOMEM) ? ENOMEM : posix_memalign(at, alignment, size);
 }
 
+static void *takes_memory(size_t size) { return makes(ENOMEM) ? NULL : malloc(size); }
+
 static void lets_go(void *at)
 {
     ends(0);
@@ -77,6 +80,7 @@ static bool never_waits(int event) { return (fcntl(event, F_GETFL) & O_NONBLOCK)
 #define eventfd opens
 #define close(event) ends(close(event))
 #define posix_memalign takes_block
+#define malloc takes_memory
 #define free lets_go
 #include "freeze_queue_pool.h"
 
@@ -119,6 +123,24 @@ static void waits_are_made(void)
     TELLS(made, 4);
 }
 
+/* Waits that are allocated: one more that may be refused, and no pointer to what isn't made. */
+static void waits_are_allocated(void)
+{
+    for (int allow = 0; allow < 11; allow++) {
+        allowed = allow;
+        TELLS(freeze_queue_waits_new(&freezer) == NULL, true);
+        TELLS(made, 0);
+    }
+    allowed = 11;
+    freeze_queue_waits *allocated = freeze_queue_waits_new(&freezer);
+    TELLS(allocated != NULL && allowed == 0 && made == 5, true);
+    if (allocated == NULL)
+        return;
+    freeze_queue_waits_destroy(allocated);
+    freeze_queue_waits_free(allocated);
+    TELLS(made, 0);
+}
+
 static void events_are_opened(void)
 {
     for (allowed = 0; allowed < 2;) {
@@ -137,7 +159,7 @@ static void events_are_opened(void)
     TELLS(made, 0);
 }
 
-/* An event may have the number 0, where a program has no standard input, and is closed like any other. */
+/* An event may have the number 0, where a program has no standard input. It is set and closed like any other. */
 static void an_event_has_the_number_0(void)
 {
     int input = fcntl(0, F_DUPFD_CLOEXEC, 3);
@@ -147,6 +169,10 @@ static void an_event_has_the_number_0(void)
         TELLS(freeze_queue_waits_init(&waits, &freezer), 0);
         TELLS(freeze_queue_waits_open_events(&waits), 0);
         TELLS(waits.live_event == 0 || waits.drained_event == 0, true);
+        TELLS(is_readable(waits.live_event) && !is_readable(waits.drained_event), true);
+        TELLS(freeze_queue_waits_begin_freeze(&waits), FREEZE_QUEUE_DRAINED);
+        TELLS(!is_readable(waits.live_event) && is_readable(waits.drained_event), true);
+        TELLS(freeze_queue_waits_thaw(&waits), FREEZE_QUEUE_LIVE_AGAIN);
         freeze_queue_waits_destroy(&waits);
         TELLS(made, 0);
         TELLS(fcntl(0, F_GETFD), -1);
@@ -183,6 +209,7 @@ int main(void)
     freeze_queue_final last;
     if (freeze_queue_new(&freezer, &limits, 1, 2))
         return 1;
+    waits_are_allocated();
     waits_are_made();
     events_are_opened();
     an_event_has_the_number_0();

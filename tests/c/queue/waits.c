@@ -3,8 +3,8 @@
 #define _POSIX_C_SOURCE 200809L
 #include "freeze_queue_waits.h"
 #include "../is.h"
+#include "readable.h"
 
-#include <poll.h>
 #include <stdio.h>
 #include <stdlib.h>
 
@@ -273,36 +273,30 @@ static void changes(struct queue *queue)
 }
 
 #if defined(__linux__)
-static bool is_readable(int event, int milliseconds)
-{
-    struct pollfd polled = {.fd = event, .events = POLLIN};
-    return poll(&polled, 1, milliseconds) == 1;
-}
-
 static void events(struct queue *queue)
 {
     freeze_queue_waits *waits = &queue->waits;
     struct later later;
     TELLS((uint64_t)freeze_queue_waits_open_events(waits), 0);
-    TELLS(is_readable(waits->live_event, 0), true);
-    TELLS(is_readable(waits->drained_event, 0), false);
+    TELLS(is_readable(waits->live_event), true);
+    TELLS(is_readable(waits->drained_event), false);
     IS(freeze_queue_waits_enter(waits, &queue->tags[0], 0, NULL), OK);
     IS(freeze_queue_waits_begin_freeze(waits), OK);
-    TELLS(is_readable(waits->live_event, 0), false);
-    TELLS(is_readable(waits->drained_event, 0), false);
+    TELLS(is_readable(waits->live_event), false);
+    TELLS(is_readable(waits->drained_event), false);
     IS(freeze_queue_waits_try_enter(waits, &queue->tags[1], 0), NOT_ENTERED);
     begin(&later, queue, first_leaves, SOON);
-    TELLS(is_readable(waits->drained_event, 2000), true);
+    TELLS(is_readable_within(waits->drained_event, 2000), true);
     IS(answer_of(&later), OK);
     TELLS(freeze_queue_waits_is_drained(waits), true);
     IS(freeze_queue_waits_begin_freeze(waits), DRAINED);
     IS(freeze_queue_waits_thaw(waits), OK);
-    TELLS(is_readable(waits->drained_event, 0), true);
-    TELLS(is_readable(waits->live_event, 0), false);
+    TELLS(is_readable(waits->drained_event), true);
+    TELLS(is_readable(waits->live_event), false);
     begin(&later, queue, thaws, SOON);
-    TELLS(is_readable(waits->live_event, 2000), true);
+    TELLS(is_readable_within(waits->live_event, 2000), true);
     IS(answer_of(&later), LIVE_AGAIN);
-    TELLS(is_readable(waits->drained_event, 0), false);
+    TELLS(is_readable(waits->drained_event), false);
     IS(freeze_queue_waits_try_enter(waits, &queue->tags[1], 0), OK);
     IS(freeze_queue_waits_leave(waits, &queue->tags[1], 0), OK);
 }

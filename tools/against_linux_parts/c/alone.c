@@ -1,5 +1,7 @@
 /* The shims on one thread. */
 #include "alone.h"
+#include <inttypes.h>
+#include <stdio.h>
 #include <stdlib.h>
 
 unsigned shim_cpus, alone_cpu;
@@ -30,11 +32,15 @@ bool shim_warn(bool is_so, const char *what)
     return is_so;
 }
 
-const char *alone_warning(void)
+void alone_tells(const char *comma, const char *last_comma, uint64_t releases)
 {
-    const char *what = warning;
+    if (releases)
+        printf("%srelease", comma);
+    if (releases > 1)
+        printf(" %" PRIu64 " times", releases);
+    if (warning)
+        printf("%sthe kernel warns: %s", last_comma, warning);
     warning = NULL;
-    return what;
 }
 
 void shim_lock(spinlock_t *lock)

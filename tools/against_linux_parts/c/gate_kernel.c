@@ -183,7 +183,6 @@ int main(void)
     alone_now = &sleeper;
     while (next_line()) {
         uint64_t before = releases;
-        const char *warning;
         unsigned pass;
         if (is("gate")) {
             before = 0;
@@ -196,12 +195,7 @@ int main(void)
         } else if (!of_pass(&pass)) {
             of_control();
         }
-        if (releases != before)
-            printf(", release");
-        if (releases > before + 1)
-            printf(" %" PRIu64 " times", releases - before);
-        if ((warning = alone_warning()))
-            printf(", and the kernel warns: %s", warning);
+        alone_tells(", ", ", and ", releases - before);
         puts("");
     }
     return 0;

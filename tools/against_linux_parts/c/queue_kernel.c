@@ -268,7 +268,6 @@ int main(void)
     setvbuf(stdout, NULL, _IOLBF, 0);
     while (next_line()) {
         uint64_t before = releases;
-        const char *warning;
         alone_now = &of_driver;
         if (is("queue")) {
             before = 0;
@@ -282,12 +281,7 @@ int main(void)
         }
         if (is_there)
             settle();
-        if (releases != before)
-            printf("; release");
-        if (releases > before + 1)
-            printf(" %" PRIu64 " times", releases - before);
-        if ((warning = alone_warning()))
-            printf("; the kernel warns: %s", warning);
+        alone_tells("; ", "; ", releases - before);
         puts("");
     }
     return 0;

@@ -1,7 +1,7 @@
 //! How a queue ends.
-ghost use Rattle.std.specs.Prelude.{◌≡◌, ◌≤◌, false, All, MatchResult};
+ghost use Rattle.std.specs.Prelude.{◌≡◌, ◌≤◌, false, All};
 ghost use Rattle.std.specs.Vec.{vec_capacity};
-ghost use Rattle.freeze_queue_c.specs.Ends.{IsEnd, IsKeptAs, IsPutBack, missing_tags};
+ghost use Rattle.freeze_queue_c.specs.Ends.{EndsOrIsKept, IsPutBack, missing_tags};
 ghost use Rattle.freeze_queue_c.specs.Opened.{freezer_with};
 
 use super::OpenFreezer;
@@ -59,7 +59,7 @@ fn remove(
     requires places { freezer.tags ≤ vec_capacity waiting }
     requires tags { All (λ t. t.queue ≡ queue) waiting.items }
     requires out { All (λ t. t.entered ≡ false) waiting.items }
-    ensures { MatchResult result (IsEnd (freezer_with number waiting.items freezer)) (λ kept. IsKeptAs (freezer_with number waiting.items freezer) kept.freezer kept.why) }
+    ensures { EndsOrIsKept (freezer_with number waiting.items freezer) result }
 {
     let limits = PlainLimits::of(freezer.limits());
     match freezer.remove(queue, waiting) {
@@ -84,7 +84,7 @@ impl OpenFreezer {
     /// Ends the queue. Refuses TagsOut, WornOut; InUse where somebody has a share of the queue. Memory where there is none
     /// to put back a queue that is refused.
     pub fn end(self, alloc: Global) -> Result<Final, KeptFreezer>
-        ensures { MatchResult result (IsEnd self) (λ kept. IsKeptAs self kept.freezer kept.why) }
+        ensures { EndsOrIsKept self result }
     {
         let Self {
             before: _,

@@ -178,14 +178,14 @@ fn sizes(rt: HostRuntime) {
         drawn: 6,
     };
     assert!(rt; freeze_queue_new_numbered(&mut freezer, &number, &LIMITS, 0, 2) == 35);
-    assert!(rt; freeze_queue_new_numbered(&mut freezer, &number, &LIMITS, 65, 2) == 35);
+    assert!(rt; freeze_queue_new_numbered(&mut freezer, &number, &LIMITS, 513, 2) == 35);
     assert!(rt; freeze_queue_new_numbered(&mut freezer, &number, &LIMITS, 2, 0) == 35);
-    assert!(rt; freeze_queue_new_numbered(&mut freezer, &number, &LIMITS, 2, 64) == 35);
-    assert!(rt; freeze_queue_new_numbered(&mut freezer, &number, &LIMITS, 64, 63) == 0);
-    assert!(rt; freeze_queue_new_numbered(&mut freezer, &number, &LIMITS, 64, 63) == 33);
-    for _ in 0..63u32 {
+    assert!(rt; freeze_queue_new_numbered(&mut freezer, &number, &LIMITS, 2, 1_024) == 35);
+    assert!(rt; freeze_queue_new_numbered(&mut freezer, &number, &LIMITS, 512, 1_023) == 0);
+    assert!(rt; freeze_queue_new_numbered(&mut freezer, &number, &LIMITS, 512, 1_023) == 33);
+    for _ in 0..1_023u32 {
         assert!(rt; freeze_queue_next_tag(&mut freezer, &mut tag) == 0);
-        assert!(rt; freeze_queue_try_enter(&mut tag, 63) == 0);
+        assert!(rt; freeze_queue_try_enter(&mut tag, 511) == 0);
         freeze_queue_free_tag(&mut tag);
     }
     assert!(rt; freeze_queue_next_tag(&mut freezer, &mut tag) == 39);

@@ -81,12 +81,18 @@ fn refused_limits(rt: HostRuntime) {
 fn limits_of_a_new_queue(rt: HostRuntime) {
     let mut freezer = FreezerHandle::new(rt.alloc());
     let mut told = NOT_YET;
-    assert!(rt; freeze_queue_new_numbered(&mut freezer, &NUMBER, &limits(0, 0, 0, 1), 65, 2) == 27);
-    assert!(rt; freeze_queue_new_numbered(&mut freezer, &NUMBER, &limits(8, 9, 0, 1), 65, 2) == 25);
     assert!(rt;
-        freeze_queue_new_numbered(&mut freezer, &NUMBER, &limits(8, 0, 65_536, 1), 65, 2) == 26
+        freeze_queue_new_numbered(&mut freezer, &NUMBER, &limits(0, 0, 0, 1), 513, 2) == 27
     );
-    assert!(rt; freeze_queue_new_numbered(&mut freezer, &NUMBER, &limits(8, 0, 0, 6), 65, 2) == 28);
+    assert!(rt;
+        freeze_queue_new_numbered(&mut freezer, &NUMBER, &limits(8, 9, 0, 1), 513, 2) == 25
+    );
+    assert!(rt;
+        freeze_queue_new_numbered(&mut freezer, &NUMBER, &limits(8, 0, 65_536, 1), 513, 2) == 26
+    );
+    assert!(rt;
+        freeze_queue_new_numbered(&mut freezer, &NUMBER, &limits(8, 0, 0, 6), 513, 2) == 28
+    );
     assert!(rt;
         freeze_queue_new_numbered(&mut freezer, &NUMBER, &limits(65_535, 0, 0, 1), 1, 1) == 0
     );

@@ -24,7 +24,7 @@ fn held_on_no_slot(control: &mut ControlHandle, pass: &mut PassHandle, slots: u3
 
 /// Takes an amount on the slots of one half, the odd ones or the others, and puts it on the slot beside each.
 fn counts_on_pairs(pass: &mut PassHandle, pairs: u32, n: u32, is_odd: bool) -> bool
-    requires few { pairs ≤ 32 }
+    requires few { pairs ≤ 256 }
 {
     for pair in 0..pairs {
         let (up, down) = if is_odd {
@@ -41,7 +41,7 @@ fn counts_on_pairs(pass: &mut PassHandle, pairs: u32, n: u32, is_odd: bool) -> b
 
 /// Whether a kill finds this sum on the slots of one half, and as much below zero on the others, before a revival.
 fn finds_on_pairs(control: &mut ControlHandle, pairs: u32, sum: i64, is_odd: bool) -> bool
-    requires few { pairs ≤ 32 }
+    requires few { pairs ≤ 256 }
 {
     let Some(mut open) = control.take() else {
         return false;
@@ -62,18 +62,18 @@ fn finds_on_pairs(control: &mut ControlHandle, pairs: u32, sum: i64, is_odd: boo
     is_found
 }
 
-/// Amounts from 1 to 65,534 are taken on each of 64 slots, and put on each.
+/// Amounts from 1 to 65,534 are taken on each of 512 slots, and put on each.
 #[test]
 fn amounts_on_every_slot(rt: HostRuntime) {
     for n in [1u32, 2, 777, 999, 1_000, 1_001, 1_999, 2_000, 65_534] {
         let mut control = ControlHandle::new(rt.alloc());
         let mut pass = PassHandle::new(rt.alloc());
-        let made = held_on_no_slot(&mut control, &mut pass, 64);
+        let made = held_on_no_slot(&mut control, &mut pass, 512);
         assert!(rt; made);
         for is_odd in [false, true] {
-            let counted = counts_on_pairs(&mut pass, 32, n, is_odd);
+            let counted = counts_on_pairs(&mut pass, 256, n, is_odd);
             assert!(rt; counted, "{n}");
-            let found = finds_on_pairs(&mut control, 32, i64::from(n), is_odd);
+            let found = finds_on_pairs(&mut control, 256, i64::from(n), is_odd);
             assert!(rt; found, "{n}");
         }
         percpu_gate_free_pass(&mut pass);

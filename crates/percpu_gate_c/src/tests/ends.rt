@@ -204,8 +204,8 @@ fn the_greatest_gate(rt: HostRuntime) {
         counter: 5,
         drawn: 6,
     };
-    assert!(rt; percpu_gate_new_numbered(&mut control, &number, 64, 64, 0, &WORDS) == 0);
-    for _ in 0..64u32 {
+    assert!(rt; percpu_gate_new_numbered(&mut control, &number, 512, 1_024, 0, &WORDS) == 0);
+    for _ in 0..1_024u32 {
         assert!(rt; percpu_gate_next_pass(&mut control, &mut pass) == 0);
         percpu_gate_free_pass(&mut pass);
     }

@@ -11,6 +11,7 @@ mod finding;
 mod gathered;
 mod outcome;
 
+pub use crate::erased::race_search::SearchFault;
 pub use account::Figures;
 pub use finding::outcomes;
 pub use outcome::{Outcome, Outcomes};

@@ -2,15 +2,17 @@
 //! From the bytes of a reader to the bytes of a writer: races, and all that may happen in them.
 //!
 //! [`outcomes_bytes`] reads a race and writes all its outcomes, each with a shortest schedule that leads to it. Data flows one
-//! way: `counted_io` reads, [`outcomes_text`] answers by `races_text`, `race_outcomes` and `races_shown`, and `counted_io` writes.
+//! way: `counted_io` reads, [`outcomes_text`] answers by `races_text` and `race_outcomes`, and `counted_io` writes.
 //! [`command`] is a program of it.
 
 mod answer;
+mod arguments;
 mod fault;
 mod program;
 mod run;
 
 pub use answer::outcomes_text;
+pub use arguments::{Task, requested};
 pub use fault::Fault;
 pub use program::{command, refuse_words};
 pub use run::{MOST_READ, outcomes_bytes};

@@ -15,7 +15,9 @@ mod answer;
 mod desk;
 mod lines;
 mod replies;
+mod uniform;
 
 pub use answer::{Answer, answer_to};
 pub use desk::Desk;
 pub use replies::Replies;
+pub use uniform::UniformSectors;

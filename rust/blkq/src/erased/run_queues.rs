@@ -3,8 +3,9 @@
 //!
 //! A [`RequestQueue`] is made with its [`Source`], the right to push. From the source each thread that is to draw gets a
 //! [`Drawer`], with memory for the numbers that it will draw. Requests are pushed as 0, 1, 2 and so on, and after the
-//! last an end mark for each drawer. A thread draws until it takes an end mark, and gives its drawer back; once all are
-//! back, `finish` gives the lists of what they drew: each increases, and together they have each request once.
+//! last an end mark for each drawer. A thread draws until it takes an end mark, and gives its drawer back; before it sleeps it may
+//! leave the drawer on a [`Shelf`], where another thread takes it and draws meanwhile. Once all drawers are back, `finish` gives the
+//! lists of what they drew: each increases, and together they have each request once.
 //!
 //! A [`CompletionQueue`] goes the other way: its [`Collector`] gives a [`Duty`] for each request, which goes with the
 //! request and is used up when its completion is told: what is left of it is a [`Receipt`], by which a thread shows that it
@@ -20,9 +21,12 @@ mod numbered;
 mod patience;
 mod requests;
 mod ruled_queue;
+mod shelf;
 mod spares;
 
 pub use completions::{Collector, CompletionQueue, Duty, Receipt};
 pub use numbered::Numbered;
 pub use requests::{Drawer, RequestQueue, Source};
+pub use ruled_queue::Effort;
+pub use shelf::Shelf;
 pub use spares::{PutCount, SpareQueue, Taker};

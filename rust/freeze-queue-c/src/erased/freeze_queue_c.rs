@@ -3,9 +3,9 @@
 //! include/freeze_queue.h.
 //!
 //! C has a handle for the freezer and one for each tag, a `bool` and a pointer, zero while closed
-//! (`freezer_handle`, `tag_handle`). An open one leads to a box, of which C knows no more (`freezer_held`, `tag_held`, and
-//! `loose` for the walks by hand): a share of the queue beside the freezer or the tag (`open_freezer`,
-//! `open_tag`). So no handle that C frees takes the queue from under another.
+//! (`freezer_handle`, `tag_handle`). An open one leads to a box, of which C knows no more (`freezer_held`, `tag_held`, over
+//! the crate `loose_box`): a share of the queue beside the freezer or the tag (`open_freezer`, `open_tag`).
+//! So no handle that C frees takes the queue from under another.
 //!
 //! Each export (`tag_calls`, `freezer_calls`, `life`) takes the box out of the handle, makes the call
 //! and puts the box back. What C may do wrong is tested before the queue is called, and answered by a number of
@@ -21,7 +21,6 @@ mod freezer_calls;
 mod freezer_handle;
 mod freezer_held;
 mod life;
-mod loose;
 mod misuse;
 mod number;
 mod open_freezer;

@@ -1,5 +1,5 @@
 // A stand-in for types of the kit's library, written by hand: tools/erase leaves it alone.
-//! What threads wait by: a lock, a condition, and the one atomic number that [`crossbeam_utils`] reads without its lock.
+//! The means by which threads wait: a lock, a condition, and the one atomic number that [`crossbeam_utils`] reads without its lock.
 //! Nothing else of the queue waits, so a scheduler that steps through waits takes the place of this file.
 //!
 //! [`crossbeam_utils`]: crate::erased::crossbeam_utils
@@ -9,7 +9,7 @@ use std::sync::PoisonError;
 pub use std::sync::MutexGuard;
 pub use std::sync::atomic::AtomicUsize;
 
-/// A value that one thread has at a time. It isn't poisoned: if a thread panics that has it, the others get it as it stands.
+/// A value that one thread has at a time. It isn't poisoned: if the thread that has it panics, the others get it as it is.
 #[derive(Debug)]
 pub struct Mutex<T>(std::sync::Mutex<T>);
 

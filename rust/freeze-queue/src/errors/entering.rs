@@ -72,7 +72,7 @@ pub enum EnterTimeoutError {
 }
 
 impl EnterError {
-    /// Of who waits without a deadline.
+    /// The refusal of a call that waits without a deadline.
     pub(crate) fn without_end(why: EnterTimeoutError) -> EnterError {
         match why {
             EnterTimeoutError::OtherQueue => EnterError::OtherQueue,

@@ -78,7 +78,7 @@ impl<T> Queue<T> {
 #[must_use = "a freeze is thawed where it is dropped"]
 pub struct Freezing<'q, T> {
     freezing: crate::Freezing<'q>,
-    /// Of the queue of this freeze.
+    /// The value of the queue of this freeze.
     value: &'q Value<T>,
 }
 
@@ -106,6 +106,24 @@ impl<'q, T> Freezing<'q, T> {
             Err(freezing) => Err(Freezing { freezing, value }),
         }
     }
+
+    /// Never thaws this freeze, and waits for no request, as [`Freezing::mark_dying`](crate::Freezing::mark_dying) says. A later freeze, or
+    /// the removal of the queue, has the value still.
+    ///
+    /// ```
+    /// # use freeze_queue::{EnterAnyError, Limits, guarded::Queue};
+    /// let queue = Queue::new(String::from("disk"), Limits::of_hardware(64), 1, 2)?;
+    /// let request = queue.enter_any()?; // its device may never answer
+    /// queue.begin_freeze()?.mark_dying();
+    /// assert_eq!(queue.enter_any().unwrap_err(), EnterAnyError::Dying);
+    /// assert_eq!(*request, "disk");
+    /// drop(request);
+    /// assert_eq!(queue.into_inner(), "disk");
+    /// # Ok::<(), Box<dyn std::error::Error>>(())
+    /// ```
+    pub fn mark_dying(self) {
+        self.freezing.mark_dying();
+    }
 }
 
 impl<T> fmt::Debug for Freezing<'_, T> {
@@ -117,7 +135,7 @@ impl<T> fmt::Debug for Freezing<'_, T> {
 /// A freeze with a share of its queue ([`Queue::freeze_owned`]): it borrows nothing, and is thawed where it is dropped, on whichever thread.
 #[must_use = "a freeze is thawed where it is dropped"]
 pub struct OwnedFrozen<T> {
-    /// Of this queue, which is drained. It is thawed before the share goes.
+    /// A freeze of this queue, which is drained. It is thawed before the share goes.
     frozen: crate::OwnedFrozen,
     queue: Arc<Queue<T>>,
 }

@@ -21,7 +21,7 @@ use std::ops::{Deref, DerefMut};
 #[must_use = "a freeze is thawed where it is dropped"]
 pub struct Frozen<'q, T> {
     frozen: crate::Frozen<'q>,
-    /// Of the queue of this freeze.
+    /// The value of the queue of this freeze.
     value: &'q Value<T>,
 }
 

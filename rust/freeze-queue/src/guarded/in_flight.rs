@@ -1,4 +1,4 @@
-//! What shows that a value may be lent.
+//! Proof that a value may be lent: a request or a freeze.
 use crate::{Entered, Frozen, OwnedEntered};
 
 /// A request that is in flight until it is dropped, or until a call that takes it. For nothing else: `value.rs` lends `&T` by it.

@@ -20,7 +20,7 @@ use std::sync::Arc;
 #[must_use = "a request leaves where it is dropped"]
 pub struct EnteredAny<'q, T> {
     request: crate::OwnedEntered,
-    /// Of the queue of this request. (No `&T`: it would be there still while the drop leaves.)
+    /// The value of the queue of this request. (A `&T` would still exist while the drop leaves.)
     value: &'q Value<T>,
 }
 

@@ -18,7 +18,7 @@ use std::ops::Deref;
 #[must_use = "a request leaves where it is dropped"]
 pub struct Entered<'e, T> {
     request: crate::Entered<'e>,
-    /// Of the queue of this request. (No `&T`: it would be there still while the drop leaves.)
+    /// The value of the queue of this request. (A `&T` would still exist while the drop leaves.)
     value: &'e Value<T>,
 }
 

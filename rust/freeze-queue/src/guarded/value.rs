@@ -1,4 +1,4 @@
-//! The value behind a queue: the one file of this crate with `unsafe`. Two functions alone reach it. `shared` lends it for as long
+//! The value behind a queue: one of the two files of this crate with `unsafe`. Two functions alone reach it. `shared` lends it for as long
 //! as a request in flight at its own queue is borrowed. `alone` lends it for as long as a freeze of that queue is borrowed, under a
 //! lock, since freezes nest. No two queues have one number. The two never meet, by laws of the queue, which are proved of its sources:
 //!

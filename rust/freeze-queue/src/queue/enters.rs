@@ -7,8 +7,9 @@ use crate::tag::Tag;
 use std::time::Duration;
 
 impl Queue {
-    /// Enters, and waits for that while the queue is frozen. Who waits for a thaw of his own never comes in: a thread
-    /// that has a [`Frozen`](crate::Frozen) drops it before. Linux: `blk_queue_enter`.
+    /// Enters, and waits while the queue is frozen. A thread that has a [`Frozen`](crate::Frozen) drops it before: it would
+    /// wait for its own thaw for ever. One that has a request in flight calls [`try_enter_frozen`](Queue::try_enter_frozen): a freeze
+    /// waits for that request, and this call for the thaw. Linux: `blk_queue_enter`.
     ///
     /// # Errors
     ///

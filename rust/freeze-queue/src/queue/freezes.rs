@@ -42,7 +42,7 @@ impl Queue {
     ///
     /// ```
     /// # use freeze_queue::{Limits, OwnedFrozen, Queue};
-    /// /// A service that is told to freeze by one message, and to thaw by another.
+    /// /// A service that freezes at one message, and thaws at another.
     /// struct Service {
     ///     queue: Queue,
     ///     frozen: Option<OwnedFrozen>,
@@ -102,10 +102,10 @@ impl Queue {
         Freezing::begin(self.share())
     }
 
-    /// Freezes the queue by a future, which the call that leaves last wakes. Nothing is done before it is polled; dropping it
+    /// Returns a future that freezes the queue. The last request that leaves wakes it. Nothing is done before it is polled; dropping it
     /// thaws. Once it was polled the queue stays frozen while the future is there, also if nobody polls it again.
     ///
-    /// It returns as [`freeze`](Queue::freeze) does.
+    /// Its answer is the one of [`freeze`](Queue::freeze).
     ///
     /// ```
     /// # use freeze_queue::{FreezeError, Limits, Queue};

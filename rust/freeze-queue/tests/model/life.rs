@@ -28,7 +28,7 @@ pub enum Seated<'q> {
     Any(EnterAny<'q>, At, Arc<Woken>),
 }
 
-/// Who sits, and of which queue.
+/// A seat: the tag or request that it has, and its queue.
 pub struct Seat<'q> {
     pub queue: usize,
     /// A request of it was forgotten.
@@ -61,7 +61,7 @@ impl<'q, 'c> Life<'q, 'c> {
         }
     }
 
-    /// So many calls; then all is let go, and what the models are by then.
+    /// Makes this many calls, lets go of all, and returns the models.
     pub fn run(mut self, calls: u64) -> Vec<Plain> {
         for _ in 0..calls {
             self.call();
@@ -368,7 +368,7 @@ impl<'q, 'c> Life<'q, 'c> {
         if self.chance.one_in(2) { queue.switch_to_atomic() } else { queue.switch_to_slots() }
     }
 
-    /// Drops whatever stands at a seat: a request leaves, and a tag that isn't borrowed for ever goes home.
+    /// Drops the tag or request of a seat: a request leaves, and a tag that isn't borrowed for ever goes home.
     fn let_go(&mut self, s: usize) {
         let Some(seat) = self.seats[s].take() else { return };
         if matches!(seat.seated, Seated::Owned(_) | Seated::Borrowed(_)) {

@@ -1,4 +1,4 @@
-//! What waits for a tag or for the drain, beside the models.
+//! Waiting for a tag or for the drain, beside the models.
 use super::life::{Life, Seat, Seated, is_free};
 use super::plain;
 use super::shared::Woken;

@@ -1,7 +1,7 @@
 //! The model: a queue of plain numbers, and the definitions of limits and pieces.
 use freeze_queue::{Limits, LimitsError, Piece};
 
-/// What a user of a queue means by it.
+/// A queue as its user sees it.
 #[derive(Clone, Debug)]
 pub struct Plain {
     pub slots: u32,
@@ -63,7 +63,7 @@ pub fn kept(limits: Limits) -> Limits {
     limits.with_max(if limits.max == 0 { limits.hardware } else { limits.max })
 }
 
-/// Whether so many sectors from start on are within the reach there, told sector by sector.
+/// Whether so many sectors from start on are within the reach there, sector by sector.
 fn within_reach(limits: &Limits, start: u64, length: u32) -> bool {
     let crosses = |at: u64| limits.chunk > 0 && at % u64::from(limits.chunk) == 0;
     length <= limits.max && !(start + 1..start + u64::from(length)).any(crosses)

@@ -1,4 +1,4 @@
-//! What a refusal of the model is to each way in.
+//! A refusal of the model, for each way in.
 use super::plain::Plain;
 use freeze_queue::{EnterError, EnterFrozenError, EnterTimeoutError, TryEnterError};
 
@@ -24,7 +24,7 @@ pub fn look(why: Option<TryEnterError>, plain: &Plain) -> Option<EnterFrozenErro
     }
 }
 
-/// The same refusal, of who would wait.
+/// The same refusal, for a call that would wait.
 pub fn waiting(why: TryEnterError) -> EnterError {
     match why {
         TryEnterError::OtherQueue => EnterError::OtherQueue,
@@ -34,7 +34,7 @@ pub fn waiting(why: TryEnterError) -> EnterError {
     }
 }
 
-/// The same refusal, of who waits no time.
+/// The same refusal, for a call that waits no time.
 pub fn in_time(why: TryEnterError) -> EnterTimeoutError {
     match why {
         TryEnterError::OtherQueue => EnterTimeoutError::OtherQueue,

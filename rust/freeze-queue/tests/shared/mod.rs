@@ -1,4 +1,4 @@
-//! What tests of several files have in common.
+//! Parts that tests of several files have in common.
 #![allow(dead_code, reason = "each file uses a part")]
 
 use freeze_queue::{Limits, Queue, Tag};
@@ -26,9 +26,9 @@ pub fn with_tag() -> (Queue, Tag) {
     (queue, tag)
 }
 
-/// A number that the environment tells.
-pub fn told(name: &str, otherwise: u64) -> u64 {
-    env::var(name).ok().and_then(|told| told.parse().ok()).unwrap_or(otherwise)
+/// A number from the environment.
+pub fn number_of(name: &str, otherwise: u64) -> u64 {
+    env::var(name).ok().and_then(|text| text.parse().ok()).unwrap_or(otherwise)
 }
 
 /// Numbers that look random.

@@ -31,27 +31,6 @@ macro_rules! atomics {
             }
 
             /// As std's.
-            #[track_caller]
-            pub fn swap(&self, value: $number, _order: Ordering) -> $number {
-                step("swap");
-                self.0.swap(value, SeqCst)
-            }
-
-            /// As std's.
-            #[track_caller]
-            pub fn fetch_and(&self, bits: $number, _order: Ordering) -> $number {
-                step("fetch_and");
-                self.0.fetch_and(bits, SeqCst)
-            }
-
-            /// As std's.
-            #[track_caller]
-            pub fn fetch_or(&self, bits: $number, _order: Ordering) -> $number {
-                step("fetch_or");
-                self.0.fetch_or(bits, SeqCst)
-            }
-
-            /// As std's.
             ///
             /// # Errors
             ///
@@ -78,28 +57,22 @@ atomics! {
     AtomicUsize: usize;
 }
 
-macro_rules! sums {
-    ($($name:ident: $number:ty;)+) => {$(
-        impl $name {
+macro_rules! exchanges {
+    ($($name:ident: $number:ty => $($how:ident),+;)+) => {$(
+        impl $name {$(
             /// As std's.
             #[track_caller]
-            pub fn fetch_add(&self, more: $number, _order: Ordering) -> $number {
-                step("fetch_add");
-                self.0.fetch_add(more, SeqCst)
+            pub fn $how(&self, value: $number, _order: Ordering) -> $number {
+                step(stringify!($how));
+                self.0.$how(value, SeqCst)
             }
-
-            /// As std's.
-            #[track_caller]
-            pub fn fetch_sub(&self, less: $number, _order: Ordering) -> $number {
-                step("fetch_sub");
-                self.0.fetch_sub(less, SeqCst)
-            }
-        }
+        )+}
     )+};
 }
 
-sums! {
-    AtomicU32: u32;
-    AtomicU64: u64;
-    AtomicUsize: usize;
+exchanges! {
+    AtomicBool: bool => swap, fetch_and, fetch_or;
+    AtomicU32: u32 => swap, fetch_and, fetch_or, fetch_add, fetch_sub;
+    AtomicU64: u64 => swap, fetch_and, fetch_or, fetch_add, fetch_sub;
+    AtomicUsize: usize => swap, fetch_and, fetch_or, fetch_add, fetch_sub;
 }

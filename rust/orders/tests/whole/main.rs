@@ -73,7 +73,12 @@ mod sync {
     /// A thread that waits looks once before it announces that. A clock would tell each run of an order another number of looks.
     pub(crate) const MOST_PATIENCE: std::time::Duration = std::time::Duration::ZERO;
 
-    pub(crate) use orders::turns::{AtomicU32, Condvar, Mutex, MutexGuard, Thread, current, park, pause as yield_now};
+    pub(crate) use orders::turns::{AtomicU32, Condvar, Mutex, MutexGuard, Thread, current, park};
+
+    /// Another thread may go on meanwhile.
+    pub(crate) fn sleep(_time: std::time::Duration) {
+        orders::turns::pause();
+    }
 
     /// It may end at any moment, and its deadline doesn't pass.
     pub(crate) fn park_timeout(_patience: std::time::Duration) {
@@ -89,6 +94,8 @@ mod threads {
 }
 
 mod races;
+#[path = "../shared/value.rs"]
+mod value;
 
 use drained::{Drained, FreezeAsync};
 use enter_any::EnterAny;

@@ -43,6 +43,8 @@ mod files {
 use files::{control, errors, gate, guarded, handed_back, outcomes, owned, pass, reference, references, shared, word};
 
 mod races;
+#[path = "../shared/value.rs"]
+mod value;
 
 use alloc::sync::Arc;
 use control::Control;

@@ -1,49 +1,27 @@
 //! The races: a value that a gate guards, while references come and go, and its control kills, changes and revives.
 use crate::Start;
 use crate::guarded::{Gate, OwnedReference, Pass};
-use orders::turns::{Failed, Play, Turns, pause};
-use std::sync::atomic::{AtomicU32, AtomicU64, Ordering::SeqCst};
+use crate::value::Value;
+use orders::turns::{Failed, Play, Turns};
+use std::sync::atomic::{AtomicU64, Ordering::SeqCst};
 use std::sync::{Arc, Mutex};
-
-/// It counts the threads that are at it, by numbers that are no turns.
-#[derive(Default)]
-struct Value {
-    readers: AtomicU32,
-    changes: u32,
-}
-
-impl Value {
-    fn is_read(&self) {
-        let seen = self.changes;
-        self.readers.fetch_add(1, SeqCst);
-        pause();
-        assert_eq!(self.changes, seen, "it changes under a reference");
-        self.readers.fetch_sub(1, SeqCst);
-    }
-
-    fn is_changed(&mut self) {
-        self.changes += 1;
-        pause();
-        assert_eq!(*self.readers.get_mut(), 0, "it is lent twice");
-    }
-}
 
 struct Parts {
     gate: Mutex<Option<Gate<Value>>>,
     passes: [Mutex<Option<Pass<Value>>>; 2],
-    told: Arc<AtomicU64>,
+    released: Arc<AtomicU64>,
     value: Mutex<Option<Value>>,
 }
 
 fn parts(start: Start) -> Parts {
-    let told = Arc::new(AtomicU64::new(0));
-    let count = Arc::clone(&told);
+    let released = Arc::new(AtomicU64::new(0));
+    let count = Arc::clone(&released);
     let on_last = Arc::new(move || {
         count.fetch_add(1, SeqCst);
     });
     let mut gate = Gate::new(Value::default(), 2, 2, start, on_last).unwrap();
     let passes = [0, 1].map(|slot| Mutex::new(Some(gate.next_pass(slot).unwrap())));
-    Parts { gate: Mutex::new(Some(gate)), passes, told, value: Mutex::new(None) }
+    Parts { gate: Mutex::new(Some(gate)), passes, released, value: Mutex::new(None) }
 }
 
 /// The calls of the control.
@@ -75,18 +53,18 @@ impl Play for Race {
 
     /// Each kill that wasn't ended by a revival while references were held has one release, and the value is there once.
     fn end(&self, parts: Parts) {
-        let told = parts.told.load(SeqCst);
+        let released = parts.released.load(SeqCst);
         let mut gate = parts.gate.into_inner().unwrap();
         let Some(gate) = &mut gate else {
             assert!(parts.value.into_inner().unwrap().is_some());
-            assert_eq!(told, 1);
+            assert_eq!(released, 1);
             return;
         };
         for pass in parts.passes {
             gate.retire(pass.into_inner().unwrap().unwrap()).unwrap();
         }
-        assert_eq!(gate.control().releases(), told);
-        assert!(told <= gate.control().kills());
+        assert_eq!(gate.control().releases(), released);
+        assert!(released <= gate.control().kills());
         if gate.control().phase() == crate::Phase::Dead {
             assert!(gate.is_zero());
             gate.get_mut().unwrap().is_changed();

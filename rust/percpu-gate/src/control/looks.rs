@@ -1,4 +1,4 @@
-//! What a control is asked.
+//! The questions of a control.
 use super::Control;
 use crate::WORD_COUNT;
 use crate::erased::percpu_gate as erased;
@@ -34,7 +34,7 @@ impl Control {
         self.erased.borrow().kills()
     }
 
-    /// How many releases fell to this control's calls and to those of retired passes.
+    /// The releases by calls of this control and of retired passes.
     ///
     /// ```
     /// # use percpu_gate::{Gate, Start};
@@ -43,7 +43,7 @@ impl Control {
     /// let pass = control.next_pass(0)?;
     /// let reference = pass.try_get_live()?;
     /// control.kill()?;
-    /// drop(reference); // told here
+    /// drop(reference); // this calls `on_last`
     /// assert_eq!(control.releases(), 0);
     /// control.retire(pass)?;
     /// assert_eq!(control.releases(), 1);
@@ -54,7 +54,7 @@ impl Control {
         self.erased.borrow().releases() + self.of_retired
     }
 
-    /// Where the gate stands.
+    /// The phase of the gate.
     ///
     /// ```
     /// # use percpu_gate::{Gate, Phase, Start};

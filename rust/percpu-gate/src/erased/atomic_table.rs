@@ -3,10 +3,12 @@
 //!
 //! In the sources a table has a rule, which each step is proved to keep, and a thread steps on it by a [`Seat`] of its
 //! own. Here the rule is gone, and a seat has no bytes.
+//!
+//! Other crates compile this file too. The module around it has the atomic number, and what a step past the end does.
 
-use crate::erased::fallible::AllocError;
+use super::fallible::AllocError;
+use super::{AtomicU64, past_the_end};
 use alloc::vec::Vec;
-use core::sync::atomic::AtomicU64;
 use core::sync::atomic::Ordering::SeqCst;
 
 /// The right to step on a table. It moves between threads by ownership, and a step borrows it.
@@ -15,59 +17,76 @@ pub struct Seat {
     made_here: (),
 }
 
-/// The words, as threads share them. A step on a word that isn't there panics.
+/// The words, as threads share them.
 #[derive(Debug)]
 pub struct Shared {
     words: Vec<AtomicU64>,
 }
 
 impl Shared {
+    #[inline(always)]
+    #[track_caller]
+    fn at(&self, word: usize) -> &AtomicU64 {
+        match self.words.get(word) {
+            Some(found) => found,
+            None => past_the_end(word, self.words.len()),
+        }
+    }
+
     /// Loads a word.
     #[inline(always)]
+    #[track_caller]
     pub fn load(&self, _seat: &mut Seat, word: usize) -> u64 {
-        self.words[word].load(SeqCst)
+        self.at(word).load(SeqCst)
     }
 
     /// Stores a word.
     #[inline(always)]
+    #[track_caller]
     pub fn store(&self, _seat: &mut Seat, word: usize, new: u64) {
-        self.words[word].store(new, SeqCst);
+        self.at(word).store(new, SeqCst);
     }
 
     /// Stores a word, and returns the value before.
     #[inline(always)]
+    #[track_caller]
     pub fn swap(&self, _seat: &mut Seat, word: usize, new: u64) -> u64 {
-        self.words[word].swap(new, SeqCst)
+        self.at(word).swap(new, SeqCst)
     }
 
     /// Adds to a word, modulo 2^64, and returns the value before.
     #[inline(always)]
+    #[track_caller]
     pub fn fetch_add(&self, _seat: &mut Seat, word: usize, more: u64) -> u64 {
-        self.words[word].fetch_add(more, SeqCst)
+        self.at(word).fetch_add(more, SeqCst)
     }
 
     /// Subtracts from a word, modulo 2^64, and returns the value before.
     #[inline(always)]
+    #[track_caller]
     pub fn fetch_sub(&self, _seat: &mut Seat, word: usize, less: u64) -> u64 {
-        self.words[word].fetch_sub(less, SeqCst)
+        self.at(word).fetch_sub(less, SeqCst)
     }
 
     /// Clears the bits of a word that aren't in `bits`, and returns the value before.
     #[inline(always)]
+    #[track_caller]
     pub fn fetch_and(&self, _seat: &mut Seat, word: usize, bits: u64) -> u64 {
-        self.words[word].fetch_and(bits, SeqCst)
+        self.at(word).fetch_and(bits, SeqCst)
     }
 
     /// Sets these bits of a word, and returns the value before.
     #[inline(always)]
+    #[track_caller]
     pub fn fetch_or(&self, _seat: &mut Seat, word: usize, bits: u64) -> u64 {
-        self.words[word].fetch_or(bits, SeqCst)
+        self.at(word).fetch_or(bits, SeqCst)
     }
 
     /// Stores `new` if the word is `old`. Returns the value found: `old` if and only if `new` was stored.
     #[inline(always)]
+    #[track_caller]
     pub fn compare_exchange(&self, _seat: &mut Seat, word: usize, old: u64, new: u64) -> u64 {
-        match self.words[word].compare_exchange(old, new, SeqCst, SeqCst) {
+        match self.at(word).compare_exchange(old, new, SeqCst, SeqCst) {
             Ok(found) | Err(found) => found,
         }
     }

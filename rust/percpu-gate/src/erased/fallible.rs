@@ -195,7 +195,7 @@ impl<T: TryClone> TryToVec<T> for [T] {
     }
 }
 
-/// What an iterator gives, in a vector.
+/// The items of an iterator, in a vector.
 pub trait TryCollect: Iterator + Sized {
     /// A vector of the items that are left.
     fn try_collected(self) -> Result<Vec<Self::Item>, AllocError> {

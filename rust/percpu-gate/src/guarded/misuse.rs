@@ -1,4 +1,4 @@
-//! Misuse that doesn't compile: each attack on the value of a [`Gate<T>`](super::Gate) from safe code. Each stands behind the same lines
+//! Misuse that doesn't compile: each attack on the value of a [`Gate<T>`](super::Gate) from safe code. Each follows the same lines
 //! without it, which do compile, and has the compiler's number.
 //!
 //! # A reference that outlives the one that lends it

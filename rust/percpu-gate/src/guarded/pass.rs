@@ -19,7 +19,7 @@ use core::fmt;
 /// ```
 pub struct Pass<T> {
     pass: crate::Pass,
-    /// Of the gate of this pass.
+    /// The value of the gate of this pass.
     value: Arc<Value<T>>,
 }
 

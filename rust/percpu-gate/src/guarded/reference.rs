@@ -22,7 +22,7 @@ use core::ops::Deref;
 #[must_use = "a reference is put where it is dropped"]
 pub struct Reference<'p, T> {
     reference: crate::Reference<'p>,
-    /// Of the gate of this reference. (No `&T`: it would be there still while the drop puts the reference.)
+    /// The value of the gate of this reference. (A `&T` would still exist while the drop puts the reference.)
     value: &'p Value<T>,
 }
 
@@ -73,7 +73,7 @@ impl<T: fmt::Debug> fmt::Debug for Reference<'_, T> {
 #[must_use = "a reference is put where it is dropped"]
 pub struct OwnedReference<T> {
     reference: crate::OwnedReference,
-    /// Of the gate of this reference.
+    /// The value of the gate of this reference.
     value: Arc<Value<T>>,
 }
 

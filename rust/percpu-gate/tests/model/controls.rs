@@ -16,9 +16,9 @@ impl Run {
         counter.killed = true;
         (counter.kills, counter.front) = (counter.kills + 1, counter.front + 1);
         assert_eq!(confirmed, confirms.then_some(counter.front));
-        let told = counter.tells();
-        counter.known += u64::from(told);
-        assert_eq!(killed, Ok(if told { Killed::AtZero } else { Killed::WhileHeld }));
+        let releases = counter.tells();
+        counter.known += u64::from(releases);
+        assert_eq!(killed, Ok(if releases { Killed::AtZero } else { Killed::WhileHeld }));
     }
 
     pub fn revive(&mut self, c: usize) {

@@ -1,7 +1,7 @@
 //! The model: the plain counter of docs/GATE.md.
 use percpu_gate::{Phase, Start};
 
-/// What a user of a gate means by it.
+/// A gate as its user sees it: a plain counter.
 #[derive(Clone, Debug, Default)]
 pub struct Counter {
     pub slots: u32,
@@ -14,8 +14,8 @@ pub struct Counter {
     pub on_slots: bool,
     pub front: u64,
     pub kills: u64,
-    /// Releases: all that were told, and those that the control knows of.
-    pub told: u64,
+    /// Releases: all of them, and the ones that the control knows of.
+    pub releases: u64,
     pub known: u64,
     pub words: [u64; 8],
 }
@@ -35,11 +35,11 @@ impl Counter {
         }
     }
 
-    /// Whether somebody is told now that he was the last.
+    /// Whether a call is the release now.
     pub fn tells(&mut self) -> bool {
         let last = self.killed && self.held == 0 && !self.released;
         self.released |= last;
-        self.told += u64::from(last);
+        self.releases += u64::from(last);
         last
     }
 

@@ -63,6 +63,30 @@ fn writer_fails_behind_each_byte() {
     }
 }
 
+/// The row no_requests, whose answer is 'disk 00*2048'.
+const NO_REQUESTS: &[u8] = b"blkq 1\ndisk 4 hw 8\n";
+
+#[test]
+fn no_requests() {
+    gives(Feed::new(NO_REQUESTS), Sink::new(), Ok(()), b"disk 00*2048\n");
+}
+
+/// The writer takes 5 bytes, and then fails.
+#[test]
+fn failing_writer() {
+    let mut sink = Sink::new();
+    (sink.room, sink.failure) = (5, Some(ErrorKind::Other));
+    gives(Feed::new(NO_REQUESTS), sink, Err(Fault::Write { written: 5 }), b"disk ");
+}
+
+/// The reader fails at once.
+#[test]
+fn failing_reader() {
+    let mut feed = Feed::new(b"");
+    feed.failure = Some(ErrorKind::Other);
+    gives(feed, Sink::new(), Err(Fault::Read), b"");
+}
+
 /// The answer of one thread that parses, checks and runs the script.
 fn alone(input: &[u8]) -> Result<Vec<u8>, Fault> {
     let script = parse(input)?;

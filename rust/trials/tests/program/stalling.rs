@@ -65,9 +65,10 @@ fn each_point_is_passed() {
     assert_eq!(counts.drained.load(Ordering::SeqCst), 134);
 }
 
-/// Holds each request that is drawn until so many are entered and so many drawn, for 10,000,000 turns at most, and then for
-/// 10,000 turns more, and from then on none.
+/// Holds each request from this number on that is drawn until so many of these are entered and so many drawn, for 10,000,000 turns
+/// at most, and then for 10,000 turns more, and from then on none.
 struct Gathers {
+    first: u32,
     workers: u32,
     tags: u32,
     entered: AtomicU32,
@@ -77,8 +78,9 @@ struct Gathers {
 }
 
 impl Gathers {
-    fn new(workers: u32, tags: u32) -> Self {
-        Gathers { workers, tags, entered: AtomicU32::new(0), drawn: AtomicU32::new(0), found: AtomicU32::new(0) }
+    fn new(first: u32, workers: u32, tags: u32) -> Self {
+        let [entered, drawn, found] = [0; 3].map(AtomicU32::new);
+        Gathers { first, workers, tags, entered, drawn, found }
     }
 
     /// How many are entered and drawn.
@@ -105,34 +107,43 @@ impl Gathers {
 }
 
 impl Stall for Gathers {
-    fn at(&self, _number: u32, point: Point) {
+    fn at(&self, number: u32, point: Point) {
         match point {
-            Point::Entered => {
+            Point::Entered if number >= self.first => {
                 self.entered.fetch_add(1, Ordering::SeqCst);
             }
-            Point::Drawn => {
+            Point::Drawn if number >= self.first => {
                 self.drawn.fetch_add(1, Ordering::SeqCst);
                 self.hold();
             }
-            Point::Answered | Point::Drained => {}
+            _ => {}
         }
     }
+}
+
+// Sees as many workers and tags as the words say, behind so many requests, a drain and 70 requests more.
+fn gather(words: &str, behind: u32, workers: u32, tags: u32) {
+    let reads = |count: u32| "read 0 1\n".repeat(count as usize);
+    let script = format!("blkq 1\ndisk 1 hw 1\n{}stat\n{}", reads(behind), reads(70));
+    let gathers = Gathers::new(behind, workers, tags);
+    let answer = call_held(words, script.as_bytes(), WILLING, &gathers);
+    assert_eq!(answer.status, 0);
+    let found = gathers.found.load(Ordering::SeqCst);
+    assert_eq!((found / 100, found % 100), (tags, workers), "{words} behind {behind} requests");
 }
 
 // While no request that is drawn goes on, each worker holds one, and each tag has entered.
 #[test]
 fn as_many_as_the_words_say() {
-    let mut script = String::from("blkq 1\ndisk 1 hw 1\n");
-    for _ in 0..70 {
-        script.push_str("read 0 1\n");
-    }
     for (words, workers, tags) in
         [("run", 4, 16), ("run 1 1 1", 1, 1), ("run 3 2 7", 3, 7), ("run 5 8 5", 5, 5), ("run 32 64 63", 32, 63)]
     {
-        let gathers = Gathers::new(workers, tags);
-        let answer = call_held(words, script.as_bytes(), WILLING, &gathers);
-        assert_eq!(answer.status, 0);
-        let found = gathers.found.load(Ordering::SeqCst);
-        assert_eq!((found / 100, found % 100), (tags, workers), "{words}");
+        gather(words, 0, workers, tags);
     }
+}
+
+// The same behind as many requests as a text has room for.
+#[test]
+fn as_many_behind_thousands_of_requests() {
+    gather("run 3 2 7", 116_000, 3, 7);
 }

@@ -2,6 +2,7 @@
 
 use crate::fakes::{Feed, KINDS, Sink};
 use blkq::erased::counted_io::{Counted, read_whole, write_whole};
+use std::fmt::Debug;
 use std::io::{self, Error, ErrorKind, Read, Write};
 
 #[test]
@@ -19,6 +20,19 @@ fn errors_of_reading() {
         assert_eq!(reader.read(&mut buf).ok(), answer);
         assert_eq!(reader.failures(), failures);
     }
+}
+
+// A read and a write of no byte are calls too: the reader and the writer are asked, and their failures are counted.
+#[test]
+fn calls_of_no_byte() {
+    let mut inner = FIRST;
+    let mut counted = Counted::new(&mut inner);
+    for call in 0..CALLS {
+        let found = if call / 14 % 2 == 0 { counted.read(&mut []) } else { counted.write(b"") };
+        assert_eq!(found.map_err(|e| e.kind()), failure(call).map_or(Ok(0), Err), "{call}");
+    }
+    assert_eq!(counted.failures(), (CALLS / 2) as u64);
+    assert_eq!(inner.calls, CALLS);
 }
 
 #[test]
@@ -119,31 +133,40 @@ fn failures_of_reading_end() {
     assert_eq!(inner.calls, CALLS);
 }
 
-#[test]
-fn failures_of_writing_end() {
+/// Makes each call of a writer that fails by turns, and compares what it answers where it goes well. The failures, and the writer.
+fn written<T: Debug + PartialEq>(
+    makes: impl Fn(&mut Counted<&mut ByTurns>, usize) -> io::Result<T>,
+    goes_well: impl Fn(usize) -> T,
+) -> (u64, ByTurns) {
     let mut inner = FIRST;
     let mut writer = Counted::new(&mut inner);
     for call in 0..CALLS {
-        let found = writer.write(b"ab").map_err(|e| e.kind());
-        let answer = failure(call).map_or(Ok(call / 2 % 2), Err);
-        assert_eq!(found, answer, "{call}");
+        let found = makes(&mut writer, call).map_err(|e| e.kind());
+        assert_eq!(found, failure(call).map_or_else(|| Ok(goes_well(call)), Err), "{call}");
     }
+    (writer.failures(), inner)
+}
+
+#[test]
+fn failures_of_writing_end() {
+    let (failures, inner) = written(|writer, _| writer.write(b"ab"), |call| call / 2 % 2);
     // Half of the calls fail, and half of the others take nothing.
-    assert_eq!(writer.failures(), (CALLS / 2 + CALLS / 4) as u64);
+    assert_eq!(failures, (CALLS / 2 + CALLS / 4) as u64);
     assert_eq!(inner.calls, CALLS);
 }
 
-// Each flush reaches the writer, whose answer is passed on and not counted.
+// Each flush reaches the writer, whose answer is passed on and not counted, also where a write has broken it before.
 #[test]
 fn each_flush_is_passed_on() {
-    let mut inner = FIRST;
-    let mut writer = Counted::new(&mut inner);
-    for call in 0..CALLS {
-        let found = writer.flush().map_err(|e| e.kind());
-        assert_eq!(found, failure(call).map_or(Ok(()), Err), "{call}");
-    }
-    assert_eq!(writer.failures(), 0);
+    let (failures, inner) = written(|writer, _| writer.flush(), |_| ());
+    assert_eq!(failures, 0);
     assert_eq!(inner.flushes, CALLS);
+    let writes_or_flushes = |writer: &mut Counted<&mut ByTurns>, call: usize| {
+        let is_write = call / 2 % 2 == 0;
+        if is_write { writer.write(b"a").map(|_| ()) } else { writer.flush() }
+    };
+    let (_, inner) = written(writes_or_flushes, |_| ());
+    assert_eq!(inner.flushes, CALLS / 2);
 }
 
 // As many reads and writes as there are bytes, behind as many interruptions in a row as are borne.

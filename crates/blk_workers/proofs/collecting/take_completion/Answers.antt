@@ -1,4 +1,4 @@
-use Rattle.std.proofs.Common.{◌∙◌, refl, sym, ap, subst, ◌+◌, ◌++◌, ◌∷◌, [], length, Some}
+use Rattle.std.proofs.Common.{◌≡◌, ◌∙◌, refl, true, sym, ap, subst, ◌+◌, ◌++◌, ◌∷◌, [], length, Some}
 use Rattle.std.proofs.lemmas.List.{length-set}
 use Rattle.script_meaning.specs.Script.{Meant}
 use Rattle.blk_workers.specs.Progress.{AreAwaited}
@@ -19,12 +19,13 @@ pub returns-clause-taken : goal.returns-clause-taken
 returns-clause-taken g c =
     let here = c.into_parts-position.result.0 in
     let at : IsAcceptedAt g.J.Run.script c.args.completion.number here = subst (IsAcceptedAt g.J.Run.script c.args.completion.number) (sym c.into_parts-position.ensures.position) c.into_parts-position.ensures.request in
+    let owed : is_owed c.args.desk.now.replies here ≡ true = ap (is_owed c.args.desk.now.replies) c.into_parts-position.ensures.position ∙ c.requires.owed in
     record {
       stands = subst (λ (s : Meant). Stands s c.complete.new.self.replies c.complete.new.self.disk) (c.script.ensures ∙ c.hall.invariant.0.its_script) c.complete.ensures.stands;
       lines = ap length c.complete.ensures.taken ∙ length-set c.args.desk.now.replies here (Some c.in_ok-answer.answer.text.items);
       awaited = λ given collected awaited.
           subst (λ replies. AreAwaited g.J.Run.script replies given (collected ++ c.args.completion.number ∷ [])) (sym c.complete.ensures.taken)
-          (awaited_taken g.J.Run.script c.args.desk.now.replies given c.args.completion.number here (Some c.in_ok-answer.answer.text.items) collected at awaited);
+          (awaited_taken g.J.Run.script c.args.desk.now.replies given c.args.completion.number here c.in_ok-answer.answer.text.items collected at owed awaited);
     }
 
 pub returns-clause-filled : goal.returns-clause-filled

@@ -1,4 +1,4 @@
-use Rattle.std.proofs.Common.{◌≡◌, ◌∙◌, ◌+◌, ◌++◌, ◌∷◌, [], ap, sym, subst, true, length, is_some, None}
+use Rattle.std.proofs.Common.{◌≡◌, ◌∙◌, ◌+◌, ◌++◌, ◌∷◌, [], ap, sym, subst, true, arith, length, is_some, None}
 use Rattle.std.proofs.lemmas.List.{length-append}
 use Rattle.script_meaning.specs.Script.{Meant}
 use Rattle.script_meaning.specs.Requests.{accepted_at, accepted_before}
@@ -62,3 +62,12 @@ returns-clause-handed_over g c =
             (awaited_submitted script old mine.given mine.collected request handed.duties there handed.awaited));
       };
     }
+
+-- so many are to come at most as replies are owed, which are as many as there are tags at most
+pub returns-in_err-found-clause-room : goal.returns-in_err-found-clause-room
+returns-in_err-found-clause-room g c = omega (arith, c.requires.handed_over.awaited.no_more, c.requires.few)
+
+pub returns-clause-room : goal.returns-clause-room
+returns-clause-room g c =
+    let given = c.duty-duty.ensures.collector in
+    omega (arith, ap (λ (k : CollectorFacts). k.given) given, ap (λ (k : CollectorFacts). length k.collected) given, c.requires.handed_over.awaited.no_more, c.requires.few)

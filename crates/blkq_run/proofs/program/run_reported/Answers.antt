@@ -4,7 +4,7 @@ use Rattle.blkq_run.proofs.program.run_reported.Goals as goal
 
 pub returns-in-Err-clause-told : goal.returns-in-Err-clause-told
 returns-in-Err-clause-told g c = rw c.status.ensures (run_at_fault _ _ _ _ _ c.in-Err.fault c.in-Err.ensures.refused
-    c.in-Err.ensures.part c.in-Err.ensures.untouched c.in-Err.ensures.write)
+    c.in-Err.ensures.part c.in-Err.ensures.untouched c.in-Err.ensures.write c.in-Err.ensures.write_patient)
 
 pub returns-in-Err-clause-broken : goal.returns-in-Err-clause-broken
 returns-in-Err-clause-broken g c = rw c.status.ensures

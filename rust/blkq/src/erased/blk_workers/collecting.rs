@@ -23,8 +23,8 @@ fn take_completion<S>(hall: &Hall<'_, S>, desk: &mut Desk, completion: Completio
 }
 
 /// Collects the completions that are there now, as many as are owed at most, once so many are owed as there are tags. A
-/// look for each request would take the queue's cache lines from the workers each time. `collector`: what was given
-/// stays as it was, by which the next duty is numbered.
+/// look for each request would take the queue's cache lines from the workers each time. Afterwards no more are owed than there
+/// are tags. `collector`: what was given stays as it was, by which the next duty is numbered.
 ///
 /// # Preconditions
 ///
@@ -44,22 +44,25 @@ pub(crate) fn collect_some<S>(
         };
         take_completion(hall, desk, completion)?;
     }
+    // Each request whose completion wasn't there has its tag, so this waits for none.
+    collect_until(hall, collector, desk, hall.free_tags.room())?;
     Ok(())
 }
 
-/// Collects completions until none is owed, and waits for them. `collector` is as at `collect_some`.
+/// Collects completions until at most so many are owed, and waits for them. `collector` is as at `collect_some`.
 ///
 /// # Preconditions
 ///
 /// - `IsCollecting(run.script, completions.id, desk, collector)`: the desk is right, and the replies are owed to
 ///   the requests whose completions this right to collect may still bring.
-pub(crate) fn collect_all<S>(
+pub(crate) fn collect_until<S>(
     hall: &Hall<'_, S>,
     collector: &mut Collector<Completion>,
     desk: &mut Desk,
+    most: usize,
 ) -> Result<(), RunFault> {
     loop {
-        if desk.replies.owed() == 0 {
+        if desk.replies.owed() <= most {
             return Ok(());
         }
         // What is owed has a completion to come: where one brought no answer, `take_completion` has ended the run.

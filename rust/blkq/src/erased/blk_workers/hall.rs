@@ -3,10 +3,12 @@
 
 use crate::erased::blk_workers::fault::RunFault;
 use crate::erased::blk_workers::job::{Completion, FreeTag, Job};
+use crate::erased::blk_workers::worker::Station;
 use crate::erased::fallible::AllocError;
 use crate::erased::freeze_queue::{BlockQueue, Tag};
 use crate::erased::pointers::TryBox;
-use crate::erased::run_queues::{CompletionQueue, PutCount, RequestQueue, Source, SpareQueue, Taker};
+use crate::erased::run_desk::UniformSectors;
+use crate::erased::run_queues::{CompletionQueue, PutCount, RequestQueue, Shelf, Source, SpareQueue, Taker};
 use crate::erased::script_overlap::Checked;
 
 /// The queues of a run: the one that requests enter, and those by which its threads hand requests, completions and free
@@ -63,8 +65,8 @@ impl Queues {
 /// What a run's threads stand on: the runtime, the allocator, the checked script, what holds the run at its points, and the run's
 /// queues. `J` is the run, `C` its queue of completions, `L` its queues of requests and free tags, `R` the runtime's type, `S` the stall's.
 ///
-/// The type keeps that the script and the queues are those which its parameters name, that the queue has a slot and the
-/// script's hardware, and that the script's lines are few enough to be numbered.
+/// The type keeps that the script and the queues are those which its parameters name, that there is room for one completion more than
+/// there are tags, that the queue has a slot and the script's hardware, and that the script's lines are few enough to be numbered.
 pub(crate) struct Hall<'a, S> {
     pub(crate) checked: &'a Checked<'a>,
     pub(crate) stall: &'a S,
@@ -73,6 +75,10 @@ pub(crate) struct Hall<'a, S> {
     pub(crate) completions: &'a CompletionQueue<Completion>,
     /// The submitter takes them and workers put them back; there is room for all tags of the run.
     pub(crate) free_tags: &'a SpareQueue<FreeTag>,
+    /// The stations of the workers that sleep.
+    pub(crate) stations: &'a Shelf<Station>,
+    /// The sectors that writes of one byte share.
+    pub(crate) uniform: &'a UniformSectors,
 }
 
 impl<'a, S> Hall<'a, S> {
@@ -82,9 +88,16 @@ impl<'a, S> Hall<'a, S> {
     ///
     /// - `IsHall(run.script, run.queue, checked, queues.queue)`: these are the script and the queue of a run of that
     ///   script, in which the queue has the script's hardware and a slot, and the lines are few enough to be numbered.
-    /// - `HasQueues(requests.requests, completions.id, requests.free_tags, queues.requests.id, queues.completions.id,
-    ///   queues.free_tags.id)`: these are the run's queues of requests, completions and free tags.
-    pub(crate) fn new(checked: &'a Checked<'a>, stall: &'a S, queues: &'a Queues) -> Hall<'a, S> {
+    /// - `HasQueues(requests.requests, completions.id, requests.free_tags, queues.requests, queues.completions,
+    ///   queues.free_tags)`: these are the run's queues of requests, completions and free tags, and there is room for
+    ///   one completion more than for free tags.
+    pub(crate) fn new(
+        checked: &'a Checked<'a>,
+        stall: &'a S,
+        queues: &'a Queues,
+        stations: &'a Shelf<Station>,
+        uniform: &'a UniformSectors,
+    ) -> Hall<'a, S> {
         Hall {
             checked,
             stall,
@@ -92,6 +105,8 @@ impl<'a, S> Hall<'a, S> {
             requests: &queues.requests,
             completions: &queues.completions,
             free_tags: &queues.free_tags,
+            stations,
+            uniform,
         }
     }
 }

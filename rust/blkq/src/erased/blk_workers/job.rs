@@ -4,7 +4,7 @@
 use crate::erased::fallible::AllocError;
 use crate::erased::freeze_queue::{BlockQueue, Tag};
 use crate::erased::ram_disk::Sector;
-use crate::erased::run_desk::{Answer, answer_to};
+use crate::erased::run_desk::{Answer, UniformSectors, answer_to};
 use crate::erased::run_queues::{CompletionQueue, Duty, Numbered, Receipt};
 use crate::erased::script_meaning::Script;
 
@@ -37,10 +37,10 @@ impl Job {
     ///
     /// - `queue` is `run.queue`.
     /// - `script` is `run.script`.
-    pub(crate) fn done(self, queue: &BlockQueue, script: &Script) -> DoneJob {
+    pub(crate) fn done(self, uniform: &UniformSectors, queue: &BlockQueue, script: &Script) -> DoneJob {
         let Job { duty, position, mut tag, found } = self;
         let limits = queue.limits(&mut tag);
-        let answer = answer_to(script, position, limits, &found);
+        let answer = answer_to(uniform, script, position, limits, &found);
         let completion = Completion::new(duty.number(), position, answer);
         DoneJob { tag, duty, completion }
     }

@@ -12,7 +12,8 @@ use crate::erased::blk_workers::submitter::Submitter;
 use crate::erased::blk_workers::team::{drawers, with_workers};
 use crate::erased::freeze_queue::{BlockQueue, NewQueue, Tag};
 use crate::erased::queue_limits::Limits;
-use crate::erased::run_queues::{Collector, CompletionQueue};
+use crate::erased::run_desk::UniformSectors;
+use crate::erased::run_queues::{Collector, CompletionQueue, Shelf};
 use crate::erased::script_meaning::Script;
 use crate::erased::script_overlap::Checked;
 
@@ -31,8 +32,9 @@ struct Inputs<'a, S> {
 // - `IsHall(run.script, run.queue, inputs.checked, queues.queue)`: these are the script and the queue of a run of
 //   that script, in which the queue has the script's hardware and a slot, and the lines are few enough to be
 //   numbered.
-// - `HasQueues(requests.requests, completions.id, requests.free_tags, queues.requests.id, queues.completions.id,
-//   queues.free_tags.id)`: these are the run's queues of requests, completions and free tags.
+// - `HasQueues(requests.requests, completions.id, requests.free_tags, queues.requests, queues.completions,
+//   queues.free_tags)`: these are the run's queues of requests, completions and free tags, and there is room for
+//   one completion more than for free tags.
 // - `IsAt(run.script, run.queue, 0, submitter)`: the lines before a position are taken, and the freezer is in step
 //   with the script's queue: live exactly where the script's depth is 0, and with its limits.
 // - `AreNewEnds(requests.requests, completions.id, 0, ends.source, ends.collector)`: the ends of both queues
@@ -46,7 +48,9 @@ fn run_in<S: Stall>(
     mut ends: Ends,
 ) -> Result<Ran, RunFault> {
     let workers = inputs.config.workers();
-    let hall = Hall::<S>::new(inputs.checked, inputs.stall, queues);
+    let stations = Shelf::new(workers as usize)?;
+    let uniform = UniformSectors::of(inputs.checked.script())?;
+    let hall = Hall::<S>::new(inputs.checked, inputs.stall, queues, &stations, &uniform);
     // One place more than there are numbers to draw: a draw makes sure of one before it takes an end mark too.
     let numbers_each = inputs.checked.accepted() + 1;
     let drawers = drawers(&hall, &mut ends.source, workers, numbers_each)?;
@@ -62,8 +66,8 @@ fn run_in<S: Stall>(
 // - `queue` is `run.queue`.
 // - `Suits(run.script, inputs.config.slots, run.queue)`: the queue has so many slots and the script's hardware,
 //   and the script's lines are few enough to be numbered.
-// - `AreNewCompletions(run.script, completions.id, completions.room, completions.id, collector)`: the queue of
-//   completions, with room for each of the script's, and the right to collect them, before the first one.
+// - `AreNewCompletions(tags.len(), completions.id, completions.room, completions.id, collector)`: the queue of
+//   completions, with room for one more than there are tags, and the right to collect them, before the first one.
 // - `IsAt(run.script, run.queue, 0, submitter)`: the lines before a position are taken, and the freezer is in step
 //   with the script's queue: live exactly where the script's depth is 0, and with its limits.
 // - `AreFreeTags(run.queue, tags)`: there are tags, which are this queue's, and none is entered.
@@ -77,7 +81,7 @@ fn run_on<S: Stall>(
 ) -> Result<Ran, RunFault> {
     let workers = inputs.config.workers();
     let (queues, source, taker) = Queues::new(queue, tags, completions, workers)?;
-    let ends = Ends { source, collector, taker };
+    let ends = Ends { source, collector, taker, small: 0 };
     run_in::<S>(inputs, &queues, submitter, ends)
 }
 
@@ -92,8 +96,8 @@ fn run_on<S: Stall>(
 //   and as many.
 fn run_as<S: Stall>(inputs: &Inputs<'_, S>, parts: NewQueue) -> Result<Ran, RunFault> {
     let (queue, freezer, tags) = parts;
-    // Room for each, so that no worker waits to tell one; a queue has one place at least.
-    let room = inputs.checked.accepted().max(1);
+    // No more are under way (`hand_over`), so no thread waits to tell one.
+    let room = tags.len() + 1;
     let (completions, collector) = CompletionQueue::new(room)?;
     let submitter = Submitter::new(inputs.checked.script(), freezer)?;
     run_on::<S>(inputs, queue, tags, completions, collector, submitter)

@@ -20,6 +20,12 @@ pub trait Stall: Sync {
     /// The run is at `point` with the accepted request `number`, counted from 0; at `Drained`, after `number`
     /// accepted requests.
     fn at(&self, number: u32, point: Point);
+
+    /// Whether a call of `at` may hold the run, as it may by default. Where none does, the thread that submits does requests as well,
+    /// and is then at the points of a worker.
+    fn may_hold(&self) -> bool {
+        true
+    }
 }
 
 /// Holds nothing.
@@ -28,4 +34,8 @@ pub struct NoStall;
 
 impl Stall for NoStall {
     fn at(&self, _number: u32, _point: Point) {}
+
+    fn may_hold(&self) -> bool {
+        false
+    }
 }

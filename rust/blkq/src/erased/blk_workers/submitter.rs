@@ -2,7 +2,7 @@
 //! The thread that submits and collects.
 
 use crate::erased::blk_script::render;
-use crate::erased::blk_workers::collecting::{collect_all, collect_some};
+use crate::erased::blk_workers::collecting::{collect_some, collect_until};
 use crate::erased::blk_workers::fault::RunFault;
 use crate::erased::blk_workers::following::{follow, freeze};
 use crate::erased::blk_workers::hall::Hall;
@@ -10,6 +10,7 @@ use crate::erased::blk_workers::handing::{Accepted, Ends, hand_over};
 use crate::erased::blk_workers::job::Completion;
 use crate::erased::blk_workers::ran::Ran;
 use crate::erased::blk_workers::stall::{Point, Stall};
+use crate::erased::blk_workers::worker::help;
 use crate::erased::freeze_queue::Freezer;
 use crate::erased::ram_disk::Disk;
 use crate::erased::run_desk::{Desk, Replies};
@@ -113,11 +114,13 @@ impl Submitter {
     // - `IsCollecting(run.script, completions.id, self.desk, collector)`: the desk is right, and the replies are owed
     //   to the requests whose completions this right to collect may still bring.
     fn drain<S: Stall>(&mut self, hall: &Hall<'_, S>, collector: &mut Collector<Completion>) -> Result<(), RunFault> {
+        help(hall);
         // For the contract of `freeze` alone: each line taken killed the gate once at most.
         let kills = self.desk.replies.len();
         freeze(&mut self.freezer, hall.queue, kills);
         hall.stall.at(self.accepted, Point::Drained);
-        collect_all(hall, collector, &mut self.desk)
+        collect_until(hall, collector, &mut self.desk, 0)?;
+        Ok(())
     }
 
     // Takes the next line, whose reply is there and after which the script's queue is `next`.
@@ -198,7 +201,8 @@ impl Submitter {
     pub(crate) fn submit_all<S: Stall>(&mut self, hall: &Hall<'_, S>, ends: &mut Ends) -> Result<(), RunFault> {
         for position in 0..hall.checked.script().lines().len() {
             if let Err(why) = self.take_next(hall, ends) {
-                // What is under way ends: every tag leaves. Completions aren't waited for, since one brought no answer.
+                // What is under way ends, or is done by this thread: every tag leaves. Completions aren't waited for, since one brought no answer.
+                help(hall);
                 freeze(&mut self.freezer, hall.queue, position + 1);
                 hall.stall.at(self.accepted, Point::Drained);
                 return Err(why);

@@ -194,7 +194,7 @@ pub(crate) fn with_workers<S: Stall>(
         let mut ends = ends;
         let mut started = start(scope, hall, drawers, no_handles);
         let submitter = lead_and_gather(hall, submitter, &mut ends, &mut started, workers)?;
-        let Ends { source, collector: _, taker: _ } = ends;
+        let Ends { source, collector: _, taker: _, small: _ } = ends;
         Ok((submitter, source))
     })
 }

@@ -4,7 +4,13 @@
 use crate::erased::fallible::TryVec;
 use crate::erased::gate_replay::schedule::GuardedWords;
 use crate::erased::line_text::{ScriptFault, Why, Words, at_line, is_word, long_number, short_number};
-use crate::erased::percpu_core::{KILL_LIMIT, PASS_LIMIT, SLOT_LIMIT, Start, WORD_LIMIT};
+use crate::erased::percpu_core::{KILL_LIMIT, Start, WORD_LIMIT};
+
+/// The most slots that a `world` has: of the format `gate 1`, whatever a gate takes.
+const MOST_SLOTS: u32 = 64;
+
+/// The most passes that a `world` has.
+const MOST_PASSES: u32 = 64;
 
 /// The world that a line tells.
 #[derive(Debug)]
@@ -72,8 +78,8 @@ fn sizes(words: &mut Words<'_>) -> Result<WorldSizes, Why> {
     if words.count_left() > WORD_LIMIT {
         return Err(Why::ExtraWord);
     }
-    let slots = short_number(said.slots, 1, SLOT_LIMIT)?;
-    let passes = short_number(said.passes, 1, PASS_LIMIT)?;
+    let slots = short_number(said.slots, 1, MOST_SLOTS)?;
+    let passes = short_number(said.passes, 1, MOST_PASSES)?;
     let start = start_said(said.start)?;
     let kills = long_number(said.kills, 0, KILL_LIMIT)?;
     Ok(WorldSizes { slots, passes, start, kills })

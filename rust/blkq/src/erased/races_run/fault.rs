@@ -4,6 +4,7 @@
 use crate::erased::counted_io::{InputFault, WriteFault};
 use crate::erased::line_text::ParseFault;
 use crate::erased::percpu_core::Memory;
+use crate::erased::race_outcomes::SearchFault;
 use std::error::Error;
 use std::fmt;
 
@@ -21,6 +22,8 @@ pub enum Fault {
     },
     /// The input is no race.
     Parse(ParseFault),
+    /// The race has more states than the bound on them.
+    States,
 }
 
 impl fmt::Display for Fault {
@@ -30,6 +33,7 @@ impl fmt::Display for Fault {
             Fault::Read => f.write_str("read"),
             Fault::Write { .. } => f.write_str("write"),
             Fault::Parse(it) => write!(f, "{it}"),
+            Fault::States => f.write_str("states"),
         }
     }
 }
@@ -44,6 +48,7 @@ impl Fault {
             Fault::Read => 2,
             Fault::Write { .. } => 3,
             Fault::Parse(_) => 4,
+            Fault::States => 5,
         }
     }
 
@@ -51,7 +56,7 @@ impl Fault {
     pub fn status(&self) -> u8 {
         match self {
             Fault::Parse(_) => 2,
-            Fault::Memory | Fault::Read | Fault::Write { .. } => 4,
+            Fault::Memory | Fault::Read | Fault::Write { .. } | Fault::States => 4,
         }
     }
 }
@@ -74,5 +79,14 @@ impl From<WriteFault> for Fault {
 impl From<Memory> for Fault {
     fn from(_refused: Memory) -> Self {
         Fault::Memory
+    }
+}
+
+impl From<SearchFault> for Fault {
+    fn from(e: SearchFault) -> Self {
+        match e {
+            SearchFault::Memory => Fault::Memory,
+            SearchFault::States => Fault::States,
+        }
     }
 }

@@ -2,24 +2,26 @@
 //! The program, over any reader and writers.
 
 use crate::erased::counted_io::Counted;
+use crate::erased::races_run::arguments::{Task, requested};
 use crate::erased::races_run::fault::Fault;
 use crate::erased::races_run::run::outcomes_bytes;
 use crate::erased::streams::WriteLine;
 use std::io::{self, ErrorKind, Read, Write};
 
 /// How the program is called.
-const USAGE: &str = "usage: gate_races, with a race on standard input";
+const USAGE: &str = "usage: gate_races [--states N], with a race on standard input";
 
 /// The status where the answer didn't go out, for any reason but the input.
 const NOT_ANSWERED: u8 = 4;
 
 /// Answers the race that `reader` has, and tells the program's status, with a line to `errors` where it isn't 0.
 fn outcomes_reported<R: Read, W: Write, E: Write>(
+    most: Option<u64>,
     reader: &mut Counted<R>,
     writer: &mut Counted<W>,
     errors: &mut E,
 ) -> u8 {
-    match outcomes_bytes(reader, writer) {
+    match outcomes_bytes(reader, writer, most) {
         Ok(()) => 0,
         Err(fault) => {
             let _ = errors.writeln(fault);
@@ -30,24 +32,26 @@ fn outcomes_reported<R: Read, W: Write, E: Write>(
 
 /// Writes to `writer` all outcomes of the race that `reader` has, and tells the program's status: 0 where they
 /// went out. Any other status comes with a line to `errors`: 2 where the input is no race, and 4 where reading,
-/// writing or memory was refused, or where there are `args`, words after the program's name, as it takes none.
-/// They are looked at before anything is read. Where `errors` fails, the line is lost and the status stays.
+/// writing or memory was refused, or the race has more states than `args`, the words after the program's name,
+/// have behind `--states`, or they ask for nothing that there is. They are looked at before anything is read.
+/// Where `errors` fails, the line is lost and the status stays.
 pub fn command<R: Read, W: Write, E: Write>(
     args: &[String],
     reader: &mut Counted<R>,
     writer: &mut Counted<W>,
     errors: &mut E,
 ) -> u8 {
-    if args.is_empty() {
-        outcomes_reported(reader, writer, errors)
-    } else {
-        let _ = errors.writeln(USAGE);
-        NOT_ANSWERED
+    match requested(args) {
+        Task::Outcomes(most) => outcomes_reported(most, reader, writer, errors),
+        Task::Usage => {
+            let _ = errors.writeln(USAGE);
+            NOT_ANSWERED
+        }
     }
 }
 
 /// Tells that the words after the program's name can't be had, and the program's status: for want of memory,
-/// or because one of them is no text, so that there are some.
+/// or because one of them is no text, so that they ask for nothing that there is.
 pub fn refuse_words<E: Write>(errors: &mut E, why: &io::Error) -> u8 {
     let _ = if why.kind() == ErrorKind::OutOfMemory { errors.writeln(Fault::Memory) } else { errors.writeln(USAGE) };
     NOT_ANSWERED

@@ -4,7 +4,8 @@
 use crate::erased::blk_script::{render, render_read};
 use crate::erased::fallible::{AllocError, TryCollect};
 use crate::erased::queue_limits::Limits;
-use crate::erased::ram_disk::{Sector, patterned};
+use crate::erased::ram_disk::Sector;
+use crate::erased::run_desk::uniform::UniformSectors;
 use crate::erased::script_meaning::{Pattern, PieceLengths, Reply, Script, What};
 
 /// The answer to a request: the line of its reply, and the sectors that it leaves on the disk from its first on, which
@@ -32,8 +33,8 @@ fn read_text(number: u32, pieces: &PieceLengths, found: &[Sector]) -> Result<Vec
 }
 
 // The sectors of a write.
-fn sectors_of(pattern: &Pattern, count: u32) -> Result<Vec<Sector>, AllocError> {
-    patterned(pattern.bytes(), count).map_err(|_| AllocError)
+fn sectors_of(uniform: &UniformSectors, pattern: &Pattern, count: u32) -> Result<Vec<Sector>, AllocError> {
+    uniform.patterned(pattern.bytes(), count)
 }
 
 // The answer to a read, which found these sectors.
@@ -44,24 +45,37 @@ fn read(number: u32, limits: Limits, start: u32, count: u32, found: &[Sector]) -
 }
 
 // The answer to a write.
-fn write(number: u32, limits: Limits, start: u32, count: u32, pattern: &Pattern) -> Result<Answer, AllocError> {
+fn write(
+    uniform: &UniformSectors,
+    number: u32,
+    limits: Limits,
+    start: u32,
+    count: u32,
+    pattern: &Pattern,
+) -> Result<Answer, AllocError> {
     let pieces = pieces(limits, start, count)?;
     let text = reply_text(number, &Reply::Written { pieces })?;
-    let sectors = sectors_of(pattern, count)?;
+    let sectors = sectors_of(uniform, pattern, count)?;
     Ok(Answer { text, start, sectors })
 }
 
 /// The answer to the request at a position of the script, by the limits in force there and the sectors that a
-/// read finds. Refused only where memory was.
+/// read finds. Writes of one byte share the sectors of `uniform`. Refused only where memory was.
 ///
 /// # Preconditions
 ///
 /// - `IsDue(script, position, limits, found)`: the limits in force at a request, and the sectors that it finds.
-pub fn answer_to(script: &Script, position: usize, limits: Limits, found: &[Sector]) -> Result<Answer, AllocError> {
+pub fn answer_to(
+    uniform: &UniformSectors,
+    script: &Script,
+    position: usize,
+    limits: Limits,
+    found: &[Sector],
+) -> Result<Answer, AllocError> {
     let line = &script.lines()[position];
     match &line.what {
         What::Read { start, count } => read(line.number, limits, *start, *count, found),
-        What::Write { start, count, pattern } => write(line.number, limits, *start, *count, pattern),
+        What::Write { start, count, pattern } => write(uniform, line.number, limits, *start, *count, pattern),
         // No other line makes a request that is accepted.
         _ => unreachable!(),
     }

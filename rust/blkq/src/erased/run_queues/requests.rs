@@ -4,7 +4,8 @@
 use crate::erased::crossbeam_queue::Pass;
 use crate::erased::fallible::{AllocError, TryRoom, TryVec};
 use crate::erased::run_queues::numbered::Numbered;
-use crate::erased::run_queues::ruled_queue::RuledQueue;
+use crate::erased::run_queues::ruled_queue::{Effort, RuledQueue};
+use crate::erased::wait_queue::Tries;
 
 type Requests<T> = RuledQueue<Option<T>>;
 
@@ -66,7 +67,18 @@ impl<T: Numbered> RequestQueue<T> {
         self.line.push_as(&mut source.seat, Some(request));
     }
 
-    /// Pushes one end mark, and waits while there is no room: one call of `draw` then answers `None`.
+    /// The same, and no thread is woken. The caller draws the request itself, or calls [`RequestQueue::wake`], before it waits for it.
+    ///
+    /// # Preconditions
+    ///
+    /// - `source` belongs to `self.id`.
+    /// - `source.marks` is 0.
+    /// - `request.number()` is `source.pushed`.
+    pub fn push_quietly(&self, source: &mut Source<T>, request: T) {
+        self.line.push_quietly_as(&mut source.seat, Some(request));
+    }
+
+    /// Pushes one end mark, and waits while there is no room: one call of `draw` then answers `Some(None)`.
     ///
     /// # Preconditions
     ///
@@ -75,19 +87,35 @@ impl<T: Numbered> RequestQueue<T> {
         self.line.push_as(&mut source.seat, None);
     }
 
-    /// Takes the first request, or `None` where an end mark is first. It waits while there is neither. `AllocError`,
-    /// with nothing taken, where the list has no room left and is refused more.
+    /// Takes what is first, and tries as hard as `effort` says: a request, or `Some(None)` where it is an end mark. `None` only
+    /// where there was neither at one moment of the call. `AllocError`, with nothing taken, where the list has no room left and is
+    /// refused more.
     ///
     /// # Preconditions
     ///
     /// - `drawer` belongs to `self.id`.
-    pub fn draw(&self, drawer: &mut Drawer<T>) -> Result<Option<T>, AllocError> {
+    pub fn draw(&self, drawer: &mut Drawer<T>, effort: Effort) -> Result<Option<Option<T>>, AllocError> {
         drawer.drawn.try_make_room(1)?;
-        let item = self.line.pop_as(&mut drawer.seat);
-        if let Some(request) = &item {
+        let drawn = self.line.try_pop_as(&mut drawer.seat, effort);
+        if let Some(Some(request)) = &drawn {
             drawer.drawn.push(request.number());
         }
-        Ok(item)
+        Ok(drawn)
+    }
+
+    /// Says that this thread is about to sleep: from here on a push wakes it, until it draws with [`Effort::Woken`].
+    pub fn announce(&self) {
+        self.line.announce();
+    }
+
+    /// A turn for each draw of a thread that announced itself, the first at once. It sleeps between them until a push wakes it.
+    pub fn turns<'q>(&'q self) -> Tries<'q> {
+        self.line.turns()
+    }
+
+    /// Wakes a thread that sleeps, for what was pushed quietly.
+    pub fn wake(&self) {
+        self.line.wake();
     }
 
     /// Takes the right to draw back, with the list of what was drawn. `AllocError` where there is no room for one

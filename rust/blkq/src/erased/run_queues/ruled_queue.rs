@@ -5,11 +5,22 @@ use crate::erased::crossbeam_queue::{Pass, RuledArrayQueue};
 use crate::erased::crossbeam_utils::CachePadded;
 use crate::erased::fallible::AllocError;
 use crate::erased::run_queues::patience::Patience;
-use crate::erased::wait_queue::WaitQueue;
+use crate::erased::wait_queue::{Tries, WaitQueue};
 use std::sync::atomic::{AtomicBool, AtomicUsize, Ordering};
 
 /// How many threads look at most. More of them would be in each other's way, and in that of whoever pushes.
 const LOOKERS: usize = 4;
+
+/// How hard a thread tries to take an item.
+#[derive(Clone, Copy, Debug, PartialEq, Eq)]
+pub enum Effort {
+    /// It looks once, and wakes no thread for what it leaves.
+    Quiet,
+    /// It looks for as long as that is worth it.
+    Patient,
+    /// It looks once, in a turn of its sleep: an item ends that.
+    Woken,
+}
 
 /// A queue under a rule, and those who sleep at it.
 ///
@@ -56,20 +67,28 @@ impl<T> RuledQueue<T> {
         Ok((line, pass))
     }
 
-    /// Pushes an item, and waits while there is no room.
+    /// Pushes an item, and waits while there is no room. A thread that sleeps is woken.
     ///
     /// # Preconditions
     ///
     /// - `IsPassOf(self.ring, pass)`.
     /// - `MayPush(P.holds, ruled_capacity(self.ring), pass, item, M.then, M.fact)`.
     pub(crate) fn push_as(&self, pass: &mut Pass<T>, item: T) {
+        self.push_quietly_as(pass, item);
+        self.wake();
+    }
+
+    /// The same, and no thread is woken. The caller pops the item itself, or wakes a thread for it, before it waits.
+    ///
+    /// # Preconditions
+    ///
+    /// - `IsPassOf(self.ring, pass)`.
+    /// - `MayPush(P.holds, ruled_capacity(self.ring), pass, item, M.then, M.fact)`.
+    pub(crate) fn push_quietly_as(&self, pass: &mut Pass<T>, item: T) {
         let mut item = item;
         for _ in self.taken.tries() {
             match self.ring.push_as(pass, item) {
-                Ok(()) => {
-                    self.wake();
-                    return;
-                }
+                Ok(()) => return,
                 Err(back) => item = back,
             }
         }
@@ -83,13 +102,55 @@ impl<T> RuledQueue<T> {
     /// - `IsPassOf(self.ring, pass)`.
     /// - `MayPop(P.holds, pass, M.then, M.fact)`.
     pub(crate) fn pop_as(&self, pass: &mut Pass<T>) -> T {
+        if let Some(item) = self.pop_soon_as(pass) {
+            return item;
+        }
+        self.announce();
+        for _ in self.turns() {
+            if let Some(item) = self.pop_woken_as(pass) {
+                return item;
+            }
+        }
+        unreachable!()
+    }
+
+    /// Takes the first item, and tries as hard as `effort` says. `None` only where there was none at one moment of the call.
+    ///
+    /// # Preconditions
+    ///
+    /// - `IsPassOf(self.ring, pass)`.
+    /// - `MayPop(P.holds, pass, M.then, M.fact)`.
+    pub(crate) fn try_pop_as(&self, pass: &mut Pass<T>, effort: Effort) -> Option<T> {
+        match effort {
+            Effort::Quiet => self.pop_quietly_as(pass),
+            Effort::Patient => self.pop_soon_as(pass),
+            Effort::Woken => self.pop_woken_as(pass),
+        }
+    }
+
+    // Takes the first item where there is one now, or soon: it looks for one as long as that is worth it.
+    //
+    // # Preconditions
+    //
+    // - `IsPassOf(self.ring, pass)`.
+    // - `MayPop(P.holds, pass, M.then, M.fact)`.
+    fn pop_soon_as(&self, pass: &mut Pass<T>) -> Option<T> {
         if let Some(item) = self.pop_now_as(pass) {
-            return item;
+            return Some(item);
         }
-        if let Some(item) = self.look_as(pass) {
-            return item;
-        }
-        self.sleep_as(pass)
+        self.look_as(pass)
+    }
+
+    // Takes the first item where there is one now. No thread is woken for what is left.
+    //
+    // # Preconditions
+    //
+    // - `IsPassOf(self.ring, pass)`.
+    // - `MayPop(P.holds, pass, M.then, M.fact)`.
+    fn pop_quietly_as(&self, pass: &mut Pass<T>) -> Option<T> {
+        let item = self.ring.pop_as(pass)?;
+        self.taken.wake_one();
+        Some(item)
     }
 
     /// Takes the first item where there is one now, and `None` only where there was none at one moment of the call.
@@ -141,35 +202,29 @@ impl<T> RuledQueue<T> {
         None
     }
 
-    // Takes the first item, and sleeps while there is none.
-    //
-    // # Preconditions
-    //
-    // - `IsPassOf(self.ring, pass)`.
-    // - `MayPop(P.holds, pass, M.then, M.fact)`.
-    fn sleep_as(&self, pass: &mut Pass<T>) -> T {
+    /// Counts this thread as one that sleeps, or is about to, until its [`RuledQueue::pop_woken_as`] takes an item.
+    pub(crate) fn announce(&self) {
         self.sleeping.fetch_add(1, Ordering::SeqCst);
-        let item = self.wait_as(pass);
-        self.sleeping.fetch_sub(1, Ordering::SeqCst);
-        self.pass_on(pass);
-        item
     }
 
-    // Takes the first item as one of those who wait for it. Before each try it says that it has come: a push behind that wakes one
-    // again.
+    /// A turn for each try of a thread that announced itself. It sleeps between them, and a push wakes it.
+    pub(crate) fn turns<'q>(&'q self) -> Tries<'q> {
+        self.added.announced_tries()
+    }
+
+    // Takes the first item where there is one now, in a turn of a thread that announced itself. Before its try the thread says that it
+    // has come: a push behind that wakes one again.
     //
     // # Preconditions
     //
     // - `IsPassOf(self.ring, pass)`.
     // - `MayPop(P.holds, pass, M.then, M.fact)`.
-    fn wait_as(&self, pass: &mut Pass<T>) -> T {
-        for _ in self.added.announced_tries() {
-            self.coming.store(false, Ordering::SeqCst);
-            if let Some(item) = self.ring.pop_as(pass) {
-                return item;
-            }
-        }
-        unreachable!()
+    fn pop_woken_as(&self, pass: &mut Pass<T>) -> Option<T> {
+        self.coming.store(false, Ordering::SeqCst);
+        let item = self.ring.pop_as(pass)?;
+        self.sleeping.fetch_sub(1, Ordering::SeqCst);
+        self.pass_on(pass);
+        Some(item)
     }
 
     // After a pop: there is room, and what is left is for the next. The queue is looked at only for one who sleeps,
@@ -185,8 +240,8 @@ impl<T> RuledQueue<T> {
         }
     }
 
-    // Wakes a sleeper, where there is one, no thread looks for what it would find, and none is on its way.
-    fn wake(&self) {
+    /// Wakes a sleeper, where there is one, no thread looks for what it would find, and none is on its way.
+    pub(crate) fn wake(&self) {
         if self.sleeping.load(Ordering::SeqCst) > 0
             && self.looking.load(Ordering::SeqCst) == 0
             && !self.coming.load(Ordering::SeqCst)

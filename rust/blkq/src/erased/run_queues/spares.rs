@@ -56,6 +56,18 @@ impl<T> SpareQueue<T> {
         count.put += 1;
     }
 
+    /// Takes the first where there is one now. It is counted.
+    ///
+    /// # Preconditions
+    ///
+    /// - `taker` belongs to `self.id`.
+    /// - `taker.count + 1` is less than `2^64`.
+    pub fn try_take(&self, taker: &mut Taker<T>) -> Option<T> {
+        let item = self.line.pop_now_as(&mut taker.seat)?;
+        taker.taken += 1;
+        Some(item)
+    }
+
     /// Takes the first, and waits while there is none. It is counted.
     ///
     /// # Preconditions

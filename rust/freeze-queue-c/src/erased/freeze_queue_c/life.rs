@@ -39,7 +39,7 @@ fn make(
     }
 }
 
-/// A live queue of these limits that counts on its slots (1 to 64), with so many tags (1 to 63), for a closed freezer
+/// A live queue of these limits that counts on its slots (1 to 512), with so many tags (1 to 1,023), for a closed freezer
 /// handle. Refuses Open, the limits' faults (25 to 28), Size, Memory. Linux: `blk_mq_alloc_queue` (block/blk-mq.c).
 #[unsafe(no_mangle)]
 pub extern "C" fn freeze_queue_new_numbered(

@@ -1,8 +1,8 @@
 // Erased from crates/freeze_queue_c/src/tag_held.rt by tools/erase: edit that file.
 //! The box of a handle, under a pointer that C may keep.
 
-use crate::erased::freeze_queue_c::loose::Loose;
 use crate::erased::freeze_queue_c::open_tag::OpenTag;
+use crate::erased::loose_box::Loose;
 use alloc::boxed::Box;
 use core::ptr;
 

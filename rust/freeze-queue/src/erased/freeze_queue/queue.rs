@@ -21,7 +21,7 @@ pub struct BlockQueue {
 }
 
 impl BlockQueue {
-    /// A live queue of these limits that counts on its slots (1 to 64), with so many tags (1 to 63), none of them
+    /// A live queue of these limits that counts on its slots (1 to 512), with so many tags (1 to 1,023), none of them
     /// entered, and its freezer. Memory where a growth was refused. Linux: `blk_mq_alloc_queue` (block/blk-mq.c).
     ///
     /// # Preconditions
@@ -38,7 +38,7 @@ impl BlockQueue {
         Ok((queue, Freezer { core: freezer }, made))
     }
 
-    /// The slots of the queue: 1 to 64.
+    /// The slots of the queue: 1 to 512.
     #[inline]
     pub fn slots(&self) -> u32 {
         self.core.slots()
@@ -118,7 +118,23 @@ impl BlockQueue {
     /// - `tag` belongs to `self`.
     /// - `slot` is less than `self.slots()`.
     /// - `tag.entered()` is `false`.
+    #[inline]
     pub fn enter(&self, tag: &mut Tag, slot: u32) {
+        debug_assert!(slot < self.slots());
+        debug_assert!(!tag.entered());
+        if self.try_enter(tag, slot) == Enter::Again {
+            self.enter_once_thawed(tag, slot);
+        }
+    }
+
+    // Waits between its tries. It is no part of `enter`, so that a call of `enter` on a live queue is one try and no more.
+    //
+    // # Preconditions
+    //
+    // - `tag` belongs to `self`.
+    // - `slot` is less than `self.slots()`.
+    // - `tag.entered()` is `false`.
+    fn enter_once_thawed(&self, tag: &mut Tag, slot: u32) {
         debug_assert!(slot < self.slots());
         debug_assert!(!tag.entered());
         for _ in self.thawed.tries() {

@@ -24,14 +24,12 @@ impl Freezer {
     /// - For each `t` of `tags` `t` belongs to `queue`.
     /// - For each `t` of `tags` `t.entered` is `false`.
     pub fn remove(self, queue: BlockQueue, tags: Vec<Tag>) -> Result<Final<LIMIT_WORDS>, RemoveFault> {
-        let Self { core: freezer } = self;
-        let BlockQueue { core, drained, thawed } = queue;
-        match freezer.remove(core, tags) {
+        match self.core.remove(queue.core, tags) {
             Ok(left) => Ok(left),
             Err(fault) => Err(RemoveFault {
                 why: fault.why,
                 freezer: Freezer { core: fault.freezer },
-                queue: BlockQueue { core: fault.queue, drained, thawed },
+                queue: BlockQueue { core: fault.queue, drained: queue.drained, thawed: queue.thawed },
                 tags: fault.tags,
             }),
         }

@@ -80,13 +80,11 @@ impl Freezer {
         if self.depth >= MOST_DEPTH {
             return Err(FreezeFault::DepthFull);
         }
-        let mut put = Put::NotLast;
-        if self.depth == 0 {
-            match self.control.kill(&queue.gate) {
-                Ok(last) => put = last,
-                Err(_) => return Err(FreezeFault::WornOut),
-            }
-        }
+        let put = if self.depth == 0 {
+            self.control.kill(&queue.gate).map_err(|_| FreezeFault::WornOut)?
+        } else {
+            Put::NotLast
+        };
         self.depth += 1;
         Ok(Frozen { depth: self.depth, put })
     }
@@ -138,10 +136,11 @@ impl Freezer {
     ///
     /// - `self` belongs to `queue`.
     pub fn mode(&mut self, queue: &BlockQueue, mode: Mode) {
-        let _switched = match mode {
+        let switched = match mode {
             Mode::Atomic => self.control.switch_to_atomic(&queue.gate),
             Mode::Slots => self.control.switch_to_slots(&queue.gate),
         };
+        debug_assert!(switched.is_ok());
     }
 
     /// Ends a freeze: the depth that is left, and whether the queue is live again: then those who wait to enter are to be
@@ -171,7 +170,8 @@ impl Freezer {
     /// - `self.depth()` is 1.
     fn revive(&mut self, queue: &BlockQueue) {
         debug_assert!(self.depth() == 1);
-        let _revived = self.control.resurrect(&queue.gate);
+        let revived = self.control.resurrect(&queue.gate);
+        debug_assert!(revived.is_ok());
         self.depth = 0;
     }
 

@@ -32,6 +32,7 @@ pub(crate) fn load_words(pass: &mut Pass<LIMIT_WORDS>, gate: &Gate<LIMIT_WORDS>)
 /// - `control.view.words.len()` is `LIMIT_WORDS`.
 pub(crate) fn store_words(control: &mut Control<LIMIT_WORDS>, gate: &Gate<LIMIT_WORDS>, words: [u64; LIMIT_WORDS]) {
     for k in 0..LIMIT_WORDS {
-        let _stored = control.store_word(gate, k as u32, words[k]);
+        let stored = control.store_word(gate, k as u32, words[k]);
+        debug_assert!(stored.is_ok());
     }
 }

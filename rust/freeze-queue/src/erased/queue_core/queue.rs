@@ -11,7 +11,7 @@ use crate::erased::queue_limits::Limits;
 use alloc::vec::Vec;
 
 /// The most tags of a queue.
-pub const MOST_TAGS: u32 = 63;
+pub const MOST_TAGS: u32 = 1_023;
 
 /// A queue, its freezer and its tags.
 pub type NewQueue = (BlockQueue, Freezer, Vec<Tag>);
@@ -23,12 +23,12 @@ pub struct BlockQueue {
     hardware: u32,
 }
 
-/// A tag for each of the new passes of a gate.
+/// A tag for each of these passes, which are new.
 ///
 /// # Preconditions
 ///
-/// - For each `p` of `passes` `p` is `fresh_pass(gate)`.
-fn make_tags(_gate: &Gate<LIMIT_WORDS>, passes: Vec<Pass<LIMIT_WORDS>>, hardware: u32) -> Result<Vec<Tag>, AllocError> {
+/// - For each `p` of `passes` `p` is `fresh_pass(p.gate)`.
+fn make_tags(passes: Vec<Pass<LIMIT_WORDS>>, hardware: u32) -> Result<Vec<Tag>, AllocError> {
     let mut tags = Vec::try_with_room(passes.len())?;
     for pass in passes {
         tags.try_push(Tag::new(pass, hardware))?;
@@ -37,8 +37,8 @@ fn make_tags(_gate: &Gate<LIMIT_WORDS>, passes: Vec<Pass<LIMIT_WORDS>>, hardware
 }
 
 impl BlockQueue {
-    /// A live queue of these limits that counts on its slots (1 to 64), with so many tags (1 to 63), none of them
-    /// entered, and its freezer. Memory where a growth was refused. Linux: `blk_mq_alloc_queue` (block/blk-mq.c).
+    /// A live queue of these limits that counts on its slots (1 to 512), with so many tags (1 to 1,023), none of
+    /// them entered, and its freezer. Memory where a growth was refused. Linux: `blk_mq_alloc_queue` (block/blk-mq.c).
     ///
     /// # Preconditions
     ///
@@ -51,14 +51,15 @@ impl BlockQueue {
         debug_assert!(tags <= MOST_TAGS);
         let words = limits.to_words();
         let (gate, mut control, passes) = Gate::new(slots, tags, Start::Atomic, words)?;
-        let _switched = control.switch_to_slots(&gate);
+        let switched = control.switch_to_slots(&gate);
+        debug_assert!(switched.is_ok());
         let hardware = limits.hw();
-        let made = make_tags(&gate, passes, hardware)?;
+        let made = make_tags(passes, hardware)?;
         let queue = BlockQueue { gate, hardware };
         Ok((queue, Freezer::new(control, limits), made))
     }
 
-    /// The slots of the queue: 1 to 64.
+    /// The slots of the queue: 1 to 512.
     #[inline]
     pub fn slots(&self) -> u32 {
         self.gate.slots()

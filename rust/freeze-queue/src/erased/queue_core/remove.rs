@@ -37,16 +37,19 @@ fn end(mut freezer: Freezer, queue: BlockQueue, tags: Vec<Tag>) -> Final<LIMIT_W
 }
 
 impl Freezer {
-    /// Freezes a queue that is to end, unless it is frozen already. Refuses WornOut.
+    /// Freezes a queue that is to end with so many tags, unless it is frozen already. Refuses TagsOut, WornOut.
     ///
     /// # Preconditions
     ///
     /// - `self` belongs to `queue`.
-    fn freeze_to_end(&mut self, queue: &BlockQueue) -> Result<(), FreezeFault> {
-        if self.depth() > 0 {
-            return Ok(());
+    fn freeze_to_end(&mut self, queue: &BlockQueue, tags: usize) -> Result<(), FreezeFault> {
+        let missing = (self.tags() as usize).saturating_sub(tags);
+        if missing > 0 {
+            return Err(FreezeFault::TagsOut(missing as u32));
         }
-        self.start_freeze(queue)?;
+        if self.depth() == 0 {
+            self.start_freeze(queue)?;
+        }
         Ok(())
     }
 
@@ -60,16 +63,9 @@ impl Freezer {
     /// - For each `t` of `tags` `t` belongs to `queue`.
     /// - For each `t` of `tags` `t.entered` is `false`.
     pub fn remove(mut self, queue: BlockQueue, tags: Vec<Tag>) -> Result<Final<LIMIT_WORDS>, RemoveFault> {
-        let missing = (self.tags() as usize).saturating_sub(tags.len());
-        if missing > 0 {
-            let why = FreezeFault::TagsOut(missing as u32);
-            let freezer = self;
-            return Err(RemoveFault { why, freezer, queue, tags });
+        match self.freeze_to_end(&queue, tags.len()) {
+            Ok(()) => Ok(end(self, queue, tags)),
+            Err(why) => Err(RemoveFault { why, freezer: self, queue, tags }),
         }
-        if let Err(why) = self.freeze_to_end(&queue) {
-            let freezer = self;
-            return Err(RemoveFault { why, freezer, queue, tags });
-        }
-        Ok(end(self, queue, tags))
     }
 }

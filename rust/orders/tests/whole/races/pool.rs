@@ -125,6 +125,21 @@ fn the_handle_is_dropped_beside_a_request() {
     race("a handle that is dropped beside a request", 8, parts, &[drops_the_handle, drops_the_request], |_| ());
 }
 
+/// Tries to remove a queue.
+fn removes(place: &std::sync::Mutex<Option<Queue>>) {
+    let queue = place.lock().unwrap().take().unwrap();
+    if let Err(refused) = queue.remove() {
+        *place.lock().unwrap() = Some(refused.value);
+    }
+}
+
+/// Removes a queue, if it wasn't before.
+fn is_removed(place: std::sync::Mutex<Option<Queue>>) {
+    if let Some(queue) = place.into_inner().unwrap() {
+        queue.remove().unwrap();
+    }
+}
+
 /// The queue is removed as soon as its tag is home, beside the call that brings it.
 #[test]
 fn a_removal_beside_a_tag_that_comes_home() {
@@ -135,19 +150,32 @@ fn a_removal_beside_a_tag_that_comes_home() {
         assert!(matches!(pin!(queue.enter_any_async()).poll(&mut Context::from_waker(&waker())), Poll::Pending));
         (std::sync::Mutex::new(Some(queue)), std::sync::Mutex::new(Some(request)))
     }
-    fn removes(parts: &Parts) {
-        let queue = parts.0.lock().unwrap().take().unwrap();
-        if let Err(refused) = queue.remove() {
-            *parts.0.lock().unwrap() = Some(refused.value);
-        }
-    }
     fn drops_the_request(parts: &Parts) {
         let request = parts.1.lock().unwrap().take();
         drop(request);
     }
-    race("a removal beside a tag that comes home", 8, parts, &[removes, drops_the_request], |(queue, _)| {
-        if let Some(queue) = queue.into_inner().unwrap() {
-            queue.remove().unwrap();
-        }
-    });
+    let acts: [fn(&Parts); 2] = [|it| removes(&it.0), drops_the_request];
+    race("a removal beside a tag that comes home", 8, parts, &acts, |it| is_removed(it.0));
+}
+
+/// The queue is removed as soon as a task that waited has given its tag up, beside the thaw that wakes the task: it waits for no waker.
+#[test]
+fn a_removal_beside_a_thaw_that_wakes() {
+    type Place<T> = std::sync::Mutex<Option<T>>;
+    type Parts = (Place<Queue>, Place<crate::OwnedFrozen>, Place<crate::EnterOwnedAsync>);
+    fn parts() -> Parts {
+        let queue = one_tag();
+        let (frozen, entering) = (queue.freeze_owned().unwrap(), queue.enter_owned_async(queue.next_tag(0).unwrap()));
+        (Place::new(Some(queue)), Place::new(Some(frozen)), Place::new(Some(entering)))
+    }
+    fn thaws(parts: &Parts) {
+        let frozen = parts.1.lock().unwrap().take();
+        drop(frozen);
+    }
+    fn gives_up(parts: &Parts) {
+        let mut entering = pin!(parts.2.lock().unwrap().take().unwrap());
+        drop(entering.as_mut().poll(&mut Context::from_waker(&waker())));
+    }
+    let acts: [fn(&Parts); 3] = [|it| removes(&it.0), thaws, gives_up];
+    race("a removal beside a thaw that wakes", 5, parts, &acts, |it| is_removed(it.0));
 }

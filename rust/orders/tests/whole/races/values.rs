@@ -1,36 +1,9 @@
 //! A value that a queue guards: no request reads it while a freeze changes it, and no two freezes change it at once.
 use super::race;
 use crate::guarded::Queue;
+use crate::value::Value;
 use crate::{Limits, Tag};
-use orders::turns::pause;
 use std::sync::Mutex;
-use std::sync::atomic::{AtomicU32, Ordering::SeqCst};
-
-/// It counts the threads that are at it, by numbers that are no turns.
-#[derive(Default)]
-struct Value {
-    readers: AtomicU32,
-    writers: u32,
-    changes: u32,
-}
-
-impl Value {
-    fn is_read(&self) {
-        let seen = self.changes;
-        self.readers.fetch_add(1, SeqCst);
-        pause();
-        assert_eq!((self.writers, self.changes), (0, seen), "it changes under a request");
-        self.readers.fetch_sub(1, SeqCst);
-    }
-
-    fn is_changed(&mut self) {
-        self.writers += 1;
-        pause();
-        assert_eq!((*self.readers.get_mut(), self.writers), (0, 1), "it is lent twice");
-        self.changes += 1;
-        self.writers -= 1;
-    }
-}
 
 struct Parts {
     queue: Queue<Value>,

@@ -1,7 +1,7 @@
 // Erased from crates/percpu_gate_c/src/control_held.rt by tools/erase: edit that file.
 //! The box of a handle, under a pointer that C may keep.
 
-use crate::erased::percpu_gate_c::loose::Loose;
+use crate::erased::loose_box::Loose;
 use crate::erased::percpu_gate_c::open_control::OpenControl;
 use alloc::boxed::Box;
 use core::ptr;

@@ -46,7 +46,7 @@ fn make(
     control.open(open)
 }
 
-/// A gate of so many slots (1 to 64) and passes (1 to 64) with eight guarded words, for a closed control handle.
+/// A gate of so many slots (1 to 512) and passes (1 to 1,024) with eight guarded words, for a closed control handle.
 /// It starts with its slots open (0), with them closed (1), or dead and at zero (2). Refuses Open, Size, Memory.
 /// Linux: `percpu_ref_init` (lib/percpu-refcount.c).
 #[unsafe(no_mangle)]

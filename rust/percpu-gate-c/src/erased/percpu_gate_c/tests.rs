@@ -148,7 +148,7 @@ fn misuse_of_a_control() {
     assert!(last.kills == 5);
     percpu_gate_free_control(&mut control);
     assert!(percpu_gate_exit(&mut control, &mut last) == 32);
-    assert!(percpu_gate_new_numbered(&mut control, &NUMBER, 65, 2, 0, &WORDS) == 35);
+    assert!(percpu_gate_new_numbered(&mut control, &NUMBER, 513, 2, 0, &WORDS) == 35);
     assert!(percpu_gate_new_numbered(&mut control, &NUMBER, 2, 2, 3, &WORDS) == 35);
 }
 

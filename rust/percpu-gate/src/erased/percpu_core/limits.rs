@@ -5,10 +5,10 @@
 pub const HELD_LIMIT: u32 = 65_535;
 
 /// The most passes of one gate.
-pub const PASS_LIMIT: u32 = 64;
+pub const PASS_LIMIT: u32 = 1_024;
 
 /// The most slots of one gate.
-pub const SLOT_LIMIT: u32 = 64;
+pub const SLOT_LIMIT: u32 = 512;
 
 /// The most guarded words of one gate.
 pub const WORD_LIMIT: usize = 8;

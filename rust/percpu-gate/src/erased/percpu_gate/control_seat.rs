@@ -29,7 +29,7 @@ impl ControlSeat {
         self.seat
     }
 
-    /// A seat of a new pass. A control has at most 64.
+    /// A seat of a new pass. A control has at most 1,024.
     ///
     /// # Preconditions
     ///

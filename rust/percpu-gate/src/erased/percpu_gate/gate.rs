@@ -46,8 +46,8 @@ fn make_passes<const W: usize>(
 }
 
 impl<const W: usize> Gate<W> {
-    /// A gate with so many slots (1 to 64) and guarded words (up to 8), its control, and so many passes (1 to
-    /// 64) that hold nothing. Live with its slots open by `Start::Slots`, live with them closed by `Start::Atomic`,
+    /// A gate with so many slots (1 to 512) and guarded words (up to 8), its control, and so many passes (1 to
+    /// 1,024) that hold nothing. Live with its slots open by `Start::Slots`, live with them closed by `Start::Atomic`,
     /// dead and at zero by `Start::Dead`, which comes back with its slots open. Refuses with `Memory` if a growth was refused.
     /// Linux: `percpu_ref_init` (lib/percpu-refcount.c).
     ///
@@ -69,7 +69,7 @@ impl<const W: usize> Gate<W> {
         Ok((gate, control, made))
     }
 
-    /// The slots of the gate: 1 to 64.
+    /// The slots of the gate: 1 to 512.
     #[inline]
     pub fn slots(&self) -> u32 {
         self.table.slots()

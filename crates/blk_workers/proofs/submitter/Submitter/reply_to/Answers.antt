@@ -12,7 +12,7 @@ use Rattle.run_desk.proofs.Numbering.{counts_line}
 use Rattle.script_meaning.specs.Queue.{Queue}
 use Rattle.blk_workers.proofs.InStep.{near_drained, near_replied}
 use Rattle.blk_workers.specs.Following.{IsFrozenFor}
-use Rattle.blk_workers.specs.Progress.{IsAt, IsBeforeLine, IsCounted, IsFollowing}
+use Rattle.blk_workers.specs.Progress.{IsAt, IsCounted, IsFollowing}
 use Rattle.blk_workers.proofs.submitter.Submitter.reply_to.Goals as goal
 
 pub reply_and_follow-requires-clause-before : goal.reply_and_follow-requires-clause-before

@@ -5,12 +5,11 @@ use Rattle.freeze_queue.specs.declared.enter.Enter.TheVariants.{Entered}
 use Rattle.freeze_queue.specs.Entering.{answered}
 use Rattle.freeze_queue.proofs.queue.BlockQueue.enter.Goals as goal
 
--- the last try found it
-pub returns-then-eq-clause-finds : goal.returns-then-eq-clause-finds
-returns-then-eq-clause-finds g c =
-    let entered : c.try_enter.result ≡ Entered = search rules in
-    let tried = c.try_enter.ensures in (
-      c.loop.tag.seat,
-      c.loop.invariant.4,
-      subst (λ (e : Enter). LiveTryFinds c.args.self.now.gate c.args.slot c.loop.tag.seat (answered e)) entered tried.finds,
+-- the first try found it
+pub returns-else-eq-clause-finds : goal.returns-else-eq-clause-finds
+returns-else-eq-clause-finds g c =
+    let entered : c.try_enter.result ≡ Entered = search rules in (
+      c.args.tag.now.seat,
+      search rules,
+      subst (λ (e : Enter). LiveTryFinds c.args.self.now.gate c.args.slot c.args.tag.now.seat (answered e)) entered c.try_enter.ensures.finds,
     )

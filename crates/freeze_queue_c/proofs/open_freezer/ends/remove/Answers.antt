@@ -4,9 +4,4 @@ use Rattle.freeze_queue_c.proofs.Finals.{final_of}
 use Rattle.freeze_queue_c.proofs.open_freezer.ends.remove.Goals as goal
 
 pub returns-in-Ok : goal.returns-in-Ok
-returns-in-Ok c =
-    let e = c.in-Ok.ensures in (
-      search rules,
-      final_of (freezer_with c.args.number c.args.waiting.items c.args.freezer) c.requires.own e.dead e.drained e.kills e.words
-          (c.of-limits.ensures ∙ c.limits.ensures.value) e.drains e.at_most e.releases,
-    )
+returns-in-Ok c = (search rules, final_of (freezer_with c.args.number c.args.waiting.items c.args.freezer) c.requires.own (c.of-limits.ensures ∙ c.limits.ensures.value) c.in-Ok.ensures.ended)

@@ -73,10 +73,10 @@ fn refused_limits() {
 fn limits_of_a_new_queue() {
     let mut freezer = FreezerHandle::new();
     let mut told = NOT_YET;
-    assert!(freeze_queue_new_numbered(&mut freezer, &NUMBER, &limits(0, 0, 0, 1), 65, 2) == 27);
-    assert!(freeze_queue_new_numbered(&mut freezer, &NUMBER, &limits(8, 9, 0, 1), 65, 2) == 25);
-    assert!(freeze_queue_new_numbered(&mut freezer, &NUMBER, &limits(8, 0, 65_536, 1), 65, 2) == 26);
-    assert!(freeze_queue_new_numbered(&mut freezer, &NUMBER, &limits(8, 0, 0, 6), 65, 2) == 28);
+    assert!(freeze_queue_new_numbered(&mut freezer, &NUMBER, &limits(0, 0, 0, 1), 513, 2) == 27);
+    assert!(freeze_queue_new_numbered(&mut freezer, &NUMBER, &limits(8, 9, 0, 1), 513, 2) == 25);
+    assert!(freeze_queue_new_numbered(&mut freezer, &NUMBER, &limits(8, 0, 65_536, 1), 513, 2) == 26);
+    assert!(freeze_queue_new_numbered(&mut freezer, &NUMBER, &limits(8, 0, 0, 6), 513, 2) == 28);
     assert!(freeze_queue_new_numbered(&mut freezer, &NUMBER, &limits(65_535, 0, 0, 1), 1, 1) == 0);
     assert!(freeze_queue_limits_in_force(&mut freezer, &mut told) == 0);
     assert!(told == limits(65_535, 65_535, 0, 1));

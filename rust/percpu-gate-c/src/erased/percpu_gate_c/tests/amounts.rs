@@ -24,9 +24,9 @@ fn held_on_no_slot(control: &mut ControlHandle, pass: &mut PassHandle, slots: u3
 ///
 /// # Preconditions
 ///
-/// - `pairs` is at most 32.
+/// - `pairs` is at most 256.
 fn counts_on_pairs(pass: &mut PassHandle, pairs: u32, n: u32, is_odd: bool) -> bool {
-    debug_assert!(pairs <= 32);
+    debug_assert!(pairs <= 256);
     for pair in 0..pairs {
         let (up, down) = if is_odd { (2 * pair + 1, 2 * pair) } else { (2 * pair, 2 * pair + 1) };
         if percpu_gate_get(pass, up, n) != 0 || percpu_gate_put(pass, down, n) != 0 {
@@ -40,9 +40,9 @@ fn counts_on_pairs(pass: &mut PassHandle, pairs: u32, n: u32, is_odd: bool) -> b
 ///
 /// # Preconditions
 ///
-/// - `pairs` is at most 32.
+/// - `pairs` is at most 256.
 fn finds_on_pairs(control: &mut ControlHandle, pairs: u32, sum: i64, is_odd: bool) -> bool {
-    debug_assert!(pairs <= 32);
+    debug_assert!(pairs <= 256);
     let Some(mut open) = control.take() else {
         return false;
     };
@@ -58,18 +58,18 @@ fn finds_on_pairs(control: &mut ControlHandle, pairs: u32, sum: i64, is_odd: boo
     is_found
 }
 
-/// Amounts from 1 to 65,534 are taken on each of 64 slots, and put on each.
+/// Amounts from 1 to 65,534 are taken on each of 512 slots, and put on each.
 #[test]
 fn amounts_on_every_slot() {
     for n in [1u32, 2, 777, 999, 1_000, 1_001, 1_999, 2_000, 65_534] {
         let mut control = ControlHandle::new();
         let mut pass = PassHandle::new();
-        let made = held_on_no_slot(&mut control, &mut pass, 64);
+        let made = held_on_no_slot(&mut control, &mut pass, 512);
         assert!(made);
         for is_odd in [false, true] {
-            let counted = counts_on_pairs(&mut pass, 32, n, is_odd);
+            let counted = counts_on_pairs(&mut pass, 256, n, is_odd);
             assert!(counted, "{n}");
-            let found = finds_on_pairs(&mut control, 32, i64::from(n), is_odd);
+            let found = finds_on_pairs(&mut control, 256, i64::from(n), is_odd);
             assert!(found, "{n}");
         }
         percpu_gate_free_pass(&mut pass);

@@ -186,8 +186,8 @@ fn the_greatest_gate() {
     let mut pass = PassHandle::new();
     let mut last = NOT_YET;
     let number = GateNumber { counter: 5, drawn: 6 };
-    assert!(percpu_gate_new_numbered(&mut control, &number, 64, 64, 0, &WORDS) == 0);
-    for _ in 0..64u32 {
+    assert!(percpu_gate_new_numbered(&mut control, &number, 512, 1_024, 0, &WORDS) == 0);
+    for _ in 0..1_024u32 {
         assert!(percpu_gate_next_pass(&mut control, &mut pass) == 0);
         percpu_gate_free_pass(&mut pass);
     }

@@ -1,0 +1,7 @@
+// Erased from crates/loose_box/src/lib.rt by tools/erase: edit that file.
+//! A box taken apart, with its pointer in sight, and put together again. The libraries for C keep such boxes under a
+//! pointer that C may have.
+
+mod loose;
+
+pub use loose::Loose;

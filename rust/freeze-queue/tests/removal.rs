@@ -1,0 +1,110 @@
+//! The removal of a queue within a waker: by a task that its waker polls, on the thread that wakes it. Each such call ends.
+use freeze_queue::{Final, Queue, RemoveError, Tag};
+use std::future::Future;
+use std::pin::Pin;
+use std::sync::{Arc, Mutex};
+use std::task::{Context, Wake, Waker};
+
+mod shared;
+use shared::{LIMITS, ends};
+
+/// A task that its waker polls.
+struct Inline(Mutex<Option<Pin<Box<dyn Future<Output = ()> + Send>>>>);
+
+impl Wake for Inline {
+    fn wake(self: Arc<Self>) {
+        let waker = Waker::from(Arc::clone(&self));
+        let mut task = self.0.lock().unwrap();
+        if task.as_mut().is_some_and(|task| task.as_mut().poll(&mut Context::from_waker(&waker)).is_ready()) {
+            *task = None;
+        }
+    }
+}
+
+/// Polls a task for the first time.
+fn start(task: impl Future<Output = ()> + Send + 'static) {
+    Arc::new(Inline(Mutex::new(Some(Box::pin(task))))).wake();
+}
+
+/// A task that waits to enter with any tag, beside one that it may keep, and then removes its queue. Its answer comes here.
+fn removes_once_woken(queue: Queue, kept: Option<Tag>) -> Arc<Mutex<Option<Final>>> {
+    let removed = Arc::<Mutex<Option<Final>>>::default();
+    let answer = Arc::clone(&removed);
+    start(async move {
+        drop((queue.enter_any_async().await, kept));
+        *answer.lock().unwrap() = Some(queue.remove().unwrap());
+    });
+    assert_eq!(*removed.lock().unwrap(), None, "it waits");
+    removed
+}
+
+fn one_tag() -> Queue {
+    Queue::new(LIMITS, 1, 1).unwrap()
+}
+
+/// The task that waits beside what the queue gave is woken as that is dropped.
+fn wakes<T: 'static>(take: fn(&Queue) -> T) {
+    ends(move || {
+        let queue = one_tag();
+        let held = take(&queue);
+        let removed = removes_once_woken(queue, None);
+        drop(held);
+        assert!(removed.lock().unwrap().is_some());
+    });
+}
+
+/// A tag comes home: the call that brings it wakes the first in line.
+#[test]
+fn a_tag_that_comes_home_wakes() {
+    wakes(|queue| queue.enter_any().unwrap());
+}
+
+/// A freeze with a share of the queue thaws: the task that waits enters.
+#[test]
+fn a_thaw_wakes() {
+    wakes(|queue| queue.freeze_owned().unwrap());
+}
+
+/// The device goes, by a freeze with a share of the queue: a task that waits with its tag is sent away, and one in line.
+#[test]
+fn the_end_of_a_device_wakes() {
+    for is_in_line in [false, true] {
+        ends(move || {
+            let queue = one_tag();
+            let frozen = queue.freeze_owned().unwrap();
+            let kept = is_in_line.then(|| queue.next_tag(0).unwrap());
+            let removed = removes_once_woken(queue, kept);
+            frozen.mark_dying();
+            assert!(removed.lock().unwrap().is_some());
+        });
+    }
+}
+
+/// A thaw that wakes more tasks than it takes from their seats at once. Each tries the removal: the others' tags are out, and the freeze
+/// is there until the last seats were taken.
+#[test]
+fn a_thaw_wakes_many() {
+    ends(|| {
+        let queue = Queue::new(LIMITS, 1, 1_023).unwrap();
+        let frozen = queue.freeze_owned().unwrap();
+        let enters = |_| queue.enter_owned_async(queue.next_tag(0).unwrap());
+        let entering: Vec<_> = (0..1_023).map(enters).collect();
+        let (queue, answers) = (Arc::new(Mutex::new(Some(queue))), Arc::<Mutex<Vec<_>>>::default());
+        for future in entering {
+            let (queue, answers) = (Arc::clone(&queue), Arc::clone(&answers));
+            start(async move {
+                drop(future.await.unwrap());
+                let whole = queue.lock().unwrap().take().unwrap();
+                let answer = whole.remove().map_err(|refused| {
+                    *queue.lock().unwrap() = Some(refused.value);
+                    refused.reason
+                });
+                answers.lock().unwrap().push(answer.map(drop));
+            });
+        }
+        drop(frozen);
+        let answers = answers.lock().unwrap();
+        assert_eq!((answers.len(), answers[0], answers[1_022]), (1_023, Err(RemoveError::FreezeOut), Ok(())));
+        assert!(answers[..1_022].iter().all(Result::is_err));
+    });
+}

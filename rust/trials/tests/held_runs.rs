@@ -1,0 +1,209 @@
+//! No clause says of a run that its threads work at the same time, or that it drains through the queue. These runs are held at
+//! their points.
+
+use blkq::erased::blk_workers::{Point, Stall};
+use std::sync::atomic::{AtomicBool, AtomicU32, Ordering::SeqCst};
+use std::time::Duration;
+use std::{hint, thread};
+
+#[path = "shared/both_texts.rs"]
+mod both_texts;
+#[path = "shared/minute.rs"]
+mod minute;
+
+use both_texts::both_texts;
+use minute::within_a_minute;
+
+/// Two writes, a drain, and a read of both.
+const WRITTEN_THEN_READ: &[u8] = b"blkq 1\ndisk 4 hw 4\nwrite 0 1 01\nwrite 1 1 02\nfreeze\nthaw\nread 0 2\n";
+
+/// Two requests that overlap in nothing, and a drain.
+const TWO: &[u8] = b"blkq 1\ndisk 8 hw 8\nwrite 0 2 01\nwrite 4 2 02\nstat\nread 0 8\n";
+
+/// The last request overlaps the one before it, and waits for a drain.
+const ORDERED: &[u8] = b"blkq 2\ndisk 8 hw 8\nread 0 4\nread 2 4\nwrite 6 1 ff\nread 6 2\n";
+
+// Runs a script on two workers. Whether its text is the one of a single thread.
+fn agrees(text: &[u8], tags: u32, stall: &impl Stall) -> bool {
+    let [out, wanted] = both_texts(text, [2, 3, tags], stall);
+    out == wanted
+}
+
+/// Holds each of the first two requests, once drawn, until both are, for 10,000,000 turns at most, and notes one that
+/// was held so long.
+struct Meets {
+    drawn: AtomicU32,
+    alone: AtomicBool,
+}
+
+impl Stall for Meets {
+    fn at(&self, number: u32, point: Point) {
+        if point != Point::Drawn || number >= 2 {
+            return;
+        }
+        self.drawn.fetch_add(1, SeqCst);
+        for _ in 0..10_000_000 {
+            if self.drawn.load(SeqCst) == 2 {
+                return;
+            }
+            thread::yield_now();
+        }
+        self.alone.store(true, SeqCst);
+    }
+}
+
+// Where one worker alone draws, it is held for all its turns.
+#[test]
+fn two_at_once() {
+    let meets = Meets { drawn: AtomicU32::new(0), alone: AtomicBool::new(false) };
+    assert!(agrees(TWO, 2, &meets));
+    assert!(!meets.alone.load(SeqCst));
+}
+
+/// Holds a request at a point for 1,000,000 turns, yields at one of 1,000, and notes a drain that comes before.
+struct Holds {
+    number: u32,
+    point: Point,
+    passed: AtomicBool,
+    early: AtomicBool,
+}
+
+impl Stall for Holds {
+    fn at(&self, number: u32, point: Point) {
+        if point == self.point && number == self.number {
+            for turn in 0..1_000_000u32 {
+                if turn % 1_000 == 0 {
+                    thread::yield_now();
+                }
+                hint::spin_loop();
+            }
+            self.passed.store(true, SeqCst);
+        }
+        if point == Point::Drained && !self.passed.load(SeqCst) {
+            self.early.store(true, SeqCst);
+        }
+    }
+}
+
+// Whether a run drains only once this request has passed this point.
+fn drains_after(text: &[u8], number: u32, point: Point) -> bool {
+    let holds = Holds { number, point, passed: AtomicBool::new(false), early: AtomicBool::new(false) };
+    agrees(text, 2, &holds) && !holds.early.load(SeqCst)
+}
+
+#[test]
+fn freeze_waits() {
+    assert!(drains_after(TWO, 0, Point::Drawn));
+}
+
+// Each drain, the end's too, goes through the queue: a completion that is queued isn't enough.
+#[test]
+fn every_drain_waits_for_the_tag() {
+    for (version, last) in [
+        (1, "freeze\n"),
+        (1, "set max_sectors 1\n"),
+        (1, "set chunk_sectors 2\n"),
+        (2, "set physical_sectors 2\n"),
+        (1, "stat\n"),
+        (1, "remove\n"),
+        (1, ""),
+    ] {
+        let text = format!("blkq {version}\ndisk 8 hw 8\nwrite 0 2 01\nwrite 4 2 02\n{last}");
+        assert!(drains_after(text.as_bytes(), 0, Point::Answered), "{last}");
+    }
+}
+
+// An ordered request waits for the one that it overlaps.
+#[test]
+fn ordered_requests_wait() {
+    for point in [Point::Entered, Point::Drawn, Point::Answered] {
+        assert!(drains_after(ORDERED, 2, point));
+    }
+}
+
+/// Holds one request at one point for 10,000 turns.
+struct HoldsOne {
+    number: u32,
+    point: Point,
+}
+
+impl Stall for HoldsOne {
+    fn at(&self, number: u32, point: Point) {
+        if (number, point) == (self.number, self.point) {
+            for _ in 0..10_000 {
+                thread::yield_now();
+            }
+        }
+    }
+}
+
+#[test]
+fn whoever_is_held() {
+    for number in 0..3 {
+        for point in [Point::Entered, Point::Drawn, Point::Answered] {
+            let holds = HoldsOne { number, point };
+            assert!(agrees(WRITTEN_THEN_READ, 3, &holds), "{number}");
+        }
+    }
+}
+
+/// Holds each request for a while as it has entered, and notes one that is drawn before that is over.
+struct EntersFirst {
+    entered: AtomicU32,
+    early: AtomicBool,
+}
+
+impl Stall for EntersFirst {
+    fn at(&self, number: u32, point: Point) {
+        match point {
+            Point::Entered => {
+                thread::sleep(Duration::from_micros(500));
+                self.entered.store(number + 1, SeqCst);
+            }
+            Point::Drawn if self.entered.load(SeqCst) <= number => self.early.store(true, SeqCst),
+            _ => {}
+        }
+    }
+}
+
+// The submitting thread is held before it pushes the request, so no worker has it meanwhile.
+#[test]
+fn each_request_is_held_before_it_is_pushed() {
+    let first = EntersFirst { entered: AtomicU32::new(0), early: AtomicBool::new(false) };
+    let text = format!("blkq 1\ndisk 8 hw 8\n{}", "read 0 8\n".repeat(100));
+    assert!(agrees(text.as_bytes(), 3, &first));
+    assert!(!first.early.into_inner());
+}
+
+/// Holds the request that enters after so many, until all before it are answered.
+struct FillsUp {
+    before: u32,
+    answered: AtomicU32,
+}
+
+impl Stall for FillsUp {
+    fn at(&self, number: u32, point: Point) {
+        if point == Point::Answered {
+            self.answered.fetch_add(1, SeqCst);
+        }
+        if (number, point) == (self.before, Point::Entered) {
+            while self.answered.load(SeqCst) < self.before {
+                thread::yield_now();
+            }
+        }
+    }
+}
+
+// One completion more is in its queue than there are tags, while the submitting thread waits for the drain. Without room for it the
+// worker would wait for room, and the drain for the worker.
+#[test]
+fn one_completion_more_than_tags() {
+    for tags in [1, 2, 5, 16, 63] {
+        let ended = within_a_minute(move || {
+            let reads = "read 0 1\n".repeat(tags as usize + 1);
+            let text = format!("blkq 1\ndisk 8 hw 8\n{reads}");
+            agrees(text.as_bytes(), tags, &FillsUp { before: tags, answered: AtomicU32::new(0) })
+        });
+        assert_eq!(ended, Some(true), "{tags} tags");
+    }
+}

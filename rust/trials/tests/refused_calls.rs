@@ -1,0 +1,179 @@
+//! Calls that are refused memory: each allocation of a call alone, and all from each on. The call answers Memory then, or what it
+//! answers if memory suffices, and what there was is as before.
+//! (This program's allocator is its own, which refuses and counts on one thread, so it has `unsafe`.)
+#![allow(unsafe_code)]
+
+use blkq::erased::blk_script::{ScriptFault, check, parse, run_alone};
+use blkq::erased::freeze_queue::{BlockQueue, Limits, MOST_TAGS};
+use blkq::erased::percpu_core::ControlEvent::MarkDead;
+use blkq::erased::percpu_core::Event::{Control, Pass};
+use blkq::erased::percpu_core::PassEvent::AddTry;
+use blkq::erased::percpu_core::{Memory, ReplayFault, Reply, Start, World, replay};
+use blkq::erased::percpu_gate::Gate;
+use blkq::erased::ram_disk::{Disk, DiskFault, patterned, runs};
+
+#[path = "shared/refused_thread.rs"]
+mod refused_thread;
+use refused_thread::{ALLOWED, BLOCKS, IS_ONE};
+
+/// Makes these calls with their first allocation refused, then anew with the second, until no more is asked for; and the same with
+/// all from each on refused. `calls` answers whether all of them had memory, and each time all memory is given back. How many
+/// allocations there are.
+fn refuse_each(calls: impl Fn() -> bool) -> u64 {
+    let [one, all] = [true, false].map(|is_one| {
+        for allowed in 0.. {
+            let blocks = BLOCKS.get();
+            IS_ONE.set(is_one);
+            ALLOWED.set(Some(allowed));
+            let succeeded = calls();
+            let left = ALLOWED.replace(None);
+            assert_eq!(BLOCKS.get(), blocks, "a block is left");
+            // The one allocation was refused only if none is counted any more.
+            if if is_one { left.is_some() } else { succeeded } {
+                assert!(succeeded, "a refusal where there is memory");
+                return allowed;
+            }
+        }
+        unreachable!()
+    });
+    assert!(one >= all, "{one} {all}");
+    one
+}
+
+fn is_for_threads<T: Send + Sync>(_value: &T) {}
+
+/// Whether this number of runs was counted, and not refused for want of memory.
+fn has_runs(counted: Result<Vec<(u8, u64)>, DiskFault>, expected: usize) -> bool {
+    match counted {
+        Ok(runs) => assert_eq!(runs.len(), expected),
+        Err(fault) => {
+            assert_eq!(fault, DiskFault::Memory);
+            return false;
+        }
+    }
+    true
+}
+
+/// Each call of a disk, twice. A pattern that is refused leaves the sectors.
+fn disk_calls() -> bool {
+    let mut disk = match Disk::new(4) {
+        Ok(disk) => disk,
+        Err(fault) => {
+            assert_eq!(fault, DiskFault::Memory);
+            return false;
+        }
+    };
+    is_for_threads(&disk);
+    let (mut expected, mut succeeded) = (1, true);
+    for (pattern, count) in [([1, 2, 3], 1026), ([4, 4, 4], 3)] {
+        assert_eq!(disk.len(), 4);
+        match patterned(&pattern, 2) {
+            Ok(sectors) => {
+                disk.install(1, sectors);
+                expected = count;
+            }
+            Err(fault) => {
+                assert_eq!(fault, DiskFault::Memory);
+                succeeded = false;
+            }
+        }
+        match disk.share(0, 4) {
+            Ok(shared) => succeeded &= has_runs(runs(&shared), expected),
+            Err(fault) => {
+                assert_eq!(fault, DiskFault::Memory);
+                succeeded = false;
+            }
+        }
+        succeeded &= has_runs(disk.all_runs(), expected);
+    }
+    succeeded
+}
+
+#[test]
+fn want_of_memory_changes_nothing() {
+    assert!(refuse_each(disk_calls) > 10);
+}
+
+#[test]
+fn want_of_memory_for_a_gate() {
+    let asked = refuse_each(|| match Gate::<2>::new(4, 4, Start::Atomic, [1, 2]) {
+        Ok((gate, control, passes)) => {
+            assert_eq!((gate.slots(), passes.len(), control.words()), (4, 4, [1, 2]));
+            true
+        }
+        Err(refused) => {
+            assert_eq!(refused, Memory);
+            false
+        }
+    });
+    assert!(asked > 0);
+}
+
+#[test]
+fn want_of_memory_for_a_replay() {
+    let asked = refuse_each(|| {
+        let mut world = match World::new(2, 2, Start::Atomic, &[1, 2, 3]) {
+            Ok(world) => world,
+            Err(refused) => {
+                assert_eq!(refused, Memory);
+                return false;
+            }
+        };
+        match replay(&mut world, &[Pass(0, AddTry), Control(MarkDead)]) {
+            Ok(replies) => assert_eq!(replies, [Reply::Given, Reply::Done]),
+            Err(fault) => {
+                assert_eq!(fault, ReplayFault::Memory);
+                assert_eq!((world.shared(), world.kills(), world.held_by_all()), (1, 0, 0));
+                return false;
+            }
+        }
+        true
+    });
+    assert!(asked > 1);
+}
+
+/// The largest queue.
+#[test]
+fn want_of_memory_for_a_queue() {
+    let limits = Limits::start(8).unwrap();
+    let asked = refuse_each(|| match BlockQueue::new(limits, 512, MOST_TAGS) {
+        Ok((queue, freezer, tags)) => {
+            assert_eq!((queue.slots(), freezer.depth(), tags.len()), (512, 0, 1_023));
+            true
+        }
+        Err(refused) => {
+            assert_eq!(refused, Memory);
+            false
+        }
+    });
+    assert!(asked > 0);
+}
+
+/// Lines of every kind, and what a run on one thread writes of them.
+const EVERY_KIND: &[u8] = b"blkq 1\ndisk 4 hw 2\nwrite 0 3 61\nread 3 1\nfreeze\nread 0 1\nthaw\nset max_sectors 1\n\
+    set chunk_sectors 65536\nwrite 2 2 00\nmode atomic\nread 4 1\nstat\nremove\nthaw\n";
+
+const ITS_ANSWER: &[u8] = b"3 ok 2+1\n4 ok 1 00*512\n5 depth 1\n6 EAGAIN\n7 depth 0\n8 ok\n9 EINVAL\n10 ok 1+1\n11 ok\n12 EIO\n\
+    13 stat reads 1 writes 2 again 1 eio 1 depth 0 max 1 chunk 0 mode atomic\n14 removed\n15 ENODEV\ndisk 61*1024,00*1024\n";
+
+/// The answer of a script, or its fault.
+fn answer(text: &[u8]) -> Result<Vec<u8>, ScriptFault> {
+    let script = parse(text)?;
+    check(&script)?;
+    run_alone(&script)
+}
+
+#[test]
+fn want_of_memory() {
+    let asked = refuse_each(|| match answer(EVERY_KIND) {
+        Ok(text) => {
+            assert!(text == ITS_ANSWER);
+            true
+        }
+        Err(fault) => {
+            assert_eq!(fault, ScriptFault::Memory);
+            false
+        }
+    });
+    assert!(asked > 10);
+}

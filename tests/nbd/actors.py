@@ -1,0 +1,273 @@
+"""Who soak.py has at a server at once: clients that verify what they read, clients that come and go, and controllers. Each is a function
+of the soak, of draws of its own, and of its number, and runs in a process of its own."""
+
+import json
+import os
+import signal
+import socket
+import struct
+import subprocess
+import sys
+import time
+from contextlib import closing
+
+import nbd
+
+from copies import BLKQCTL, BLOCK
+from tries import MIB, fio
+
+HANGS = 300.0  # seconds: longer than any freeze of these, on a processor that others share too
+WRITERS, MODELS, STORMS, CHANGERS = 4, 4, 2, 2
+FIO_AT, MODELS_AT, SIZE = 2 * MIB, 16 * MIB, 64 * MIB  # the writers' places are at the disk's beginning and at its end
+
+
+class Hang(Exception):
+    """A request or a line that isn't answered."""
+
+
+class Torn(Exception):
+    """Bytes that nobody wrote there."""
+
+
+def wait_for(client, *cookies):
+    """Waits until requests are done. A refusal is an nbd.Error."""
+    late = time.monotonic() + HANGS
+    for cookie in cookies:
+        while not client.aio_command_completed(cookie):
+            client.poll(1000)
+            if time.monotonic() > late:
+                raise Hang(f"request {cookie}")
+
+
+# ---- Clients that verify ----
+
+
+class Model:
+    """A client with a part of the disk of its own, and what it wrote there."""
+
+    def __init__(self, soak, draws, number):
+        self.soak, self.draws, self.client = soak, draws, soak.client()
+        self.at, self.bytes = MODELS_AT + number * MIB, bytearray(MIB)
+        wait_for(self.client, self.client.aio_zero(MIB, self.at))
+
+    def places(self):
+        """One to eight places that don't overlap, of at most 128 KiB."""
+        count = self.draws.randint(1, 8)
+        part = MIB // count
+        for first in range(0, part * count, part):
+            length = min(self.draws.choice((1, 512, 4096, 65536, 131072)) * self.draws.randint(1, 3), part, 131072)
+            yield first + self.draws.randint(0, part - length), length
+
+    def write(self, place, length):
+        block = self.draws.randbytes(64) * (length // 64 + 1)
+        self.bytes[place : place + length] = block[:length]
+        flags = self.draws.choice((0, 0, 0, nbd.CMD_FLAG_FUA))
+        return self.client.aio_pwrite(nbd.Buffer.from_bytearray(bytearray(block[:length])), self.at + place, flags=flags)
+
+    def zero(self, place, length):
+        self.bytes[place : place + length] = bytes(length)
+        return self.client.aio_zero(length, self.at + place)
+
+    def round(self):
+        """Requests at once in places of their own, of which trims are written over; then each place is read."""
+        kind, places = self.draws.choice(("writes", "writes", "writes", "zeros", "trims", "reads")), list(self.places())
+        if kind == "trims":
+            wait_for(self.client, *(self.client.aio_trim(length, self.at + place) for place, length in places))
+            self.soak.count("trims", len(places))
+        if kind != "reads":
+            do = self.zero if kind == "zeros" else self.write
+            wait_for(self.client, *[do(place, length) for place, length in places])
+            self.soak.count("writes" if kind == "trims" else kind, len(places))
+        if self.draws.random() < 0.05:
+            wait_for(self.client, self.client.aio_flush())
+            self.soak.count("flushes")
+        read = [(place, nbd.Buffer(length)) for place, length in places]
+        wait_for(self.client, *[self.client.aio_pread(buffer, self.at + place) for place, buffer in read])
+        self.soak.count("reads", len(read))
+        for place, buffer in read:
+            found = buffer.to_bytearray()
+            if found != self.bytes[place : place + len(found)]:
+                raise Torn(f"{len(found)} bytes at {self.at + place}, after {kind}")
+
+
+def verifies(soak, draws, number):
+    model = Model(soak, draws, number)
+    while not soak.enough.is_set():
+        model.round()
+    model.client.shutdown()
+
+
+def runs_fio(soak, draws):
+    """fio writes four mebibytes at random, and verifies them."""
+    command = fio(soak.server, 2, verify="crc32c", size="2m", offset=FIO_AT, offset_increment="4m", bs=draws.choice(("4k", "16k")),
+                  **{"output-format": "json"})
+    while not soak.enough.is_set():
+        said = subprocess.run(command, stdout=subprocess.PIPE, stderr=subprocess.STDOUT, timeout=4 * HANGS, check=False)
+        job = json.loads(said.stdout[said.stdout.index(b"{") : said.stdout.rindex(b"}") + 1])["jobs"][0]
+        if soak.ends.is_set():
+            return
+        if said.returncode != 0 or job["error"] != 0:
+            raise Torn(said.stdout.decode())
+        soak.count("fio_runs")
+        soak.count("fio_requests", job["read"]["total_ios"] + job["write"]["total_ios"])
+
+
+def places_of(writer):
+    return writer * BLOCK, SIZE - (writer + 1) * BLOCK
+
+
+def writes_in_order(soak, _, number):
+    """Writes a number near the disk's beginning, and only then near its end (copies.py)."""
+    client, written = soak.client(), 0
+    while not soak.enough.is_set():
+        written += 1
+        for place in places_of(number):
+            block = bytearray(struct.pack("<Q", written) * (BLOCK // 8))
+            wait_for(client, client.aio_pwrite(nbd.Buffer.from_bytearray(block), place))
+        soak.count("ordered_writes", 2)
+    client.shutdown()
+
+
+def is_torn(copy, writer):
+    """Whether a copy has other than the same number at both of a writer's places, or at the second the one before."""
+    blocks = [copy[place : place + BLOCK] for place in places_of(writer)]
+    first, second = (struct.unpack("<Q", block[:8])[0] for block in blocks)
+    are_whole = all(block == block[:8] * (BLOCK // 8) for block in blocks)
+    return not (are_whole and first - 1 <= second <= first)
+
+
+def storms(soak, draws, _):
+    """Connects and goes: in the handshake, in order, or with a request in flight or waiting (one: nbdkit 1.32 aborts where several
+    threads reply to a client that was killed)."""
+    while not soak.enough.is_set():
+        way = draws.randrange(4)
+        if way == 0:
+            with closing(socket.socket(socket.AF_UNIX)) as leaving:
+                leaving.connect(soak.server.socket)
+                leaving.recv(draws.randint(1, 18))
+        else:
+            client = soak.client()
+            if way > 1:
+                client.aio_pread(nbd.Buffer(512), 0)
+            if way == 3:
+                with socket.socket(fileno=os.dup(client.aio_get_fd())) as connection:
+                    connection.shutdown(socket.SHUT_RDWR)
+            else:
+                client.shutdown()
+        soak.count("connections")
+
+
+# ---- Controllers ----
+
+
+def changes(soak, draws, _):
+    """Settings that are taken, or given up at a `thaw all`, and one in ten that is refused."""
+    with closing(soak.control()) as control:
+        while not soak.enough.is_set():
+            drawn = {"max_sectors": draws.choice((0, 1, 7, 8, 64, 256)), "chunk_sectors": draws.choice((0, 3, 8, 128)),
+                     "physical_sectors": 1 << draws.randrange(4)}
+            if draws.random() < 0.1:
+                control.need("set max_sectors 4 physical_sectors 3", "EINVAL")
+                soak.count("refused_settings")
+            elif draws.random() < 0.1:
+                control.need(draws.choice(("mode slots", "mode atomic")), "ok")
+            else:
+                fields = draws.sample(sorted(drawn), draws.randint(1, 3))
+                needs_setting(control, "set " + " ".join(f"{field} {drawn[field]}" for field in fields))
+                soak.count("settings")
+            time.sleep(draws.random() * 0.02)
+
+
+def needs_setting(control, line):
+    """A line that sets limits. `thaw all` of another may end its freeze before the queue is drained."""
+    reply = control.ask(line)
+    if reply not in ("ok", "thawed"):
+        raise AssertionError(f"{line!r} is answered {reply!r}")
+
+
+def needs_depth(control, line):
+    """A line that freezes or thaws. `thaw all` of another may end the freeze meanwhile."""
+    reply = control.ask(line)
+    if not reply.startswith("depth ") and reply not in ("thawed", "not yours", "not frozen"):
+        raise AssertionError(f"{line!r} is answered {reply!r}")
+
+
+def freezes(soak, draws):
+    """Freezes that are owned, left to the end of the connection, leased for a second, or kept until a `thaw all`."""
+    while not soak.enough.is_set():
+        how = draws.choice(("owned", "owned", "left", "left", "leased", "kept"))
+        with closing(soak.control()) as control:
+            verb = draws.choice(("freeze", "quiesce"))
+            needs_depth(control, verb + {"leased": " lease 1", "kept": " keep"}.get(how, ""))
+            time.sleep(draws.random() * 0.1)
+            if how == "owned":
+                needs_depth(control, "thaw")
+            if how == "kept" and draws.random() < 0.5:
+                needs_depth(control, "thaw all")
+        if how == "kept":
+            with closing(soak.control()) as other:
+                needs_depth(other, "thaw all")
+        soak.count(how)
+        time.sleep(draws.random() * (1.5 if how == "leased" else 0.3))
+
+
+def breaks(soak, draws):
+    """Controllers that are killed while they hold or wait, that give up a drain, and that send garbage."""
+    while not soak.enough.is_set():
+        way = draws.choice(("killed", "killed", "given_up", "garbage"))
+        control = soak.control()
+        if way == "garbage":
+            control.at.sendall(draws.randbytes(draws.randint(1, 600)))
+        elif way == "given_up":
+            control.at.sendall(draws.choice((b"quiesce\n", b"freeze\nfreeze\n", b"set max_sectors 8\n")))
+        else:
+            child = os.fork()
+            if child == 0:
+                control.at.sendall(draws.choice((b"freeze\nset max_sectors 12", b"quiesce\nfreeze\nthaw", b"quiesce lease 1\n")))
+                if draws.random() < 0.5:
+                    control.at.recv(1)
+                os.kill(os.getpid(), signal.SIGKILL)
+            control.at.close()
+            os.waitpid(child, 0)
+        control.close()
+        soak.count(way)
+        time.sleep(draws.random() * 0.5)
+
+
+def backs_up(soak, draws):
+    """Copies under a quiesce, each of which is whole, or is told to be lost."""
+    copy = soak.server.path("copy")
+    while not soak.enough.is_set():
+        told = subprocess.run([sys.executable, BLKQCTL, soak.server.control_path, "quiesce", "--", "cp", soak.server.disk, copy],
+                              stderr=subprocess.PIPE, timeout=HANGS, check=False)
+        if told.returncode == 125:  # by a `thaw all`
+            soak.count("lost_copies")
+            continue
+        assert told.returncode == 0, told
+        with open(copy, "rb") as file:
+            copied = file.read()
+        for writer in range(WRITERS):
+            if is_torn(copied, writer):
+                raise Torn(f"a copy of writer {writer}'s")
+        soak.count("copies")
+        time.sleep(draws.random() * 2)
+
+
+# ---- All of them ----
+
+
+def start_clients(soak):
+    for number in range(MODELS):
+        soak.start(verifies, number)
+    for number in range(WRITERS):
+        soak.start(writes_in_order, number)
+    soak.start(runs_fio)
+    for number in range(STORMS):
+        soak.start(storms, number)
+
+
+def start_controllers(soak):
+    for number in range(CHANGERS):
+        soak.start(changes, number)
+    for act in (freezes, breaks, backs_up):
+        soak.start(act)
