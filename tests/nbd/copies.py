@@ -8,14 +8,11 @@ import subprocess
 import sys
 import tempfile
 import threading
-import time
 from contextlib import closing
 
-import nbd
-
 from controls import Busy, depth_of, held_up, in_force, soon
-from server import Server
-from tries import MIB, run
+from server import WITHIN, Server, in_memory
+from tries import MIB
 
 BLKQCTL = os.path.join(os.path.dirname(__file__), "..", "..", "services", "nbd", "blkqctl")
 WRITERS, TRIES, BLOCK, SIZE = 4, 20, 4096, 32 * MIB
@@ -24,7 +21,7 @@ WRITERS, TRIES, BLOCK, SIZE = 4, 20, 4096, 32 * MIB
 def blkqctl(server, *words, status=0, **more):
     """What blkqctl prints, which has to end with this status."""
     found = subprocess.run([sys.executable, BLKQCTL, server.control_path, *words], stdout=subprocess.PIPE,
-                           stderr=subprocess.PIPE, timeout=200, check=False, **more)
+                           stderr=subprocess.PIPE, timeout=1200, check=False, **more)
     assert found.returncode == status, (words, found)
     return found.stdout.decode()
 
@@ -55,7 +52,7 @@ class Writer(threading.Thread):
 
 
 def torn_copies(served, copy):
-    """How many of twenty copies are torn, while four clients write."""
+    """How many of twenty copies of the disk into the server's file `copy` are torn, while four clients write."""
     torn = 0
     with Server(served, "size=32M") as server:
         with open(server.disk, "wb") as disk:  # with no holes, which a copy would skip
@@ -69,7 +66,7 @@ def torn_copies(served, copy):
             for _ in range(TRIES):
                 before = [writer.written for writer in writers]
                 soon(lambda: all(it.written > 10 + was for it, was in zip(writers, before)), "a writer hangs")
-                copy(server, server.disk, server.path("copy"))
+                copy(server, writers)
                 with open(server.path("copy"), "rb") as file:
                     copied = file.read()
                 torn += any(writer.is_torn_in(copied) for writer in writers)
@@ -82,14 +79,22 @@ def torn_copies(served, copy):
 
 def consistent(served):
     """Twenty copies under a quiesce are whole."""
-    torn = torn_copies(served, lambda server, disk, copy: blkqctl(server, "quiesce", "--", "cp", "--reflink=auto", disk, copy))
+    torn = torn_copies(served, lambda server, _: blkqctl(server, "quiesce", "--", "cp", "--reflink=auto", server.disk, server.path("copy")))
     assert torn == 0, f"{torn} of {TRIES} copies are torn"
 
 
 def torn(served):
-    """Most of twenty plain copies are torn, so the try above would see it."""
-    found = torn_copies(served, lambda server, disk, copy: run("cp", "--reflink=auto", disk, copy))
-    assert found > TRIES // 2, f"{found} of {TRIES} copies are torn"
+    """Plain copies are torn, if the writers go on between their halves, as they do where a copy takes long: the try above would see it."""
+
+    def copy_plainly(server, writers):
+        with open(server.disk, "rb") as disk, open(server.path("copy"), "wb") as copied:
+            copied.write(disk.read(SIZE // 2))
+            before = [writer.written for writer in writers]
+            soon(lambda: all(it.written > 10 + was for it, was in zip(writers, before)), "a writer hangs")
+            copied.write(disk.read())
+
+    found = torn_copies(served, copy_plainly)
+    assert found == TRIES, f"{found} of {TRIES} copies are torn"
 
 
 # Kills a server by its number a second later, as one that takes long to end.
@@ -106,15 +111,17 @@ def page(served):
     [last] = [number for number, step in enumerate(steps) if " watch" in step]
     steps[last : last + 1] = [steps[last].replace("watch", "watch -c 1"), taken, "cmp -n 1 backup.img disk.img"]
     script = LATE_KILL + "\n".join(steps).replace("$HOME/usr/lib/nbdkit/filters/nbdkit-blkq-filter.so", served)
-    memory = "/dev/shm" if os.path.isdir("/dev/shm") else None  # a disk may take minutes to free a backup that is replaced
-    with tempfile.TemporaryDirectory(dir=memory) as folder:
+    script = script.replace("--runtime=60 ", "--runtime=1200 ")  # so that the load is there until it is killed
+    assert "1200" in script
+    # A disk may take minutes to free a backup that is replaced.
+    with tempfile.TemporaryDirectory(dir=in_memory()) as folder:
         programs = {"cp": '#!/bin/bash\n[ ! -e "${@: -1}" ] || { touch overwritten; exit 1; }\nexec /bin/cp "$@"\n',
                     "blkqctl": f'#!/bin/sh\nexec {sys.executable} {os.path.abspath(BLKQCTL)} "$@"\n'}
         for name, program in programs.items():
             with open(f"{folder}/{name}", "w", encoding="ascii", opener=lambda path, flags: os.open(path, flags, 0o755)) as file:
                 file.write(program)
         given = {**os.environ, "PATH": f"{folder}:{os.environ['PATH']}"}
-        told = subprocess.run(["bash", "-e"], input=script.encode(), cwd=folder, env=given, stdout=subprocess.PIPE, timeout=300,
+        told = subprocess.run(["bash", "-e"], input=script.encode(), cwd=folder, env=given, stdout=subprocess.PIPE, timeout=1200,
                               check=False)
         assert not os.path.exists(f"{folder}/overwritten"), "a copy overwrites a file while clients wait"
         said = told.stdout.decode()
@@ -143,7 +150,7 @@ def commands(served):
         assert len(blkqctl(server, "watch", "-n", "0.1", "-c", "2").splitlines()) == 3
         assert on_a_terminal(server, "watch", "-n", "0.1", "-c", "3").count(b"\x1b[H\x1b[2Jtime ") == 3
         assert blkqctl(server, "quiesce", "--keep") == "depth 1\n"
-        assert blkqctl(server, "freeze", "--lease", "60") == "depth 2\n"
+        assert blkqctl(server, "freeze", "--lease", "3000") == "depth 2\n"
         assert depth_of(server) == 2
         assert blkqctl(server, "thaw", "all") == "depth 0\n"
         for words in (["freeze"], ["thaw"], ["freeze", "--lease", "1", "--keep"], ["stat", "--", "true"], ["freeze", "--"],
@@ -156,7 +163,7 @@ def commands(served):
 
 def refusal(server, *words):
     """What blkqctl writes to standard error where the server refuses."""
-    found = subprocess.run([sys.executable, BLKQCTL, server.control_path, *words], stderr=subprocess.PIPE, timeout=200, check=False)
+    found = subprocess.run([sys.executable, BLKQCTL, server.control_path, *words], stderr=subprocess.PIPE, timeout=1200, check=False)
     assert found.returncode == 1, (words, found)
     return found.stderr.decode()
 
@@ -186,19 +193,20 @@ def around(served):
             assert depth_of(server) == 0, command
         asking = ["sh", "-c", f"{sys.executable} {BLKQCTL} {server.control_path} stat"]
         assert " depth 1 " in blkqctl(server, "quiesce", "--", *asking)
-        blkqctl(server, "freeze", "--lease", "1", "--", "sleep", "1.5", status=125)
+        thawed = ["sh", "-c", f"until {asking[2]} | grep -q ' depth 0 '; do sleep 0.1; done"]
+        blkqctl(server, "freeze", "--lease", "1", "--", *thawed, status=125)
         with Sleeping(server) as losing:
             control.need("thaw all", "depth 0")
             losing.process.terminate()
-            assert losing.process.wait(60) == 125
+            assert losing.process.wait(WITHIN) == 125
         for number, status in ((signal.SIGTERM, 143), (signal.SIGKILL, -9)):
-            with Sleeping(server, 1000) as ended:
+            with Sleeping(server) as ended:
                 ended.process.send_signal(number)
-                assert ended.process.wait(60) == status
+                assert ended.process.wait(WITHIN) == status
                 soon(lambda: depth_of(server) == 0, "the freeze stays")
                 assert ended.process.stdout.read() == b"", "COMMAND outlives blkqctl"  # its end, once COMMAND has closed it
         told = subprocess.run([sys.executable, BLKQCTL, "-v", server.control_path, "quiesce", "--", "sleep", "0.2"],
-                              stderr=subprocess.PIPE, timeout=200, check=True).stderr.decode()
+                              stderr=subprocess.PIPE, timeout=1200, check=True).stderr.decode()
         found = re.fullmatch(r"blkqctl: the quiesce took (\d+\.\d\d) s, and sleep (\d+\.\d\d) s\n", told)
         assert found and float(found[2]) >= 0.2, told
 
@@ -207,8 +215,8 @@ def told(served):
     """-v tells how long a freeze took that outlives blkqctl too; --version is the tree's."""
     with Server(served, "size=1M") as server:
         for name in ("freeze", "quiesce"):
-            found = subprocess.run([sys.executable, BLKQCTL, "-v", server.control_path, name, "--lease", "60"], stdout=subprocess.DEVNULL,
-                                   stderr=subprocess.PIPE, timeout=200, check=True).stderr.decode()
+            found = subprocess.run([sys.executable, BLKQCTL, "-v", server.control_path, name, "--lease", "3000"], stdout=subprocess.DEVNULL,
+                                   stderr=subprocess.PIPE, timeout=1200, check=True).stderr.decode()
             assert re.fullmatch(rf"blkqctl: the {name} took \d+\.\d\d s\n", found), found
         blkqctl(server, "thaw", "all")
     with open(os.path.join(os.path.dirname(BLKQCTL), "..", "..", "VERSION"), encoding="ascii") as file:
@@ -220,8 +228,8 @@ def told(served):
 class Sleeping:
     """blkqctl with a freeze around a sleep, which has begun."""
 
-    def __init__(self, server, seconds=5):
-        sleep = ["sh", "-c", f"echo begun && exec sleep {seconds}"]
+    def __init__(self, server):
+        sleep = ["sh", "-c", "echo begun && exec sleep 3000"]
         command = [sys.executable, BLKQCTL, server.control_path, "freeze", "--", *sleep]
         self.process = subprocess.Popen(command, stdout=subprocess.PIPE, stderr=subprocess.DEVNULL)
         assert self.process.stdout.readline() == b"begun\n"
@@ -231,7 +239,8 @@ class Sleeping:
         return self
 
     def __exit__(self, *_):
-        self.process.wait(60)
+        self.process.terminate()
+        self.process.wait(WITHIN)
         self.process.stdout.close()
 
 

@@ -139,6 +139,12 @@ def backends(served):
                     while_settings_change(server, fio(server, 4, verify="crc32c", size="512k"), 50)
 
 
+def is_listened_at(path):
+    """Whether a server takes connections there. Its socket has the path a little earlier."""
+    with socket.socket(socket.AF_UNIX) as coming:
+        return coming.connect_ex(path) == 0
+
+
 def qcow2(served):
     """A qcow2 image behind qemu-nbd and nbdkit's nbd plugin."""
     server = None
@@ -147,7 +153,7 @@ def qcow2(served):
     run("qemu-img", "create", "-q", "-f", "qcow2", image, "16M")
     with subprocess.Popen(["qemu-nbd", "-t", "-e", "8", "-f", "qcow2", "-k", below, image]) as qemu:
         try:
-            soon(lambda: os.path.exists(below), "qemu-nbd doesn't start")
+            soon(lambda: is_listened_at(below), "qemu-nbd doesn't start")
             with Server(served, "max_sectors=8", backend=["nbd", f"socket={below}"]) as server, \
                     closing(server.control()) as control:
                 while_settings_change(server, fio(server, 4, verify="crc32c", size="512k"), 50)

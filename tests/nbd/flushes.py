@@ -156,7 +156,7 @@ def behind_the_drain(served):
         begun(server, "pwrite")
         control.at.sendall(b"quiesce\n")
         soon(lambda: depth_of(server) == 1, "no freeze")
-        assert not is_answered(control, 0.3), "a quiesce is answered before it is drained"
+        assert not is_answered(control, 0.5), "a quiesce is answered before it is drained"
         write(server, "held")
         assert control.replies.readline() == "depth 1\n"
         assert [it[0] for it in done_by(server, "pwrite", "flush")] == ["pwrite", "flush"]
@@ -188,7 +188,7 @@ def of_a_leaving(served):
         gone.start()
         begun(server, "flush")
         control.at.sendall(b"quiesce\n")
-        assert not is_answered(control, 0.5), "a quiesce is answered while a connection is flushed"
+        assert not is_answered(control, 1), "a quiesce is answered while a connection is flushed"
         write(server, "held")
         assert control.replies.readline() == "depth 1\n"
         gone.join()
@@ -211,7 +211,7 @@ def one_at_a_time(served):
             cookie = other.aio_pread(nbd.Buffer(512), 0)
             coming = threading.Thread(target=server.client)
             coming.start()
-            other.poll(300)
+            other.poll(1000)
             write(server, "held")
             assert done([other], [cookie]) == [0]
             coming.join()

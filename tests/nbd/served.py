@@ -40,7 +40,7 @@ def of_another(served):
             os.unlink(path)
             with Server(served, "size=1M", f"control={path}") as second:
                 first.process.send_signal(signal.SIGTERM)
-                assert first.process.wait(60) == 0
+                assert first.process.wait(WITHIN) == 0
                 assert os.path.exists(path), "the socket of another server is removed"
                 with closing(Control(path)) as control:
                     control.need("thaw", "not frozen")
@@ -55,7 +55,7 @@ def of_another(served):
                     break
             refused = Server(served, "size=1M", f"control={path}", wait=False)
             try:
-                status = refused.process.wait(60)
+                status = refused.process.wait(WITHIN)
             except subprocess.TimeoutExpired:
                 refused.process.kill()
                 status = refused.process.wait()
@@ -110,23 +110,36 @@ def read(path):
         return file.read()
 
 
+def in_flight(control, client):
+    """A read that is seen in flight. On a starved machine one may be done before anybody looks: then another follows."""
+    while True:
+        before = metrics_of(control)['blkq_requests_total{operation="read"}']
+        cookie = client.aio_pread(nbd.Buffer(512), 0)
+        client.poll(0)  # sends it
+        found = metrics_of(control)
+        while found["blkq_tags_out"] == 0 and found['blkq_requests_total{operation="read"}'] == before:
+            found = metrics_of(control)
+        if found["blkq_tags_out"] == 1:
+            return cookie
+        assert done([client], [cookie]) == [0]
+
+
 def in_background(served):
     """A server that went into the background answers a drain as soon as the last request is done, and then ends."""
     with tempfile.TemporaryDirectory() as folder:
-        slow = ["--filter=delay", "memory", "1M", "delay-read=1000ms", f"blkq-control={folder}/control"]
+        slow = ["--filter=delay", "memory", "1M", "delay-read=3000ms", f"blkq-control={folder}/control"]
         if "filter" in os.path.basename(served):
             words = [f"--filter={served}", *slow]
         else:
-            words = [served, "size=1M", "latency_microseconds=1000000", f"control={folder}/control"]
-        subprocess.run(["nbdkit", "-U", f"{folder}/nbd", "-P", f"{folder}/pid", *words], timeout=90, check=True)
+            words = [served, "size=1M", "latency_microseconds=3000000", f"control={folder}/control"]
+        subprocess.run(["nbdkit", "-U", f"{folder}/nbd", "-P", f"{folder}/pid", *words], timeout=WITHIN, check=True)
         soon(lambda: read(f"{folder}/pid"), "the server doesn't start")
         process = int(read(f"{folder}/pid"))
         try:
             client = nbd.NBD()
             client.connect_unix(f"{folder}/nbd")
             with closing(Control(f"{folder}/control")) as control:
-                cookie = client.aio_pread(nbd.Buffer(512), 0)
-                soon(lambda: metrics_of(control)["blkq_tags_out"] == 1, "the request isn't in flight")
+                cookie = in_flight(control, client)
                 control.at.sendall(b"quiesce\n")
                 assert select.select([control.at], [], [], WITHIN)[0], "the drain isn't answered"
                 assert control.replies.readline() == "depth 1\n"

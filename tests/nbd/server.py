@@ -4,14 +4,16 @@ import os
 import signal
 import socket
 import subprocess
+import sys
 import tempfile
 import time
 from contextlib import suppress
 
 import nbd
 
-STARTS_WITHIN = 90.0  # seconds; under a sanitizer and valgrind too
-WITHIN = float(os.environ.get("WITHIN", "60"))  # the seconds after which a try takes what it waits for as never coming
+# The seconds after which a try takes what it waits for as never coming. A starved machine takes minutes for what is done in a second here.
+WITHIN = float(os.environ.get("WITHIN", "300"))
+STARTS_WITHIN = 300.0  # also where WITHIN is less
 
 # Words before nbdkit, as valgrind and its options.
 CHECKED = os.environ.get("CHECKED", "").split()
@@ -26,6 +28,15 @@ def faults(told, plugin):
     leaks = [part for part in told.split("\n\n") if " leak of " in part and plugin in part]
     return leaks + [line for line in told.split("\n") if "runtime error:" in line or "WARNING: Thread" in line
                     or ("ERROR: " in line and "Sanitizer" in line and "LeakSanitizer" not in line)]
+
+
+def in_memory():
+    """A folder in memory with room for a disk and its copies, if there is one."""
+    place, needed = "/dev/shm", 1 << 29
+    if not os.access(place, os.W_OK | os.X_OK):
+        return None
+    room = os.statvfs(place)
+    return place if room.f_bavail * room.f_frsize >= needed else None
 
 
 class Control:
@@ -131,7 +142,7 @@ class Server:
             fields = file.read().rpartition(")")[2].split()
         return (int(fields[11]) + int(fields[12])) / os.sysconf("SC_CLK_TCK")
 
-    def end(self, within=60.0):
+    def end(self, within=300.0):
         """Sends SIGTERM, and waits until the server has ended, which has to be with status 0."""
         for client in self.clients:
             with suppress(nbd.Error):  # one that ends already may have closed the connection
@@ -155,8 +166,10 @@ class Server:
         return self
 
     def __exit__(self, failed, *_):
-        if failed and self.process.poll() is None:
+        if failed is None:
+            self.end()
+            return
+        print(self.said(), file=sys.stderr)  # of a server that ended by itself, the reason
+        if self.process.poll() is None:
             self.process.kill()
             self.process.wait()
-        elif failed is None:
-            self.end()

@@ -20,7 +20,7 @@ SETTINGS = ["max_sectors 1", "chunk_sectors 3", "max_sectors 7", "physical_secto
 
 
 def run(*words, **more):
-    return subprocess.run(words, check=True, stdout=subprocess.PIPE, timeout=300, **more).stdout
+    return subprocess.run(words, check=True, stdout=subprocess.PIPE, timeout=1200, **more).stdout
 
 
 def done(clients, cookies, within=WITHIN):
@@ -108,7 +108,7 @@ def refused_parameters(plugin):
     for parameter, why in wrong.items():
         server = Server(plugin, parameter, wait=False)
         try:
-            status = server.process.wait(60)
+            status = server.process.wait(WITHIN)
         except subprocess.TimeoutExpired:
             server.process.kill()
             raise

@@ -2,12 +2,14 @@
  *
  *     START COUNT PIECES MAX CHUNK PHYSICAL MAX CHUNK PHYSICAL
  *
- * the pieces joined by +, and the limits in force at its first piece and, read anew, after its last one. */
+ * the pieces joined by +, and the limits in force at its first piece and, read anew, after its last one. A request of several pieces
+ * sleeps behind its first one, so that a change of limits comes in between if nothing keeps it out, on one processor too. */
 #include <fcntl.h>
 #include <inttypes.h>
 #include <stdio.h>
 #include <stdlib.h>
 #include <string.h>
+#include <time.h>
 
 /* Of the request that a thread does: the limits at its first piece, and its line so far. */
 static _Thread_local struct {
@@ -48,8 +50,11 @@ static inline void watch_piece(freeze_queue_tag *tag, const request *wanted, con
     } else {
         fprintf(watched.line, "+%u", piece);
     }
-    if (to < wanted->offset + wanted->count)
+    if (to < wanted->offset + wanted->count) {
+        if (from == wanted->offset)
+            nanosleep(&(struct timespec){.tv_nsec = 200 * 1000}, NULL);
         return;
+    }
     freeze_queue_limits last = {0};
     need(freeze_queue_limits_of(tag, &last) == FREEZE_QUEUE_OK);
     write_down(&last);
