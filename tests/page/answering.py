@@ -61,7 +61,7 @@ SUM_OF = """(async () => {{
 def greatest(page, counts, programs):
     """Inputs of great sizes, by the sums of their answers."""
     for name, (kind, head, line, count) in GREATEST.items():
-        found = page.js(SUM_OF.format(head=js(head), line=js(line), count=count, kind=kind), 300)
+        found = page.js(SUM_OF.format(head=js(head), line=js(line), count=count, kind=kind))
         native = programs.answer(inputs.Input(name, kind, (head + line * count).encode()))
         counts.equal(f"{name} are answered as by the program", found, [native.status, hashlib.sha256(native.text).hexdigest()])
 

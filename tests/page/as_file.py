@@ -114,7 +114,7 @@ def heap(counts, parts=PARTS):
         done = subprocess.run(words, capture_output=True, text=True, check=False)
         if done.returncode == 0:
             # A heap that gives one block again and again has no end.
-            done = subprocess.run(["timeout", "600", f"{work}/heap"], capture_output=True, text=True, errors="replace", check=False)
+            done = subprocess.run(["timeout", "3000", f"{work}/heap"], capture_output=True, text=True, errors="replace", check=False)
         is_right = done.returncode == 0 and last_line_of(done.stdout)
         counts.check("the heap is right under sanitizers", is_right, (done.stdout + done.stderr)[-2000:])
         counts.add(done.stdout)

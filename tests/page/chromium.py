@@ -39,6 +39,13 @@ def js(text):
     return "decodeURIComponent('" + urllib.parse.quote(text, safe="") + "')"
 
 
+# Has each run that begins from now on go on until it is stopped, so that no machine is too fast for a look at one that runs; and the end
+# of that.
+ENDLESS = """window.post ??= Worker.prototype.postMessage;
+    Worker.prototype.postMessage = function (data) { data.kind || post.call(this, data); };"""
+AS_LONG_AS_IT_TAKES = "Worker.prototype.postMessage = window.post;"
+
+
 class Failed(Exception):
     """What the browser refused, or an exception of the page."""
 
@@ -46,7 +53,7 @@ class Failed(Exception):
 class Chromium:
     """A browser with one tab, of which a wait has an end after these seconds. `with` ends it."""
 
-    def __init__(self, patience=60):
+    def __init__(self, patience=300):
         self.patience = patience
         self.data = tempfile.mkdtemp(prefix="page-chromium-")
         (ours_in, theirs_out), (theirs_in, ours_out) = os.pipe(), os.pipe()
@@ -64,7 +71,7 @@ class Chromium:
 
     def attach(self):
         """Attaches to the first tab."""
-        until = time.monotonic() + 30
+        until = time.monotonic() + 300
         while True:
             targets = self.call("Target.getTargets")["targetInfos"]
             pages = [it["targetId"] for it in targets if it["type"] == "page"]
@@ -80,7 +87,7 @@ class Chromium:
     def __exit__(self, *_):
         self.process.terminate()
         try:
-            self.process.wait(20)
+            self.process.wait(60)
         except subprocess.TimeoutExpired:
             self.process.kill()
             self.process.wait()
@@ -100,7 +107,7 @@ class Chromium:
         whole, _, self.left = self.left.partition(b"\0")
         return json.loads(whole)
 
-    def call(self, method, seconds=120, **parameters):
+    def call(self, method, seconds=900, **parameters):
         """Calls a method of the browser, and returns its result. Events that come meanwhile are kept."""
         self.count += 1
         asked = {"id": self.count, "method": method, "params": parameters}
@@ -116,7 +123,7 @@ class Chromium:
             raise Failed(f"{method}: {said['error']['message']}")
         return said["result"]
 
-    def js(self, text, seconds=120):
+    def js(self, text, seconds=900):
         """The value of an expression in the page; a promise's value."""
         said = self.call("Runtime.evaluate", seconds, expression=text, returnByValue=True, awaitPromise=True)
         if "exceptionDetails" in said:
@@ -124,13 +131,12 @@ class Chromium:
             raise Failed(told.get("exception", {}).get("description") or told["text"])
         return said["result"].get("value")
 
-    def until(self, text, seconds=None):
+    def until(self, text):
         """Waits until an expression is true in the page."""
-        seconds = seconds or self.patience
-        end = time.monotonic() + seconds
+        end = time.monotonic() + self.patience
         while not self.js(f"Boolean({text})"):
             if time.monotonic() > end:
-                raise Failed(f"it isn't so after {seconds} seconds: {text}")
+                raise Failed(f"it isn't so after {self.patience} seconds: {text}")
             time.sleep(0.02)
 
     def open(self, url):

@@ -15,7 +15,7 @@ from rows import rows_of
 KINDS = {".blkq": "script", ".gate": "schedule", ".races": "race"}
 WORDS = {"blkq": "script", "replay": "schedule", "gate_races": "race"}
 SEED = 7
-SECONDS = 60
+SECONDS = 900
 
 
 class Input(NamedTuple):

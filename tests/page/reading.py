@@ -2,6 +2,8 @@
 
 import urllib.parse
 
+from chromium import AS_LONG_AS_IT_TAKES, ENDLESS
+
 OUTCOME = "choose(page.outcomes[1], 3)"
 SHOWN = "[page.kind, page.outcome, page.stepping.step]"
 # Whether the heading of the steps and the frame around the current one are in the window.
@@ -21,7 +23,7 @@ def old_answer(page, counts, large):
     """While a new text runs, the old answer is dimmed, nothing of it can be chosen, and a link has nothing of it."""
     page.js("openExample('removal.races', { outcome: 2, step: 3 })")
     page.until("page.outcome === 2 && find('status').textContent.startsWith('answered')")
-    page.js(f"find('input').value = {large}; find('input').dispatchEvent(new Event('input'))")
+    page.js(f"{ENDLESS} find('input').value = {large}; find('input').dispatchEvent(new Event('input'))")
     stale = "['answer-part', 'steps', 'whole'].map((id) => find(id).inert && find(id).classList.contains('stale'))"
     choice = "find('outcomes').querySelector('tbody button').click(); find('copy').click()"
     for when in ("page.isStale", "find('status').textContent.startsWith('running')"):
@@ -34,6 +36,7 @@ def old_answer(page, counts, large):
         counts.check("and no outcome", "outcome" not in linked[1] and "step" not in linked[1], linked)
     page.js("find('stop').click()")
     page.until("find('status').textContent.startsWith('stopped after')")
+    page.js(AS_LONG_AS_IT_TAKES)
     counts.equal("an answer that is shown isn't dimmed", page.js(stale), [False, False, False])
 
 
@@ -95,7 +98,7 @@ def into_view(page, counts, url):
     for wide, high in ((1400, 900), (400, 800)):
         page.look(wide, high, "light", is_phone=wide < 600)
         page.open(f"{url}#race={race}&outcome=2&step=6")
-        page.until(IN_VIEW, 20)
+        page.until(IN_VIEW)
         counts.check(f"the picture of a link is in view at {wide} points", page.js(IN_VIEW))
         calm = [{"name": "prefers-reduced-motion", "value": "reduce"}]
         page.call("Emulation.setEmulatedMedia", features=calm)

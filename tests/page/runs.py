@@ -1,5 +1,7 @@
 """Runs of an input: stopped with its worker, followed by another, without memory, and ended by a trap."""
 
+from chromium import AS_LONG_AS_IT_TAKES, ENDLESS
+
 # Each worker of the page, and whether it is ended.
 WORKERS = """window.workers = [];
 window.Worker = class extends Worker {
@@ -15,6 +17,16 @@ LATE = """(() => {
     workers[0].dispatchEvent(new ErrorEvent('error', { message: 'late' }));
     return new Promise((done) => setTimeout(done));
 })()"""
+# Within the page, so that a race that takes seconds hasn't ended where this program is slow.
+STOPPED_ONCE_IT_RUNS = """new Promise((done) => {{
+    void open({large});
+    const look = setInterval(() => {{
+        if (!(parseFloat(find("status").textContent.replace("running: ", "")) > 0.2)) return;
+        clearInterval(look);
+        find("stop").click();
+        done();
+    }}, 5);
+}})"""
 LITTLE = 1 << 20
 MANY = {
     "script": "'blkq 1\\ndisk 4096 hw 7\\n' + 'stat\\n'.repeat(200000)",
@@ -28,7 +40,7 @@ def stops(page, counts, url, large):
     script = page.call("Page.addScriptToEvaluateOnNewDocument", source=WORKERS)["identifier"]
     page.open(url)
     page.until(f"{STATUS}.startsWith('answered')")
-    page.js(f"void open({large})")
+    page.js(f"{ENDLESS} void open({large})")
     page.until(f"{STATUS}.startsWith('running')")
     counts.equal("one worker is enough for one run after another", page.js(ENDED), [False])
     page.js("find('stop').click()")
@@ -39,7 +51,8 @@ def stops(page, counts, url, large):
     page.js(LATE)
     counts.equal("a late answer isn't taken", page.js(f"[page.isStale, page.answer, {STATUS}.split(':')[0]]"), [True, "", "running"])
     edit = "find('input').value = 'blkq 1\\ndisk 1 hw 1\\n'; find('input').dispatchEvent(new Event('input'))"
-    counts.equal("an edit ends the worker and the clock", page.js(f"{edit}; [{ENDED}, find('stop').disabled]"), [[True, True], True])
+    ended = page.js(f"{AS_LONG_AS_IT_TAKES} {edit}; [{ENDED}, find('stop').disabled]")
+    counts.equal("an edit ends the worker and the clock", ended, [[True, True], True])
     page.until(f"{STATUS}.startsWith('answered')")
     counts.equal("the edit is answered", page.js("page.answer"), "disk 00*512\n")
     page.js(f"void open({large}); void open('blkq 1\\ndisk 2 hw 1\\n')")
@@ -52,9 +65,7 @@ def stops(page, counts, url, large):
 
 def one_after_another(page, counts, large):
     """A race that is stopped, and one that is too large, and the page after each."""
-    page.js(f"void open({large})")
-    page.until("parseFloat(find('status').textContent.replace('running: ', '')) > 0.2")
-    page.js("find('stop').click()")
+    page.js(STOPPED_ONCE_IT_RUNS.format(large=large))
     page.until("find('status').textContent.startsWith('stopped after')")
     counts.check("a race is stopped", page.js("find('stop').disabled"))
     page.js(f"page.most = {16 << 20}; void open({large})")

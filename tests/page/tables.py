@@ -166,11 +166,11 @@ def by_buttons(page, counts, last):
 def cut(page, counts):
     """What is too large to be shown is cut, and the page says so."""
     page.js(f"open({MANY!r})")
-    page.until(f"page.outcomes.length === 1254 && {ANSWERED}", 120)
+    page.until(f"page.outcomes.length === 1254 && {ANSWERED}")
     caption, rows = page.js("[find('outcomes').querySelector('caption').textContent, find('outcomes').querySelectorAll('tbody tr').length]")
     counts.equal("500 outcomes have rows", [caption.split(",")[1], rows], [" the first 500 of them here", 500])
     page.js(f"open({MANY!r}, {{ outcome: 500 }})")
-    page.until(f"page.outcome === 500 && {ANSWERED}", 120)
+    page.until(f"page.outcome === 500 && {ANSWERED}")
     counts.equal("the last of them is drawn", page.js("find('steps-head').textContent"), "Step by step: outcome 500")
     page.js(f"named(undefined); open({LONG})")
     page.until(f"page.kind === 'schedule' && {ANSWERED}")

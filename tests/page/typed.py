@@ -23,8 +23,10 @@ def typing(page, counts):
     counts.equal("what is typed is answered", page.js("[page.outcomes.length, page.outcome, find('steps').hidden]"), [4, 0, True])
     counts.equal("it is no example", page.js("[page.name ?? '', find('example').value, find('shows').textContent]"), ["", "", ""])
     counts.check("the link has it", page.js(f"{LINKED} === find('input').value"))
-    page.js("page.runs = []; for (const letter of 'abc') { find('input').value += `# ${letter}\\n`; find('input').dispatchEvent(new Event('input')); }")
-    counts.equal("nothing is said before it runs", page.js("[page.runs.length, find('status').textContent, page.isStale]"), [0, "", True])
+    # Looked at with the edits, since a pause may be over where this program is slow.
+    edits = "for (const letter of 'abc') { find('input').value += `# ${letter}\\n`; find('input').dispatchEvent(new Event('input')); }"
+    said = page.js(f"page.runs = []; {edits} [page.runs.length, find('status').textContent, page.isStale]")
+    counts.equal("nothing is said before it runs", said, [0, "", True])
     page.until(f"page.runs.length && {ANSWERED}")
     page.js("new Promise((done) => setTimeout(done, 2 * PAUSE))")
     counts.equal("edits one after another run once", page.js("page.runs"), ["race"])
@@ -93,7 +95,7 @@ def marks(page, counts):
     page.until("find('reason').textContent === 'line 200: unknown word'")
     for scrolled in (0, 190 * LINE + 7, 199 * LINE, 150 * LINE + 20, 198 * LINE + 1):
         page.js(f"find('input').scrollTop = {scrolled}")
-        page.until(f"find('refused-line').style.top === '{8 + 199 * LINE - scrolled}px'", 20)
+        page.until(f"find('refused-line').style.top === '{8 + 199 * LINE - scrolled}px'")
         first = scrolled // LINE + 1
         numbers = page.js("find('numbers').textContent.trim().split('\\n').map(Number)")
         counts.equal(f"the numbers from {first} on", numbers, list(range(first, min(400, first + 79) + 1)))
@@ -118,11 +120,11 @@ def along(page, counts):
     rows = "(() => { const row = find('rows').children[199].querySelector('.refused').getBoundingClientRect(); return row.top - find('refused-line').getBoundingClientRect().top; })()"
     page.look(1400, 900, "light")
     page.js(f"find('input').scrollTop = {100 * LINE}")
-    page.until(f"find('rows').scrollTop === {100 * LINE}", 20)
+    page.until(f"find('rows').scrollTop === {100 * LINE}")
     counts.check("the reason is beside its line", abs(page.js(rows)) < 4, page.js(rows))
     page.look(400, 900, "light", is_phone=True)
     page.js(f"find('rows').scrollTop = 0; find('input').scrollTop = {120 * LINE}")
-    page.until(f"find('refused-line').style.top === '{8 + 79 * LINE}px'", 20)
+    page.until(f"find('refused-line').style.top === '{8 + 79 * LINE}px'")
     counts.equal("the answer below stays", page.js("find('rows').scrollTop"), 0)
     page.look(1400, 900, "light")
 
