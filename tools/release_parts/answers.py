@@ -9,7 +9,7 @@ from typing import NamedTuple
 from release_parts.inputs import ROOT, input_of
 from release_parts.provenance import LIBRARIES, PROGRAMS
 
-SECONDS = 120
+SECONDS = 900
 # The C callers that answer a row of calls, with the library that each is linked to.
 CALLERS = {"gate": ("tests/c/calls.c", "percpu_gate"), "queue": ("tests/c/queue/calls.c", "freeze_queue")}
 # Seen in the answers of ten thousand inputs: what a comparison that says little would lack.
