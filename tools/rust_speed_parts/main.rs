@@ -59,9 +59,13 @@ fn time_changes<T: Send>(
     let mut taken = Vec::new();
     let go_on = |mine: &mut T| {
         let mut count = 0;
-        while !is_over.load(Ordering::SeqCst) {
+        // At least once: the changes may be over before this thread runs.
+        loop {
             go(mine, BATCH);
             count += u64::from(BATCH);
+            if is_over.load(Ordering::SeqCst) {
+                break;
+            }
         }
         done.fetch_add(count, Ordering::SeqCst);
     };

@@ -223,8 +223,10 @@ static void go_round(uint32_t number)
 static void go_on(uint32_t number)
 {
     uint64_t sum = 0, count = 0;
-    for (; !atomic_load(&is_over); count += BATCH)
+    do { /* at least once: the changes may be over before this thread runs */
         sum += form->round_on(number, BATCH);
+        count += BATCH;
+    } while (!atomic_load(&is_over));
     atomic_fetch_add(&sink, sum);
     atomic_store(&done[number].count, count);
 }
