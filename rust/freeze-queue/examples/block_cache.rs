@@ -183,12 +183,14 @@ fn read_under_changes(cache: &Cache, reads: u64) -> u64 {
     thread::scope(|threads| {
         let change = threads.spawn(|| {
             let mut changes = 0;
-            while !over.load(Ordering::Relaxed) {
+            loop {
                 let of_one = |limits: Limits| limits.with_max(1 + changes % 64).with_chunk(4 * (1 + changes % 64));
                 cache.queue.update(of_one).expect("they are limits");
                 changes += 1;
+                if over.load(Ordering::Relaxed) {
+                    return u64::from(changes);
+                }
             }
-            u64::from(changes)
         });
         let readers: Vec<_> = (0..THREADS)
             .map(|reader| {

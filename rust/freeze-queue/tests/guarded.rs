@@ -12,7 +12,7 @@ use std::thread;
 use std::time::Duration;
 
 mod shared;
-use shared::{LIMITS, number_of};
+use shared::{LIMITS, PATIENCE, number_of};
 
 const THREADS: u32 = 4;
 
@@ -81,7 +81,7 @@ fn change(queue: &Queue, device: &Device, requests: &AtomicU64, lives: u64) -> u
         }
         let max = 1 + u32::try_from(life % 64).unwrap();
         let frozen = match life % 3 {
-            0 => queue.freeze_timeout(Duration::from_secs(60)).unwrap(),
+            0 => queue.freeze_timeout(PATIENCE).unwrap(),
             1 => queue.try_freeze().unwrap_or_else(|_| queue.freeze().unwrap()),
             _ => queue.freeze().unwrap(),
         };

@@ -132,6 +132,7 @@ fn a_request_that_left_by_a_stay_is_not_listed() {
         assert_eq!(request.stay().unwrap_err(), StayError::Frozen);
         assert_eq!(listed(&queue), []);
         drop(freezing);
+        until("the clock shows another time", || Instant::now() > noted.since);
         let request = queue.enter(&mut tag).unwrap();
         assert!(only(&queue).since > noted.since);
         thread::scope(|threads| {

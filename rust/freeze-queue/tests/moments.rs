@@ -18,13 +18,14 @@ impl Round {
         self.0.store(round, Ordering::SeqCst);
     }
 
-    /// Looks without a pause, so that both go on at the same moment; where others have the processor it is given up at last.
+    /// Looks without a pause, so that both go on at the same moment; where others have the processor it is given up at last. (By a sleep:
+    /// a yield would leave it to other programs for milliseconds.)
     fn wait_for(&self, round: u64) {
         for looks in 1_u32.. {
             if self.0.load(Ordering::SeqCst) >= round {
                 return;
             }
-            if looks % 10_000 == 0 { thread::yield_now() } else { hint::spin_loop() }
+            if looks % 10_000 == 0 { thread::sleep(Duration::from_micros(1)) } else { hint::spin_loop() }
         }
     }
 }

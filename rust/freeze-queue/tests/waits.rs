@@ -1,5 +1,5 @@
 //! A thread that waits is woken. The event comes some milliseconds later, on another thread. A lost wake is seen: the thread
-//! doesn't return within a minute.
+//! doesn't return in all the time that a test has.
 use freeze_queue::{EnterError, EnterTimeoutError, FreezeTimeoutError, Queue, Tag, TryEnterError};
 use std::sync::atomic::{AtomicBool, AtomicU32, Ordering};
 use std::thread;
@@ -9,7 +9,7 @@ mod shared;
 use shared::{LIMITS, block_on, ends, until};
 
 const SOON: Duration = Duration::from_millis(20);
-const LONG: Duration = Duration::from_secs(60);
+const LONG: Duration = Duration::from_secs(3600);
 
 fn queue(tags: u32) -> (Queue, Vec<Tag>) {
     let queue = Queue::new(LIMITS, 2, tags).unwrap();
@@ -28,7 +28,7 @@ fn a_thaw_wakes_all_who_enter() {
                 threads.spawn(move || {
                     match number % 3 {
                         0 => drop(queue.enter(tag).unwrap()),
-                        1 => drop(queue.enter_timeout(tag, LONG * 60).unwrap()),
+                        1 => drop(queue.enter_timeout(tag, LONG).unwrap()),
                         _ => drop(block_on(queue.enter_async(tag)).unwrap()),
                     }
                     entered.fetch_add(1, Ordering::SeqCst);
@@ -55,7 +55,7 @@ fn the_end_of_a_device_wakes_all_who_enter() {
                 let queue = &queue;
                 threads.spawn(move || match number % 3 {
                     0 => assert_eq!(queue.enter(tag).unwrap_err(), EnterError::Dying),
-                    1 => assert_eq!(queue.enter_timeout(tag, LONG * 60).unwrap_err(), EnterTimeoutError::Dying),
+                    1 => assert_eq!(queue.enter_timeout(tag, LONG).unwrap_err(), EnterTimeoutError::Dying),
                     _ => assert_eq!(block_on(queue.enter_async(tag)).unwrap_err(), EnterError::Dying),
                 });
             }
@@ -82,7 +82,7 @@ fn the_last_to_leave_wakes_all_who_freeze() {
                 });
             }
             threads.spawn(|| {
-                let frozen = queue.freeze_timeout(LONG * 60).unwrap();
+                let frozen = queue.freeze_timeout(LONG).unwrap();
                 drained.fetch_add(1, Ordering::SeqCst);
                 drop(frozen);
             });
@@ -121,7 +121,7 @@ fn a_late_freeze_wakes_those_who_enter() {
                 let queue = &queue;
                 threads.spawn(move || match number {
                     0 => drop(queue.enter(tag).unwrap()),
-                    1 => drop(queue.enter_timeout(tag, LONG * 60).unwrap()),
+                    1 => drop(queue.enter_timeout(tag, LONG).unwrap()),
                     _ => drop(block_on(queue.enter_async(tag)).unwrap()),
                 });
             }

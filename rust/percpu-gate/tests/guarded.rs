@@ -57,6 +57,8 @@ struct Signs {
     over: AtomicBool,
     /// Nobody asks for a reference, so that a kill may find nobody.
     quiet: AtomicBool,
+    /// The threads that look whether they may ask, and hold nothing.
+    resting: [AtomicBool; THREADS as usize],
     /// Requests so far, of all threads.
     requests: AtomicU64,
 }
@@ -65,7 +67,9 @@ struct Signs {
 fn serve(pass: &Pass, thread: u32, device: &Device, signs: &Signs) -> u64 {
     let mut served = 0;
     while !signs.over.load(Ordering::SeqCst) {
-        if signs.quiet.load(Ordering::Relaxed) {
+        let rests = signs.quiet.load(Ordering::Relaxed);
+        signs.resting[thread as usize].store(rests, Ordering::Relaxed);
+        if rests {
             thread::sleep(Duration::from_micros(20));
             continue;
         }
@@ -87,7 +91,9 @@ fn let_serve(signs: &Signs, life: u64) {
     }
     if life % 4 < 2 {
         signs.quiet.store(true, Ordering::Relaxed);
-        thread::sleep(Duration::from_micros(100));
+        while !signs.resting.iter().all(|rests| rests.load(Ordering::Relaxed)) {
+            thread::sleep(Duration::from_micros(20));
+        }
     }
 }
 

@@ -3,16 +3,16 @@
 
 use blkq::erased::blk_workers::{Point, Stall};
 use std::sync::atomic::{AtomicBool, AtomicU32, Ordering::SeqCst};
+use std::thread;
 use std::time::Duration;
-use std::{hint, thread};
 
 #[path = "shared/both_texts.rs"]
 mod both_texts;
-#[path = "shared/minute.rs"]
-mod minute;
+#[path = "shared/meeting.rs"]
+mod meeting;
 
 use both_texts::both_texts;
-use minute::within_a_minute;
+use meeting::{ended, hold_for, is_met};
 
 /// Two writes, a drain, and a read of both.
 const WRITTEN_THEN_READ: &[u8] = b"blkq 1\ndisk 4 hw 4\nwrite 0 1 01\nwrite 1 1 02\nfreeze\nthaw\nread 0 2\n";
@@ -29,8 +29,7 @@ fn agrees(text: &[u8], tags: u32, stall: &impl Stall) -> bool {
     out == wanted
 }
 
-/// Holds each of the first two requests, once drawn, until both are, for 10,000,000 turns at most, and notes one that
-/// was held so long.
+/// Holds each of the first two requests, once drawn, until both are, and notes one that was held for minutes.
 struct Meets {
     drawn: AtomicU32,
     alone: AtomicBool,
@@ -42,17 +41,13 @@ impl Stall for Meets {
             return;
         }
         self.drawn.fetch_add(1, SeqCst);
-        for _ in 0..10_000_000 {
-            if self.drawn.load(SeqCst) == 2 {
-                return;
-            }
-            thread::yield_now();
+        if !is_met(|| self.drawn.load(SeqCst) == 2) {
+            self.alone.store(true, SeqCst);
         }
-        self.alone.store(true, SeqCst);
     }
 }
 
-// Where one worker alone draws, it is held for all its turns.
+// Where one worker alone draws, it is held for all that time.
 #[test]
 fn two_at_once() {
     let meets = Meets { drawn: AtomicU32::new(0), alone: AtomicBool::new(false) };
@@ -60,7 +55,7 @@ fn two_at_once() {
     assert!(!meets.alone.load(SeqCst));
 }
 
-/// Holds a request at a point for 1,000,000 turns, yields at one of 1,000, and notes a drain that comes before.
+/// Holds a request at a point for a while, and notes a drain that comes before.
 struct Holds {
     number: u32,
     point: Point,
@@ -71,12 +66,7 @@ struct Holds {
 impl Stall for Holds {
     fn at(&self, number: u32, point: Point) {
         if point == self.point && number == self.number {
-            for turn in 0..1_000_000u32 {
-                if turn % 1_000 == 0 {
-                    thread::yield_now();
-                }
-                hint::spin_loop();
-            }
+            hold_for(10_000);
             self.passed.store(true, SeqCst);
         }
         if point == Point::Drained && !self.passed.load(SeqCst) {
@@ -121,7 +111,7 @@ fn ordered_requests_wait() {
     }
 }
 
-/// Holds one request at one point for 10,000 turns.
+/// Holds one request at one point for a while.
 struct HoldsOne {
     number: u32,
     point: Point,
@@ -130,9 +120,7 @@ struct HoldsOne {
 impl Stall for HoldsOne {
     fn at(&self, number: u32, point: Point) {
         if (number, point) == (self.number, self.point) {
-            for _ in 0..10_000 {
-                thread::yield_now();
-            }
+            hold_for(10_000);
         }
     }
 }
@@ -199,7 +187,7 @@ impl Stall for FillsUp {
 #[test]
 fn one_completion_more_than_tags() {
     for tags in [1, 2, 5, 16, 63] {
-        let ended = within_a_minute(move || {
+        let ended = ended(move || {
             let reads = "read 0 1\n".repeat(tags as usize + 1);
             let text = format!("blkq 1\ndisk 8 hw 8\n{reads}");
             agrees(text.as_bytes(), tags, &FillsUp { before: tags, answered: AtomicU32::new(0) })

@@ -9,11 +9,11 @@ use std::time::{Duration, Instant};
 
 #[path = "shared/both_texts.rs"]
 mod both_texts;
-#[path = "shared/minute.rs"]
-mod minute;
+#[path = "shared/meeting.rs"]
+mod meeting;
 
 use both_texts::both_texts;
-use minute::within_a_minute;
+use meeting::{ended, is_met};
 
 /// Runs a script: whether it writes the text that one thread does.
 fn agrees(text: &str, sizes: [u32; 3], stall: &impl Stall) -> bool {
@@ -21,9 +21,9 @@ fn agrees(text: &str, sizes: [u32; 3], stall: &impl Stall) -> bool {
     out == wanted
 }
 
-/// The same on a thread of its own. Returns `false` as well if the run hangs for a minute.
+/// The same on a thread of its own. Returns `false` as well if the run hangs.
 fn ends(text: String, sizes: [u32; 3]) -> bool {
-    within_a_minute(move || agrees(&text, sizes, &NoStall)) == Some(true)
+    ended(move || agrees(&text, sizes, &NoStall)) == Some(true)
 }
 
 /// Counts the requests that the thread that submits draws.
@@ -108,7 +108,7 @@ fn a_drain_beside_a_vain_try() {
 }
 
 /// Holds as many requests before each drain as there are workers at `Drawn`, until all of them are drawn, and notes one that was held
-/// for long. Workers fall asleep behind some drains.
+/// for minutes. Workers fall asleep behind some drains.
 struct Crowds {
     size: u32,
     drawn: AtomicU32,
@@ -124,13 +124,9 @@ impl Stall for Crowds {
             return;
         }
         self.drawn.fetch_add(1, SeqCst);
-        for _ in 0..1_000_000 {
-            if self.drawn.load(SeqCst) >= (number / self.size + 1) * self.size {
-                return;
-            }
-            thread::yield_now();
+        if !is_met(|| self.drawn.load(SeqCst) >= (number / self.size + 1) * self.size) {
+            self.alone.store(true, SeqCst);
         }
-        self.alone.store(true, SeqCst);
     }
 }
 
@@ -138,7 +134,7 @@ impl Stall for Crowds {
 #[test]
 fn all_workers_at_once_again_and_again() {
     for (workers, rounds) in [(2, 5_000), (3, 2_000), (8, 1_000), (32, 300)] {
-        let ended = within_a_minute(move || {
+        let ended = ended(move || {
             let round = "read 0 1\n".repeat(workers as usize) + "stat\n";
             let crowds = Crowds { size: workers, drawn: AtomicU32::new(0), alone: AtomicBool::new(false) };
             let text = format!("blkq 1\ndisk 8 hw 8\n{}", round.repeat(rounds));
@@ -161,7 +157,7 @@ impl Numbered for Request {
 #[test]
 fn a_look_is_over_for_those_too_many() {
     const LOOKERS: usize = 16;
-    let ended = within_a_minute(move || {
+    let ended = ended(move || {
         let (queue, mut source) = RequestQueue::new(1, LOOKERS + 1).expect("memory");
         let mut drawers: Vec<_> = (0..=LOOKERS).map(|_| queue.drawer(&mut source, 2).expect("memory")).collect();
         let (sleeper, looking) = drawers.split_first_mut().expect("a drawer");

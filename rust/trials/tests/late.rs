@@ -5,13 +5,14 @@ use blkq::erased::blk_script::{Checked, Script, parse, push_disk, run_alone};
 use blkq::erased::blk_workers::{Config, NoStall, Point, Stall, run, run_checked};
 use std::sync::Mutex;
 use std::sync::atomic::{AtomicBool, AtomicU32, Ordering::SeqCst};
-use std::thread::yield_now;
+
+#[path = "shared/meeting.rs"]
+mod meeting;
+use meeting::{hold_for, is_met};
 
 /// The accepted requests before the `stat`, all of which are counted from 0: as many as a text has room for, with some behind it.
 const FIRST: u32 = 116_000;
 const TAGS: u32 = 8;
-/// How often a test that waits for another thread yields before it gives up.
-const TURNS: u32 = 1_000_000;
 
 fn script(text: &str) -> Script {
     parse(text.as_bytes()).unwrap()
@@ -29,15 +30,8 @@ struct Late {
 
 impl Late {
     fn wait_for_all_tags(&self) {
-        for turn in 0..TURNS {
-            if self.entered.load(SeqCst) >= TAGS {
-                return;
-            }
-            if turn % 8 == 0 {
-                yield_now();
-            }
-        }
-        self.is_short_of_tags.store(true, SeqCst);
+        let is_short = self.is_short_of_tags.load(SeqCst) || !is_met(|| self.entered.load(SeqCst) >= TAGS);
+        self.is_short_of_tags.store(is_short, SeqCst);
     }
 }
 
@@ -49,9 +43,7 @@ impl Stall for Late {
             }
             Point::Drawn if number >= FIRST => self.wait_for_all_tags(),
             Point::Answered if number == FIRST - 1 => {
-                for _ in 0..10_000 {
-                    yield_now();
-                }
+                hold_for(10_000);
                 self.has_answered_all.store(true, SeqCst);
             }
             Point::Drained => {
@@ -90,13 +82,8 @@ impl Stall for Beside {
         match (number, point) {
             (2, Point::Drawn) => self.is_second_drawn.store(true, SeqCst),
             (1, Point::Drawn) => {
-                for _ in 0..TURNS {
-                    if self.is_second_drawn.load(SeqCst) {
-                        return;
-                    }
-                    yield_now();
-                }
-                self.is_alone.store(true, SeqCst);
+                let is_alone = !is_met(|| self.is_second_drawn.load(SeqCst));
+                self.is_alone.store(is_alone, SeqCst);
             }
             _ => {}
         }

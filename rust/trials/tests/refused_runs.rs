@@ -166,10 +166,11 @@ fn one_run(example: &Path, allowed: i64, helps: bool) -> u8 {
     let answered = answer(example, &input, &mut room, helps);
     let asked = allowed - LEFT.swap(i64::MAX, Ordering::SeqCst);
     // A thread of a scope that is over may still be about to free what std took for it.
-    for _ in 0..1_000 {
-        if BLOCKS.load(Ordering::SeqCst) > blocks {
-            sleep(Duration::from_millis(1));
+    for _ in 0..60_000 {
+        if BLOCKS.load(Ordering::SeqCst) <= blocks {
+            break;
         }
+        sleep(Duration::from_millis(1));
     }
     let left = BLOCKS.load(Ordering::SeqCst) - blocks;
     if left != 0 {

@@ -11,7 +11,7 @@ mod texts;
 #[path = "shared/turns.rs"]
 mod turns;
 use texts::texts_of;
-use turns::{PATIENCE, insist, pass_turn, wait_for};
+use turns::{insist, until, wait_for};
 
 /// How long the other thread is given to fall asleep.
 const PAUSE: Duration = Duration::from_millis(20);
@@ -75,13 +75,7 @@ fn the_last_thaw_wakes_submitters() {
 
 /// Reads the depth under the lock, until the queue is frozen.
 fn wait_until_frozen(shared: &SharedFreezer<'_>) {
-    for turn in 0..PATIENCE {
-        if shared.lock().freezer.depth() > 0 {
-            return;
-        }
-        pass_turn(turn);
-    }
-    insist(false, "the queue is never frozen");
+    until(|| shared.lock().freezer.depth() > 0);
 }
 
 /// While a shared freezer waits for a drain other threads read its depth, also the one with the tag that it waits for.

@@ -3,7 +3,12 @@
 
 use blkq::erased::freeze_queue::{BlockQueue, Limits};
 use blkq::erased::percpu_gate::{Control, Gate, Pass, Put, Start, Tried};
+use std::time::Instant;
 use trials::erased::uses::{Command, Raced, Served, change_limits, commands, enter_under, race, remove, serve, submit};
+
+#[path = "shared/patience.rs"]
+mod patience;
+use patience::PATIENCE;
 
 /// A gate with a guarded word, its control and its passes.
 fn gate(slots: u32, passes: u32, start: Start) -> (Gate<1>, Control<1>, Vec<Pass<1>>) {
@@ -63,10 +68,13 @@ fn one_of_the_two_frees_the_device() {
     }
 }
 
-/// The removal isn't always first: of so many races one ends with a request that was done, mostly the very first.
+/// The removal isn't always first: one of the races ends with a request that was done, mostly the very first.
 #[test]
 fn a_request_is_done_in_some_race() {
-    assert!((0..10_000).any(|_| matches!(raced().served, Served::Done(_))), "each request came after the removal");
+    let begun = Instant::now();
+    while !matches!(raced().served, Served::Done(_)) {
+        assert!(begun.elapsed() < PATIENCE, "each request came after the removal");
+    }
 }
 
 #[test]

@@ -61,9 +61,9 @@ fn processor_time() -> Option<Duration> {
     told.split_whitespace().next()?.parse().ok().map(Duration::from_nanos)
 }
 
-/// A thread that waits until this ends its wait has a processor for a moment alone: it sleeps.
-fn sleeps(what: &str, wait: impl FnOnce() + Send, end: impl FnOnce()) {
-    let taken = thread::scope(|scope| {
+/// How long a thread has a processor while it waits, until this ends its wait.
+fn taken_by(wait: impl FnOnce() + Send, end: impl FnOnce()) -> Option<Duration> {
+    thread::scope(|scope| {
         let waits = scope.spawn(|| {
             let before = processor_time()?;
             wait();
@@ -72,22 +72,43 @@ fn sleeps(what: &str, wait: impl FnOnce() + Send, end: impl FnOnce()) {
         thread::sleep(Duration::from_millis(200));
         end();
         waits.join().expect("a wait that ends")
-    });
-    assert!(taken.is_none_or(|it| it < Duration::from_millis(5)), "{what} took {taken:?}");
+    })
+}
+
+/// Each of these waits has a processor for a moment alone: it sleeps. The least of some tries is taken, since a virtual machine may stop
+/// while the thread runs, which Linux counts too.
+fn sleep<const WAITS: usize>(names: [&str; WAITS], tries: impl Fn() -> [Option<Duration>; WAITS]) {
+    let mut least = [Duration::MAX; WAITS];
+    for _ in 0..10 {
+        for (least, taken) in least.iter_mut().zip(tries()) {
+            *least = taken.unwrap_or(Duration::ZERO).min(*least);
+        }
+        if least.iter().all(|it| *it < Duration::from_millis(5)) {
+            return;
+        }
+    }
+    panic!("{names:?} took {least:?}");
 }
 
 #[test]
 fn a_tag_that_waits_to_enter_sleeps() {
-    let (queue, mut freezer, mut tag) = with_one_tag(1);
-    assert_eq!(freezer.freeze(&queue), Ok(1));
-    sleeps("enter", || queue.enter(&mut tag, 0), || assert_eq!(freezer.thaw(&queue), Ok(0)));
-    assert_eq!(freezer.start_freeze(&queue), Ok(1));
-    let stays = || assert_eq!(queue.stay_or_enter(&mut tag, 0), StayOrEnter::EnteredAgain);
-    sleeps("stay_or_enter", stays, || assert_eq!(freezer.thaw(&queue), Ok(0)));
+    sleep(["enter", "stay_or_enter"], || {
+        let (queue, mut freezer, mut tag) = with_one_tag(1);
+        assert_eq!(freezer.freeze(&queue), Ok(1));
+        let enters = taken_by(|| queue.enter(&mut tag, 0), || assert_eq!(freezer.thaw(&queue), Ok(0)));
+        assert_eq!(freezer.start_freeze(&queue), Ok(1));
+        let stay = || assert_eq!(queue.stay_or_enter(&mut tag, 0), StayOrEnter::EnteredAgain);
+        [enters, taken_by(stay, || assert_eq!(freezer.thaw(&queue), Ok(0)))]
+    });
 }
 
 #[test]
 fn a_freezer_that_waits_for_the_drain_sleeps() {
+    sleep(["freeze", "wait_drained", "a shared freeze", "a shared wait"], waits_for_drains);
+}
+
+/// How long the thread of a freezer has a processor in each way to wait for the drain.
+fn waits_for_drains() -> [Option<Duration>; 4] {
     let (queue, mut freezer, mut tag) = with_one_tag(1);
     let leave = |tag: &mut Tag| assert_eq!(queue.leave(tag, 0), Put::Last);
     let enter_again = |freezer: &mut Freezer, tag: &mut Tag| {
@@ -95,16 +116,16 @@ fn a_freezer_that_waits_for_the_drain_sleeps() {
         assert_eq!(queue.try_enter(tag, 0), Enter::Entered);
     };
     assert_eq!(queue.try_enter(&mut tag, 0), Enter::Entered);
-    sleeps("freeze", || assert_eq!(freezer.freeze(&queue), Ok(1)), || leave(&mut tag));
+    let freezes = taken_by(|| assert_eq!(freezer.freeze(&queue), Ok(1)), || leave(&mut tag));
     enter_again(&mut freezer, &mut tag);
     assert_eq!(freezer.start_freeze(&queue), Ok(1));
-    sleeps("wait_drained", || assert_eq!(freezer.wait_drained(&queue), Ok(())), || leave(&mut tag));
+    let waits = taken_by(|| assert_eq!(freezer.wait_drained(&queue), Ok(())), || leave(&mut tag));
     enter_again(&mut freezer, &mut tag);
     let shared = SharedFreezer::new(freezer, &queue);
-    sleeps("a shared freeze", || assert!(shared.freeze().is_ok()), || leave(&mut tag));
+    let freezes_shared = taken_by(|| assert!(shared.freeze().is_ok()), || leave(&mut tag));
     enter_again(&mut shared.lock().freezer, &mut tag);
     assert_eq!(shared.lock().freezer.start_freeze(&queue), Ok(1));
-    sleeps("a shared wait", || assert!(shared.wait_drained().is_ok()), || leave(&mut tag));
+    [freezes, waits, freezes_shared, taken_by(|| assert!(shared.wait_drained().is_ok()), || leave(&mut tag))]
 }
 
 /// A shared freeze nests in another: the depth is one more. It leaves the limits, and a wait leaves both.

@@ -8,7 +8,7 @@ use std::{hint, thread};
 
 #[path = "shared/turns.rs"]
 mod turns;
-use turns::{insist, wait_for};
+use turns::{insist, pause, until, wait_for};
 
 /// Spins for so long, and lets other threads run so often.
 fn dawdle(spins: u64, yields: u64) {
@@ -16,7 +16,7 @@ fn dawdle(spins: u64, yields: u64) {
         hint::spin_loop();
     }
     for _ in 0..yields {
-        thread::yield_now();
+        pause();
     }
 }
 
@@ -208,18 +208,18 @@ impl Refused {
 
     /// Tries to enter until the round is drained. A freezer that nobody wakes never thaws.
     fn try_in_round(&self, queue: &BlockQueue, tag: &mut Tag, round: u64) {
-        const PATIENCE: u64 = 200_000_000;
-        for _ in 0..PATIENCE {
-            if queue.try_enter(tag, 1) == Enter::Entered {
-                queue.leave(tag, 1);
-            } else {
-                self.refused.fetch_add(1, SeqCst);
-            }
-            if self.drained.load(SeqCst) >= round {
-                return;
-            }
-        }
-        insist(false, "a freezer sleeps that nobody woke");
+        /// So many tries in a row are interrupted now and then, also on one processor.
+        const TRIES: u32 = 2_000;
+        until(|| {
+            (0..TRIES).any(|_| {
+                if queue.try_enter(tag, 1) == Enter::Entered {
+                    queue.leave(tag, 1);
+                } else {
+                    self.refused.fetch_add(1, SeqCst);
+                }
+                self.drained.load(SeqCst) >= round
+            })
+        });
     }
 
     /// Enters, and leaves while the freezer sleeps and the other tag is refused, until so many leaves weren't the last. In such a

@@ -81,23 +81,26 @@ impl Wake for Woken {
     }
 }
 
+/// How long a test waits for what comes about in milliseconds, and in minutes on a machine that has much else to do.
+pub const PATIENCE: Duration = Duration::from_secs(600);
+
 /// Waits until something is so, which comes about soon.
 pub fn until(what: &str, mut is_so: impl FnMut() -> bool) {
     let began = Instant::now();
     while !is_so() {
-        assert!(began.elapsed() < Duration::from_secs(60), "{what}");
+        assert!(began.elapsed() < PATIENCE, "{what}");
         thread::sleep(Duration::from_micros(100));
     }
 }
 
-/// Runs a test on a thread of its own, and fails where it has no end within a minute: as of a wake that is lost.
+/// Runs a test on a thread of its own, and fails where it has no end in all that time: as of a wake that is lost.
 pub fn ends(test: impl FnOnce() + Send + 'static) {
     let (done, is_done) = mpsc::channel();
     let runs = thread::spawn(move || {
         test();
         done.send(()).unwrap();
     });
-    match is_done.recv_timeout(Duration::from_secs(60)) {
+    match is_done.recv_timeout(PATIENCE) {
         Err(RecvTimeoutError::Timeout) => panic!("it has no end: a wake is lost"),
         _ => runs.join().unwrap(),
     }

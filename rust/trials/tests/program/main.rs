@@ -5,6 +5,8 @@ mod driver;
 mod each_byte;
 #[path = "../streams/fakes.rs"]
 mod fakes;
+#[path = "../shared/meeting.rs"]
+mod meeting;
 mod stalling;
 mod texts;
 mod ways;

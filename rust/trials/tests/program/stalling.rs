@@ -2,11 +2,11 @@
 
 use crate::driver::{WILLING, call_held};
 use crate::fakes::{Feed, Sink};
+use crate::meeting::{hold_for, is_met};
 use blkq::erased::blk_workers::{Config, Point, Stall};
 use blkq::erased::blkq_run::run_bytes;
 use blkq::erased::counted_io::Counted;
 use std::sync::atomic::{AtomicU32, Ordering};
-use std::thread;
 
 /// The row ordered_twice: four requests, of which the second and the fourth are ordered.
 const SCRIPT: &[u8] = b"blkq 2\ndisk 4 hw 4\nwrite 0 2 01\nwrite 1 2 02\nwrite 0 1 03\nread 1 1\n";
@@ -65,8 +65,8 @@ fn each_point_is_passed() {
     assert_eq!(counts.drained.load(Ordering::SeqCst), 134);
 }
 
-/// Holds each request from this number on that is drawn until so many of these are entered and so many drawn, for 10,000,000 turns
-/// at most, and then for 10,000 turns more, and from then on none.
+/// Holds each request from this number on that is drawn until so many of these are entered and so many drawn, and then for a while
+/// more, and from then on none.
 struct Gathers {
     first: u32,
     workers: u32,
@@ -89,16 +89,12 @@ impl Gathers {
     }
 
     fn hold(&self) {
-        let mut more = 10_000u32;
-        for _ in 0..10_000_000 {
-            if self.found.load(Ordering::SeqCst) > 0 || more == 0 {
-                break;
-            }
+        is_met(|| {
             let (entered, drawn) = self.at_once();
-            if entered >= self.tags && drawn >= self.workers {
-                more -= 1;
-            }
-            thread::yield_now();
+            self.found.load(Ordering::SeqCst) > 0 || entered >= self.tags && drawn >= self.workers
+        });
+        if self.found.load(Ordering::SeqCst) == 0 {
+            hold_for(10_000);
         }
         let (entered, drawn) = self.at_once();
         let found = entered.wrapping_mul(100).wrapping_add(drawn);

@@ -1,25 +1,36 @@
-//! Threads that wait for one another in a test: by turns that are counted, so that a thread which is never woken ends the
-//! test with a failure. Such a failure aborts the program, since a panic would wait for the thread that sleeps.
+//! Threads that wait for one another in a test, for so many minutes that a thread which is never woken ends the test with a
+//! failure. Such a failure aborts the program, since a panic would wait for the thread that sleeps.
 
 use std::io::Write;
 use std::sync::atomic::{AtomicU64, Ordering::SeqCst};
-use std::{hint, io, process, thread};
+use std::time::Instant;
+use std::{hint, io, process};
 
-/// How many turns a thread waits at most for the others: some ten seconds of a processor, where they need microseconds.
-pub const PATIENCE: u64 = 20_000_000;
+#[path = "patience.rs"]
+mod patience;
+#[path = "pausing.rs"]
+mod pausing;
+use patience::PATIENCE;
+pub use pausing::pause;
 
-/// How many of them it spins, before it lets other threads run at each.
+/// How many turns a thread spins, before it lets other threads run at each.
 const SPINS: u64 = 200;
 
-/// Waits until this count is as high; fails where it isn't in so many turns.
-pub fn wait_for(count: &AtomicU64, high: u64) {
-    for turn in 0..PATIENCE {
-        if count.load(SeqCst) >= high {
+/// Waits until this is so; fails where it isn't in all that time.
+pub fn until(mut is_so: impl FnMut() -> bool) {
+    let begun = Instant::now();
+    for turn in 0.. {
+        if is_so() {
             return;
         }
         pass_turn(turn);
+        insist(turn % 1_024 > 0 || begun.elapsed() < PATIENCE, "a thread sleeps that nobody woke");
     }
-    insist(false, "a thread sleeps that nobody woke");
+}
+
+/// Waits until this count is as high.
+pub fn wait_for(count: &AtomicU64, high: u64) {
+    until(|| count.load(SeqCst) >= high);
 }
 
 /// Ends the program if this isn't so, while other threads may sleep.
@@ -31,10 +42,10 @@ pub fn insist(is_so: bool, why: &str) {
 }
 
 /// Lets a turn pass.
-pub fn pass_turn(turn: u64) {
+fn pass_turn(turn: u64) {
     if turn < SPINS {
         hint::spin_loop();
     } else {
-        thread::yield_now();
+        pause();
     }
 }

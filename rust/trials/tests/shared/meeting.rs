@@ -1,0 +1,47 @@
+//! Threads that are held at a point of a run, and runs that may hang.
+#![allow(dead_code, reason = "each file uses a part")]
+
+use std::sync::mpsc::channel;
+use std::thread;
+use std::time::{Duration, Instant};
+
+#[path = "patience.rs"]
+mod patience;
+#[path = "pausing.rs"]
+mod pausing;
+use patience::PATIENCE;
+use pausing::pause;
+
+/// Runs this on a thread of its own. Returns `None` if it hangs, or panics.
+pub fn ended<T: Send + 'static>(run: impl FnOnce() -> T + Send + 'static) -> Option<T> {
+    let (done, ended) = channel();
+    thread::spawn(move || done.send(run()));
+    ended.recv_timeout(PATIENCE).ok()
+}
+
+/// Holds this thread until it is so. Returns `false` if it isn't in all that time.
+pub fn is_met(mut is_so: impl FnMut() -> bool) -> bool {
+    let begun = Instant::now();
+    for turn in 0_u32.. {
+        if is_so() {
+            return true;
+        }
+        if turn % 1_024 == 1_023 && begun.elapsed() > PATIENCE {
+            break;
+        }
+        pause();
+    }
+    false
+}
+
+/// Holds this thread for so many turns, in which others go on. Where other programs have the processors a turn takes long, and fewer will
+/// do.
+pub fn hold_for(turns: u32) {
+    let begun = Instant::now();
+    for _ in 0..turns {
+        if begun.elapsed() > Duration::from_millis(100) {
+            break;
+        }
+        pause();
+    }
+}
