@@ -1,29 +1,33 @@
 /* Gates that several threads make, use and end at once, more than a million in all: no number is drawn twice, and each is
  * what the pass of its gate tells. Where there is memory no call is refused, so never by ERR_NO_MEMORY or ERR_IN_USE. Words: gates
  * of each thread. */
+#define _POSIX_C_SOURCE 200809L
 #include "drawing.h"
+#include "moment.h"
 #include "percpu_gate.h"
 
-#include <sched.h>
 #include <stdatomic.h>
 
 static const uint64_t words[8] = {0};
 static atomic_long arrived;
 
-/* Waits until every thread has come as far, so that they make gates at once even if the machine is busy. */
+enum { MEETINGS = 1000 };
+
+/* Waits until every thread has come as far, so that they make gates at once even if the machine is busy. There each meeting takes a while,
+ * so there are a thousand at most. */
 static void meet(void)
 {
     long all = (atomic_fetch_add(&arrived, 1) / THREADS + 1) * THREADS;
     for (long spins = 0; atomic_load(&arrived) < all; spins++)
         if (spins > 10000)
-            sched_yield();
+            moment();
 }
 
 static void *make(void *of)
 {
     uint64_t *mine = of;
     for (long i = 0; i < turns; i++) {
-        if (i % 8 == 0)
+        if (i % 8 == 0 && i / 8 < MEETINGS)
             meet();
         percpu_gate_control control = {0};
         percpu_gate_pass pass = {0};

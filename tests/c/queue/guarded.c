@@ -4,10 +4,10 @@
  * wherever the header doesn't tell it the queue's order. Words: freezes, threads. */
 #define _POSIX_C_SOURCE 200809L
 #include "freeze_queue.h"
+#include "../moment.h"
 #include "../need.h"
 
 #include <pthread.h>
-#include <sched.h>
 #include <stdatomic.h>
 #include <stdio.h>
 #include <stdlib.h>
@@ -50,14 +50,14 @@ static void *serve(void *of)
             me->served++;
             me->in_all++;
             if (turn % 8 == 0)
-                sched_yield(); /* so that a freeze finds it in */
+                moment(); /* so that a freeze finds it in */
             answer = freeze_queue_leave(&me->tag, slot);
         }
         need(!freeze_queue_is_refused(answer), freeze_queue_text(answer));
         if_drained(answer);
         atomic_fetch_add(&me->turns, 1);
         if (answer != FREEZE_QUEUE_OK || turn % 64 == 0)
-            sched_yield();
+            moment();
     }
     return NULL;
 }
@@ -67,7 +67,7 @@ static void wait_for_turns(void)
 {
     for (long i = 0; i < threads; i++)
         for (unsigned long seen = atomic_load(&submitters[i].turns); atomic_load(&submitters[i].turns) == seen;)
-            sched_yield();
+            moment();
 }
 
 static void collect(uint32_t max)
@@ -86,13 +86,13 @@ static void wait_in_some_way(int way, uint32_t answer, unsigned long before, fre
 {
     if (way == 0) {
         while (!freeze_queue_poll_drained(&freezer))
-            sched_yield();
+            moment();
     } else if (way == 1) {
         while (freeze_queue_set(&freezer, &next) == FREEZE_QUEUE_ERR_NOT_DRAINED)
-            sched_yield();
+            moment();
     } else if (answer != FREEZE_QUEUE_DRAINED) {
         while (atomic_load(&told) == before)
-            sched_yield();
+            moment();
         need(told_freeze == freeze, "told of another freeze");
     }
 }
@@ -102,7 +102,7 @@ static void let_serve(struct submitter *some)
 {
     unsigned long seen = atomic_load_explicit(&some->turns, memory_order_relaxed);
     while (atomic_load_explicit(&some->turns, memory_order_relaxed) < seen + 10)
-        sched_yield();
+        moment();
 }
 
 static void one_freeze(long i)
@@ -124,7 +124,7 @@ static void one_freeze(long i)
     if (answer == FREEZE_QUEUE_DRAINED)
         wait_for_turns();
     while (answer == FREEZE_QUEUE_OK && atomic_load(&told) == before)
-        sched_yield();
+        moment();
     need(freeze_queue_thaw(&freezer, &depth) == FREEZE_QUEUE_LIVE_AGAIN, "a thaw");
 }
 

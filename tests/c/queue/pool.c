@@ -4,7 +4,7 @@
 #include "freeze_queue_pool.h"
 #include "../is.h"
 
-#include <sched.h>
+#include <semaphore.h>
 #include <stdio.h>
 #include <stdlib.h>
 
@@ -112,7 +112,7 @@ static void *gives_later(void *tag)
 
 static void waits_for_one(void)
 {
-    struct timespec past = {0, 0}, soon = freeze_queue_deadline(20000000), late = freeze_queue_deadline(20000000000);
+    struct timespec past = {0, 0}, soon = freeze_queue_deadline(20000000), late = freeze_queue_deadline(600000000000);
     freeze_queue_tag *tags[TAGS];
     pthread_t thread;
     for (int i = 0; i < TAGS; i++)
@@ -162,16 +162,17 @@ static void used_by(uint32_t threads)
 /* Two threads and one tag, in turn: each waits for the other to have had the tag before it asks again, so a wake that is
  * lost isn't made good by the next. */
 static long done[2];
+static sem_t had[2]; /* a turn, by each */
 
 static void *take_in_turn(void *of)
 {
     uintptr_t me = (uintptr_t)of;
     for (long turn = 1; turn <= turns; turn++) {
         freeze_queue_tag *tag = freeze_queue_pool_take_waiting(&pool, 0, NULL);
-        __atomic_store_n(&done[me], turn, __ATOMIC_SEQ_CST);
+        done[me] += tag != NULL;
         freeze_queue_pool_give(&pool, tag);
-        while (__atomic_load_n(&done[1 - me], __ATOMIC_SEQ_CST) < turn)
-            sched_yield();
+        sem_post(&had[me]);
+        while (sem_wait(&had[1 - me]) != 0) {}
     }
     return NULL;
 }
@@ -179,7 +180,7 @@ static void *take_in_turn(void *of)
 static void in_turn(void)
 {
     pthread_t other;
-    if (pthread_create(&other, NULL, take_in_turn, (void *)(uintptr_t)1))
+    if (sem_init(&had[0], 0, 0) || sem_init(&had[1], 0, 0) || pthread_create(&other, NULL, take_in_turn, (void *)(uintptr_t)1))
         exit(2);
     take_in_turn((void *)(uintptr_t)0);
     pthread_join(other, NULL);

@@ -1,6 +1,6 @@
 /* Who is told of a drain: a tag leaves while others try to enter the frozen queue, whose refused tries are counted for a
- * moment. Of each freeze exactly one is told, LAST or NOT_ENTERED_LAST. Both are to be seen, the second of two threads, where
- * there are two processors: it is one freeze in some fifty. Words: the least freezes, and the most seconds. */
+ * moment. Of each freeze exactly one is told, LAST or NOT_ENTERED_LAST. Both are to be seen, the second of two threads: it is one
+ * freeze in some fifty. Words: the least freezes, and the most seconds. */
 #define _POSIX_C_SOURCE 200809L
 #include "freeze_queue.h"
 #include "../need.h"
@@ -11,7 +11,6 @@
 #include <stdio.h>
 #include <stdlib.h>
 #include <time.h>
-#include <unistd.h>
 
 enum { TRIERS = 2, LEAVER = TRIERS };
 
@@ -36,15 +35,17 @@ static bool next(struct caller *me)
     return true;
 }
 
-/* Tries again and again, as programs needn't, until the queue is drained by one of them. */
+/* Tries again and again, as programs needn't. In one freeze of sixteen it does so until the tag has left: on one processor too it is
+ * interrupted between two steps of a try, then. */
 static void *tries(void *of)
 {
     struct caller *me = of;
     const bool looks = me == &callers[0]; /* enters the frozen queue, too */
     while (next(me)) {
+        const long freeze = atomic_load(&me->begun);
         uint32_t answer = FREEZE_QUEUE_NOT_ENTERED;
-        for (int i = 0; i < 40; i++) {
-            answer = looks && i > 20 ? freeze_queue_try_enter_frozen(&me->tag, 0) : freeze_queue_try_enter(&me->tag, 0);
+        for (long i = 0; i < 40 || (freeze % 16 == 0 && atomic_load(&callers[LEAVER].ended) < freeze); i++) {
+            answer = looks && i % 40 > 20 ? freeze_queue_try_enter_frozen(&me->tag, 0) : freeze_queue_try_enter(&me->tag, 0);
             if (answer == FREEZE_QUEUE_OK)
                 answer = freeze_queue_leave(&me->tag, 0);
             need(!freeze_queue_is_refused(answer), freeze_queue_text(answer));
@@ -98,8 +99,8 @@ int main(int argc, char **argv)
 {
     const freeze_queue_limits limits = {8, 0, 0, 1};
     freeze_queue_final last;
-    long freezes = argc > 1 ? atol(argv[1]) : 1000, most = argc > 2 ? atol(argv[2]) : 100, i = 0;
-    bool seen = sysconf(_SC_NPROCESSORS_ONLN) < 2;
+    long freezes = argc > 1 ? atol(argv[1]) : 1000, most = argc > 2 ? atol(argv[2]) : 1000, i = 0;
+    bool seen = false;
     time_t begun = time(NULL);
     need(freeze_queue_new(&freezer, &limits, 1, TRIERS + 1) == FREEZE_QUEUE_OK, "no queue");
     for (int t = 0; t <= LEAVER; t++)

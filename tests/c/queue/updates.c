@@ -16,6 +16,7 @@ static freeze_queue_waits waits;
 static long changes;
 static bool apart;
 static uint32_t wrong;
+static pthread_barrier_t all_have_read; /* where they are apart: before the first of the changes is set, so that some are lost */
 
 /* Adds 1 to the field of this thread. */
 static uint32_t adds_one(freeze_queue_limits *limits, void *of_chunk)
@@ -28,10 +29,12 @@ static uint32_t adds_one(freeze_queue_limits *limits, void *of_chunk)
 }
 
 /* The same by three calls, as before there was one. */
-static uint32_t adds_one_apart(void *of_chunk)
+static uint32_t adds_one_apart(void *of_chunk, bool is_first)
 {
     freeze_queue_limits limits;
     uint32_t answer = freeze_queue_waits_limits(&waits, &limits);
+    if (is_first)
+        pthread_barrier_wait(&all_have_read);
     sched_yield();
     if (answer == FREEZE_QUEUE_OK)
         answer = adds_one(&limits, of_chunk);
@@ -41,7 +44,7 @@ static uint32_t adds_one_apart(void *of_chunk)
 static void *changes_limits(void *of_chunk)
 {
     for (long i = 0; i < changes; i++) {
-        uint32_t answer = apart ? adds_one_apart(of_chunk) : freeze_queue_waits_update(&waits, adds_one, of_chunk, NULL);
+        uint32_t answer = apart ? adds_one_apart(of_chunk, i == 0) : freeze_queue_waits_update(&waits, adds_one, of_chunk, NULL);
         if (answer != FREEZE_QUEUE_OK)
             __atomic_store_n(&wrong, 1, __ATOMIC_SEQ_CST);
     }
@@ -55,7 +58,8 @@ int main(int count, char **words)
     freeze_queue_limits limits = {0, 0, 0, 0};
     changes = count > 1 ? strtol(words[1], NULL, 10) : 0;
     apart = count == 3 && strcmp(words[2], "apart") == 0;
-    if (changes < 1 || changes > 30000 || freeze_queue_new(&freezer, &first, 1, 1) || freeze_queue_waits_init(&waits, &freezer))
+    if (changes < 1 || changes > 30000 || freeze_queue_new(&freezer, &first, 1, 1) || freeze_queue_waits_init(&waits, &freezer) ||
+        pthread_barrier_init(&all_have_read, NULL, THREADS) != 0)
         return 2;
     for (int i = 0; i < THREADS; i++)
         if (pthread_create(&threads[i], NULL, changes_limits, i % 2 ? &waits : NULL) != 0)

@@ -8,7 +8,7 @@
 #include <stdio.h>
 #include <stdlib.h>
 
-static const uint64_t SOON = 20000000, LONG = 20000000000; /* nanoseconds */
+static const uint64_t SOON = 20000000, LONG = 600000000000; /* nanoseconds: LONG ends a wait whose wake is lost */
 
 #define IS(call, want) is(#call, call, FREEZE_QUEUE_##want, __LINE__)
 
@@ -286,7 +286,7 @@ static void events(struct queue *queue)
     TELLS(is_readable(waits->drained_event), false);
     IS(freeze_queue_waits_try_enter(waits, &queue->tags[1], 0), NOT_ENTERED);
     begin(&later, queue, first_leaves, SOON);
-    TELLS(is_readable_within(waits->drained_event, 2000), true);
+    TELLS(is_readable_within(waits->drained_event, LONG / 1000000), true);
     IS(answer_of(&later), OK);
     TELLS(freeze_queue_waits_is_drained(waits), true);
     IS(freeze_queue_waits_begin_freeze(waits), DRAINED);
@@ -294,7 +294,7 @@ static void events(struct queue *queue)
     TELLS(is_readable(waits->drained_event), true);
     TELLS(is_readable(waits->live_event), false);
     begin(&later, queue, thaws, SOON);
-    TELLS(is_readable_within(waits->live_event, 2000), true);
+    TELLS(is_readable_within(waits->live_event, LONG / 1000000), true);
     IS(answer_of(&later), LIVE_AGAIN);
     TELLS(is_readable(waits->drained_event), false);
     IS(freeze_queue_waits_try_enter(waits, &queue->tags[1], 0), OK);
