@@ -9,7 +9,7 @@ use std::fs;
 const SCRIPT: &[u8] = b"blkq 1\ndisk 16 hw 8\nset max_sectors 4\nset chunk_sectors 8\nwrite 6 6 61\n";
 const ANSWER: &[u8] = b"3 ok\n4 ok\n5 ok 2+4\ndisk 00*3072,61*3072,00*2048\n";
 
-/// The KiB of this process that are in memory. The sum of its maps is exact; where Linux doesn't tell it, `statm` has it within some pages
+/// The KiB of this process that are in memory. The sum of its maps is exact; on a Linux without it `statm` is within some pages
 /// for each processor.
 fn resident() -> u64 {
     if let Ok(told) = fs::read_to_string("/proc/self/smaps_rollup") {

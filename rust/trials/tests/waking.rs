@@ -208,7 +208,7 @@ impl Refused {
 
     /// Tries to enter until the round is drained. A freezer that nobody wakes never thaws.
     fn try_in_round(&self, queue: &BlockQueue, tag: &mut Tag, round: u64) {
-        /// So many tries in a row are interrupted now and then, also on one processor.
+        /// Tries in a row, which are interrupted now and then, also on one processor.
         const TRIES: u32 = 2_000;
         until(|| {
             (0..TRIES).any(|_| {
