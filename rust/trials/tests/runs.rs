@@ -4,13 +4,16 @@
 use blkq::erased::blk_script::{Checked, parse};
 use blkq::erased::blk_workers::{Config, NoStall, Point, Stall, run_checked};
 use std::fmt::Write;
+use std::hint;
 use std::sync::atomic::{AtomicU32, Ordering::SeqCst};
-use std::{hint, thread};
 
 #[path = "shared/both_texts.rs"]
 mod both_texts;
+#[path = "shared/pausing.rs"]
+mod pausing;
 
 use both_texts::both_texts;
+use pausing::pause;
 
 /// A script with a line of each kind.
 const MIXED: &str = "blkq 1\ndisk 16 hw 8\nwrite 0 4 01\nread 8 4\nset max_sectors 3\nread 0 4\nfreeze\nfreeze\nread 0 1\n\
@@ -119,7 +122,7 @@ impl Stall for Dallies {
             hint::spin_loop();
         }
         if seed >> 29 == 0 {
-            thread::yield_now();
+            pause();
         }
     }
 
