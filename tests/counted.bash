@@ -37,6 +37,17 @@ compare() {
     fi
 }
 
+# Copies files and folders, as tar's words name them, into a new folder. Its status 1 says that a folder changed meanwhile: another test
+# may build there what the words leave out.
+copied_to() {
+    local to=$1 ended
+    shift
+    mkdir "$to" || return 1
+    tar -c "$@" | tar -x -C "$to"
+    ended=("${PIPESTATUS[@]}")
+    ((ended[0] <= 1 && ended[1] == 0))
+}
+
 # The last line, and the status.
 report() {
     echo "$passed passed, $failed failed"

@@ -21,10 +21,11 @@ LATE = """(() => {
 STOPPED_ONCE_IT_RUNS = """new Promise((done) => {{
     void open({large});
     const look = setInterval(() => {{
-        if (!(parseFloat(find("status").textContent.replace("running: ", "")) > 0.2)) return;
+        const status = find("status").textContent;
+        if (parseFloat(status.replace("running: ", "")) <= 0.2) return;
         clearInterval(look);
         find("stop").click();
-        done();
+        done(status.split(":")[0]);
     }}, 5);
 }})"""
 LITTLE = 1 << 20
@@ -55,7 +56,10 @@ def stops(page, counts, url, large):
     counts.equal("an edit ends the worker and the clock", ended, [[True, True], True])
     page.until(f"{STATUS}.startsWith('answered')")
     counts.equal("the edit is answered", page.js("page.answer"), "disk 00*512\n")
-    page.js(f"void open({large}); void open('blkq 1\\ndisk 2 hw 1\\n')")
+    both = f"void open({large}); void open('blkq 1\\ndisk 2 hw 1\\n')"
+    page.js(f"{ENDLESS} {both}")
+    counts.equal("of two runs the first one's end isn't shown", page.js(f"{STATUS}.split(':')[0]"), "running")
+    page.js(f"{AS_LONG_AS_IT_TAKES} {both}")
     page.until(f"{STATUS}.startsWith('answered')")
     counts.equal("of two runs the last is answered", page.js("page.answer"), "disk 00*1024\n")
     page.call("Page.removeScriptToEvaluateOnNewDocument", identifier=script)
@@ -65,7 +69,7 @@ def stops(page, counts, url, large):
 
 def one_after_another(page, counts, large):
     """A race that is stopped, and one that is too large, and the page after each."""
-    page.js(STOPPED_ONCE_IT_RUNS.format(large=large))
+    counts.equal("a race runs for a while", page.js(STOPPED_ONCE_IT_RUNS.format(large=large)), "running")
     page.until("find('status').textContent.startsWith('stopped after')")
     counts.check("a race is stopped", page.js("find('stop').disabled"))
     page.js(f"page.most = {16 << 20}; void open({large})")
