@@ -8,22 +8,7 @@
 #include <stdint.h>
 #include <time.h>
 
-/* Where a yield gives the processor away for milliseconds, since other programs want it as well, a thousand short sleeps come next. */
-static inline void yields(void)
-{
-    static __thread int sleeps;
-    struct timespec before, after, moment = {0, 1000};
-    if (sleeps > 0) {
-        sleeps--;
-        nanosleep(&moment, NULL);
-        return;
-    }
-    clock_gettime(CLOCK_MONOTONIC, &before);
-    sched_yield();
-    clock_gettime(CLOCK_MONOTONIC, &after);
-    if ((after.tv_sec - before.tv_sec) * 1000000000L + after.tv_nsec - before.tv_nsec > 1000000)
-        sleeps = 1000;
-}
+#include "../moment.h"
 
 static inline void dawdle(void)
 {
@@ -35,7 +20,7 @@ static inline void dawdle(void)
         struct timespec moment = {0, 20000};
         nanosleep(&moment, NULL);
     } else if (seed >> 29 == 1)
-        yields();
+        gives_way();
 }
 
 #define pthread_mutex_lock(lock) (dawdle(), pthread_mutex_lock(lock))

@@ -4,6 +4,7 @@
  * Words: how many lives. */
 #define _POSIX_C_SOURCE 200809L
 #include "freeze_queue_waits.h"
+#include "../moment.h"
 
 #include <stdio.h>
 #include <stdlib.h>
@@ -91,7 +92,7 @@ int main(int count, char **words)
     for (long number = 0; number < lives; number++)
         live(number);
     while (__atomic_load_n(&here, __ATOMIC_SEQ_CST) > 0)
-        sched_yield();
+        gives_way();
     printf("%ld lives%s\n", lives, wrong ? ", FAILED" : "");
     return wrong != 0;
 }

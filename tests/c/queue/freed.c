@@ -2,10 +2,10 @@
  * leaves is told that the queue is drained by it. Word: how many queues. */
 #define _POSIX_C_SOURCE 200809L
 #include "freeze_queue.h"
+#include "../moment.h"
 #include "../need.h"
 
 #include <pthread.h>
-#include <sched.h>
 #include <stdatomic.h>
 #include <stdio.h>
 #include <stdlib.h>
@@ -19,7 +19,7 @@ static atomic_long begun, ended;    /* queues */
 static void wait_for(atomic_long *count, long high)
 {
     while (atomic_load(count) < high)
-        sched_yield();
+        gives_way();
 }
 
 static void *frees(void *queues)

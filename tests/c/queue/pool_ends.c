@@ -4,8 +4,8 @@
  * still inside is told by the sanitizers. Words: how many lives. */
 #define _POSIX_C_SOURCE 200809L
 #include "freeze_queue_pool.h"
+#include "../moment.h"
 
-#include <sched.h>
 #include <stdio.h>
 #include <stdlib.h>
 
@@ -27,7 +27,7 @@ static void *goes_on(void *tag)
 {
     uint32_t answer = freeze_queue_waits_enter(&waits, tag, 0, NULL);
     if (answer == FREEZE_QUEUE_OK) {
-        sched_yield();
+        gives_way();
         need(freeze_queue_waits_leave(&waits, tag, 0) == FREEZE_QUEUE_OK);
     } else
         need(answer == FREEZE_QUEUE_ERR_DYING);
@@ -109,7 +109,7 @@ int main(int count, char **words)
         freeze_queue_pool_free(pool); /* at once */
         need(freeze_queue_waits_end(&waits, &last, NULL) == FREEZE_QUEUE_OK);
         while (__atomic_load_n(&here, __ATOMIC_SEQ_CST) > 0)
-            sched_yield();
+            gives_way();
     }
     printf("%ld lives%s\n", lives, wrong ? ", FAILED" : "");
     return wrong != 0;

@@ -3,10 +3,10 @@
  * freeze in some fifty. Words: the least freezes, and the most seconds. */
 #define _POSIX_C_SOURCE 200809L
 #include "freeze_queue.h"
+#include "../moment.h"
 #include "../need.h"
 
 #include <pthread.h>
-#include <sched.h>
 #include <stdatomic.h>
 #include <stdio.h>
 #include <stdlib.h>
@@ -31,11 +31,11 @@ static bool next(struct caller *me)
         if (atomic_load(&over))
             return false;
         else
-            sched_yield();
+            gives_way();
     return true;
 }
 
-/* Tries again and again, as programs needn't. In one freeze of sixteen it does so until the tag has left: on one processor too it is
+/* Tries again and again, as programs needn't. In one freeze of eight it does so until the tag has left: on one processor too it is
  * interrupted between two steps of a try, then. */
 static void *tries(void *of)
 {
@@ -44,7 +44,7 @@ static void *tries(void *of)
     while (next(me)) {
         const long freeze = atomic_load(&me->begun);
         uint32_t answer = FREEZE_QUEUE_NOT_ENTERED;
-        for (long i = 0; i < 40 || (freeze % 16 == 0 && atomic_load(&callers[LEAVER].ended) < freeze); i++) {
+        for (long i = 0; i < 40 || (freeze % 8 == 0 && atomic_load(&callers[LEAVER].ended) < freeze); i++) {
             answer = looks && i % 40 > 20 ? freeze_queue_try_enter_frozen(&me->tag, 0) : freeze_queue_try_enter(&me->tag, 0);
             if (answer == FREEZE_QUEUE_OK)
                 answer = freeze_queue_leave(&me->tag, 0);
@@ -82,7 +82,7 @@ static void one_freeze(void)
         atomic_fetch_add(&callers[i].begun, 1);
     for (int i = 0; i <= LEAVER; i++)
         while (atomic_load(&callers[i].ended) != atomic_load(&callers[i].begun))
-            sched_yield();
+            gives_way();
     for (int i = 0; i <= LEAVER; i++)
         after += callers[i].told[0] + callers[i].told[1];
     need(after == before + 1, "a drain is told twice, or to nobody");
