@@ -86,11 +86,15 @@ static void ends_when_empty(void)
 {
     uint32_t answer;
     need(freeze_queue_waits_mark_dying(&waits) == FREEZE_QUEUE_OK);
-    do {
+    for (long asked = 1;; asked++) {
         pthread_mutex_lock(&waits.lock);
         answer = freeze_queue_pool_empty(pool, &freezer);
         pthread_mutex_unlock(&waits.lock);
-    } while (answer == FREEZE_QUEUE_ERR_TAGS_OUT);
+        if (answer != FREEZE_QUEUE_ERR_TAGS_OUT)
+            break;
+        if (asked % 8 == 0)
+            moment(); /* the others want the lock */
+    }
     need(answer == FREEZE_QUEUE_OK);
 }
 
