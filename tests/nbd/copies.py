@@ -188,7 +188,7 @@ def around(served):
     """A freeze around a command: its status, and the thaw however it ends; a freeze that is lost on the way is told."""
     with Server(served, "size=1M") as server, closing(server.control()) as control:
         for command, status in ((["true"], 0), (["sh", "-c", "exit 7"], 7), (["sh", "-c", "kill -9 $$"], 137),
-                                (["no-such-program"], 127), (["/"], 126)):
+                                (["/no/such/program"], 127), (["/"], 126)):
             blkqctl(server, "freeze", "--", *command, status=status)
             assert depth_of(server) == 0, command
         asking = ["sh", "-c", f"{sys.executable} {BLKQCTL} {server.control_path} stat"]
