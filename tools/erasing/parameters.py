@@ -136,6 +136,11 @@ class Parameters:
         place = self.place_of(s, i)
         return place is not None and self.joined.is_ghost(place)
 
+    def is_inferred(self, s, part):
+        """Whether a type argument is `_`, or a parameter in scope alone: the values that are handed on have it too."""
+        words = [i for i in range(part[0], part[1] + 1) if s.counts(i)]
+        return len(words) == 1 and (s.at(words[0], "_") or self.place_of(s, words[0]) is not None)
+
     def ghost_names(self, s, i):
         """The ghost parameters in scope at `i`."""
         inside = [c for c in self.scopes[id(s)] if c.first <= i <= c.end]
@@ -146,6 +151,9 @@ class Parameters:
         found = list(self.mentions(s))
         for i, mine, parts, place in found:
             ghosts = [part for k, part in enumerate(mine) if self.joined.is_ghost((*place, k))]
+            if s.at(s.before(i), ":") and all(part in ghosts or self.is_inferred(s, part) for part in parts):
+                # A call of Rust names none of the rest.
+                ghosts = ghosts and parts
             cut_parts(s, i, ghosts, parts)
         for scope in self.scopes[id(s)]:
             ghosts = [part for name, _, part in scope.parameters if self.joined.is_ghost(scope.places[name])]

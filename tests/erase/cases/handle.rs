@@ -17,6 +17,10 @@ impl<'a, S> Hall<'a, S> {
         }
     }
 
+    pub fn wait_for<T>(&self, it: T) -> (T, T, u32) {
+        (after(it), after(it), after::<u32>(1))
+    }
+
     pub fn wait_or_leave(&self) {
         loop {
             break;
@@ -27,4 +31,8 @@ impl<'a, S> Hall<'a, S> {
 
 fn sleep(rt: u32) -> bool {
     rt > 0
+}
+
+fn after<T>(it: T) -> T {
+    it
 }

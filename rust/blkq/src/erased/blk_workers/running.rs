@@ -50,7 +50,7 @@ fn run_in<S: Stall>(
     let workers = inputs.config.workers();
     let stations = Shelf::new(workers as usize)?;
     let uniform = UniformSectors::of(inputs.checked.script())?;
-    let hall = Hall::<S>::new(inputs.checked, inputs.stall, queues, &stations, &uniform);
+    let hall = Hall::new(inputs.checked, inputs.stall, queues, &stations, &uniform);
     // One place more than there are numbers to draw: a draw makes sure of one before it takes an end mark too.
     let numbers_each = inputs.checked.accepted() + 1;
     let drawers = drawers(&hall, &mut ends.source, workers, numbers_each)?;
@@ -82,7 +82,7 @@ fn run_on<S: Stall>(
     let workers = inputs.config.workers();
     let (queues, source, taker) = Queues::new(queue, tags, completions, workers)?;
     let ends = Ends { source, collector, taker, small: 0 };
-    run_in::<S>(inputs, &queues, submitter, ends)
+    run_in(inputs, &queues, submitter, ends)
 }
 
 // A run whose types name its script and its queue: `parts` are the new queue, its freezer and its tags.
@@ -100,7 +100,7 @@ fn run_as<S: Stall>(inputs: &Inputs<'_, S>, parts: NewQueue) -> Result<Ran, RunF
     let room = tags.len() + 1;
     let (completions, collector) = CompletionQueue::new(room)?;
     let submitter = Submitter::new(inputs.checked.script(), freezer)?;
-    run_on::<S>(inputs, queue, tags, completions, collector, submitter)
+    run_on(inputs, queue, tags, completions, collector, submitter)
 }
 
 /// Runs a checked script on as many workers as the config says, whose replies and disk are those of a single thread.
@@ -118,7 +118,7 @@ pub fn run_checked<S: Stall>(checked: &Checked<'_>, config: Config, stall: &S) -
     let Ok(limits) = Limits::start(script.hw()) else { unreachable!() };
     let parts = BlockQueue::new(limits, config.slots(), config.tags())?;
     let inputs = Inputs { checked, config, stall };
-    run_as::<S>(&inputs, parts)
+    run_as(&inputs, parts)
 }
 
 /// Runs a script of which no two requests overlap, as [`check`](script_overlap::check) tells: [`run_checked`] of what a check
