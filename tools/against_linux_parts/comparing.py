@@ -42,7 +42,7 @@ class Driver:
     def __init__(self, path):
         self.path = path
 
-    def answers(self, lines, seconds=300):
+    def answers(self, lines, seconds=60):
         try:
             done = subprocess.run([self.path], input="\n".join(lines) + "\n", capture_output=True, text=True, timeout=seconds, check=False)
             ended = [] if done.returncode == 0 else [f"the program ends with status {done.returncode}"]
@@ -84,7 +84,7 @@ class Kind:
                 tally[how] += 1
         return None
 
-    def cut(self, difference, seconds=600):
+    def cut(self, difference, seconds=300):
         """The fewest lines that show it: some difference, from the same first line's kind on."""
         def holds(data):
             found = self.first_difference(data.decode().split("\n"))
