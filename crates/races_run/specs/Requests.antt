@@ -1,14 +1,28 @@
 -- What the words after the program's name ask for.
-use Rattle.std.specs.Prelude.{◌≡◌, ℕ, List, [], ◌∷◌, Option, None, Some, codes, Ok}
+use Rattle.std.specs.Prelude.{◌≡◌, ℕ, if◌then◌else◌, List, [], ◌∷◌, Option, None, Some, codes, Ok}
+use Rattle.std.specs.Str.{bytes_eq}
 use Rattle.line_text.specs.Numbers.{number_in}
+use Rattle.races_text.specs.declared.writing.Form.{Form}
+use Rattle.races_text.specs.declared.writing.Form.TheVariants.{Answers, Outcomes, Summary}
 
--- no words ask for all outcomes, and `--states` with a number of 64 bits from 1, spelled as a race spells its numbers, for those of a
--- race of so many states at most
-abbrev pub Asks : List (List ℕ) → Option ℕ → Type 0
-Asks [] most = most ≡ None
-Asks (word ∷ number ∷ []) (Some most) = (word ≡ codes "--states") × (number_in 1 18446744073709551615 number ≡ Ok most)
-Asks words most = ⊥
+-- no words set no bound, and `--states` with a number of 64 bits from 1, spelled as a race spells its numbers, that of so many states
+abbrev pub Bounds : List (List ℕ) → Option ℕ → Type 0
+Bounds [] most = most ≡ None
+Bounds (word ∷ number ∷ []) (Some most) = (word ≡ codes "--states") × (number_in 1 18446744073709551615 number ≡ Ok most)
+Bounds words most = ⊥
 
--- the outcomes of a race, with a bound or without
+-- the form that the first word names, and the words behind it; any other words ask for answers
+abbrev pub form_in : List (List ℕ) → Form × List (List ℕ)
+form_in [] = (Answers, [])
+form_in (word ∷ words) =
+    if bytes_eq word (codes "--outcomes") then (Outcomes, words)
+    else if bytes_eq word (codes "--summary") then (Summary, words)
+    else (Answers, word ∷ words)
+
+-- first the form, then the bound
+abbrev pub Asks : List (List ℕ) → Form → Option ℕ → Type 0
+Asks words form most = ((form_in words).0 ≡ form) × Bounds (form_in words).1 most
+
+-- an answer to a race, in some form, with a bound or without
 abbrev pub AsksSomething : List (List ℕ) → Type 0
-AsksSomething words = (most : Option ℕ) × Asks words most
+AsksSomething words = (form : Form) × (most : Option ℕ) × Asks words form most

@@ -1,20 +1,22 @@
 //! The program, over any reader and writers.
-ghost use Rattle.std.specs.Prelude.{◌≡◌, [], ◌∷◌, ℕ, Option, map, string_bytes, Contains};
+ghost use Rattle.std.specs.Prelude.{◌≡◌, [], ◌∷◌, map, string_bytes, Contains};
 ghost use Rattle.counted_io.specs.Failures.{IsFourIfBroken};
 ghost use Rattle.counted_io.specs.Reading.{TakesUpTo};
-ghost use Rattle.races_run.specs.Requests.{Asks, AsksSomething};
-ghost use Rattle.races_run.specs.Statuses.{TellsOutcomes};
+ghost use Rattle.races_run.specs.Requests.{AsksSomething};
+ghost use Rattle.races_run.specs.Statuses.{TellsAsAsked, TellsOutcomes};
 
 use crate::arguments::{Task, requested};
 use crate::fault::Fault;
 use crate::run::{MOST_READ, outcomes_bytes};
 use counted_io::Counted;
+use races_text::Form;
 use std::alloc::Global;
 use std::io;
 use std::io::{ErrorKind, Read, Write};
 
 /// How the program is called.
-const USAGE: &str = "usage: gate_races [--states N], with a race on standard input";
+const USAGE: &str =
+    "usage: gate_races [--outcomes | --summary] [--states N], with a race on standard input";
 
 /// The status where the answer didn't go out, for any reason but the input.
 const NOT_ANSWERED: u8 = 4;
@@ -22,16 +24,17 @@ const NOT_ANSWERED: u8 = 4;
 /// Answers the race that `reader` has, and tells the program's status, with a line to `errors` where it isn't 0.
 fn outcomes_reported<R: Read, W: Write, E: Write>(
     alloc: Global,
+    form: Form,
     most: Option<u64>,
     reader: &mut Counted<R>,
     writer: &mut Counted<W>,
     errors: &mut E,
 ) -> u8
-    ensures told { TellsOutcomes R.remaining W.contents most reader.old writer.old writer.new result }
+    ensures told { TellsOutcomes form R.remaining W.contents most reader.old writer.old writer.new result }
     ensures broken { IsFourIfBroken reader.old reader.new writer.old writer.new result }
     ensures taken { TakesUpTo R.remaining reader.old reader.new MOST_READ }
 {
-    match outcomes_bytes(alloc, reader, writer, most) {
+    match outcomes_bytes(alloc, reader, writer, form, most) {
         Ok(()) => 0,
         Err(fault) => {
             let _ = errors.writeln(fault);
@@ -40,10 +43,11 @@ fn outcomes_reported<R: Read, W: Write, E: Write>(
     }
 }
 
-/// Writes to `writer` all outcomes of the race that `reader` has, and tells the program's status: 0 where they
-/// went out. Any other status comes with a line to `errors`: 2 where the input is no race, and 4 where reading,
-/// writing or memory was refused, or the race has more states than `args`, the words after the program's name,
-/// have behind `--states`, or they ask for nothing that there is. They are looked at before anything is read.
+/// Writes to `writer` the answer to the race that `reader` has, and tells the program's status: 0 where it
+/// went out. `args`, the words after the program's name, choose the form: the answers to the race's questions, or its
+/// outcomes. Any other status comes with a line to `errors`: 2 where the input is no race, and 4 where reading,
+/// writing or memory was refused, or the race has more states than `args` have behind `--states`, or they ask for
+/// nothing that there is. They are looked at before anything is read.
 /// Where `errors` fails, the line is lost and the status stays.
 pub fn command<R: Read, W: Write, E: Write>(
     alloc: Global,
@@ -53,8 +57,7 @@ pub fn command<R: Read, W: Write, E: Write>(
     errors: &mut E,
 ) -> u8
     ensures statuses { Contains (0 ∷ 2 ∷ 4 ∷ []) result }
-    ensures told { (most : Option ℕ) → Asks (map string_bytes args.now) most
-        → TellsOutcomes R.remaining W.contents most reader.old writer.old writer.new result }
+    ensures told { TellsAsAsked (map string_bytes args.now) R.remaining W.contents reader.old writer.old writer.new result }
 
     // Where the words ask for no outcomes, nothing is read and nothing is written.
     ensures usage { ¬ (AsksSomething (map string_bytes args.now)) → result ≡ 4 }
@@ -66,7 +69,7 @@ pub fn command<R: Read, W: Write, E: Write>(
     ensures taken { TakesUpTo R.remaining reader.old reader.new MOST_READ }
 {
     match requested(args) {
-        Task::Outcomes(most) => outcomes_reported(alloc, most, reader, writer, errors),
+        Task::Answer(form, most) => { outcomes_reported(alloc, form, most, reader, writer, errors) }
         Task::Usage => {
             let _ = errors.writeln(USAGE);
             NOT_ANSWERED

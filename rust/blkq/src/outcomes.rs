@@ -1,12 +1,12 @@
 //! All outcomes of a race.
 use crate::erased::counted_io::Counted;
-use crate::erased::races_run::outcomes_bytes;
+use crate::erased::races_run::{Form, outcomes_bytes};
 use crate::errors::RaceError;
 use crate::text::Text;
 
 /// Goes through all orders of the atomic steps of a race, and returns its outcomes: what the calls answer, in how many states it
 /// ends so, and a shortest schedule that leads there, which [`replay`](crate::replay()) takes unchanged if it has at most
-/// 1,048,576 bytes. The program `gate_races` writes the same.
+/// 1,048,576 bytes. The program `gate_races --outcomes` writes the same. The questions of a race are read, and not answered.
 ///
 /// It keeps each state until all are seen, so a race of many calls takes much memory. At most 1,048,576 bytes are a race.
 ///
@@ -30,6 +30,6 @@ use crate::text::Text;
 /// ```
 pub fn outcomes(race: &[u8]) -> Result<Vec<u8>, RaceError> {
     let mut text = Text::default();
-    outcomes_bytes(&mut Counted::new(race), &mut Counted::new(&mut text), None)?;
+    outcomes_bytes(&mut Counted::new(race), &mut Counted::new(&mut text), Form::Outcomes, None)?;
     Ok(text.0)
 }

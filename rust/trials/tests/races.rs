@@ -16,7 +16,9 @@ const EVERY_CALL: &str = "# A race of every call.\n\nraces 1\nworld 2 4 slots 5 
 
 #[test]
 fn calls_of_every_kind() {
-    let race = parse_race(EVERY_CALL.as_bytes()).unwrap();
+    let asked = parse_race(EVERY_CALL.as_bytes()).unwrap();
+    assert!(asked.questions().is_empty());
+    let race = asked.race();
     assert_eq!(race.start(), Start::Slots);
     let questions = [Asked::Front, Asked::Dying, Asked::Zero, Asked::Word(u32::MAX)].map(PassCall::Asks);
     let counts =

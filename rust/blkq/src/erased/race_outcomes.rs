@@ -7,11 +7,17 @@
 //! leads to it is shorter than the one beside it.
 
 mod account;
+mod claim;
 mod finding;
 mod gathered;
 mod outcome;
+mod question;
+mod told;
 
 pub use crate::erased::race_search::SearchFault;
 pub use account::Figures;
+pub use claim::{Actor, CallPlace, Claim};
 pub use finding::outcomes;
 pub use outcome::{Outcome, Outcomes};
+pub use question::{Question, Verdict, Wanted};
+pub use told::Told;

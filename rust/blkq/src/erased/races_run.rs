@@ -1,7 +1,8 @@
 // Erased from crates/races_run/src/lib.rt by tools/erase: edit that file.
 //! From the bytes of a reader to the bytes of a writer: races, and all that may happen in them.
 //!
-//! [`outcomes_bytes`] reads a race and writes all its outcomes, each with a shortest schedule that leads to it. Data flows one
+//! [`outcomes_bytes`] reads a race and writes the answers to its questions, or all its outcomes, each with a shortest schedule that
+//! leads to it. Data flows one
 //! way: `counted_io` reads, [`outcomes_text`] answers by `races_text` and `race_outcomes`, and `counted_io` writes.
 //! [`command`] is a program of it.
 
@@ -11,6 +12,7 @@ mod fault;
 mod program;
 mod run;
 
+pub use crate::erased::races_text::Form;
 pub use answer::outcomes_text;
 pub use arguments::{Task, requested};
 pub use fault::Fault;

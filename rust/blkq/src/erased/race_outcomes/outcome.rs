@@ -1,8 +1,9 @@
 // Erased from crates/race_outcomes/src/outcome.rt by tools/erase: edit that file.
 //! Outcomes of a race.
 
-use crate::erased::percpu_core::Event;
+use crate::erased::percpu_core::{Event, Memory};
 use crate::erased::race_outcomes::account::Figures;
+use crate::erased::race_outcomes::told::{Told, all_told};
 use crate::erased::race_world::Moment;
 
 /// An outcome of a race: what its calls have answered at an end, and the figures of its gate.
@@ -44,6 +45,11 @@ impl Outcomes {
     /// The outcomes.
     pub fn as_slice(&self) -> &[Outcome] {
         self.list.as_slice()
+    }
+
+    /// The answers and figures of each, in order. `Memory` where a growth was refused.
+    pub fn told(&self) -> Result<Vec<Told>, Memory> {
+        all_told(self.list.as_slice())
     }
 
     /// How many moments were seen.

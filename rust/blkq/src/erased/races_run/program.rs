@@ -5,23 +5,25 @@ use crate::erased::counted_io::Counted;
 use crate::erased::races_run::arguments::{Task, requested};
 use crate::erased::races_run::fault::Fault;
 use crate::erased::races_run::run::outcomes_bytes;
+use crate::erased::races_text::Form;
 use crate::erased::streams::WriteLine;
 use std::io::{self, ErrorKind, Read, Write};
 
 /// How the program is called.
-const USAGE: &str = "usage: gate_races [--states N], with a race on standard input";
+const USAGE: &str = "usage: gate_races [--outcomes | --summary] [--states N], with a race on standard input";
 
 /// The status where the answer didn't go out, for any reason but the input.
 const NOT_ANSWERED: u8 = 4;
 
 /// Answers the race that `reader` has, and tells the program's status, with a line to `errors` where it isn't 0.
 fn outcomes_reported<R: Read, W: Write, E: Write>(
+    form: Form,
     most: Option<u64>,
     reader: &mut Counted<R>,
     writer: &mut Counted<W>,
     errors: &mut E,
 ) -> u8 {
-    match outcomes_bytes(reader, writer, most) {
+    match outcomes_bytes(reader, writer, form, most) {
         Ok(()) => 0,
         Err(fault) => {
             let _ = errors.writeln(fault);
@@ -30,10 +32,11 @@ fn outcomes_reported<R: Read, W: Write, E: Write>(
     }
 }
 
-/// Writes to `writer` all outcomes of the race that `reader` has, and tells the program's status: 0 where they
-/// went out. Any other status comes with a line to `errors`: 2 where the input is no race, and 4 where reading,
-/// writing or memory was refused, or the race has more states than `args`, the words after the program's name,
-/// have behind `--states`, or they ask for nothing that there is. They are looked at before anything is read.
+/// Writes to `writer` the answer to the race that `reader` has, and tells the program's status: 0 where it
+/// went out. `args`, the words after the program's name, choose the form: the answers to the race's questions, or its
+/// outcomes. Any other status comes with a line to `errors`: 2 where the input is no race, and 4 where reading,
+/// writing or memory was refused, or the race has more states than `args` have behind `--states`, or they ask for
+/// nothing that there is. They are looked at before anything is read.
 /// Where `errors` fails, the line is lost and the status stays.
 pub fn command<R: Read, W: Write, E: Write>(
     args: &[String],
@@ -42,7 +45,7 @@ pub fn command<R: Read, W: Write, E: Write>(
     errors: &mut E,
 ) -> u8 {
     match requested(args) {
-        Task::Outcomes(most) => outcomes_reported(most, reader, writer, errors),
+        Task::Answer(form, most) => outcomes_reported(form, most, reader, writer, errors),
         Task::Usage => {
             let _ = errors.writeln(USAGE);
             NOT_ANSWERED

@@ -1,0 +1,101 @@
+"""Questions about a race: drawn at random, and answered by what each outcome tells, from docs/FORMATS.md alone."""
+
+from typing import NamedTuple
+
+MARKS = ("zero", "dead", "live")
+RARE = ("given", "refused", "refused last", "not last", "last", "ok", "7", "closed -1", "yes", "no", "at zero", "held", "already dead")
+
+
+class Claim(NamedTuple):
+    text: str
+    holds: object  # whether it holds, by the answers of each actor, and the figures of the gate
+
+
+class Question(NamedTuple):
+    is_never: bool
+    claims: list
+
+    def text(self):
+        return f"ask {'never' if self.is_never else 'always'} {' and '.join(it.text for it in self.claims)}"
+
+    def is_against(self, told):
+        """Whether an outcome that tells this is against it."""
+        *lines, figures = told
+        answers = answers_of(lines)
+        return all(it.holds(answers, figures) for it in self.claims) == self.is_never
+
+
+def answers_of(lines):
+    """What the calls of each actor were answered, by its name."""
+    found = {}
+    for line in lines:
+        actor, _, rest = line.partition(" ")
+        found[actor] = [it for it in rest.split(" / ") if it and not it.startswith("waits for ")]
+    return found
+
+
+def lasts(answers):
+    return sum(it in ("last", "refused last") for told in answers.values() for it in told)
+
+
+def number_claim(draw):
+    if draw.random() < 0.5:
+        least = draw.randrange(4)
+        return Claim(f"last {least}", lambda answers, figures: lasts(answers) >= least)
+    held = draw.choice((0, 0, 1, 2, 65534))
+    return Claim(f"held {held}", lambda answers, figures: figures[-1] == held)
+
+
+def mark_claim(draw):
+    mark = draw.choice(MARKS)
+    return Claim(mark, lambda answers, figures: figures[0] == mark)
+
+
+def call_claim(draw, race, outcomes):
+    """A claim of a call that the race has; mostly of an answer that some outcome gives to it."""
+    calls = [(str(actor), at) for actor, of_pass in enumerate(race.passes) for at in range(len(of_pass))]
+    calls += [("c", at) for at in range(len(race.control))]
+    actor, at = draw.choice(calls)
+    told = sorted({it for told in outcomes for it in answers_of(told[:-1])[actor][at : at + 1]})
+    answer = draw.choice(told) if told and draw.random() < 0.9 else draw.choice(RARE)
+    # `not last` is an answer itself.
+    if answer == "last" or draw.random() < 0.7:
+        return Claim(f"{actor}.{at + 1} {answer}", lambda answers, figures: answers[actor][at : at + 1] == [answer])
+    return Claim(f"{actor}.{at + 1} not {answer}", lambda answers, figures: answers[actor][at : at + 1] != [answer])
+
+
+def random_claim(draw, race, outcomes):
+    kind = draw.random()
+    if kind < 0.2:
+        return number_claim(draw)
+    return mark_claim(draw) if kind < 0.35 or not any((*race.passes, race.control)) else call_claim(draw, race, outcomes)
+
+
+def random_questions(draw, race, outcomes):
+    """Some questions about a race that has these outcomes."""
+    return [
+        Question(draw.random() < 0.5, [random_claim(draw, race, outcomes) for _ in range(draw.choice((1, 1, 2, 3)))])
+        for _ in range(draw.randrange(1, 5))
+    ]
+
+
+def counts_of(question, outcomes):
+    """How many outcomes are against a question, and how many steps lead to one of them at least, by what the search finds."""
+    steps = [steps for told, (_, steps) in outcomes.items() if question.is_against(told)]
+    return len(steps), min(steps, default=None)
+
+
+def answers_to(questions, first_line, outcomes, printed):
+    """The lines of the answers to questions on lines from this number on. The outcomes are by the search, and the order of those of one
+    length, which is open, and their schedules as they were printed."""
+    for line, question in enumerate(questions, first_line):
+        against, least = counts_of(question, outcomes)
+        if not against:
+            yield f"line {line}: yes, in all {len(outcomes)} outcomes"
+            continue
+        number, first = next((number, it) for number, it in enumerate(printed, 1) if question.is_against(it.told))
+        steps = sum(not it.startswith("#") for it in first.schedule[2:])
+        if steps != least:
+            raise ValueError(f"{question.text()}: {steps} steps, and {least} lead to an outcome that is against it")
+        yield f"line {line}: no, in {against} of {len(outcomes)} outcomes, as in outcome {number}"
+        yield from first.schedule
