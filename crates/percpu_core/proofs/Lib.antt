@@ -24,6 +24,8 @@ pub mod Enabled
 pub mod Kept
 pub mod Room
 pub mod WorldSteps
+-- two passes may change places
+pub mod Exchanging
 pub mod HeldByAll
 -- runs of any length, what holds after them, and the moves of the plain counter
 pub mod Runs

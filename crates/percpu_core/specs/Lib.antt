@@ -15,6 +15,7 @@ pub mod Laws
 pub mod PassSteps
 pub mod ControlSteps
 pub mod Machine
+pub mod Exchanging
 pub mod Starts
 pub mod PassLearns
 pub mod ControlLearns

@@ -104,3 +104,11 @@ impl PassStanding {
 pub(crate) fn same_passes(passes: &[Option<PassStanding>], others: &[Option<PassStanding>]) -> bool {
     passes == others
 }
+
+/// What a pass holds; a joined one holds nothing.
+pub(crate) fn held_of(pass: Option<PassStanding>) -> u32 {
+    match pass {
+        Some(standing) => standing.held,
+        None => 0,
+    }
+}
