@@ -155,17 +155,6 @@ impl<const W: usize> Control<W> {
         ensures seat { result ≡ record { gate = self.entry.gate; view = self.entry.view } }
         ensures stands { (self.entry.view.standing.to_mark ≡ false) × IsBetweenCalls self.entry.view.standing.phase }
     {
-        let Self {
-            seat,
-            phase: _,
-            kills: _,
-            front: _,
-            releases: _,
-            words: _,
-            passes: _,
-            uncollected: _,
-            wants: _,
-        } = self;
-        seat
+        self.seat
     }
 }

@@ -58,8 +58,7 @@ impl ControlSeat {
     pub(crate) fn into_seat(self) -> Seat<(), SeatView>
         ensures { (gate_of result.table_id result.me.0 ≡ self.gate) × (result.me ≡ (record result.me.0 { view = OfControl self.view }, [])) }
     {
-        let Self { seat } = self;
-        seat
+        self.seat
     }
 
     /// A seat of a new pass. A control has at most 1,024.

@@ -110,8 +110,11 @@ impl<const W: usize> Gate<W> {
         ensures nothing_lost { IfOk result (λ f. Ended self.entry control.entry.view) }
     {
         if let Some(why) = control.refuse_exit(control.passes()) {
-            let gate = self;
-            return Err(ExitFault { why, gate, control });
+            return Err(ExitFault {
+                why,
+                gate: self,
+                control,
+            });
         }
         let ended = Final {
             dead: control.phase() == Phase::Dead,

@@ -234,14 +234,6 @@ impl<const W: usize> Pass<W> {
         ensures seat { (result.0 ≡ self.entry) × (self.entry.view.standing.held ≡ 0 → result.0.view.standing ≡ holding 0) }
         ensures releases { (result.1 ≡ self.entry.view.releases) × (result.1 ≤ 2 * KILL_LIMIT) }
     {
-        let Self {
-            before: _,
-            seat,
-            held: _,
-            seen_front: _,
-            releases,
-            after: _,
-        } = self;
-        (seat, releases)
+        (self.seat, self.releases)
     }
 }

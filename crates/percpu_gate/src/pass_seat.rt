@@ -52,8 +52,7 @@ impl PassSeat {
     pub(crate) fn into_seat(self) -> Seat<(), SeatView>
         ensures { (gate_of result.table_id result.me.0 ≡ self.gate) × (result.me ≡ (record result.me.0 { view = OfPass self.view }, [])) }
     {
-        let Self { seat } = self;
-        seat
+        self.seat
     }
 
     /// Adds 1 to the shared word. Whether ZERO was clear.

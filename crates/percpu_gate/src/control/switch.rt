@@ -14,16 +14,6 @@ use percpu_core::Phase;
 use percpu_words::Mode;
 
 impl<const W: usize> Control<W> {
-    /// The slot that a kill closes next.
-    fn slot_to_close(&self) -> u32
-        ensures { result ≡ next_slot self.now.view.standing.phase }
-    {
-        match self.phase {
-            Phase::Closing(slot) => slot,
-            _ => 0,
-        }
-    }
-
     /// Closes the next slot of a kill. Its delta: what was taken on it less what was given back on it.
     pub fn close_next(&mut self, gate: &Gate<W>) -> i64
         requires own { self.old.gate ≡ gate.now }
@@ -32,7 +22,9 @@ impl<const W: usize> Control<W> {
         ensures found { FindsDelta gate.now (next_slot self.old.view.standing.phase) self.old.view result }
         ensures small { IsDelta result }
     {
-        let slot = self.slot_to_close();
+        let Phase::Closing(slot) = self.phase else {
+            unreachable!();
+        };
         let delta = self.seat.close_next(&gate.table, slot);
         self.uncollected += delta;
         self.phase = Phase::Closing(slot + 1);

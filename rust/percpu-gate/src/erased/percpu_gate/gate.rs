@@ -83,8 +83,7 @@ impl<const W: usize> Gate<W> {
     /// - `control` belongs to `self`.
     pub fn exit(self, control: Control<W>) -> Result<Final<W>, ExitFault<W>> {
         if let Some(why) = control.refuse_exit(control.passes()) {
-            let gate = self;
-            return Err(ExitFault { why, gate, control });
+            return Err(ExitFault { why, gate: self, control });
         }
         let ended = Final {
             dead: control.phase() == Phase::Dead,

@@ -184,7 +184,6 @@ impl<const W: usize> Pass<W> {
 
     /// The seat, of a pass that ends, and the releases that it won.
     pub(crate) fn into_parts(self) -> (PassSeat, u64) {
-        let Self { before: _, seat, held: _, seen_front: _, releases, after: _ } = self;
-        (seat, releases)
+        (self.seat, self.releases)
     }
 }

@@ -8,14 +8,6 @@ use crate::erased::percpu_gate::gate::Gate;
 use crate::erased::percpu_words::Mode;
 
 impl<const W: usize> Control<W> {
-    /// The slot that a kill closes next.
-    fn slot_to_close(&self) -> u32 {
-        match self.phase {
-            Phase::Closing(slot) => slot,
-            _ => 0,
-        }
-    }
-
     /// Closes the next slot of a kill. Its delta: what was taken on it less what was given back on it.
     ///
     /// # Preconditions
@@ -24,7 +16,9 @@ impl<const W: usize> Control<W> {
     /// - `HasSlotToClose(self.view.standing.phase, gate.slots())`: a kill is closing slots and one of so many is to be
     ///   closed next, or all of them are closed.
     pub fn close_next(&mut self, gate: &Gate<W>) -> i64 {
-        let slot = self.slot_to_close();
+        let Phase::Closing(slot) = self.phase else {
+            unreachable!();
+        };
         let delta = self.seat.close_next(&gate.table, slot);
         self.uncollected += delta;
         self.phase = Phase::Closing(slot + 1);
