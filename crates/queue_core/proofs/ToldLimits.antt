@@ -1,6 +1,6 @@
 -- What a tag was told, by what its seat has read.
 use Rattle.std.proofs.Common.{◌≡◌, ℕ, suc, ◌+◌, ◌-◌, ◌<◌, Bool, true, false, Option, Some, None, List, [], ◌∷◌, inl, inr, refl, sym, ap, ◌∙◌, subst, arith, length, eqb-true}
-use Rattle.std.specs.Prelude.{◌==◌, if◌then◌else◌, option_map, slice_get, slice_index, slice_set}
+use Rattle.std.specs.Prelude.{◌==◌, if◌then◌else◌, IfSome, option_map, slice_get, slice_index, slice_set}
 use Rattle.std.proofs.lemmas.List.{get_or-set_same}
 use Rattle.std.proofs.lemmas.Option.{get_or_from_slice_get}
 use Rattle.percpu_core.specs.declared.view.WordRead.{WordRead}
@@ -66,6 +66,11 @@ pub told_again : (hardware : ℕ) (p : PassView) (l : Bounds) (words : List ℕ)
 told_again hardware p l words e same =
     let told = limits_told-has hardware p l e in
     from_same_words hardware words told.words (λ k h. same k (slice_index told.words k) h (told.has k h)) ∙ told.limits
+
+-- what holds of the limits that were told, if any were
+pub if_told : (told : Option Bounds) (result : Bounds) → ((l : Bounds) → told ≡ Some l → result ≡ l) → IfSome told (λ l. result ≡ l)
+if_told None result same = tt
+if_told (Some l) result same = same l refl
 
 -- what has been read is that guarded word now
 read_is_now : (words : List ℕ) (reads : List WordRead) (k v : ℕ) → AreNow words reads → HasRead k v reads → slice_get words k ≡ Some v

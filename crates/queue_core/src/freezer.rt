@@ -1,5 +1,5 @@
 //! The freezer: it freezes a queue, sets its limits and thaws it.
-ghost use Rattle.std.specs.Prelude.{◌≡◌, ◌+◌, ◌<◌, ◌≤◌, Bool, true, false, IfOk, OnOk, OnErr};
+ghost use Rattle.std.specs.Prelude.{◌≡◌, ◌+◌, ◌<◌, ◌≤◌, true, false, IfOk, OnOk, OnErr};
 ghost use Rattle.percpu_gate.specs.Seats.{fresh_control};
 ghost use Rattle.percpu_gate.specs.ControlCalls.{after_switch};
 ghost use Rattle.percpu_words.specs.declared.mode.Mode.TheVariants.{Slots};
@@ -163,19 +163,9 @@ impl Freezer {
         if !self.poll_drained(queue) {
             return Err(FreezeFault::NotDrained);
         }
-        self.store(queue, limits);
-        Ok(())
-    }
-
-    /// Stores the limits where the control knows that nothing is held.
-    fn store(&mut self, queue: &BlockQueue, limits: Limits)
-        requires own { self.old.queue ≡ queue.now }
-        requires hardware { limits.hardware ≡ self.old.queue.hardware }
-        requires drained { self.old.drained ≡ true }
-        ensures { self.new ≡ after_set limits self.old }
-    {
         store_words(&mut self.control, &queue.gate, limits.to_words());
         self.limits = limits;
+        Ok(())
     }
 
     /// Counts in this mode from now on; a frozen queue does once it is thawed. Depth and limits stay. Linux:
@@ -206,26 +196,15 @@ impl Freezer {
         if self.depth == 0 {
             return Err(FreezeFault::NotFrozen);
         }
-        if self.depth == 1 {
-            self.revive(queue);
-        } else {
-            self.depth -= 1;
+        self.depth -= 1;
+        if self.depth == 0 {
+            let revived = self.control.resurrect(&queue.gate);
+            prove!(revived.is_ok());
         }
         Ok(Thawed {
             depth: self.depth,
             live: self.depth == 0,
         })
-    }
-
-    /// Brings the gate back.
-    fn revive(&mut self, queue: &BlockQueue)
-        requires own { self.old.queue ≡ queue.now }
-        requires last { self.old.depth ≡ 1 }
-        ensures { (at_zero : Bool) × (self.new ≡ after_thaw at_zero self.old) × FindsZero queue.now.gate self.old.seat at_zero }
-    {
-        let revived = self.control.resurrect(&queue.gate);
-        prove!(revived.is_ok());
-        self.depth = 0;
     }
 
     /// Takes a tag back.

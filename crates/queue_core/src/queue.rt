@@ -11,9 +11,9 @@ ghost use Rattle.queue_core.specs.Entering.{tried, after_try};
 ghost use Rattle.queue_core.specs.Staying.{has_left, after_stay, FindsDead};
 
 use crate::freezer::Freezer;
-use crate::limit_words::LIMIT_WORDS;
+use crate::limit_words::{LIMIT_WORDS, load_words};
 use crate::tag::{Entry, Stay, Tag};
-use percpu_gate::{Gate, Memory, Pass, Put, Start};
+use percpu_gate::{Gate, Memory, Pass, Put, Start, Tried};
 use queue_limits::Limits;
 use std::alloc::{AllocError, Global};
 use std::marker::Model;
@@ -108,7 +108,10 @@ impl BlockQueue {
         ensures meets { TryMeets self.now.gate has_dead tag.old.seat tag.new.seat (is_refused (tried result)) }
         ensures times { tag.new.seat.found_dead_times ≡ tag.old.seat.found_dead_times + count (is_refused (tried result)) }
     {
-        tag.take_live(&self.gate, slot)
+        match tag.pass.try_get_live(&self.gate, slot) {
+            Tried::Given => Entry::Entered,
+            Tried::Refused(put) => Entry::Refused(put),
+        }
     }
 
     /// Enters a queue that may be frozen, to look at what is under way, unless it is drained. Until the tag leaves it
@@ -127,7 +130,10 @@ impl BlockQueue {
         ensures times { tag.new.seat.found_zero_times ≡ tag.old.seat.found_zero_times + count (is_refused (tried result)) }
         ensures holds_off { HoldsOff tag.new }
     {
-        tag.take(&self.gate, slot)
+        match tag.pass.try_get(&self.gate, slot) {
+            Tried::Given => Entry::Entered,
+            Tried::Refused(put) => Entry::Refused(put),
+        }
     }
 
     /// Leaves. `Last` where that was the last drop of a freeze: the queue is drained, and the freezer is to be woken. Linux:
@@ -139,7 +145,7 @@ impl BlockQueue {
         requires entered { tag.old.entered ≡ true }
         ensures { tag.new ≡ after_leaving result tag.old }
     {
-        tag.put(&self.gate, slot)
+        tag.pass.put(&self.gate, slot, 1)
     }
 
     /// Stays entered between two requests, for the price of one load, unless the queue is frozen: then it leaves. Where it
@@ -176,14 +182,6 @@ impl BlockQueue {
         ensures same { IfSome tag.old.limits (λ l. result ≡ l) }
         ensures hardware { result.hardware ≡ self.now.hardware }
     {
-        Limits::from_words(self.hardware, tag.words(&self.gate))
-    }
-
-    /// The gate of a queue that ends.
-    pub(crate) fn into_gate(self) -> Gate<LIMIT_WORDS>
-        ensures own { result ≡ self.gate }
-        ensures kept { IsQueue self }
-    {
-        self.gate
+        Limits::from_words(self.hardware, load_words(&mut tag.pass, &self.gate))
     }
 }

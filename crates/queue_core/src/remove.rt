@@ -38,7 +38,7 @@ fn end(mut freezer: Freezer, queue: BlockQueue, tags: Vec<Tag>) -> Final<LIMIT_W
     for tag in tags {
         freezer.take_back(&queue, tag);
     }
-    match queue.into_gate().exit(freezer.into_control()) {
+    match queue.gate.exit(freezer.into_control()) {
         Ok(left) => left,
         Err(_) => unreachable!(),
     }

@@ -1,18 +1,12 @@
 //! A tag: the right to have one request under way.
-ghost use Rattle.std.specs.Prelude.{◌≡◌, ◌+◌, ◌<◌, ◌≤◌, true, false, Some, None};
+ghost use Rattle.std.specs.Prelude.{◌≡◌, true, false, None};
 ghost use Rattle.percpu_gate.specs.Seats.{fresh_pass};
-ghost use Rattle.queue_limits.specs.Bounds.{Bounds};
-ghost use Rattle.queue_limits.specs.Words.{from_words};
-ghost use Rattle.queue_core.specs.Queue.{first_tag, after_asking, after_leaving};
-ghost use Rattle.percpu_core.specs.Views.{count};
-ghost use Rattle.percpu_gate.specs.Calls.{is_refused, taken, has_dead, has_zero, LiveTryFinds, TryFinds, TryMeets};
-ghost use Rattle.queue_core.specs.AtTheGate.{AreInForce, HoldsOff};
+ghost use Rattle.queue_core.specs.Queue.{first_tag};
 ghost use Rattle.queue_core.specs.Readings.{IsTag};
-ghost use Rattle.queue_core.specs.Entering.{tried, after_try};
 ghost use Rattle.queue_core.specs.Staying.{after_asking_to_stay, FindsDead};
 
-use crate::limit_words::{LIMIT_WORDS, load_words};
-use percpu_gate::{Gate, Pass, Put, Tried};
+use crate::limit_words::LIMIT_WORDS;
+use percpu_gate::{Gate, Pass, Put};
 use std::marker::Model;
 
 /// What an attempt to enter answers.
@@ -41,7 +35,7 @@ pub enum Stay {
 /// ever being drained.
 #[derive(Drop)]
 pub struct Tag {
-    pass: Pass<LIMIT_WORDS>,
+    pub(crate) pass: Pass<LIMIT_WORDS>,
     hardware: u32,
 }
 
@@ -77,44 +71,6 @@ impl Tag {
         self.pass.held() == 1
     }
 
-    /// Takes the one reference of a tag, unless the gate was killed.
-    #[inline]
-    pub(crate) fn take_live(&mut self, gate: &Gate<LIMIT_WORDS>, slot: u32) -> Entry
-        requires own { self.old.queue.gate ≡ gate.now }
-        requires slot { slot < gate.now.slots }
-        requires out { self.old.entered ≡ false }
-        ensures leaves { self.new ≡ after_try result self.new.seat self.old }
-        ensures dead { is_refused (tried result) ≡ true → self.new.seat.found_dead ≡ true }
-        ensures finds { LiveTryFinds gate.now slot self.old.seat (tried result) }
-        ensures counted { self.new.seat.live_given ≡ self.old.seat.live_given + taken (tried result) }
-        ensures meets { TryMeets gate.now has_dead self.old.seat self.new.seat (is_refused (tried result)) }
-        ensures times { self.new.seat.found_dead_times ≡ self.old.seat.found_dead_times + count (is_refused (tried result)) }
-    {
-        match self.pass.try_get_live(gate, slot) {
-            Tried::Given => Entry::Entered,
-            Tried::Refused(put) => Entry::Refused(put),
-        }
-    }
-
-    /// Takes it unless the gate is at zero.
-    #[inline]
-    pub(crate) fn take(&mut self, gate: &Gate<LIMIT_WORDS>, slot: u32) -> Entry
-        requires own { self.old.queue.gate ≡ gate.now }
-        requires slot { slot < gate.now.slots }
-        requires out { self.old.entered ≡ false }
-        ensures leaves { self.new ≡ after_try result self.new.seat self.old }
-        ensures zero { is_refused (tried result) ≡ true → self.new.seat.found_zero ≡ true }
-        ensures finds { TryFinds gate.now self.old.seat (tried result) }
-        ensures meets { TryMeets gate.now has_zero self.old.seat self.new.seat (is_refused (tried result)) }
-        ensures times { self.new.seat.found_zero_times ≡ self.old.seat.found_zero_times + count (is_refused (tried result)) }
-        ensures holds_off { HoldsOff self.new }
-    {
-        match self.pass.try_get(gate, slot) {
-            Tried::Given => Entry::Entered,
-            Tried::Refused(put) => Entry::Refused(put),
-        }
-    }
-
     /// Whether the gate was killed and isn't revived yet, at one load.
     #[inline]
     pub(crate) fn is_dying(&mut self, gate: &Gate<LIMIT_WORDS>) -> bool
@@ -124,30 +80,6 @@ impl Tag {
         ensures finds { FindsDead gate.now self.old.seat result }
     {
         self.pass.is_dying(gate)
-    }
-
-    /// Drops it.
-    #[inline]
-    pub(crate) fn put(&mut self, gate: &Gate<LIMIT_WORDS>, slot: u32) -> Put
-        requires own { self.old.queue.gate ≡ gate.now }
-        requires slot { slot < gate.now.slots }
-        requires entered { self.old.entered ≡ true }
-        ensures { self.new ≡ after_leaving result self.old }
-    {
-        self.pass.put(gate, slot, 1)
-    }
-
-    /// Loads the words that hold the limits.
-    #[inline]
-    pub(crate) fn words(&mut self, gate: &Gate<LIMIT_WORDS>) -> [u64; LIMIT_WORDS]
-        requires own { self.old.queue.gate ≡ gate.now }
-        requires entered { self.old.entered ≡ true }
-        ensures told { self.new ≡ after_asking (from_words self.old.queue.hardware result) self.new.seat self.old }
-        ensures kept { IsTag self.new }
-        ensures in_force { AreInForce gate.now self.old.queue.hardware self.old.seat (from_words self.old.queue.hardware result) }
-        ensures same { (l : Bounds) → self.old.limits ≡ Some l → from_words self.old.queue.hardware result ≡ l }
-    {
-        load_words(&mut self.pass, gate)
     }
 
     /// The pass of a tag that ends.

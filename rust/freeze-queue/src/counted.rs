@@ -7,7 +7,7 @@ use crate::erased::freeze_queue::{
 
 /// The counts of the slots of a live queue.
 fn counted(queue: BlockQueue, freezer: Freezer) -> Vec<i64> {
-    let (gate, mut control) = (queue.core.into_gate(), freezer.core.into_control());
+    let (gate, mut control) = (queue.core.gate, freezer.core.into_control());
     let slots = control.mark_dead(&gate).expect("a live gate");
     (0..slots).map(|_| control.close_next(&gate)).collect()
 }

@@ -113,20 +113,9 @@ impl Freezer {
         if !self.poll_drained(queue) {
             return Err(FreezeFault::NotDrained);
         }
-        self.store(queue, limits);
-        Ok(())
-    }
-
-    /// Stores the limits where the control knows that nothing is held.
-    ///
-    /// # Preconditions
-    ///
-    /// - `self` belongs to `queue`.
-    /// - `limits.hw()` is `self.queue.hardware`.
-    /// - `self.drained` is `true`.
-    fn store(&mut self, queue: &BlockQueue, limits: Limits) {
         store_words(&mut self.control, &queue.gate, limits.to_words());
         self.limits = limits;
+        Ok(())
     }
 
     /// Counts in this mode from now on; a frozen queue does once it is thawed. Depth and limits stay. Linux:
@@ -154,25 +143,12 @@ impl Freezer {
         if self.depth == 0 {
             return Err(FreezeFault::NotFrozen);
         }
-        if self.depth == 1 {
-            self.revive(queue);
-        } else {
-            self.depth -= 1;
+        self.depth -= 1;
+        if self.depth == 0 {
+            let revived = self.control.resurrect(&queue.gate);
+            debug_assert!(revived.is_ok());
         }
         Ok(Thawed { depth: self.depth, live: self.depth == 0 })
-    }
-
-    /// Brings the gate back.
-    ///
-    /// # Preconditions
-    ///
-    /// - `self` belongs to `queue`.
-    /// - `self.depth()` is 1.
-    fn revive(&mut self, queue: &BlockQueue) {
-        debug_assert!(self.depth() == 1);
-        let revived = self.control.resurrect(&queue.gate);
-        debug_assert!(revived.is_ok());
-        self.depth = 0;
     }
 
     /// Takes a tag back.

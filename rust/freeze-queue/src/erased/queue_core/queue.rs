@@ -3,9 +3,9 @@
 
 use crate::erased::fallible::{AllocError, TryVec};
 use crate::erased::percpu_core::SLOT_LIMIT;
-use crate::erased::percpu_gate::{Gate, Memory, Pass, Put, Start};
+use crate::erased::percpu_gate::{Gate, Memory, Pass, Put, Start, Tried};
 use crate::erased::queue_core::freezer::Freezer;
-use crate::erased::queue_core::limit_words::LIMIT_WORDS;
+use crate::erased::queue_core::limit_words::{LIMIT_WORDS, load_words};
 use crate::erased::queue_core::tag::{Entry, Stay, Tag};
 use crate::erased::queue_limits::Limits;
 use alloc::vec::Vec;
@@ -80,7 +80,10 @@ impl BlockQueue {
     pub fn try_enter(&self, tag: &mut Tag, slot: u32) -> Entry {
         debug_assert!(slot < self.slots());
         debug_assert!(!tag.entered());
-        tag.take_live(&self.gate, slot)
+        match tag.pass.try_get_live(&self.gate, slot) {
+            Tried::Given => Entry::Entered,
+            Tried::Refused(put) => Entry::Refused(put),
+        }
     }
 
     /// Enters a queue that may be frozen, to look at what is under way, unless it is drained. Until the tag leaves it
@@ -96,7 +99,10 @@ impl BlockQueue {
     pub fn try_enter_frozen(&self, tag: &mut Tag, slot: u32) -> Entry {
         debug_assert!(slot < self.slots());
         debug_assert!(!tag.entered());
-        tag.take(&self.gate, slot)
+        match tag.pass.try_get(&self.gate, slot) {
+            Tried::Given => Entry::Entered,
+            Tried::Refused(put) => Entry::Refused(put),
+        }
     }
 
     /// Leaves. `Last` where that was the last drop of a freeze: the queue is drained, and the freezer is to be woken. Linux:
@@ -111,7 +117,7 @@ impl BlockQueue {
     pub fn leave(&self, tag: &mut Tag, slot: u32) -> Put {
         debug_assert!(slot < self.slots());
         debug_assert!(tag.entered());
-        tag.put(&self.gate, slot)
+        tag.pass.put(&self.gate, slot, 1)
     }
 
     /// Stays entered between two requests, for the price of one load, unless the queue is frozen: then it leaves. Where it
@@ -145,11 +151,6 @@ impl BlockQueue {
     #[inline]
     pub fn limits(&self, tag: &mut Tag) -> Limits {
         debug_assert!(tag.entered());
-        Limits::from_words(self.hardware, tag.words(&self.gate))
-    }
-
-    /// The gate of a queue that ends.
-    pub(crate) fn into_gate(self) -> Gate<LIMIT_WORDS> {
-        self.gate
+        Limits::from_words(self.hardware, load_words(&mut tag.pass, &self.gate))
     }
 }

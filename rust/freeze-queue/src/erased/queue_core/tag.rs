@@ -1,8 +1,8 @@
 // Erased from crates/queue_core/src/tag.rt by tools/erase: edit that file.
 //! A tag: the right to have one request under way.
 
-use crate::erased::percpu_gate::{Gate, Pass, Put, Tried};
-use crate::erased::queue_core::limit_words::{LIMIT_WORDS, load_words};
+use crate::erased::percpu_gate::{Gate, Pass, Put};
+use crate::erased::queue_core::limit_words::LIMIT_WORDS;
 
 /// What an attempt to enter answers.
 #[derive(Clone, Copy, Debug, PartialEq, Eq)]
@@ -29,7 +29,7 @@ pub enum Stay {
 /// It moves between threads with its request. One that is dropped while it is entered keeps the queue from
 /// ever being drained.
 pub struct Tag {
-    pass: Pass<LIMIT_WORDS>,
+    pub(crate) pass: Pass<LIMIT_WORDS>,
     #[allow(dead_code)] // only proofs read it
     hardware: u32,
 }
@@ -50,40 +50,6 @@ impl Tag {
         self.pass.held() == 1
     }
 
-    /// Takes the one reference of a tag, unless the gate was killed.
-    ///
-    /// # Preconditions
-    ///
-    /// - `self.queue.gate` is `gate`.
-    /// - `slot` is less than `gate.slots()`.
-    /// - `self.entered()` is `false`.
-    #[inline]
-    pub(crate) fn take_live(&mut self, gate: &Gate<LIMIT_WORDS>, slot: u32) -> Entry {
-        debug_assert!(slot < gate.slots());
-        debug_assert!(!self.entered());
-        match self.pass.try_get_live(gate, slot) {
-            Tried::Given => Entry::Entered,
-            Tried::Refused(put) => Entry::Refused(put),
-        }
-    }
-
-    /// Takes it unless the gate is at zero.
-    ///
-    /// # Preconditions
-    ///
-    /// - `self.queue.gate` is `gate`.
-    /// - `slot` is less than `gate.slots()`.
-    /// - `self.entered()` is `false`.
-    #[inline]
-    pub(crate) fn take(&mut self, gate: &Gate<LIMIT_WORDS>, slot: u32) -> Entry {
-        debug_assert!(slot < gate.slots());
-        debug_assert!(!self.entered());
-        match self.pass.try_get(gate, slot) {
-            Tried::Given => Entry::Entered,
-            Tried::Refused(put) => Entry::Refused(put),
-        }
-    }
-
     /// Whether the gate was killed and isn't revived yet, at one load.
     ///
     /// # Preconditions
@@ -94,32 +60,6 @@ impl Tag {
     pub(crate) fn is_dying(&mut self, gate: &Gate<LIMIT_WORDS>) -> bool {
         debug_assert!(self.entered());
         self.pass.is_dying(gate)
-    }
-
-    /// Drops it.
-    ///
-    /// # Preconditions
-    ///
-    /// - `self.queue.gate` is `gate`.
-    /// - `slot` is less than `gate.slots()`.
-    /// - `self.entered()` is `true`.
-    #[inline]
-    pub(crate) fn put(&mut self, gate: &Gate<LIMIT_WORDS>, slot: u32) -> Put {
-        debug_assert!(slot < gate.slots());
-        debug_assert!(self.entered());
-        self.pass.put(gate, slot, 1)
-    }
-
-    /// Loads the words that hold the limits.
-    ///
-    /// # Preconditions
-    ///
-    /// - `self.queue.gate` is `gate`.
-    /// - `self.entered()` is `true`.
-    #[inline]
-    pub(crate) fn words(&mut self, gate: &Gate<LIMIT_WORDS>) -> [u64; LIMIT_WORDS] {
-        debug_assert!(self.entered());
-        load_words(&mut self.pass, gate)
     }
 
     /// The pass of a tag that ends.
