@@ -2,6 +2,7 @@
 use Rattle.std.proofs.Common.{◌≡◌, ◌≢◌, ◌∙◌, sym, ap, subst, ℕ, ◌+◌, ◌<◌, inl, inr, true, arith, List, [], ◌∷◌, ◌++◌, length, set, Option, Some, None, is_some}
 use Rattle.std.proofs.lemmas.Bool.{cases_eq, cases_lt}
 use Rattle.std.proofs.lemmas.List.{length-append}
+use Rattle.atomic_table.specs.Seated.{TableId}
 use Rattle.run_queues.specs.Numbers.{times, one_at}
 use Rattle.run_queues.specs.Parts.{CollectorFacts}
 use Rattle.run_queues.proofs.Increasing.{one_at_itself, times_append}
@@ -9,9 +10,10 @@ use Rattle.script_meaning.specs.Requests.{accepted_at, accepted_before}
 use Rattle.script_meaning.specs.Script.{Meant}
 use Rattle.script_meaning.specs.declared.request.Request.{Request}
 use Rattle.script_meaning.proofs.Numbers.{in_order}
-use Rattle.blk_workers.specs.Progress.{AreAwaited}
+use Rattle.blk_workers.specs.Progress.{AreAwaited, HasTakenCompletion, IsCollecting}
 use Rattle.run_desk.specs.Desk.{is_owed}
 use Rattle.run_desk.specs.Requests.{IsAcceptedAt}
+use Rattle.run_desk.specs.declared.desk.Desk.{Desk}
 use Rattle.run_desk.proofs.Places.{count_push_none, count_push_some, count_set, owed_push, owed_at, owed_set_other}
 use Rattle.run_desk.proofs.Numbering.{before_grows}
 
@@ -45,6 +47,15 @@ pub same_but_collected : (first second third : CollectorFacts) (xs : List ℕ) �
     → third ≡ record first { collected = third.collected }
 same_but_collected first second third xs once again =
     again ∙ ap (λ (k : CollectorFacts). record k { collected = xs }) once ∙ ap (λ (numbers : List ℕ). record first { collected = numbers }) (sym (ap (λ (k : CollectorFacts). k.collected) again))
+
+-- a completion is collected and taken, and more may be
+pub collects_on : (script : Meant) (completions : TableId) (before after : Desk) (first second : CollectorFacts) (number : ℕ) → IsCollecting script completions before first
+    → second ≡ record first { collected = first.collected ++ number ∷ [] } → HasTakenCompletion script number before after → IsCollecting script completions after second
+collects_on script completions before after first second number collecting is taken = record {
+  stands = taken.stands;
+  own = ap (λ (k : CollectorFacts). k.queue) is ∙ collecting.own;
+  awaited = subst (λ (k : CollectorFacts). AreAwaited script after.replies k.given k.collected) (sym is) (taken.awaited first.given first.collected collecting.awaited);
+}
 
 -- a completion is collected that brings no answer, and one that does
 pub awaited_fewer : (script : Meant) (replies : List (Option (List ℕ))) (given last : ℕ) (collected : List ℕ) → AreAwaited script replies given collected → AreAwaited script replies given (collected ++ last ∷ [])

@@ -13,7 +13,7 @@ use std::sync::Wait;
 
 // Takes a completion. Where it brought an answer, the reply to its request was owed until now, and one less is owed afterwards.
 // `Memory` where the worker was refused it; then the reply stays owed, with no completion to come, and every caller ends the run.
-// `taken` holds then too, so that those who collect have one clause for both ends; nobody reads it once the run fails.
+// Contracts see `taken` then too, so that those who collect have one clause for both ends; nobody reads it once the run fails.
 fn take_completion<J: Run, C: QueueName, L: QueueNames, R, S>(
     hall: &Hall<'_, J, C, L, R, S>,
     desk: &mut Desk,
@@ -33,7 +33,7 @@ fn take_completion<J: Run, C: QueueName, L: QueueNames, R, S>(
 
 /// Collects the completions that are there now, as many as are owed at most, once so many are owed as there are tags. A
 /// look for each request would take the queue's cache lines from the workers each time. Afterwards no more are owed than there
-/// are tags. `collector`: what was given stays as it was, by which the next duty is numbered.
+/// are tags. Contracts see by `collector` that what was given stays as it was, by which the next duty is numbered.
 pub(crate) fn collect_some<J: Run, C: QueueName, L: QueueNames, R: Wait, S>(
     hall: &Hall<'_, J, C, L, R, S>,
     collector: &mut Collector<Completion<J>>,
@@ -56,11 +56,10 @@ pub(crate) fn collect_some<J: Run, C: QueueName, L: QueueNames, R: Wait, S>(
         take_completion(hall, desk, completion)?;
     }
     // Each request whose completion wasn't there has its tag, so this waits for none.
-    collect_until(hall, collector, desk, hall.free_tags.room())?;
-    Ok(())
+    collect_until(hall, collector, desk, hall.free_tags.room())
 }
 
-/// Collects completions until at most so many are owed, and waits for them. `collector` is as at `collect_some`.
+/// Collects completions until at most so many are owed, and waits for them. Contracts see `collector` as at `collect_some`.
 pub(crate) fn collect_until<J: Run, C: QueueName, L: QueueNames, R: Wait, S>(
     hall: &Hall<'_, J, C, L, R, S>,
     collector: &mut Collector<Completion<J>>,

@@ -8,12 +8,13 @@ use queue_limits::Limits;
 use script_meaning::QueueState;
 use std::sync::Wait;
 
-/// Freezes the queue and waits until it is drained, where it isn't frozen, and so drained, already. `_kills` stands in the
-/// contract alone: how often the gate was killed, at most; a gate is killed 2^40 times at most (`percpu_core`, `KILL_LIMIT`).
-pub(crate) fn freeze<R: Wait>(rt: &R, freezer: &mut Freezer, queue: &BlockQueue, _kills: usize)
-    requires follows { IsFollowing queue.now _kills freezer.old }
-    requires few { _kills < 2 ^ 40 }
-    ensures follows { IsFollowing queue.now (_kills + 1) freezer.new }
+/// Freezes the queue and waits until it is drained, where it isn't frozen, and so drained, already. A gate is killed 2^40 times at
+/// most (`percpu_core`, `KILL_LIMIT`).
+pub(crate) fn freeze<R: Wait>(rt: &R, freezer: &mut Freezer, queue: &BlockQueue)
+    requires own { freezer.old.queue ≡ queue.now }
+    requires drained { 0 < freezer.old.depth → freezer.old.drained ≡ true }
+    requires few { freezer.old.kills < 2 ^ 40 }
+    ensures follows { (kills : ℕ) → IsFollowing queue.now kills freezer.old → IsFollowing queue.now (kills + 1) freezer.new }
     ensures depth { freezer.new.depth ≡ once_frozen freezer.old.depth }
     ensures others { (freezer.new.limits ≡ freezer.old.limits) × (freezer.new.mode ≡ freezer.old.mode) }
 {
@@ -61,13 +62,13 @@ fn step_to(freezer: &mut Freezer, queue: &BlockQueue, depth: u32)
 }
 
 /// Brings the queue into step with the script's: to its mode, and a frozen one to its limits and its depth, so that each freeze
-/// and thaw of the script is one of the queue. A queue that the script removed stays frozen. `_kills` stands in the contract
-/// alone: how often the gate was killed, at most.
-pub(crate) fn follow(freezer: &mut Freezer, queue: &BlockQueue, state: &QueueState, _kills: usize)
-    requires follows { IsFollowing queue.now _kills freezer.old }
+/// and thaw of the script is one of the queue. A queue that the script removed stays frozen.
+pub(crate) fn follow(freezer: &mut Freezer, queue: &BlockQueue, state: &QueueState)
+    requires own { freezer.old.queue ≡ queue.now }
+    requires drained { 0 < freezer.old.depth → freezer.old.drained ≡ true }
     requires hardware { state.now.limits.hardware ≡ queue.now.hardware }
     requires near { IsNear state.now freezer.old }
-    ensures follows { IsFollowing queue.now _kills freezer.new }
+    ensures follows { (kills : ℕ) → IsFollowing queue.now kills freezer.old → IsFollowing queue.now kills freezer.new }
     ensures kills { freezer.new.kills ≡ freezer.old.kills }
     ensures in_step { IsInStep state.now freezer.new }
 {

@@ -26,30 +26,21 @@ pub(crate) struct Queues<J: Run, C: QueueName> {
     free_tags: SpareQueue<FreeTag<J>>,
 }
 
-// A queue of free tags, the right to take them, and the count of those that were put there.
-type FreeTags<J> = (
-    SpareQueue<FreeTag<J>>,
-    Taker<FreeTag<J>>,
-    PutCount<FreeTag<J>>,
-);
-
-// A queue of these tags, all of which are put there, with the right to take them.
-fn free_tags<J: Run, R: Wait>(
+// Puts all of these tags into the queue of free tags, and tells how many.
+fn put_all<J: Run, R: Wait>(
     rt: &R,
     alloc: Global,
+    free: &SpareQueue<FreeTag<J>>,
     tags: Vec<Tag>,
-) -> Result<FreeTags<J>, AllocError>
+) -> Result<PutCount<FreeTag<J>>, AllocError>
     requires free { AreFreeTags J.queue tags.items }
-    ensures room { IfOk result (λ free. free.0.room ≡ length tags.items) }
-    ensures taker { IfOk result (λ free. free.1 ≡ none_counted free.0.id) }
-    ensures all { IfOk result (λ free. free.2 ≡ record { queue = free.0.id; count = length tags.items }) }
+    ensures all { IfOk result (λ count. count ≡ record { queue = free.now.id; count = length tags.items }) }
 {
-    let (free, taker) = SpareQueue::new(alloc, tags.len())?;
     let mut count = free.put_count();
     for tag in tags {
         free.put(rt, &mut count, FreeTag::new(Box::new(alloc, tag)?));
     }
-    Ok((free, taker, count))
+    Ok(count)
 }
 
 // A run's queues, the right to push requests, and the right to take free tags.
@@ -75,7 +66,8 @@ impl<J: Run, C: QueueName> Queues<J, C> {
         ensures taker { IfOk result (λ made. made.2 ≡ none_counted made.0.free_tags.id) }
     {
         let (requests, source) = RequestQueue::new(alloc, tags.len(), workers as usize)?;
-        let (free_tags, taker, _all) = free_tags(rt, alloc, tags)?;
+        let (free_tags, taker) = SpareQueue::new(alloc, tags.len())?;
+        put_all(rt, alloc, &free_tags, tags)?;
         let queues = Queues {
             queue,
             requests,
@@ -87,10 +79,11 @@ impl<J: Run, C: QueueName> Queues<J, C> {
 }
 
 /// What a run's threads stand on: the runtime, the allocator, the checked script, what holds the run at its points, and the run's
-/// queues. `J` is the run, `C` its queue of completions, `L` its queues of requests and free tags, `R` the runtime's type, `S` the stall's.
+/// queues. Contracts see the run `J`, its queue of completions `C`, and its queues of requests and free tags `L`.
 ///
-/// The type keeps that the script and the queues are those which its parameters name, that there is room for one completion more than
-/// there are tags, that the queue has a slot and the script's hardware, and that the script's lines are few enough to be numbered.
+/// Contracts see that the script and the queues are those which its parameters name. The type keeps that there is room for one
+/// completion more than there are tags, that the queue has a slot and the script's hardware, and that the script's lines are few
+/// enough to be numbered.
 #[derive(Drop)]
 pub(crate) struct Hall<'a, J: Run, C: QueueName, L: QueueNames, R, S> {
     pub(crate) rt: &'a R,

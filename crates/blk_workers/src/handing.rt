@@ -111,8 +111,9 @@ fn push<J: Run, C: QueueName, L: QueueNames, R: Wait, S>(
     }
 }
 
-/// Hands an accepted request to the workers: it enters the queue with one free tag, under the limits in force, and is owed. Here alone
-/// a duty is given, and there is room for its completion, whenever it is told (`room`).
+/// Hands an accepted request over, to a worker or to this thread where it helps. It enters the queue with one free tag, under the limits
+/// in force, and its reply is owed. No other call gives a duty. Afterwards the queue of completions has room for each completion that is
+/// to come (`room` of the `ensures`).
 pub(crate) fn hand_over<J: Run, C: QueueName, L: QueueNames, R: Wait, S: Stall>(
     hall: &Hall<'_, J, C, L, R, S>,
     desk: &mut Desk,

@@ -58,7 +58,7 @@ impl<J: Run, C: QueueName> Job<J, C> {
     }
 
     /// Does the request: reads the limits under its tag, cuts the pieces, and makes the line of its reply and the
-    /// sectors that a write leaves. It says once more that the request is an accepted one of the script: by that a worker's list
+    /// sectors that a write leaves. Contracts see once more that the request is an accepted one of the script: by that a worker's list
     /// has room for its number.
     pub(crate) fn done(
         self,
@@ -155,13 +155,7 @@ impl<J: Run> Completion<J> {
         ensures request { IsAcceptedAt J.script self.number self.position }
         ensures answer { IfOk result.1 (IsAnswerTo J.script result.0) }
     {
-        let Completion {
-            number: _,
-            position,
-            answer,
-            of: _,
-        } = self;
-        (position, answer)
+        (self.position, self.answer)
     }
 }
 
@@ -202,8 +196,7 @@ impl<J: Run> FreeTag<J> {
         ensures own { result.value.queue ≡ J.queue }
         ensures out { result.value.entered ≡ false }
     {
-        let FreeTag { tag, of: _ } = self;
-        tag
+        self.tag
     }
 }
 

@@ -36,8 +36,8 @@ struct Inputs<'a, R, S> {
     stall: &'a S,
 }
 
-// A run takes three names, each once the thing is made: that of the run in `run`, those of its queues in `run_as` and
-// `run_on`. This one has all three.
+// Starts the workers and leads them to the end. Contracts see three names by now, each taken once the thing is made: that of the run
+// in `run_checked`, those of its queues in `run_as` and `run_on`.
 fn run_in<
     J: Run + Send + Sync,
     C: QueueName + Send + Sync,
@@ -61,7 +61,7 @@ fn run_in<
     let workers = inputs.config.workers();
     let stations = Shelf::new(inputs.alloc, workers as usize)?;
     let uniform = UniformSectors::of(inputs.alloc, inputs.checked.script())?;
-    let hall = Hall::<J, C, L, R, S>::new(
+    let hall = Hall::<J, C, L, _, _>::new(
         inputs.rt,
         inputs.alloc,
         inputs.checked,
@@ -77,7 +77,7 @@ fn run_in<
     submitter.into_ran(hall.requests.finish(source))
 }
 
-// A run whose types name its queue of completions.
+// Makes the queues of requests and of free tags, and goes on. Contracts see a run whose types name its queue of completions.
 fn run_on<J: Run + Send + Sync, C: QueueName + Send + Sync, R: Threads + Wait + Sync, S: Stall>(
     inputs: &Inputs<'_, R, S>,
     queue: BlockQueue,
@@ -107,10 +107,11 @@ fn run_on<J: Run + Send + Sync, C: QueueName + Send + Sync, R: Threads + Wait + 
         taker,
         small: 0,
     };
-    run_in::<J, C, Brand, R, S>(inputs, &queues, submitter, ends)
+    run_in::<J, C, Brand, _, _>(inputs, &queues, submitter, ends)
 }
 
-// A run whose types name its script and its queue: `parts` are the new queue, its freezer and its tags.
+// Makes the queue of completions and the submitter, and goes on: `parts` are the new queue, its freezer and its tags. Contracts see a
+// run whose types name its script and its queue.
 fn run_as<J: Run + Send + Sync, R: Threads + Wait + Sync, S: Stall>(
     inputs: &Inputs<'_, R, S>,
     parts: NewQueue,
@@ -125,7 +126,7 @@ fn run_as<J: Run + Send + Sync, R: Threads + Wait + Sync, S: Stall>(
     let room = tags.len() + 1;
     let (completions, collector) = CompletionQueue::new(inputs.alloc, room)?;
     let submitter = Submitter::new(inputs.alloc, inputs.checked.script(), freezer)?;
-    run_on::<J, Brand, R, S>(inputs, queue, tags, completions, collector, submitter)
+    run_on::<J, Brand, _, _>(inputs, queue, tags, completions, collector, submitter)
 }
 
 /// Runs a checked script on as many workers as the config says, whose replies and disk are those of a single thread.
@@ -160,7 +161,7 @@ pub fn run_checked<R: Threads + Wait + Sync, S: Stall>(
         config,
         stall,
     };
-    run_as::<Brand, R, S>(&inputs, parts)
+    run_as::<Brand, _, _>(&inputs, parts)
 }
 
 /// Runs a script of which no two requests overlap, as [`check`](script_overlap::check) tells: [`run_checked`] of what a check

@@ -58,8 +58,8 @@ fn reply_now(
 }
 
 impl Submitter {
-    /// A run's submitter, before the first line. It isn't told which run it is: so it is that of whichever queue this freezer
-    /// follows.
+    /// A run's submitter, before the first line. Contracts see it as that of whichever queue this freezer follows, since it isn't told
+    /// which run it is.
     pub(crate) fn new(
         alloc: Global,
         script: &Script,
@@ -83,13 +83,7 @@ impl Submitter {
         ensures run { (script : Meant) → IsEnd script self → IfOk result (λ ran. IsRun script ran.replies.items ran.disk) }
         ensures drawn { IfOk result (λ ran. ran.drawn ≡ drawn) }
     {
-        let Submitter {
-            desk,
-            state: _,
-            freezer: _,
-            accepted: _,
-        } = self;
-        let Desk { disk, replies } = desk;
+        let Desk { disk, replies } = self.desk;
         let replies = replies.into_text()?;
         Ok(Ran {
             replies,
@@ -119,9 +113,7 @@ impl Submitter {
             return Ok(());
         }
         self.drain(hall, collector)?;
-        // For the contract of `follow` alone: `drain` may have killed the gate once more than there are lines taken.
-        let kills = self.desk.replies.len() + 1;
-        follow(&mut self.freezer, hall.queue, &self.state, kills);
+        follow(&mut self.freezer, hall.queue, &self.state);
         Ok(())
     }
 
@@ -169,12 +161,9 @@ impl Submitter {
         ensures memory { IfErr result (λ fault. fault ≡ RunFault.Memory) }
     {
         help(hall);
-        // For the contract of `freeze` alone: each line taken killed the gate once at most.
-        let kills = self.desk.replies.len();
-        freeze(hall.rt, &mut self.freezer, hall.queue, kills);
+        freeze(hall.rt, &mut self.freezer, hall.queue);
         hall.stall.at(self.accepted, Point::Drained);
-        collect_until(hall, collector, &mut self.desk, 0)?;
-        Ok(())
+        collect_until(hall, collector, &mut self.desk, 0)
     }
 
     // Takes the next line, whose reply is there and after which the script's queue is `next`.
@@ -200,9 +189,7 @@ impl Submitter {
             line_number,
             reply,
         )?;
-        // For the contract of `follow` alone: the lines taken, now with this one.
-        let kills = self.desk.replies.len();
-        follow(&mut self.freezer, hall.queue, &next, kills);
+        follow(&mut self.freezer, hall.queue, &next);
         self.state = next;
         Ok(())
     }
@@ -237,8 +224,8 @@ impl Submitter {
         }
     }
 
-    // Takes the next line. `source`: of the right to push nothing changes but how much was pushed. So `lead` can put end marks also
-    // where this fails, and where it doesn't, `gather` finds the parts, the lists and their room as they were.
+    // Takes the next line. Contracts see by `source` that nothing of the right to push changes but how much was pushed: so `lead` can
+    // put end marks also where this fails, and where it doesn't, `gather` finds the parts, the lists and their room as they were.
     fn take_next<J: Run, C: QueueName, L: QueueNames, R: Wait, S: Stall>(
         &mut self,
         hall: &Hall<'_, J, C, L, R, S>,
@@ -260,7 +247,7 @@ impl Submitter {
         }
     }
 
-    /// Takes all lines, and drains the queue at the end; where a line fails, it takes no more and drains the queue too. `source` is as at `submit`.
+    /// Takes all lines, and drains the queue at the end; where a line fails, it takes no more and drains the queue too. Contracts see `source` as at `submit`.
     pub(crate) fn submit_all<J: Run, C: QueueName, L: QueueNames, R: Wait, S: Stall>(
         &mut self,
         hall: &Hall<'_, J, C, L, R, S>,
@@ -275,11 +262,11 @@ impl Submitter {
         ensures memory { IfErr result (λ fault. fault ≡ RunFault.Memory) }
         ensures source { ends.new.source ≡ record ends.old.source { pushed = ends.new.source.pushed } }
     {
-        for position in 0..hall.checked.script().lines().len() {
+        for _position in 0..hall.checked.script().lines().len() {
             if let Err(why) = self.take_next(hall, ends) {
                 // What is under way ends, or is done by this thread: every tag leaves. Completions aren't waited for, since one brought no answer.
                 help(hall);
-                freeze(hall.rt, &mut self.freezer, hall.queue, position + 1);
+                freeze(hall.rt, &mut self.freezer, hall.queue);
                 hall.stall.at(self.accepted, Point::Drained);
                 return Err(why);
             }

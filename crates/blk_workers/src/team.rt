@@ -39,20 +39,6 @@ pub(crate) fn drawers<J: Run, C: QueueName, L: QueueNames, R, S>(
     Ok(drawers)
 }
 
-// Takes one of these rights to draw: each has room for the number of each accepted request, and one place more (src/running.rt).
-// `pop` says only that the list was what is left, and behind it what it gives: that both are new drawers is answered by hand
-// here, so `start` needs no answer for it.
-fn take_drawer<J: Run, C: QueueName, L: QueueNames>(
-    drawers: &mut Vec<Drawer<Job<J, C>>>,
-) -> Option<Drawer<Job<J, C>>>
-    requires { All (IsNewDrawer L.requests (accepted_in_all J.script + 1)) drawers.old.items }
-    ensures one { IfSome result (IsNewDrawer L.requests (accepted_in_all J.script + 1)) }
-    ensures rest { All (IsNewDrawer L.requests (accepted_in_all J.script + 1)) drawers.new.items }
-    ensures fewer { IfSome result (λ _. length drawers.new.items + 1 ≡ length drawers.old.items) }
-{
-    drawers.pop()
-}
-
 // Puts an end mark for each worker that was started.
 fn push_end_marks<J: Run, C: QueueName, L: QueueNames, R: Wait, S>(
     hall: &Hall<'_, J, C, L, R, S>,
@@ -156,14 +142,13 @@ fn start<
 {
     let slots = hall.queue.slots();
     let mut slot = 0;
-    while let Some(drawer) = take_drawer::<J, C, L>(&mut drawers) {
-        let worker = scope.spawn(
+    while let Some(drawer) = drawers.pop() {
+        let Ok(worker) = scope.spawn(
             move || -> FinishedWorker<J, C, L>
                 requires slot { slot < J.queue.gate.slots }
                 requires drawer { IsNewDrawer L.requests (accepted_in_all J.script + 1) drawer }
             { work(hall, slot, drawer) },
-        );
-        let Ok(worker) = worker else {
+        ) else {
             break;
         };
         started.push_reserved(worker);
@@ -213,7 +198,7 @@ pub(crate) fn with_workers<
 >(
     hall: &Hall<'_, J, C, L, R, S>,
     submitter: Submitter,
-    ends: Ends<J, C>,
+    mut ends: Ends<J, C>,
     drawers: Vec<Drawer<Job<J, C>>>,
 ) -> Result<(Submitter, Source<Job<J, C>>), RunFault>
     requires ready { AreAtStart J.script J.queue L.requests C.id (length drawers.items) submitter ends.source ends.collector drawers.items }
@@ -233,16 +218,9 @@ pub(crate) fn with_workers<
             requires room { (length no_handles.items ≡ 0) × (workers ≤ vec_capacity no_handles) }
             ensures led { IfOk result (λ led. IsLed J.script L.requests workers led.0 led.1) }
         {
-            let mut ends = ends;
             let mut started = start(scope, hall, drawers, no_handles);
             let submitter = lead_and_gather(hall, submitter, &mut ends, &mut started, workers)?;
-            let Ends {
-                source,
-                collector: _,
-                taker: _,
-                small: _,
-            } = ends;
-            Ok((submitter, source))
+            Ok((submitter, ends.source))
         },
     )
 }

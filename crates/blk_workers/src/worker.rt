@@ -87,8 +87,7 @@ impl<J: Run, C: QueueName, L: QueueNames> FinishedWorker<J, C, L> {
     fn into_station(self) -> Station<J, C, L>
         ensures { result ≡ self }
     {
-        let FinishedWorker { station } = self;
-        station
+        self.station
     }
 
     /// The right to draw, with the list of what was drawn.
@@ -96,14 +95,7 @@ impl<J: Run, C: QueueName, L: QueueNames> FinishedWorker<J, C, L> {
         ensures own { result.queue ≡ L.requests }
         ensures drained { result.drained ≡ true }
     {
-        let Station {
-            drawer,
-            receipts: _,
-            tags: _,
-            slot: _,
-            of: _,
-        } = self.into_station();
-        drawer
+        self.station.drawer
     }
 }
 
@@ -119,8 +111,8 @@ enum Turn<J: Run, C: QueueName, L: QueueNames> {
 }
 
 // Does a request: the tag leaves on this worker's slot once the completion is told, and goes back to whoever
-// submits, which is counted. It says again that the request is an accepted one: by that `work` knows that the list has room for its
-// number.
+// submits, which is counted. Contracts see again that the request is an accepted one: by that `work` knows that the list has room for
+// its number.
 fn serve<J: Run, C: QueueName, L: QueueNames, R: Wait, S: Stall>(
     hall: &Hall<'_, J, C, L, R, S>,
     slot: u32,
@@ -148,27 +140,20 @@ fn serve<J: Run, C: QueueName, L: QueueNames, R: Wait, S: Stall>(
 // mark makes sure of too: so a draw asks for no memory.
 fn take_turn<J: Run, C: QueueName, L: QueueNames, R: Wait, S: Stall>(
     hall: &Hall<'_, J, C, L, R, S>,
-    station: Station<J, C, L>,
+    mut station: Station<J, C, L>,
     effort: Effort,
 ) -> Turn<J, C, L> {
-    let Station {
-        mut drawer,
-        mut receipts,
-        mut tags,
-        slot,
-        of: _,
-    } = station;
-    let Ok(drawn) = hall.requests.draw(hall.rt, &mut drawer, effort) else {
+    let Ok(drawn) = hall.requests.draw(hall.rt, &mut station.drawer, effort) else {
         unreachable!()
     };
     match drawn {
-        None => Turn::Nothing(Station::new(drawer, receipts, tags, slot)),
-        Some(None) => {
-            Turn::Ended(FinishedWorker::new(Station::new(drawer, receipts, tags, slot)))
-        }
+        None => Turn::Nothing(station),
+        Some(None) => Turn::Ended(FinishedWorker::new(station)),
         Some(Some(job)) => {
-            receipts.add(serve(hall, slot, &mut tags, job));
-            Turn::Done(Station::new(drawer, receipts, tags, slot))
+            station
+                .receipts
+                .add(serve(hall, station.slot, &mut station.tags, job));
+            Turn::Done(station)
         }
     }
 }

@@ -18,15 +18,8 @@ fn text_of(alloc: Global, ran: Ran) -> Result<Vec<u8>, Fault>
     ensures text { IfOk result (λ text. (script : Meant) → IsRun script ran.replies.items ran.disk → IsText script text.items) }
     ensures memory { IfErr result (λ fault. fault ≡ Fault.Memory) }
 {
-    let Ran {
-        replies,
-        disk,
-        drawn: _,
-    } = ran;
-    let mut text = replies;
-    let Ok(()) = push_disk(&mut text, alloc, &disk) else {
-        return Err(Fault::Memory);
-    };
+    let mut text = ran.replies;
+    push_disk(&mut text, alloc, &ran.disk).map_err(|_| Fault::Memory)?;
     Ok(text)
 }
 

@@ -39,6 +39,24 @@ replied script position line reply request answered =
 same_line : (script : Meant) (position : ℕ) (line due : Line) → line ≡ get_or script.lines position line → slice_get script.lines position ≡ Some due → line ≡ due
 same_line script position line due is at = is ∙ get_or_from_slice_get script.lines position due line at
 
+-- what is made for what the line asks, with a reply that is right at the line, is the answer to the request that is due
+answers_line : (script : Meant) (position : ℕ) (limits : Bounds) (found : List (List ℕ)) (due : IsDue script position limits found) (line : Line) (what : What) (made : Answer) (reply : Reply)
+    → line ≡ due.line → due.line.what ≡ what → IsAnswered (state_at script position) what reply → made.text.items ≡ reply_line (line.number, reply)
+    → made.start ≡ first_of what → made.sectors.items ≡ left_by what → IsAnswerTo script position made
+answers_line script position limits found due line what made reply same asks right told begins leaves = record {
+  line = due.line;
+  request = due.request;
+  text_is = record {
+    line = due.line;
+    reply = reply;
+    at = due.request.at;
+    replied = replied script position due.line reply due.request (subst (λ w. IsAnswered (state_at script position) w reply) (sym asks) right);
+    told = told ∙ ap (λ (l : Line). reply_line (l.number, reply)) same;
+  };
+  begins = begins ∙ sym (ap first_of asks);
+  leaves = leaves ∙ sym (ap left_by asks);
+}
+
 pub from_read : (script : Meant) (position : ℕ) (limits : Bounds) (found : List (List ℕ)) (due : IsDue script position limits found) (line : Line) (start count : ℕ)
     → line ≡ get_or script.lines position line → line.what ≡ Read start count → (made : Answer)
     → IsReadAnswer line.number limits start count found made → IsAnswerTo script position made
@@ -46,21 +64,8 @@ from_read script position limits found due line start count is what made answer 
     let same = same_line script position line due.line is due.request.at in
     let asks : due.line.what ≡ Read start count = sym (ap (λ (l : Line). l.what) same) ∙ what in
     let finds = due.finds ∙ ap (found_by (state_at script position).disk) asks in
-    let right : IsAnswered (state_at script position) due.line.what answer.reply =
-    subst (λ w. IsAnswered (state_at script position) w answer.reply) (sym asks) (answer.right (state_at script position) due.in_force finds) in
-    record {
-      line = due.line;
-      request = due.request;
-      text_is = record {
-        line = due.line;
-        reply = answer.reply;
-        at = due.request.at;
-        replied = replied script position due.line answer.reply due.request right;
-        told = answer.told ∙ ap (λ (l : Line). reply_line (l.number, answer.reply)) same;
-      };
-      begins = answer.begins ∙ sym (ap first_of asks);
-      leaves = answer.leaves ∙ sym (ap left_by asks);
-    }
+    answers_line script position limits found due line (Read start count) made answer.reply same asks (answer.right (state_at script position) due.in_force finds)
+    answer.told answer.begins answer.leaves
 
 pub from_write : (script : Meant) (position : ℕ) (limits : Bounds) (found : List (List ℕ)) (due : IsDue script position limits found) (line : Line) (start count : ℕ) (pattern : List ℕ)
     → line ≡ get_or script.lines position line → line.what ≡ Write start count pattern → (made : Answer)
@@ -68,18 +73,5 @@ pub from_write : (script : Meant) (position : ℕ) (limits : Bounds) (found : Li
 from_write script position limits found due line start count pattern is what made answer =
     let same = same_line script position line due.line is due.request.at in
     let asks : due.line.what ≡ Write start count pattern = sym (ap (λ (l : Line). l.what) same) ∙ what in
-    let right : IsAnswered (state_at script position) due.line.what answer.reply =
-    subst (λ w. IsAnswered (state_at script position) w answer.reply) (sym asks) (answer.right (state_at script position) due.in_force) in
-    record {
-      line = due.line;
-      request = due.request;
-      text_is = record {
-        line = due.line;
-        reply = answer.reply;
-        at = due.request.at;
-        replied = replied script position due.line answer.reply due.request right;
-        told = answer.told ∙ ap (λ (l : Line). reply_line (l.number, answer.reply)) same;
-      };
-      begins = answer.begins ∙ sym (ap first_of asks);
-      leaves = answer.leaves ∙ sym (ap left_by asks);
-    }
+    answers_line script position limits found due line (Write start count pattern) made answer.reply same asks (answer.right (state_at script position) due.in_force)
+    answer.told answer.begins answer.leaves

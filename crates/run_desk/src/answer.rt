@@ -1,11 +1,6 @@
 //! The answer to a request: the line of its reply, and the sectors that a write leaves.
-ghost use Rattle.std.specs.Prelude.{◌≡◌, ℕ, List, IfOk};
+ghost use Rattle.std.specs.Prelude.{IfOk};
 ghost use Rattle.queue_limits.specs.Pieces.{IsSplit};
-ghost use Rattle.ram_disk.specs.Runs.{IsRuns};
-ghost use Rattle.ram_disk.specs.Sector.{bytes_of};
-ghost use Rattle.ram_disk.specs.Pattern.{pattern_sectors};
-ghost use Rattle.blk_script.specs.Texts.{reply_line};
-ghost use Rattle.script_meaning.specs.declared.reply.Reply.TheVariants.{Data};
 ghost use Rattle.run_desk.specs.Requests.{IsDue, IsAnswerTo, IsReadAnswer, IsWriteAnswer};
 
 use crate::uniform::UniformSectors;
@@ -32,37 +27,6 @@ fn pieces(alloc: Global, limits: Limits, start: u32, count: u32) -> Result<Piece
     Ok(PieceLengths::new(lengths))
 }
 
-// The line of a reply.
-fn reply_text(alloc: Global, number: u32, reply: &Reply) -> Result<Vec<u8>, AllocError>
-    ensures { IfOk result (λ text. text.items ≡ reply_line (number, reply.now)) }
-{
-    render(alloc, number, reply).map_err(|_| AllocError)
-}
-
-// The line of a read's reply: its pieces, and the runs of the sectors that it found.
-fn read_text(
-    alloc: Global,
-    number: u32,
-    pieces: &PieceLengths,
-    found: &[Sector],
-) -> Result<Vec<u8>, AllocError>
-    ensures { IfOk result (λ text. (runs : List (ℕ × ℕ)) × IsRuns runs (bytes_of found.now) × (text.items ≡ reply_line (number, Data pieces.now runs))) }
-{
-    render_read(alloc, number, pieces.as_slice(), found).map_err(|_| AllocError)
-}
-
-// The sectors of a write.
-fn sectors_of(
-    alloc: Global,
-    uniform: &UniformSectors,
-    pattern: &Pattern,
-    count: u32,
-) -> Result<Vec<Sector>, AllocError>
-    ensures { IfOk result (λ sectors. sectors.items ≡ pattern_sectors pattern.now count) }
-{
-    uniform.patterned(alloc, pattern.bytes(), count)
-}
-
 // The answer to a read, which found these sectors.
 fn read(
     alloc: Global,
@@ -75,7 +39,7 @@ fn read(
     ensures { IfOk result (IsReadAnswer number limits start count found.now) }
 {
     let pieces = pieces(alloc, limits, start, count)?;
-    let text = read_text(alloc, number, &pieces, found)?;
+    let text = render_read(alloc, number, pieces.as_slice(), found).map_err(|_| AllocError)?;
     Ok(Answer {
         text,
         start,
@@ -96,8 +60,8 @@ fn write(
     ensures { IfOk result (IsWriteAnswer number limits start count pattern.now) }
 {
     let pieces = pieces(alloc, limits, start, count)?;
-    let text = reply_text(alloc, number, &Reply::Written { pieces })?;
-    let sectors = sectors_of(alloc, uniform, pattern, count)?;
+    let text = render(alloc, number, &Reply::Written { pieces }).map_err(|_| AllocError)?;
+    let sectors = uniform.patterned(alloc, pattern.bytes(), count)?;
     Ok(Answer {
         text,
         start,

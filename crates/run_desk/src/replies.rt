@@ -148,13 +148,8 @@ impl Replies {
     pub fn into_text(self) -> Result<Vec<u8>, AllocError>
         ensures { IfOk result (λ text. text.items ≡ joined self) }
     {
-        let Replies {
-            told,
-            rest,
-            owed: _,
-        } = self;
-        let mut text = told.into_text();
-        add_lines(&mut text, &rest)?;
+        let mut text = self.told.into_text();
+        add_lines(&mut text, &self.rest)?;
         Ok(text)
     }
 }

@@ -15,7 +15,7 @@ const BYTE_VALUES: usize = 256;
 fn one_sector(alloc: Global, byte: u8) -> Result<Vec<Sector>, AllocError>
     ensures { IfOk result (λ made. made.items ≡ pattern_sectors (byte ∷ []) 1) }
 {
-    patterned(alloc, [byte].as_slice(), 1).map_err(|_| AllocError)
+    patterned(alloc, &[byte], 1).map_err(|_| AllocError)
 }
 
 /// A sector that has one byte at every place. The type keeps that, and contracts see the byte.

@@ -18,10 +18,10 @@
 //! wakes nobody for it, and does what waits itself once it has no tag left, and before each drain. It does so in the name of a worker
 //! that sleeps, whose station it takes meanwhile: each list of drawn requests stays a worker's.
 //!
-//! What threads hand to one another is known by its type alone, so the types of requests, completions and free
-//! tags keep what [`run`]'s contract rests on; `specs/Jobs.antt` says what a request's type keeps. Requests,
-//! completions and free tags stand in queues under a rule (`run_queues`) of a fixed room, whose memory is taken before
-//! the first thread starts, and so is that for the lists of what each worker draws.
+//! What threads hand to one another is known by its type alone, so the types of requests, completions and free tags keep
+//! what [`run`]'s contract rests on; `specs/Jobs.antt` says what a request's type keeps. Requests, completions and free
+//! tags stand in queues under a rule (`run_queues`) of a fixed room, whose memory is taken before the first thread
+//! starts, and so is that for the lists of what each worker draws.
 //!
 //! Words of this crate:
 //! - *hall*: what the threads stand on, which is the runtime, the allocator, the checked script, the stall, the queue that requests
@@ -44,9 +44,7 @@
 //! - *job*: an accepted request on its way to a worker, with its tag. Its *answer* is the line of its reply and the sectors that a
 //!   write leaves; its *completion* brings the answer back. Once the completion is told, a *receipt* is left of the duty: a
 //!   worker comes back with as many receipts as it drew requests.
-//! - `J` is the run: `J.script` its script, `J.queue` the queue that requests enter. `C` is its queue of completions, and `L` its
-//!   queues of requests and of free tags: `C.id`, `L.requests` and `L.free_tags` say which. Each is a name that a run takes once it has the thing (src/naming.rt).
-//!   `R` is the runtime's type, `S` the stall's.
+//! - `R` is the runtime's type, `S` the stall's.
 
 mod collecting;
 mod config;

@@ -1,27 +1,14 @@
-use Rattle.std.proofs.Common.{◌∙◌, ap, sym, subst}
-use Rattle.run_queues.specs.Parts.{CollectorFacts}
-use Rattle.blk_workers.specs.Progress.{AreAwaited}
-use Rattle.blk_workers.proofs.Awaited.{same_but_collected}
+use Rattle.std.proofs.Common.{◌∙◌}
+use Rattle.blk_workers.proofs.Awaited.{collects_on, same_but_collected}
 use Rattle.blk_workers.proofs.collecting.collect_some.Goals as goal
 
 pub loop-preserved : goal.loop-preserved
 loop-preserved g c = record {
-  collecting = record {
-    stands = c.take_completion.ensures.taken.stands;
-    own = ap (λ (k : CollectorFacts). k.queue) c.in-Some.ensures.collected ∙ c.loop.invariant.collecting.own;
-    awaited =
-        subst (λ (k : CollectorFacts). AreAwaited g.J.Run.script c.take_completion.new.desk.replies k.given k.collected) (sym c.in-Some.ensures.collected)
-        (c.take_completion.ensures.taken.awaited c.loop.collector.given c.loop.collector.collected c.loop.invariant.collecting.awaited);
-  };
+  collecting = collects_on g.J.Run.script g.C.QueueName.id c.loop.desk c.take_completion.new.desk c.loop.collector c.try_collect.new.collector _ c.loop.invariant.collecting c.in-Some.ensures.collected c.take_completion.ensures.taken;
   lines = c.take_completion.ensures.taken.lines ∙ c.loop.invariant.lines;
   collector = same_but_collected c.args.collector.now c.loop.collector c.try_collect.new.collector _ c.loop.invariant.collector c.in-Some.ensures.collected;
 }
 
 pub returns-in_err-take_completion-clause-collecting : goal.returns-in_err-take_completion-clause-collecting
-returns-in_err-take_completion-clause-collecting g c = record {
-  stands = c.take_completion.ensures.taken.stands;
-  own = ap (λ (k : CollectorFacts). k.queue) c.in-Some.ensures.collected ∙ c.loop.invariant.collecting.own;
-  awaited =
-      subst (λ (k : CollectorFacts). AreAwaited g.J.Run.script c.take_completion.new.desk.replies k.given k.collected) (sym c.in-Some.ensures.collected)
-      (c.take_completion.ensures.taken.awaited c.loop.collector.given c.loop.collector.collected c.loop.invariant.collecting.awaited);
-}
+returns-in_err-take_completion-clause-collecting g c =
+    collects_on g.J.Run.script g.C.QueueName.id c.loop.desk c.take_completion.new.desk c.loop.collector c.try_collect.new.collector _ c.loop.invariant.collecting c.in-Some.ensures.collected c.take_completion.ensures.taken

@@ -13,8 +13,8 @@ unreachable-requires g c =
     let few = few_increasing (accepted_in_all g.J.Run.script) c.station.inside.drawer.drawn station.increasing station.accepted in
     omega (arith, few, station.has_room, c.in_default.ensures.full)
 
-pub new-requires-in-Some-Some-clause-station : goal.new-requires-in-Some-Some-clause-station
-new-requires-in-Some-Some-clause-station g c =
+pub invariant_of-station-in-Some-Some : goal.invariant_of-station-in-Some-Some
+invariant_of-station-in-Some-Some g c =
     let bound = accepted_in_all g.J.Run.script in
     let station = c.station.invariant.0 in
     let old : DrawerFacts = c.station.inside.drawer in
@@ -24,11 +24,14 @@ new-requires-in-Some-Some-clause-station g c =
     ∙ ap (λ item. let d : DrawerFacts = after_draw (λ j. j.duty.number) item old in record d { room = c.draw.new.drawer.room }) c.in-Some-Some.field-0-is in
     let longer : new.drawn ≡ old.drawn ++ job.duty.number ∷ [] = ap (λ (d : DrawerFacts). d.drawn) drew in
     let less = number_below g.J.Run.script job.duty.number job.position c.serve.ensures.request in
-    let by_one = ap length longer ∙ length-append old.drawn (job.duty.number ∷ []) in record {
-      own = ap (λ (d : DrawerFacts). d.queue) drew ∙ station.own;
-      has_room = omega (arith, station.has_room, c.in-Ok.ensures.room);
-      accepted = subst (All (λ n. n < bound)) (sym longer) (All-push (λ n. n < bound) old.drawn job.duty.number station.accepted less);
-      increasing = c.draw.ensures.increasing;
-      told_each = omega (arith, c.add.ensures, station.told_each, by_one);
-      put_each = c.serve.ensures.tag ∙ ap one_more station.put_each ∙ ap (λ n. record { queue = g.L.QueueNames.free_tags; count = n }) (sym by_one);
-    }
+    let by_one = ap length longer ∙ length-append old.drawn (job.duty.number ∷ []) in (
+      record {
+        own = ap (λ (d : DrawerFacts). d.queue) drew ∙ station.own;
+        has_room = omega (arith, station.has_room, c.in-Ok.ensures.room);
+        accepted = subst (All (λ n. n < bound)) (sym longer) (All-push (λ n. n < bound) old.drawn job.duty.number station.accepted less);
+        increasing = c.draw.ensures.increasing;
+        told_each = omega (arith, c.add.ensures, station.told_each, by_one);
+        put_each = c.serve.ensures.tag ∙ ap one_more station.put_each ∙ ap (λ n. record { queue = g.L.QueueNames.free_tags; count = n }) (sym by_one);
+      },
+      c.station.invariant.1,
+    )

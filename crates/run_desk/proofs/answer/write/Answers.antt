@@ -1,4 +1,4 @@
-use Rattle.std.proofs.Common.{refl, subst}
+use Rattle.std.proofs.Common.{refl, subst, rules}
 use Rattle.queue_limits.specs.Pieces.{IsSplit}
 use Rattle.script_meaning.specs.declared.reply.Reply.TheVariants.{Written}
 use Rattle.run_desk.proofs.answer.write.Goals as goal
@@ -6,8 +6,8 @@ use Rattle.run_desk.proofs.answer.write.Goals as goal
 pub returns : goal.returns
 returns c = record {
   reply = Written c.in_ok-pieces.pieces;
-  told = c.in_ok-text.ensures;
+  told = search rules;
   right = λ s limits. subst (λ l. IsSplit l c.args.start c.args.count c.in_ok-pieces.pieces) limits c.in_ok-pieces.ensures;
   begins = refl;
-  leaves = c.in_ok-sectors.ensures;
+  leaves = search rules;
 }

@@ -7,9 +7,9 @@ use crate::erased::blk_workers::job::Completion;
 use crate::erased::run_desk::Desk;
 use crate::erased::run_queues::Collector;
 
-// Takes a completion. Where it brought an answer, the reply to its request was owed until now, and one less is owed afterwards.
-// `Memory` where the worker was refused it; then the reply stays owed, with no completion to come, and every caller ends the run.
-// `taken` holds then too, so that those who collect have one clause for both ends; nobody reads it once the run fails.
+// Takes a completion. Where it brought an answer, the reply to its request was owed until now, and one less is owed
+// afterwards. `Memory` where the worker was refused it; then the reply stays owed, with no completion to come, and every
+// caller ends the run.
 //
 // # Preconditions
 //
@@ -23,8 +23,8 @@ fn take_completion<S>(hall: &Hall<'_, S>, desk: &mut Desk, completion: Completio
 }
 
 /// Collects the completions that are there now, as many as are owed at most, once so many are owed as there are tags. A
-/// look for each request would take the queue's cache lines from the workers each time. Afterwards no more are owed than there
-/// are tags. `collector`: what was given stays as it was, by which the next duty is numbered.
+/// look for each request would take the queue's cache lines from the workers each time. Afterwards no more are owed than
+/// there are tags.
 ///
 /// # Preconditions
 ///
@@ -45,11 +45,10 @@ pub(crate) fn collect_some<S>(
         take_completion(hall, desk, completion)?;
     }
     // Each request whose completion wasn't there has its tag, so this waits for none.
-    collect_until(hall, collector, desk, hall.free_tags.room())?;
-    Ok(())
+    collect_until(hall, collector, desk, hall.free_tags.room())
 }
 
-/// Collects completions until at most so many are owed, and waits for them. `collector` is as at `collect_some`.
+/// Collects completions until at most so many are owed, and waits for them.
 ///
 /// # Preconditions
 ///

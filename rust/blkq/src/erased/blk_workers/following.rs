@@ -5,16 +5,15 @@ use crate::erased::freeze_queue::{BlockQueue, Freezer};
 use crate::erased::queue_limits::Limits;
 use crate::erased::script_meaning::QueueState;
 
-/// Freezes the queue and waits until it is drained, where it isn't frozen, and so drained, already. `_kills` stands in the
-/// contract alone: how often the gate was killed, at most; a gate is killed 2^40 times at most (`percpu_core`, `KILL_LIMIT`).
+/// Freezes the queue and waits until it is drained, where it isn't frozen, and so drained, already. A gate is killed 2^40 times at
+/// most (`percpu_core`, `KILL_LIMIT`).
 ///
 /// # Preconditions
 ///
-/// - `IsFollowing(queue, _kills, freezer)`: the freezer is the queue's, knows a frozen queue to be drained, and
-///   killed its gate at most so often.
-/// - `_kills` is less than `2^40`.
-pub(crate) fn freeze(freezer: &mut Freezer, queue: &BlockQueue, _kills: usize) {
-    debug_assert!(_kills < 1 << 40);
+/// - `freezer` belongs to `queue`.
+/// - If `freezer.depth()` is at least 1, then `freezer.drained` is `true`.
+/// - `freezer.kills` is less than `2^40`.
+pub(crate) fn freeze(freezer: &mut Freezer, queue: &BlockQueue) {
     if freezer.depth() > 0 {
         return;
     }
@@ -61,17 +60,16 @@ fn step_to(freezer: &mut Freezer, queue: &BlockQueue, depth: u32) {
 }
 
 /// Brings the queue into step with the script's: to its mode, and a frozen one to its limits and its depth, so that each freeze
-/// and thaw of the script is one of the queue. A queue that the script removed stays frozen. `_kills` stands in the contract
-/// alone: how often the gate was killed, at most.
+/// and thaw of the script is one of the queue. A queue that the script removed stays frozen.
 ///
 /// # Preconditions
 ///
-/// - `IsFollowing(queue, _kills, freezer)`: the freezer is the queue's, knows a frozen queue to be drained, and
-///   killed its gate at most so often.
+/// - `freezer` belongs to `queue`.
+/// - If `freezer.depth()` is at least 1, then `freezer.drained` is `true`.
 /// - `state.limits.hardware` is `queue.hardware`.
 /// - `IsNear(state, freezer)`: the freezer comes into step with a script's queue by one freeze or thaw at most: a
 ///   live queue is in step but for its mode.
-pub(crate) fn follow(freezer: &mut Freezer, queue: &BlockQueue, state: &QueueState, _kills: usize) {
+pub(crate) fn follow(freezer: &mut Freezer, queue: &BlockQueue, state: &QueueState) {
     freezer.mode(queue, state.mode());
     // A live queue has the script's limits and its depth, 0, already: a line that changes either drains first, or comes under a
     // freeze, and so finds the queue frozen here.

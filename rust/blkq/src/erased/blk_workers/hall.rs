@@ -20,21 +20,17 @@ pub(crate) struct Queues {
     free_tags: SpareQueue<FreeTag>,
 }
 
-// A queue of free tags, the right to take them, and the count of those that were put there.
-type FreeTags = (SpareQueue<FreeTag>, Taker<FreeTag>, PutCount<FreeTag>);
-
-// A queue of these tags, all of which are put there, with the right to take them.
+// Puts all of these tags into the queue of free tags, and tells how many.
 //
 // # Preconditions
 //
 // - `AreFreeTags(run.queue, tags)`: there are tags, which are this queue's, and none is entered.
-fn free_tags(tags: Vec<Tag>) -> Result<FreeTags, AllocError> {
-    let (free, taker) = SpareQueue::new(tags.len())?;
+fn put_all(free: &SpareQueue<FreeTag>, tags: Vec<Tag>) -> Result<PutCount<FreeTag>, AllocError> {
     let mut count = free.put_count();
     for tag in tags {
         free.put(&mut count, FreeTag::new(Box::try_from_value(tag)?));
     }
-    Ok((free, taker, count))
+    Ok(count)
 }
 
 // A run's queues, the right to push requests, and the right to take free tags.
@@ -56,17 +52,18 @@ impl Queues {
         workers: u32,
     ) -> Result<NewQueues, RunFault> {
         let (requests, source) = RequestQueue::new(tags.len(), workers as usize)?;
-        let (free_tags, taker, _all) = free_tags(tags)?;
+        let (free_tags, taker) = SpareQueue::new(tags.len())?;
+        put_all(&free_tags, tags)?;
         let queues = Queues { queue, requests, completions, free_tags };
         Ok((queues, source, taker))
     }
 }
 
-/// What a run's threads stand on: the runtime, the allocator, the checked script, what holds the run at its points, and the run's
-/// queues. `J` is the run, `C` its queue of completions, `L` its queues of requests and free tags, `R` the runtime's type, `S` the stall's.
+/// What a run's threads stand on: the runtime, the allocator, the checked script, what holds the run at its points, and
+/// the run's queues.
 ///
-/// The type keeps that the script and the queues are those which its parameters name, that there is room for one completion more than
-/// there are tags, that the queue has a slot and the script's hardware, and that the script's lines are few enough to be numbered.
+/// The type keeps that there is room for one completion more than there are tags, that the queue has a slot and the
+/// script's hardware, and that the script's lines are few enough to be numbered.
 pub(crate) struct Hall<'a, S> {
     pub(crate) checked: &'a Checked<'a>,
     pub(crate) stall: &'a S,

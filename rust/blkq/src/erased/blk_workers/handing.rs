@@ -89,8 +89,9 @@ fn push<S>(hall: &Hall<'_, S>, source: &mut Source<Job>, job: Job, helps: bool) 
     }
 }
 
-/// Hands an accepted request to the workers: it enters the queue with one free tag, under the limits in force, and is owed. Here alone
-/// a duty is given, and there is room for its completion, whenever it is told (`room`).
+/// Hands an accepted request over, to a worker or to this thread where it helps. It enters the queue with one free tag, under the limits
+/// in force, and its reply is owed. No other call gives a duty. Afterwards the queue of completions has room for each completion that is
+/// to come (`room` of the `ensures`).
 ///
 /// # Preconditions
 ///

@@ -29,9 +29,8 @@ impl Job {
         Job { duty, position, tag, found }
     }
 
-    /// Does the request: reads the limits under its tag, cuts the pieces, and makes the line of its reply and the
-    /// sectors that a write leaves. It says once more that the request is an accepted one of the script: by that a worker's list
-    /// has room for its number.
+    /// Does the request: reads the limits under its tag, cuts the pieces, and makes the line of its reply and the sectors
+    /// that a write leaves.
     ///
     /// # Preconditions
     ///
@@ -82,8 +81,7 @@ impl Completion {
 
     /// The position of the request's line, and its answer, unless the worker was refused memory.
     pub(crate) fn into_parts(self) -> (usize, Result<Answer, AllocError>) {
-        let Completion { number: _, position, answer } = self;
-        (position, answer)
+        (self.position, self.answer)
     }
 }
 

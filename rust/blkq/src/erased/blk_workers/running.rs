@@ -24,8 +24,7 @@ struct Inputs<'a, S> {
     stall: &'a S,
 }
 
-// A run takes three names, each once the thing is made: that of the run in `run`, those of its queues in `run_as` and
-// `run_on`. This one has all three.
+// Starts the workers and leads them to the end.
 //
 // # Preconditions
 //
@@ -58,7 +57,7 @@ fn run_in<S: Stall>(
     submitter.into_ran(hall.requests.finish(source))
 }
 
-// A run whose types name its queue of completions.
+// Makes the queues of requests and of free tags, and goes on.
 //
 // # Preconditions
 //
@@ -85,7 +84,7 @@ fn run_on<S: Stall>(
     run_in(inputs, &queues, submitter, ends)
 }
 
-// A run whose types name its script and its queue: `parts` are the new queue, its freezer and its tags.
+// Makes the queue of completions and the submitter, and goes on: `parts` are the new queue, its freezer and its tags.
 //
 // # Preconditions
 //

@@ -41,8 +41,7 @@ fn reply_now(script: &Script, desk: &mut Desk, line_number: u32, reply: &Reply) 
 }
 
 impl Submitter {
-    /// A run's submitter, before the first line. It isn't told which run it is: so it is that of whichever queue this freezer
-    /// follows.
+    /// A run's submitter, before the first line.
     pub(crate) fn new(script: &Script, freezer: Freezer) -> Result<Submitter, RunFault> {
         // Only memory can be refused (`only_memory` of `Disk::new`).
         let disk = Disk::new(script.disk()).map_err(|_| RunFault::Memory)?;
@@ -52,8 +51,7 @@ impl Submitter {
 
     /// What the run answers, once every line is taken and nothing is owed, where the workers drew these.
     pub(crate) fn into_ran(self, drawn: Vec<Vec<u32>>) -> Result<Ran, RunFault> {
-        let Submitter { desk, state: _, freezer: _, accepted: _ } = self;
-        let Desk { disk, replies } = desk;
+        let Desk { disk, replies } = self.desk;
         let replies = replies.into_text()?;
         Ok(Ran { replies, disk, drawn })
     }
@@ -77,9 +75,7 @@ impl Submitter {
             return Ok(());
         }
         self.drain(hall, collector)?;
-        // For the contract of `follow` alone: `drain` may have killed the gate once more than there are lines taken.
-        let kills = self.desk.replies.len() + 1;
-        follow(&mut self.freezer, hall.queue, &self.state, kills);
+        follow(&mut self.freezer, hall.queue, &self.state);
         Ok(())
     }
 
@@ -115,12 +111,9 @@ impl Submitter {
     //   to the requests whose completions this right to collect may still bring.
     fn drain<S: Stall>(&mut self, hall: &Hall<'_, S>, collector: &mut Collector<Completion>) -> Result<(), RunFault> {
         help(hall);
-        // For the contract of `freeze` alone: each line taken killed the gate once at most.
-        let kills = self.desk.replies.len();
-        freeze(&mut self.freezer, hall.queue, kills);
+        freeze(&mut self.freezer, hall.queue);
         hall.stall.at(self.accepted, Point::Drained);
-        collect_until(hall, collector, &mut self.desk, 0)?;
-        Ok(())
+        collect_until(hall, collector, &mut self.desk, 0)
     }
 
     // Takes the next line, whose reply is there and after which the script's queue is `next`.
@@ -140,9 +133,7 @@ impl Submitter {
         reply: &Reply,
     ) -> Result<(), RunFault> {
         reply_now(hall.checked.script(), &mut self.desk, line_number, reply)?;
-        // For the contract of `follow` alone: the lines taken, now with this one.
-        let kills = self.desk.replies.len();
-        follow(&mut self.freezer, hall.queue, &next, kills);
+        follow(&mut self.freezer, hall.queue, &next);
         self.state = next;
         Ok(())
     }
@@ -172,8 +163,7 @@ impl Submitter {
         }
     }
 
-    // Takes the next line. `source`: of the right to push nothing changes but how much was pushed. So `lead` can put end marks also
-    // where this fails, and where it doesn't, `gather` finds the parts, the lists and their room as they were.
+    // Takes the next line.
     //
     // # Preconditions
     //
@@ -190,7 +180,7 @@ impl Submitter {
         }
     }
 
-    /// Takes all lines, and drains the queue at the end; where a line fails, it takes no more and drains the queue too. `source` is as at `submit`.
+    /// Takes all lines, and drains the queue at the end; where a line fails, it takes no more and drains the queue too.
     ///
     /// # Preconditions
     ///
@@ -199,11 +189,11 @@ impl Submitter {
     /// - `HasCounted(requests.free_tags, self.accepted, ends.taker)`: as many spares of this queue were taken, or put
     ///   back.
     pub(crate) fn submit_all<S: Stall>(&mut self, hall: &Hall<'_, S>, ends: &mut Ends) -> Result<(), RunFault> {
-        for position in 0..hall.checked.script().lines().len() {
+        for _position in 0..hall.checked.script().lines().len() {
             if let Err(why) = self.take_next(hall, ends) {
                 // What is under way ends, or is done by this thread: every tag leaves. Completions aren't waited for, since one brought no answer.
                 help(hall);
-                freeze(&mut self.freezer, hall.queue, position + 1);
+                freeze(&mut self.freezer, hall.queue);
                 hall.stall.at(self.accepted, Point::Drained);
                 return Err(why);
             }

@@ -32,17 +32,6 @@ pub(crate) fn drawers<S>(
     Ok(drawers)
 }
 
-// Takes one of these rights to draw: each has room for the number of each accepted request, and one place more (src/running.rt).
-// `pop` says only that the list was what is left, and behind it what it gives: that both are new drawers is answered by hand
-// here, so `start` needs no answer for it.
-//
-// # Preconditions
-//
-// - `All(IsNewDrawer(requests.requests, accepted_in_all(run.script) + 1), drawers)`.
-fn take_drawer(drawers: &mut Vec<Drawer<Job>>) -> Option<Drawer<Job>> {
-    drawers.pop()
-}
-
 // Puts an end mark for each worker that was started.
 //
 // # Preconditions
@@ -128,9 +117,8 @@ fn start<'scope, 'env, S: Stall>(
     debug_assert!(started.len() == 0);
     let slots = hall.queue.slots();
     let mut slot = 0;
-    while let Some(drawer) = take_drawer(&mut drawers) {
-        let worker = scope.try_spawn(move || -> FinishedWorker { work(hall, slot, drawer) });
-        let Ok(worker) = worker else {
+    while let Some(drawer) = drawers.pop() {
+        let Ok(worker) = scope.try_spawn(move || -> FinishedWorker { work(hall, slot, drawer) }) else {
             break;
         };
         started.push(worker);
@@ -185,16 +173,14 @@ fn lead_and_gather<S: Stall>(
 pub(crate) fn with_workers<S: Stall>(
     hall: &Hall<'_, S>,
     submitter: Submitter,
-    ends: Ends,
+    mut ends: Ends,
     drawers: Vec<Drawer<Job>>,
 ) -> Result<(Submitter, Source<Job>), RunFault> {
     let workers = drawers.len();
     let no_handles: Vec<JoinHandle<FinishedWorker>> = Vec::try_with_room(workers)?;
     thread::scope(move |scope| -> Result<(Submitter, Source<Job>), RunFault> {
-        let mut ends = ends;
         let mut started = start(scope, hall, drawers, no_handles);
         let submitter = lead_and_gather(hall, submitter, &mut ends, &mut started, workers)?;
-        let Ends { source, collector: _, taker: _, small: _ } = ends;
-        Ok((submitter, source))
+        Ok((submitter, ends.source))
     })
 }

@@ -49,8 +49,7 @@ impl FinishedWorker {
 
     /// The right to draw, with the list of what was drawn.
     pub(crate) fn into_drawer(self) -> Drawer<Job> {
-        let Station { drawer, receipts: _, tags: _, slot: _ } = self.into_station();
-        drawer
+        self.station.drawer
     }
 }
 
@@ -64,9 +63,8 @@ enum Turn {
     Ended(FinishedWorker),
 }
 
-// Does a request: the tag leaves on this worker's slot once the completion is told, and goes back to whoever
-// submits, which is counted. It says again that the request is an accepted one: by that `work` knows that the list has room for its
-// number.
+// Does a request: the tag leaves on this worker's slot once the completion is told, and goes back to whoever submits,
+// which is counted.
 //
 // # Preconditions
 //
@@ -86,15 +84,14 @@ fn serve<S: Stall>(hall: &Hall<'_, S>, slot: u32, tags: &mut PutCount<FreeTag>, 
 
 // Draws a request, and does it. There is room for the number of each accepted request, and one place more, which the draw of the end
 // mark makes sure of too: so a draw asks for no memory.
-fn take_turn<S: Stall>(hall: &Hall<'_, S>, station: Station, effort: Effort) -> Turn {
-    let Station { mut drawer, mut receipts, mut tags, slot } = station;
-    let Ok(drawn) = hall.requests.draw(&mut drawer, effort) else { unreachable!() };
+fn take_turn<S: Stall>(hall: &Hall<'_, S>, mut station: Station, effort: Effort) -> Turn {
+    let Ok(drawn) = hall.requests.draw(&mut station.drawer, effort) else { unreachable!() };
     match drawn {
-        None => Turn::Nothing(Station::new(drawer, receipts, tags, slot)),
-        Some(None) => Turn::Ended(FinishedWorker::new(Station::new(drawer, receipts, tags, slot))),
+        None => Turn::Nothing(station),
+        Some(None) => Turn::Ended(FinishedWorker::new(station)),
         Some(Some(job)) => {
-            receipts.add(serve(hall, slot, &mut tags, job));
-            Turn::Done(Station::new(drawer, receipts, tags, slot))
+            station.receipts.add(serve(hall, station.slot, &mut station.tags, job));
+            Turn::Done(station)
         }
     }
 }

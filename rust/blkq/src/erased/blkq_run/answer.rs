@@ -7,11 +7,8 @@ use crate::erased::blkq_run::fault::Fault;
 
 // The text of what a run answers: its replies, and then the line of its disk.
 fn text_of(ran: Ran) -> Result<Vec<u8>, Fault> {
-    let Ran { replies, disk, drawn: _ } = ran;
-    let mut text = replies;
-    let Ok(()) = push_disk(&mut text, &disk) else {
-        return Err(Fault::Memory);
-    };
+    let mut text = ran.replies;
+    push_disk(&mut text, &ran.disk).map_err(|_| Fault::Memory)?;
     Ok(text)
 }
 

@@ -22,25 +22,10 @@ fn pieces(limits: Limits, start: u32, count: u32) -> Result<PieceLengths, AllocE
     Ok(PieceLengths::new(lengths))
 }
 
-// The line of a reply.
-fn reply_text(number: u32, reply: &Reply) -> Result<Vec<u8>, AllocError> {
-    render(number, reply).map_err(|_| AllocError)
-}
-
-// The line of a read's reply: its pieces, and the runs of the sectors that it found.
-fn read_text(number: u32, pieces: &PieceLengths, found: &[Sector]) -> Result<Vec<u8>, AllocError> {
-    render_read(number, pieces.as_slice(), found).map_err(|_| AllocError)
-}
-
-// The sectors of a write.
-fn sectors_of(uniform: &UniformSectors, pattern: &Pattern, count: u32) -> Result<Vec<Sector>, AllocError> {
-    uniform.patterned(pattern.bytes(), count)
-}
-
 // The answer to a read, which found these sectors.
 fn read(number: u32, limits: Limits, start: u32, count: u32, found: &[Sector]) -> Result<Answer, AllocError> {
     let pieces = pieces(limits, start, count)?;
-    let text = read_text(number, &pieces, found)?;
+    let text = render_read(number, pieces.as_slice(), found).map_err(|_| AllocError)?;
     Ok(Answer { text, start, sectors: Vec::new() })
 }
 
@@ -54,8 +39,8 @@ fn write(
     pattern: &Pattern,
 ) -> Result<Answer, AllocError> {
     let pieces = pieces(limits, start, count)?;
-    let text = reply_text(number, &Reply::Written { pieces })?;
-    let sectors = sectors_of(uniform, pattern, count)?;
+    let text = render(number, &Reply::Written { pieces }).map_err(|_| AllocError)?;
+    let sectors = uniform.patterned(pattern.bytes(), count)?;
     Ok(Answer { text, start, sectors })
 }
 

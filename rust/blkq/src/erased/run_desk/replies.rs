@@ -96,9 +96,8 @@ impl Replies {
 
     /// The lines that are there, one after another.
     pub fn into_text(self) -> Result<Vec<u8>, AllocError> {
-        let Replies { told, rest, owed: _ } = self;
-        let mut text = told.into_text();
-        add_lines(&mut text, &rest)?;
+        let mut text = self.told.into_text();
+        add_lines(&mut text, &self.rest)?;
         Ok(text)
     }
 }

@@ -10,7 +10,7 @@ const BYTE_VALUES: usize = 256;
 
 // The sector of a pattern of one byte.
 fn one_sector(byte: u8) -> Result<Vec<Sector>, AllocError> {
-    patterned([byte].as_slice(), 1).map_err(|_| AllocError)
+    patterned(&[byte], 1).map_err(|_| AllocError)
 }
 
 /// A sector that has one byte at every place. The type keeps that, and contracts see the byte.

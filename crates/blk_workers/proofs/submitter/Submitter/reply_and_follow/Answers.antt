@@ -22,7 +22,8 @@ returns g c =
     let desk = c.reply_now.new.desk in
     let follows : IsFollowing g.J.Run.queue (here + 1) c.follow.new.freezer =
     subst (λ (q : QueueFacts). IsFollowing q (here + 1) c.follow.new.freezer) c.hall.invariant.0.its_queue
-    (subst (λ n. IsFollowing c.hall.inside.queue.now n c.follow.new.freezer) (c.len-kills.ensures ∙ replied.lines) c.follow.ensures.follows)
+    (c.follow.ensures.follows (here + 1)
+    (subst (λ (q : QueueFacts). IsFollowing q (here + 1) c.args.self.now.freezer) (sym c.hall.invariant.0.its_queue) c.requires.before.follows))
     in
     record {
       passed = record {

@@ -1,4 +1,4 @@
-use Rattle.std.proofs.Common.{◌≡◌, List, ℕ, get_or, replicate, sym, ap, ◌∙◌}
+use Rattle.std.proofs.Common.{◌≡◌, get_or, replicate, sym, ap, ◌∙◌}
 use Rattle.ram_disk.specs.Sector.{filled_with}
 use Rattle.run_desk.proofs.UniformLists.{of_one_byte}
 use Rattle.run_desk.proofs.uniform.UniformSector.new.Goals as goal

@@ -1,5 +1,5 @@
 use Rattle.std.proofs.Common.{◌≡◌, length}
-use Rattle.blk_workers.proofs.hall.free_tags.Given as goal
+use Rattle.blk_workers.proofs.hall.put_all.Given as goal
 
 abbrev pub invariant-loop-tag : goal.invariant-loop-tag
 invariant-loop-tag g l =
