@@ -124,4 +124,4 @@ def by_kind(page, counts):
     counts.equal("each help is there for a text of no kind", page.js(helps), [False, False, False])
     page.js("location.hash = '#race=races+1%0Aworld+1+1+atomic+0%0A0+try+0%0A'")
     page.until("page.kind === 'race' && find('status').textContent.startsWith('answered')")
-    counts.check("one outcome is one", page.js("find('outcomes').textContent").startswith("1 outcome, over"))
+    counts.check("one outcome is one", page.js("find('outcomes').textContent").startswith("1 outcome. Choose"))

@@ -51,12 +51,12 @@ LONG = "'gate 1\\nworld 1 1 slots 0\\n' + '0 look 0\\n'.repeat(601)"
 
 
 def outcomes_in(answer):
-    """The cells of the table: of each outcome its number, the answers of each actor, the steps, the states and the end."""
+    """The cells of the table: of each outcome its number, the answers of each actor, the steps and the end."""
     for part in re.split(r"^(?=outcome )", answer, flags=re.MULTILINE)[1:]:
-        number, states, steps, deadlock = re.match(r"outcome (\d+) states (\d+) steps (\d+)( deadlock)?\n", part).groups()
+        number, steps, deadlock = re.match(r"outcome (\d+) steps (\d+)( deadlock)?\n", part).groups()
         said = [line.split(" ", 1)[1] for line in part[: part.index("gate 1\n")].splitlines()[1:]]
         end = re.search(r"^# end (.*)$", part, re.MULTILINE)[1]
-        yield [number, *said, steps, states, f"deadlock: {end}" if deadlock else end]
+        yield [number, *said, steps, f"deadlock: {end}" if deadlock else end]
 
 
 def outcomes(page, counts):
@@ -67,7 +67,7 @@ def outcomes(page, counts):
     counts.equal("the table of the outcomes", page.js(ROWS), list(outcomes_in(answer)))
     heads = page.js("[...find('outcomes').querySelectorAll('thead th')].map((cell) => cell.textContent)")
     counts.equal("its heads", heads[:3], ["outcome", "pass 0live 0 / put 0 1", "controlkill"])
-    counts.equal("its caption", page.js("find('outcomes').querySelector('caption').textContent"), "4 outcomes, over 39 states. Choose one to draw its schedule.")
+    counts.equal("its caption", page.js("find('outcomes').querySelector('caption').textContent"), "4 outcomes. Choose one to draw its schedule.")
     pressed = "[...find('outcomes').querySelectorAll('tbody button')].map((it) => it.getAttribute('aria-pressed'))"
     shows = f"[page.outcome, {pressed}, find('outcomes').querySelector('tr.chosen').rowIndex, find('steps-head').textContent, document.activeElement.id]"
     for number in (3, 1):
@@ -168,7 +168,7 @@ def cut(page, counts):
     page.js(f"open({MANY!r})")
     page.until(f"page.outcomes.length === 1254 && {ANSWERED}")
     caption, rows = page.js("[find('outcomes').querySelector('caption').textContent, find('outcomes').querySelectorAll('tbody tr').length]")
-    counts.equal("500 outcomes have rows", [caption.split(",")[1], rows], [" the first 500 of them here", 500])
+    counts.equal("500 outcomes have rows", [caption.split(". ")[0], rows], ["1254 outcomes, the first 500 of them here", 500])
     page.js(f"open({MANY!r}, {{ outcome: 500 }})")
     page.until(f"page.outcome === 500 && {ANSWERED}")
     counts.equal("the last of them is drawn", page.js("find('steps-head').textContent"), "Step by step: outcome 500")

@@ -81,7 +81,7 @@ def random_questions(draw, race, outcomes):
 
 def counts_of(question, outcomes):
     """How many outcomes are against a question, and how many steps lead to one of them at least, by what the search finds."""
-    steps = [steps for told, (_, steps) in outcomes.items() if question.is_against(told)]
+    steps = [steps for told, steps in outcomes.items() if question.is_against(told)]
     return len(steps), min(steps, default=None)
 
 

@@ -28,6 +28,29 @@ def waiting_call(draw):
     return draw.choice((("await", draw.choice(("zero", "dead", "a", "b"))), ("set", draw.choice("ab"))))
 
 
+def resembling(draw, calls, slots):
+    """The same calls, with another slot or amount in one of them. They may be answered alike, and other references be held."""
+    places = [at for at, call in enumerate(calls) if call[0] in ("try", "live", "get", "put")]
+    if not places:
+        return calls
+    at = draw.choice(places)
+    word, slot, *amount = calls[at]
+    if amount and draw.random() < 0.7:
+        return (*calls[:at], (word, slot, amount[0] % 3 + 1), *calls[at + 1 :])
+    return (*calls[:at], (word, (slot + 1) % slots, *amount), *calls[at + 1 :])
+
+
+def all_pass_calls(draw, slots, words):
+    """The calls of each pass. In more than half of the races several passes make equal calls, and in some they differ in a number alone."""
+    passes = [pass_calls(draw, slots, words) for _ in range(draw.choice((1, 1, 1, 2, 2)))]
+    if draw.random() < 0.75:
+        passes += [draw.choice(passes) for _ in range(draw.choice((1, 1, 2)))]
+    if draw.random() < 0.25:
+        passes.append(resembling(draw, draw.choice(passes), slots))
+    draw.shuffle(passes)
+    return passes
+
+
 PARTS = ("mark_dead", "close_next", "collect", "confirm", "drop_base")
 
 
@@ -50,7 +73,7 @@ def control_call(draw, call):
 def random_race(draw):
     slots, start = draw.choice((1, 1, 2, 3)), draw.choice(("slots", "slots", "atomic", "dead"))
     words = tuple(draw.choice((0, 5, 2**64 - 1)) for _ in range(draw.randrange(3)))
-    passes = [pass_calls(draw, slots, len(words)) for _ in range(draw.choice((1, 2, 2, 3)))]
+    passes = all_pass_calls(draw, slots, len(words))
     kills = draw.choice((0, 0, 0, 0, 3, MOST_KILLS - 1, MOST_KILLS))
     return Race(slots, start, kills, words, tuple(passes), tuple(control_calls(draw, slots, len(words))))
 

@@ -5,7 +5,6 @@ from typing import NamedTuple
 
 class Outcome(NamedTuple):
     told: tuple  # a line for each actor, and the figures of the end
-    states: int
     schedule: list  # its lines, each step with its reply behind it
 
 
@@ -25,26 +24,24 @@ def outcome_of(lines, number):
     head, begin = lines[0].split(), lines.index("gate 1")
     schedule = lines[begin:]
     deadlock = ["deadlock"] if any("waits for " in line for line in lines[1:begin]) else []
-    if head != ["outcome", str(number), "states", head[3], "steps", str(steps_of(schedule)), *deadlock]:
+    if head != ["outcome", str(number), "steps", str(steps_of(schedule)), *deadlock]:
         raise ValueError(lines[0])
-    return Outcome((*lines[1:begin], figures_of(lines[-1])), int(head[3]), schedule)
+    return Outcome((*lines[1:begin], figures_of(lines[-1])), schedule)
 
 
 def outcomes_of(text):
-    """The outcomes of an answer, each of which is there once, the shorter schedules first; and the number of states."""
+    """The outcomes of an answer, each of which is there once, the shorter schedules first."""
     first, *lines = text.splitlines()
     heads = [at for at, line in enumerate(lines) if line.startswith("outcome")]
     found = [outcome_of(lines[at:end], number) for number, (at, end) in enumerate(zip(heads, heads[1:]), 1)]
     lengths, different = [steps_of(it.schedule) for it in found], {it.told for it in found}
-    outcomes, count, states, seen = lines[-1].split()
-    if (first, outcomes, states, int(count), len(found)) != ("races 1", "outcomes", "states", len(different), len(different)):
+    if (first, lines[-1], len(found)) != ("races 1", f"outcomes {len(different)}", len(different)):
         raise ValueError(lines[-1])
     if lengths != sorted(lengths):
         raise ValueError(f"the steps of schedules: {lengths}")
-    return found, int(seen)
+    return found
 
 
 def counted(text):
-    """How many end states each outcome has, by what it tells, and how many steps lead to it; and the number of states."""
-    found, seen = outcomes_of(text)
-    return {it.told: (it.states, steps_of(it.schedule)) for it in found}, seen
+    """How many steps lead to each outcome, by what it tells."""
+    return {it.told: steps_of(it.schedule) for it in outcomes_of(text)}

@@ -1,10 +1,11 @@
 /* Finds all outcomes of a race by exhaustive search, written from docs/GATE.md and docs/FORMATS.md alone, to time the
- * program beside it: a list of whole states, and a hash set of their places.
+ * program beside it: a list of whole states, and a hash set of their places. It goes through every state, also where passes with
+ * equal calls have changed places.
  *
  * usage: search < RACE
  *
- * RACE is right. Prints how many outcomes and states there are, how many ends have these outcomes, and how many steps lead to
- * them at least, all told. Memory is given back at the end alone. */
+ * RACE is right. Prints a line `outcomes COUNT steps STEPS` for each number of steps that lead to an outcome at least, and at the end how
+ * many outcomes there are. Memory is given back at the end alone. */
 #include "gate.h"
 
 #include <inttypes.h>
@@ -16,7 +17,7 @@
 
 typedef struct {
     int64_t *rows;
-    uint32_t *numbers, *counts, *table;
+    uint32_t *numbers, *table;
     size_t width, count, room, mask;
 } Set;
 
@@ -47,7 +48,6 @@ static void grow(Set *set) {
     set->room = set->room ? 2 * set->room : 1024;
     set->rows = grown(set->rows, set->room * set->width * sizeof *set->rows);
     set->numbers = grown(set->numbers, set->room * sizeof *set->numbers);
-    set->counts = grown(set->counts, set->room * sizeof *set->counts);
     free(set->table);
     set->table = calloc(2 * set->room, sizeof *set->table);
     if (!set->table)
@@ -57,18 +57,15 @@ static void grow(Set *set) {
         *place(set, set->rows + k * set->width) = (uint32_t)k + 1;
 }
 
-/* Counts the row; a new one gets the number. */
+/* Puts the row there if it is new, with the number. */
 static void put(Set *set, const int64_t *row, uint32_t number) {
     if (set->count == set->room)
         grow(set);
     uint32_t *at = place(set, row);
-    if (*at) {
-        set->counts[*at - 1]++;
+    if (*at)
         return;
-    }
     memcpy(set->rows + set->count * set->width, row, set->width * sizeof *row);
     set->numbers[set->count] = number;
-    set->counts[set->count] = 1;
     *at = (uint32_t)++set->count;
 }
 
@@ -104,6 +101,15 @@ static void search(Set *states, Set *outcomes) {
             tell_outcome(now, next);
             put(outcomes, next, states->numbers[at]);
         }
+    }
+}
+
+/* The outcomes are in the order of their steps. */
+static void tell_lengths(const Set *outcomes) {
+    for (size_t k = 0, next; k < outcomes->count; k = next) {
+        for (next = k; next < outcomes->count && outcomes->numbers[next] == outcomes->numbers[k];)
+            next++;
+        printf("outcomes %zu steps %" PRIu32 "\n", next - k, outcomes->numbers[k]);
     }
 }
 
@@ -164,11 +170,7 @@ int main(void) {
     Set states = {.width = (size_t)cells}, outcomes = {.width = (size_t)cells - GATE_CELLS - (size_t)(slots + words) + 6 - ACTOR_CELLS * ((size_t)passes + 1)};
     put(&states, first, 0);
     search(&states, &outcomes);
-    uint64_t ends = 0, steps = 0;
-    for (size_t k = 0; k < outcomes.count; k++) {
-        ends += outcomes.counts[k];
-        steps += outcomes.numbers[k];
-    }
-    printf("outcomes %zu states %zu ends %" PRIu64 " steps %" PRIu64 "\n", outcomes.count, states.count, ends, steps);
+    tell_lengths(&outcomes);
+    printf("outcomes %zu\n", outcomes.count);
     return 0;
 }

@@ -1,13 +1,13 @@
 #!/usr/bin/env python3
-"""Finds all moments of a race by exhaustive search, from docs/GATE.md and docs/FORMATS.md alone, and says how many there are.
+"""Finds all outcomes of a race by exhaustive search, from docs/GATE.md and docs/FORMATS.md alone.
 
 usage: tests/races/search.py [--outcomes] FILE ..
 
-A line for each race: its file, the number of its moments, and at how many of them nothing may come next; then the number of its
-outcomes, how many ends have them, and how many steps lead to them at least, all told. With --outcomes each outcome, as
-docs/FORMATS.md has it, without its schedule. A FILE is a race that is right. A moment is
-the gate, and for each actor how far it is in its calls and what they have answered; an outcome is what the calls have answered
-at an end, with the figures that the end of a replay tells but for the value. tests/rows/races.rows has these numbers of some races.
+A line for each race: its file, the number of its outcomes, and how many steps lead to them at least, all told. With --outcomes each
+outcome, as docs/FORMATS.md has it, without its schedule. A FILE is a race that is right. The search goes through every moment, also
+where passes with equal calls have changed places. A moment is the gate, and for each actor how far it is in its calls and what they have
+answered; an outcome is what the calls have answered at an end, with the figures that the end of a replay tells but for the value.
+tests/rows/races.rows has these numbers of some races.
 """
 
 import sys
@@ -64,12 +64,6 @@ def search(race):
                 left.append(it)
 
 
-def moments(race):
-    """How many there are, and at how many of them nothing may come next."""
-    ends = [is_end for _, _, is_end in search(race)]
-    return len(ends), sum(ends)
-
-
 def line_of(actor, seat, calls):
     """What an actor's calls have answered, and what the next one waits for."""
     waits = [f"waits for {wanted}"] if (wanted := awaited(seat, calls)) else []
@@ -85,28 +79,26 @@ def told(moment, race):
 
 
 def all_outcomes(race):
-    """What each outcome tells, with how many ends have it and how many steps lead to it at least; and the number of moments."""
-    found, seen = {}, 0
+    """What each outcome tells, with how many steps lead to it at least."""
+    found = {}
     for moment, steps, is_end in search(race):
-        seen += 1
         if is_end:
-            tells = told(moment, race)
-            states, least = found.get(tells, (0, steps))
-            found[tells] = states + 1, least
-    return found, seen
+            found.setdefault(told(moment, race), steps)
+    return found
 
 
 def outcomes(race):
-    """How many there are, how many ends have them, and how many steps lead to them at least, all told."""
-    found, _ = all_outcomes(race)
-    return len(found), sum(states for states, _ in found.values()), sum(steps for _, steps in found.values())
+    """How many there are, and how many steps lead to them at least, all told."""
+    found = all_outcomes(race)
+    return len(found), sum(found.values())
 
 
 def show(race):
-    found, seen = all_outcomes(race)
-    for number, (lines, (states, steps)) in enumerate(found.items(), 1):
-        print(f"outcome {number} states {states} steps {steps}", *lines[:-1], sep="\n")
-    print(f"outcomes {len(found)} states {seen}")
+    found = all_outcomes(race)
+    for number, (lines, steps) in enumerate(found.items(), 1):
+        deadlock = " deadlock" if any("waits for " in line for line in lines[:-1]) else ""
+        print(f"outcome {number} steps {steps}{deadlock}", *lines[:-1], sep="\n")
+    print(f"outcomes {len(found)}")
 
 
 def main():
@@ -116,7 +108,7 @@ def main():
         if "--outcomes" in sys.argv:
             show(race)
         else:
-            print(name, *moments(race), *outcomes(race))
+            print(name, *outcomes(race))
 
 
 if __name__ == "__main__":

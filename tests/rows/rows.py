@@ -6,7 +6,7 @@ two runs. Each row begins with `== NAME`. Its input follows, then a line that be
     --                  the status is 0, and standard output has the lines below
     -- 3                the same with another status
     -- 2 line 1: ..     the same with this line on standard error
-    -- counts           of a race: its states, ends, outcomes and steps
+    -- counts           of a race: its outcomes, and the steps that lead to them
     -- line N           a table: each line below is `LINES => WHY`. LINES stand in the place of the line `...` of the input, with
                         ` ; ` between two lines. The input is refused with `line N: WHY`, or is read if WHY is `read`
     -- overlap          a table of scripts: `read`, or the line that tells the overlap
@@ -54,21 +54,16 @@ class LastLine(NamedTuple):
 
 
 class Counts(NamedTuple):
-    """How many states, ends, outcomes and steps a race has."""
+    """How many outcomes a race has, and how many steps lead to them, all told."""
 
     text: str
 
     def differs(self, found):
         heads = [line.split() for line in found.out.decode().splitlines() if line.startswith("outcome ")]
         last = found.out.decode().splitlines()[-1:]
-        ends, steps = (sum(int(words[at]) for words in heads) for at in (3, 5))
-        count, _, rest = self.text.removeprefix("states ").partition(" ")
-        return (rest, last, found.status, found.error) != (
-            f"ends {ends} outcomes {len(heads)} steps {steps}",
-            [f"outcomes {len(heads)} states {count}"],
-            0,
-            b"",
-        )
+        steps = sum(int(words[3]) for words in heads)
+        counts = f"outcomes {len(heads)} steps {steps}"
+        return (counts, last, found.status, found.error) != (self.text, [f"outcomes {len(heads)}"], 0, b"")
 
 
 class Row(NamedTuple):

@@ -110,7 +110,7 @@ def cut_drop_bounds(s):
                 cut_bound(s, s.before(p), i)
             elif s.at(n, "+"):
                 s.cut(i, n)
-            elif s.at(n, ",") or s.at(n, ">"):
+            elif s.at(n, ",") or s.at(n, ">") or s.at(n, ";"):
                 s.cut(p, i)
 
 

@@ -90,6 +90,8 @@ def conjuncts(tree, keeps_ranges=False):
 
 # The names of a run, of its queue of completions and of its queue of requests, which the types of blk_workers have.
 OF_A_RUN = {"J": "run", "C": "completions", "L": "requests"}
+# What a course of race_search has.
+OF_A_COURSE = {"C.rules": "rules", "C.number_of": "number_of"}
 
 
 def plain(path):
@@ -97,6 +99,8 @@ def plain(path):
     parts = [part for k, part in enumerate(path.split(".")) if k == 0 or part not in MOMENTS]
     if len(parts) == 2 and parts[0][0].islower() and parts[1][0].isupper():
         return parts[1]  # a variant, by the name under which a file imports its enum
+    if ".".join(parts) in OF_A_COURSE:
+        return OF_A_COURSE[".".join(parts)]
     return ".".join([OF_A_RUN.get(parts[0], parts[0]) if len(parts) > 1 else parts[0], *parts[1:]])
 
 

@@ -67,8 +67,7 @@ function endOf({ schedule, isDeadlock }) {
 function outcomeHead(actors, calls) {
   const of = (actor) => [actorName(actor), element("code", { textContent: (calls.get(actor) ?? []).join(" / ") })];
   const head = (parts, className = "") => element("th", { scope: "col", className }, parts);
-  const counts = ["steps", "end states"].map((name) => head([name], "number"));
-  const heads = [head(["outcome"]), ...actors.map((actor) => head(of(actor))), ...counts, head(["how it ends"])];
+  const heads = [head(["outcome"]), ...actors.map((actor) => head(of(actor))), head(["steps"], "number"), head(["how it ends"])];
   return element("thead", {}, [element("tr", {}, heads)]);
 }
 
@@ -79,19 +78,19 @@ function outcomeRow(outcome, actors, onChoice) {
     const found = outcome.actors.find((it) => it.actor === actor);
     return element("td", { className: "said", textContent: found ? found.answers : "" });
   });
-  const counts = [outcome.steps, outcome.states].map((count) => element("td", { className: "number", textContent: String(count) }));
-  const cells = [element("th", { scope: "row" }, [choice]), ...answers, ...counts];
+  const steps = element("td", { className: "number", textContent: String(outcome.steps) });
+  const cells = [element("th", { scope: "row" }, [choice]), ...answers, steps];
   const row = element("tr", {}, [...cells, element("td", { className: "end", textContent: endOf(outcome) })]);
   row.onclick = () => onChoice(outcome);
   return row;
 }
 
 // The table of a race's outcomes. A click on a row, or its button, chooses the outcome.
-function outcomeTable({ outcomes, states }, calls, onChoice) {
+function outcomeTable(outcomes, calls, onChoice) {
   const shown = outcomes.slice(0, MOST_OUTCOMES);
   const actors = (outcomes[0]?.actors ?? []).map(({ actor }) => actor).filter((actor) => calls.has(actor));
   const some = shown.length < outcomes.length ? `, the first ${shown.length} of them here` : "";
-  const caption = `${counted(outcomes.length, "outcome")}${some}, over ${counted(states, "state")}. Choose one to draw its schedule.`;
+  const caption = `${counted(outcomes.length, "outcome")}${some}. Choose one to draw its schedule.`;
   const body = element("tbody", {}, shown.map((outcome) => outcomeRow(outcome, actors, onChoice)));
   return element("table", {}, [element("caption", { textContent: caption }), outcomeHead(actors, calls), body]);
 }

@@ -136,14 +136,14 @@ function showRefusal(text, line, reason, took) {
 }
 
 function showOutcomes(text, answer, chosen) {
-  const all = outcomesOf(answer);
-  page.outcomes = all.outcomes;
+  const outcomes = outcomesOf(answer);
+  page.outcomes = outcomes;
   find("rows").hidden = true;
   find("outcomes").hidden = false;
-  find("outcomes").replaceChildren(outcomeTable(all, callsOf(text), chooseHere));
-  find("glossary").replaceChildren(...glossaryOf(all.outcomes.slice(0, MOST_OUTCOMES), chooseHere));
+  find("outcomes").replaceChildren(outcomeTable(outcomes, callsOf(text), chooseHere));
+  find("glossary").replaceChildren(...glossaryOf(outcomes.slice(0, MOST_OUTCOMES), chooseHere));
   find("glossary").hidden = false;
-  const first = all.outcomes.find(({ number }) => number === chosen.outcome);
+  const first = outcomes.find(({ number }) => number === chosen.outcome);
   if (first) choose(first, chosen.step);
 }
 

@@ -2,7 +2,7 @@
 
 const find = (id) => document.getElementById(id);
 const race = { ...JSON.parse(find("data").textContent), stepping: undefined, outcome: 0 };
-race.all = outcomesOf(race.answer);
+race.outcomes = outcomesOf(race.answer);
 
 function keepAddress(step) {
   history.replaceState(null, "", `#outcome=${race.outcome}&step=${step}`);
@@ -11,7 +11,7 @@ function keepAddress(step) {
 // Chooses an outcome, and draws its schedule at a step, or at its end.
 function choose(outcome, step) {
   race.outcome = outcome.number;
-  if (outcome.number <= MOST_OUTCOMES) markChoice(find("outcomes"), race.all.outcomes, outcome);
+  if (outcome.number <= MOST_OUTCOMES) markChoice(find("outcomes"), race.outcomes, outcome);
   const schedule = new Schedule(outcome.schedule, repliesIn(outcome.schedule), MOST_STEPS);
   race.stepping.show(`outcome ${outcome.number}`, race.name, schedule, step);
 }
@@ -27,17 +27,17 @@ function chooseHere(outcome) {
 function chooseAsked() {
   const asked = new URLSearchParams(location.hash.replace(/^#/, ""));
   const [number, step] = ["outcome", "step"].map((name) => numberIn(asked.get(name)));
-  const found = race.all.outcomes.find((it) => it.number === number);
+  const found = race.outcomes.find((it) => it.number === number);
   find("notice").textContent = number === undefined || found ? "" : "The address names an outcome that isn't there.";
-  choose(found ?? race.all.outcomes[0], found ? step : 0);
+  choose(found ?? race.outcomes[0], found ? step : 0);
 }
 
 function begin() {
   race.stepping = new Stepping(find, keepAddress);
   find("open").hidden = true;
   find("race").textContent = race.text;
-  find("outcomes").append(outcomeTable(race.all, callsOf(race.text), chooseHere));
-  find("glossary").append(...glossaryOf(race.all.outcomes.slice(0, MOST_OUTCOMES), chooseHere));
+  find("outcomes").append(outcomeTable(race.outcomes, callsOf(race.text), chooseHere));
+  find("glossary").append(...glossaryOf(race.outcomes.slice(0, MOST_OUTCOMES), chooseHere));
   document.addEventListener("keydown", (event) => race.stepping.onKey(event));
   addEventListener("hashchange", chooseAsked);
   chooseAsked();

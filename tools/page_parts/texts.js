@@ -71,25 +71,18 @@ function printed(rows) {
   return rows.map(({ line, reply }) => (reply === undefined ? line : `${line.padEnd(BESIDE)} ${reply}`) + "\n").join("");
 }
 
-function numbersOf([, number, states, steps]) {
-  return { number: Number(number), states: Number(states), steps: Number(steps) };
-}
-
 // The outcomes of a race: each with the answers of its actors, whether one waits for ever, and its schedule as it is printed.
 function outcomesOf(answer) {
   const outcomes = [];
-  let total = {};
   for (const line of linesOf(answer)) {
     const now = outcomes[outcomes.length - 1];
-    const head = /^outcome (\d+) states (\d+) steps (\d+)( deadlock)?$/.exec(line);
-    const end = /^outcomes (\d+) states (\d+)$/.exec(line);
-    if (head) outcomes.push({ ...numbersOf(head), isDeadlock: head[4] !== undefined, actors: [], schedule: "" });
-    else if (end) total = { states: Number(end[2]) };
-    else if (!now) continue;
+    const [, number, steps, deadlock] = /^outcome (\d+) steps (\d+)( deadlock)?$/.exec(line) ?? [];
+    if (number) outcomes.push({ number: Number(number), steps: Number(steps), isDeadlock: deadlock !== undefined, actors: [], schedule: "" });
+    else if (!now || /^outcomes \d+$/.test(line)) continue;
     else if (now.schedule || line === "gate 1") now.schedule += `${line}\n`;
     else now.actors.push({ actor: line.split(" ", 1)[0], answers: line.split(" ").slice(1).join(" ") });
   }
-  return { outcomes, ...total };
+  return outcomes;
 }
 
 // The replies that are printed in a schedule of a race.

@@ -1,4 +1,4 @@
--- What was read is answered as the whole input is (Answering), how many states a race has (Bounds), the statuses of faults (Ending), and
+-- What was read is answered as the whole input is (Answering), how many states of a race are kept (Bounds), the statuses of faults (Ending), and
 -- a list of two words (Wording).
 pub mod Answering
 pub mod Bounds

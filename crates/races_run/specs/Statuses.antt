@@ -18,7 +18,7 @@ abbrev pub WritesPart : {R W : Type 0} → Form → (R → Option (List ℕ)) �
 WritesPart form left held reader old new written =
     IfKnown left reader (λ input. IsAnsweredBy form input (λ text. (written < length text) × Takes held old new (take written text)))
 
--- what the status tells: 0 that the answer to the race in that form was written, and exactly its text, and its states are within the bound, if there is
+-- what the status tells: 0 that the answer to the race in that form was written, and exactly its text, and the states that are kept are within the bound, if there is
 -- one; 2 that the input is no race, and nothing was written; 4 that nothing was written, or that the writer failed for good once it had
 -- the first bytes of the answer, not all
 pub record TellsOutcomes {R W : Type 0} (form : Form) (left : R → Option (List ℕ)) (held : W → Option (List ℕ)) (most : Option ℕ) (reader : Tally R) (old new : Tally W) (status : ℕ) : Type 0 where

@@ -26,7 +26,7 @@ pub enum Fault {
     /// The input is no race.
     #[error("{0}")]
     Parse(ParseFault),
-    /// The race has more states than the bound on them.
+    /// The search would keep more states than the bound on them.
     #[error("states")]
     States,
 }

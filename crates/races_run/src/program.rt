@@ -46,7 +46,7 @@ fn outcomes_reported<R: Read, W: Write, E: Write>(
 /// Writes to `writer` the answer to the race that `reader` has, and tells the program's status: 0 where it
 /// went out. `args`, the words after the program's name, choose the form: the answers to the race's questions, or its
 /// outcomes. Any other status comes with a line to `errors`: 2 where the input is no race, and 4 where reading,
-/// writing or memory was refused, or the race has more states than `args` have behind `--states`, or they ask for
+/// writing or memory was refused, or the search would keep more states than `args` have behind `--states`, or they ask for
 /// nothing that there is. They are looked at before anything is read.
 /// Where `errors` fails, the line is lost and the status stays.
 pub fn command<R: Read, W: Write, E: Write>(

@@ -13,6 +13,7 @@ pub mod gate_replay;
 pub mod hex;
 pub mod itoa;
 pub mod line_text;
+pub mod linux_world;
 pub mod maps;
 pub mod memchr;
 pub mod pointers;

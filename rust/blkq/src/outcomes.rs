@@ -4,11 +4,12 @@ use crate::erased::races_run::{Form, outcomes_bytes};
 use crate::errors::RaceError;
 use crate::text::Text;
 
-/// Goes through all orders of the atomic steps of a race, and returns its outcomes: what the calls answer, in how many states it
-/// ends so, and a shortest schedule that leads there, which [`replay`](crate::replay()) takes unchanged if it has at most
-/// 1,048,576 bytes. The program `gate_races --outcomes` writes the same. The questions of a race are read, and not answered.
+/// Goes through all orders of the atomic steps of a race, and returns its outcomes: what the calls answer, and a shortest schedule
+/// that leads there, which [`replay`](crate::replay()) takes unchanged if it has at most 1,048,576 bytes. The program
+/// `gate_races --outcomes` writes the same. The questions of a race are read, and not answered.
 ///
-/// It keeps each state until all are seen, so a race of many calls takes much memory. At most 1,048,576 bytes are a race.
+/// It keeps the states that it has seen until all are, so a race of many calls takes much memory. Passes that make equal calls may change
+/// places in any state, so it keeps one of those that differ in this alone. At most 1,048,576 bytes are a race.
 ///
 /// # Errors
 ///

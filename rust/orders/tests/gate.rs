@@ -1,28 +1,26 @@
 //! Races of the gate: what the erased code answers in all interleavings is what `gate_races` says that it may answer, by the
-//! gate's machine. Each outcome is the same, with the same marks and counts, as many ends, and as few steps to the first.
+//! gate's machine. Each outcome is the same, with the same marks and counts, and as few steps lead to it.
 //!
 //! `ORDERS_GATE_RACES` names another program to ask too, as the proved one; `ORDERS_RACES` how many random races there are.
 
 use orders::{Call, GateRace, Orders};
-use std::collections::{BTreeMap, BTreeSet};
+use std::collections::BTreeMap;
 use std::env;
 use std::fs;
 use std::io::Write;
 use std::process::{Command, Stdio};
 
-/// Each outcome: a line for each actor, and the figures of the end. Its number of ends, and the fewest steps to one.
-type Outcomes = BTreeMap<Vec<String>, (usize, usize)>;
+/// Each outcome: a line for each actor, and the figures of the end; and the fewest steps that lead to it.
+type Outcomes = BTreeMap<Vec<String>, usize>;
 
 /// By all interleavings of the erased code.
 fn found(race: &GateRace, most: u64) -> Option<(Outcomes, u64, u128)> {
     let found = Orders::of(race).states(most).find().ok()?;
-    let mut ends: BTreeMap<Vec<String>, (BTreeSet<&[u64]>, usize)> = BTreeMap::new();
+    let mut outcomes = Outcomes::new();
     for (answers, ending) in &found.outcomes {
-        let end = ends.entry(outcome_of(race, answers)).or_insert((BTreeSet::new(), usize::MAX));
-        end.0.insert(&answers[answers.len() - 1].1);
-        end.1 = end.1.min(ending.steps - race.last_steps());
+        let steps = outcomes.entry(outcome_of(race, answers)).or_insert(usize::MAX);
+        *steps = (*steps).min(ending.steps - race.last_steps());
     }
-    let outcomes = ends.into_iter().map(|(outcome, (ends, steps))| (outcome, (ends.len(), steps))).collect();
     Some((outcomes, found.states, found.interleavings))
 }
 
@@ -54,7 +52,7 @@ fn printed(answer: &str) -> Outcomes {
         let head: Vec<&str> = lines[0].split(' ').collect();
         let answers = lines[1..].iter().take_while(|line| **line != "gate 1").map(ToString::to_string);
         let outcome = answers.chain(lines.last().map(|end| without_value(end)));
-        outcomes.insert(outcome.collect(), (head[2].parse().unwrap(), head[4].parse().unwrap()));
+        outcomes.insert(outcome.collect(), head[2].parse().unwrap());
     }
     outcomes
 }

@@ -2,12 +2,14 @@
 //! The outcomes of a race: all that may happen, and a shortest schedule for each.
 //!
 //! [`outcomes`] goes over the ends of a race, which `race_search` finds, and gathers what they tell: what the calls of each
-//! actor have answered, and the figures of the gate. Ends that tell the same are one outcome. Its contract says that each
+//! actor have answered, and the figures of the gate. Ends that tell the same are one outcome. The search keeps one of the ends
+//! that differ by exchanges of passes with equal calls, so `outcomes` makes each such exchange. Its contract says that each
 //! run which comes to an end has its outcome in the list, that each outcome stands there once, and that no schedule which
 //! leads to it is shorter than the one beside it.
 
 mod account;
 mod claim;
+mod exchanges;
 mod finding;
 mod gathered;
 mod outcome;

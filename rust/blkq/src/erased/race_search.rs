@@ -1,21 +1,28 @@
 // Erased from crates/race_search/src/lib.rt by tools/erase: edit that file.
-//! All moments of a race.
+//! All moments of a course.
 //!
-//! [`all_moments`] goes from one moment of a race to those that may come next, and from these on, until it meets no moment
-//! that it hasn't seen. Moments are compared whole. Its contract says that each moment in the list is reached by a schedule,
-//! that each moment that a schedule reaches is in it, and none twice. A race with more moments than it may keep is refused. [`ends`] tells which of them nothing comes after.
+//! A [`Course`] says at which moment it begins, which events may come next at a moment, and which moment each of them leads to.
+//! [`all_moments`] goes from one moment to those that may come next, and from these on, until it meets no moment that it hasn't
+//! seen. Moments are compared whole. Exchanges may lead from one moment to another, as where two actors do the same: then the
+//! search keeps one moment that represents both. Its contract says that each moment in the list is reached by a schedule,
+//! that each moment that a schedule reaches is represented in it, and none is there twice. A course with more moments than the
+//! search may keep is refused. [`ends`] tells which of them nothing comes after, and [`schedule_to`] a schedule to each.
 
+mod course;
 mod ending;
 mod fault;
 mod finding;
+mod laws;
 mod moments;
 mod positions;
 mod schedule;
 mod way;
 
+pub use course::Course;
 pub use ending::ends;
 pub use fault::SearchFault;
 pub use finding::all_moments;
+pub use laws::schedules_are_carried;
 pub use moments::Moments;
 pub use positions::Positions;
 pub use schedule::schedule_to;

@@ -9,7 +9,6 @@ use crate::erased::race_world::Moment;
 /// An outcome of a race: what its calls have answered at an end, and the figures of its gate.
 pub struct Outcome {
     pub(crate) end: Moment,
-    pub(crate) states: usize,
     pub(crate) schedule: Vec<Event>,
 }
 
@@ -24,11 +23,6 @@ impl Outcome {
         Figures::of(self.end.world())
     }
 
-    /// How many end states have the outcome.
-    pub fn states(&self) -> usize {
-        self.states
-    }
-
     /// A shortest schedule that leads to it.
     pub fn schedule(&self) -> &[Event] {
         self.schedule.as_slice()
@@ -38,7 +32,6 @@ impl Outcome {
 /// All outcomes of a race, each of them once, those with shorter schedules first.
 pub struct Outcomes {
     pub(crate) list: Vec<Outcome>,
-    pub(crate) moments: usize,
 }
 
 impl Outcomes {
@@ -50,10 +43,5 @@ impl Outcomes {
     /// The answers and figures of each, in order. `Memory` where a growth was refused.
     pub fn told(&self) -> Result<Vec<Told>, Memory> {
         all_told(self.list.as_slice())
-    }
-
-    /// How many moments were seen.
-    pub fn moments(&self) -> usize {
-        self.moments
     }
 }

@@ -7,7 +7,7 @@ use crate::erased::races_text::Form;
 /// A task of the program.
 #[derive(Clone, Copy, Debug, PartialEq, Eq)]
 pub enum Task {
-    /// Answer the race that comes in, in this form, of so many states at most, if a number is given.
+    /// Answer the race that comes in, in this form, keeping so many states at most, if a number is given.
     Answer(Form, Option<u64>),
     /// Say how the program is called.
     Usage,
@@ -44,7 +44,7 @@ fn bound_in(words: &[String]) -> Option<Option<u64>> {
 }
 
 /// The task that `words`, those after the program's name, ask for: first the form of the answer, by `--outcomes` or
-/// `--summary` or no word, and then the states that the race has at most, by `--states` and a number from 1. Anything else asks
+/// `--summary` or no word, and then the states that the search keeps at most, by `--states` and a number from 1. Anything else asks
 /// how the program is called.
 pub fn requested(words: &[String]) -> Task {
     let (form, rest) = form_in(words);

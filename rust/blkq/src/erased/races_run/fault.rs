@@ -22,7 +22,7 @@ pub enum Fault {
     },
     /// The input is no race.
     Parse(ParseFault),
-    /// The race has more states than the bound on them.
+    /// The search would keep more states than the bound on them.
     States,
 }
 

@@ -1,0 +1,10 @@
+// Erased from crates/race_search/src/laws.rt by tools/erase: edit that file.
+//! Laws of every course, apart from the code.
+
+use crate::erased::race_search::course::Course;
+
+/// A schedule with exchanges made of each of its events is a schedule, and leads to the moment with the exchanges made. The
+/// contract is the law; the function does nothing.
+pub fn schedules_are_carried<C: Course>(course: &C) {
+    course.is_sound();
+}
