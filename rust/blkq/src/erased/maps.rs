@@ -27,8 +27,8 @@ const FACTOR: u64 = 0x9e37_79b9_7f4a_7c15;
 
 /// A short hash, of a fixed seed: each word is multiplied into the state, and both halves of the product are kept.
 ///
-/// Of numbers it computes the same as the hasher of the proved sources. So both builds keep the same states of a race, and
-/// print its outcomes in one order.
+/// It hashes numbers as the hasher of the proved sources does, so that both builds keep the same states of a race and print its
+/// outcomes in one order.
 #[derive(Clone, Copy, Debug)]
 pub struct FoldHasher {
     state: u64,
