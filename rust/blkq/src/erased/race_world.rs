@@ -27,4 +27,4 @@ pub use control_place::ControlProgress;
 pub use exchange::Exchange;
 pub use moment::Moment;
 pub use pass_place::PassProgress;
-pub use race::{PassCalls, Race};
+pub use race::{PassCalls, Race, same_calls};

@@ -1,47 +1,44 @@
 // Erased from crates/race_outcomes/src/outcome.rt by tools/erase: edit that file.
-//! Outcomes of a race.
+//! Outcomes of a course.
 
-use crate::erased::percpu_core::{Event, Memory};
-use crate::erased::race_outcomes::account::Figures;
+use crate::erased::percpu_core::Memory;
+use crate::erased::race_outcomes::telling::Telling;
 use crate::erased::race_outcomes::told::{Told, all_told};
-use crate::erased::race_world::Moment;
+use crate::erased::race_search::Course;
 
-/// An outcome of a race: what its calls have answered at an end, and the figures of its gate.
-pub struct Outcome {
-    pub(crate) end: Moment,
-    pub(crate) schedule: Vec<Event>,
+/// An outcome of a course: an end with its account, and a schedule that leads there.
+pub struct Outcome<C: Course> {
+    pub(crate) end: C::Moment,
+    pub(crate) schedule: Vec<C::Event>,
 }
 
-impl Outcome {
-    /// The end to which the schedule leads. What its calls have answered stands there.
-    pub fn end(&self) -> &Moment {
+impl<C: Course> Outcome<C> {
+    /// The end to which the schedule leads. The answers to the calls stand there.
+    pub fn end(&self) -> &C::Moment {
         &self.end
     }
 
-    /// The figures of the gate.
-    pub fn figures(&self) -> Figures {
-        Figures::of(self.end.world())
-    }
-
     /// A shortest schedule that leads to it.
-    pub fn schedule(&self) -> &[Event] {
+    pub fn schedule(&self) -> &[C::Event] {
         self.schedule.as_slice()
     }
 }
 
-/// All outcomes of a race, each of them once, those with shorter schedules first.
-pub struct Outcomes {
-    pub(crate) list: Vec<Outcome>,
+/// All outcomes of a course, each of them once, those with shorter schedules first.
+pub struct Outcomes<C: Course> {
+    pub(crate) list: Vec<Outcome<C>>,
 }
 
-impl Outcomes {
+impl<C: Course> Outcomes<C> {
     /// The outcomes.
-    pub fn as_slice(&self) -> &[Outcome] {
+    pub fn as_slice(&self) -> &[Outcome<C>] {
         self.list.as_slice()
     }
+}
 
-    /// The answers and figures of each, in order. `Memory` where a growth was refused.
-    pub fn told(&self) -> Result<Vec<Told>, Memory> {
-        all_told(self.list.as_slice())
+impl<C: Telling> Outcomes<C> {
+    /// The account of each, in order. `Memory` where a growth was refused, or for 2^64 calls.
+    pub fn told(&self, course: &C) -> Result<Vec<Told>, Memory> {
+        all_told(course, self.list.as_slice())
     }
 }

@@ -4,6 +4,7 @@
 use crate::erased::fallible::AllocError;
 use crate::erased::percpu_core::Memory;
 use crate::erased::race_outcomes::Outcomes;
+use crate::erased::race_world::Race;
 use crate::erased::races_text::asked_race::AskedRace;
 use crate::erased::races_text::printing::shown;
 use crate::erased::races_text::summary::push_summaries;
@@ -21,15 +22,15 @@ pub enum Form {
 }
 
 // The answers to the questions of a race.
-fn answered(asked: &AskedRace, found: &Outcomes) -> Result<Vec<u8>, Memory> {
-    let told = found.told()?;
+fn answered(asked: &AskedRace, found: &Outcomes<Race>) -> Result<Vec<u8>, Memory> {
+    let told = found.told(asked.race())?;
     let mut out = Vec::new();
     push_all_answered(&mut out, asked.race(), found.as_slice(), told.as_slice(), asked.questions())?;
     Ok(out)
 }
 
 // A line for each outcome.
-fn summary(found: &Outcomes) -> Result<Vec<u8>, AllocError> {
+fn summary(found: &Outcomes<Race>) -> Result<Vec<u8>, AllocError> {
     let mut out = Vec::new();
     push_summaries(&mut out, found.as_slice())?;
     Ok(out)
@@ -39,7 +40,7 @@ fn summary(found: &Outcomes) -> Result<Vec<u8>, AllocError> {
 /// that for the calls and the claims of the race, for each outcome.
 ///
 /// Refused only where a growth of memory was refused.
-pub fn written(form: Form, asked: &AskedRace, found: &Outcomes) -> Result<Vec<u8>, Memory> {
+pub fn written(form: Form, asked: &AskedRace, found: &Outcomes<Race>) -> Result<Vec<u8>, Memory> {
     match form {
         Form::Outcomes => shown(asked.race(), found),
         Form::Summary => Ok(summary(found)?),

@@ -1,0 +1,40 @@
+// Erased from crates/race_outcomes/src/telling.rt by tools/erase: edit that file.
+//! A course whose ends have outcomes.
+
+use crate::erased::fallible::AllocError;
+use crate::erased::percpu_core::Memory;
+use crate::erased::race_outcomes::told::Told;
+use crate::erased::race_search::Course;
+
+/// A course whose moments have accounts: the answers to the calls of each actor so far, and the figures of each gate. Ends with
+/// equal accounts are one outcome.
+///
+/// An exchange that is made twice changes nothing, and points with equal accounts have equal accounts after it. That is the law
+/// `tells_soundly`.
+pub trait Telling: Course {
+    /// The account of the moment. `Memory` where a growth was refused, or for 2^64 calls.
+    fn told(&self, moment: &Self::Moment) -> Result<Told, Memory>;
+
+    /// The number of its account.
+    fn told_number(&self, moment: &Self::Moment) -> u64;
+
+    /// Whether both moments have the same account.
+    fn tell_alike(&self, moment: &Self::Moment, other: &Self::Moment) -> bool;
+
+    /// A copy of the moment. `Memory` where a growth was refused.
+    fn copy(&self, moment: &Self::Moment) -> Result<Self::Moment, Memory>;
+
+    /// The moment with the exchange made.
+    ///
+    /// # Preconditions
+    ///
+    /// - `Self.rules(self).may_exchange(exchange)`.
+    /// - `Self.rules(self).is_point(moment)`.
+    fn exchanged(&self, exchange: Self::Exchange, moment: Self::Moment) -> Self::Moment;
+
+    /// Exchanges that make all others: each that may be made is, at each point, some of these one after another.
+    fn exchanges(&self) -> Result<Vec<Self::Exchange>, AllocError>;
+
+    /// The exchanges are undone by themselves, and keep equal accounts equal. The contract is the law; the method does nothing.
+    fn tells_soundly(&self);
+}
