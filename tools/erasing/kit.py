@@ -70,6 +70,8 @@ STAND_INS = {
     ("std", "thread", "JoinHandle"): ("thread", "JoinHandle"),
     ("std", "thread", "Scope"): ("thread", "Scope"),
     ("std", "env"): ("env",),
+    ("std", "io", "IsTerminal"): ("streams", "IsTerminal"),
+    ("std", "time", "Instant"): ("time", "Instant"),
     ("std", "collections", "HashMap"): ("maps", "HashMap"),
     ("std", "hash", "FoldHasher"): ("maps", "FoldHasher"),
     ("thiserror", "Error"): None,

@@ -16,7 +16,7 @@ use crate::fault_lines::{NO_MEMORY, REFUSED, STOPPED, hand_fault, line_of, statu
 use crate::handing::hand;
 use crate::script::script_text;
 use gate_replay::{Replayed, replay_text};
-use races_run::{Fault, Form, outcomes_text};
+use races_run::{Fault, Form, NoWatch, outcomes_text};
 use std::alloc::Global;
 
 /// Answers a script, as it runs on one thread.
@@ -102,7 +102,7 @@ pub extern "C" fn browser_race(
     ensures statuses { Contains (0 ∷ 2 ∷ 4 ∷ []) result }
     ensures no_line { result ≢ 2 → line.new ≡ 0 }
 {
-    match outcomes_text(alloc, input, Form::Outcomes, None) {
+    match outcomes_text(alloc, input, Form::Outcomes, None, &mut NoWatch) {
         Ok(text) => {
             *size = hand(text.as_slice(), room);
             *line = 0;

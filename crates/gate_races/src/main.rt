@@ -2,11 +2,13 @@
 //!
 //! The program reads a race from standard input: a gate, and the calls of each of its actors. It writes what these
 //! calls may be answered, in all orders of their atomic steps, and a shortest schedule for each outcome. `races_run` is all of it
-//! over any reader and writers; here it gets the words after the program's name and the standard streams.
+//! over any reader and writers; here it gets the words after the program's name and the standard streams. Where standard error is a
+//! terminal, a line there shows how far the search is.
 #![tactic(auto)]
 
 use counted_io::Counted;
-use races_run::{command, refuse_words};
+use races_run::{Progress, command, refuse_words};
+use std::io::IsTerminal;
 use std::process::ExitCode;
 use std::rt::Env;
 use std::{env, io};
@@ -19,8 +21,17 @@ fn words(rt: &(impl Env + AllocGlobal)) -> io::Result<Vec<String>> {
 fn main(rt: HostRuntime) -> ExitCode {
     let (mut reader, mut writer) = (Counted::new(rt.stdin()), Counted::new(rt.stdout()));
     let mut errors = rt.stderr();
+    let is_shown = errors.is_terminal();
+    let mut progress = Progress::new(rt.alloc(), &rt, rt.stderr(), is_shown);
     ExitCode::from(match words(&rt) {
-        Ok(args) => command(rt.alloc(), &args, &mut reader, &mut writer, &mut errors),
+        Ok(args) => command(
+            rt.alloc(),
+            &args,
+            &mut reader,
+            &mut writer,
+            &mut errors,
+            &mut progress,
+        ),
         Err(why) => refuse_words(&mut errors, &why),
     })
 }

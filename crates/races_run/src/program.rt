@@ -9,6 +9,7 @@ use crate::arguments::{Task, requested};
 use crate::fault::Fault;
 use crate::run::{MOST_READ, outcomes_bytes};
 use counted_io::Counted;
+use race_search::Watch;
 use races_text::Form;
 use std::alloc::Global;
 use std::io;
@@ -22,19 +23,20 @@ const USAGE: &str =
 const NOT_ANSWERED: u8 = 4;
 
 /// Answers the race that `reader` has, and tells the program's status, with a line to `errors` where it isn't 0.
-fn outcomes_reported<R: Read, W: Write, E: Write>(
+fn outcomes_reported<R: Read, W: Write, E: Write, H: Watch>(
     alloc: Global,
     form: Form,
     most: Option<u64>,
     reader: &mut Counted<R>,
     writer: &mut Counted<W>,
     errors: &mut E,
+    watch: &mut H,
 ) -> u8
     ensures told { TellsOutcomes form R.remaining W.contents most reader.old writer.old writer.new result }
     ensures broken { IsFourIfBroken reader.old reader.new writer.old writer.new result }
     ensures taken { TakesUpTo R.remaining reader.old reader.new MOST_READ }
 {
-    match outcomes_bytes(alloc, reader, writer, form, most) {
+    match outcomes_bytes(alloc, reader, writer, form, most, watch) {
         Ok(()) => 0,
         Err(fault) => {
             let _ = errors.writeln(fault);
@@ -48,13 +50,14 @@ fn outcomes_reported<R: Read, W: Write, E: Write>(
 /// outcomes. Any other status comes with a line to `errors`: 2 where the input is no race, and 4 where reading,
 /// writing or memory was refused, or the search would keep more states than `args` have behind `--states`, or they ask for
 /// nothing that there is. They are looked at before anything is read.
-/// Where `errors` fails, the line is lost and the status stays.
-pub fn command<R: Read, W: Write, E: Write>(
+/// Where `errors` fails, the line is lost and the status stays. `watch` learns how far the search is.
+pub fn command<R: Read, W: Write, E: Write, H: Watch>(
     alloc: Global,
     args: &[String],
     reader: &mut Counted<R>,
     writer: &mut Counted<W>,
     errors: &mut E,
+    watch: &mut H,
 ) -> u8
     ensures statuses { Contains (0 ∷ 2 ∷ 4 ∷ []) result }
     ensures told { TellsAsAsked (map string_bytes args.now) R.remaining W.contents reader.old writer.old writer.new result }
@@ -69,7 +72,9 @@ pub fn command<R: Read, W: Write, E: Write>(
     ensures taken { TakesUpTo R.remaining reader.old reader.new MOST_READ }
 {
     match requested(args) {
-        Task::Answer(form, most) => { outcomes_reported(alloc, form, most, reader, writer, errors) }
+        Task::Answer(form, most) => {
+            outcomes_reported(alloc, form, most, reader, writer, errors, watch)
+        }
         Task::Usage => {
             let _ = errors.writeln(USAGE);
             NOT_ANSWERED

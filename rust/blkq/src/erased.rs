@@ -30,6 +30,7 @@ pub mod script_meaning;
 pub mod script_overlap;
 pub mod streams;
 pub mod thread;
+pub mod time;
 
 pub use ::freeze_queue::erased::{
     atomic_table, crossbeam_utils, fallible, freeze_queue, percpu_core, percpu_gate, percpu_words, queue_core,

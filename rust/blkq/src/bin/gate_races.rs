@@ -3,12 +3,14 @@
 //!
 //! The program reads a race from standard input: a gate, and the calls of each of its actors. It writes what these
 //! calls may be answered, in all orders of their atomic steps, and a shortest schedule for each outcome. `races_run` is all of it
-//! over any reader and writers; here it gets the words after the program's name and the standard streams.
+//! over any reader and writers; here it gets the words after the program's name and the standard streams. Where standard error is a
+//! terminal, a line there shows how far the search is.
 
 use blkq::erased::counted_io::Counted;
+use blkq::erased::env;
 use blkq::erased::fallible::TryCollect;
-use blkq::erased::races_run::{command, refuse_words};
-use blkq::erased::{env, streams};
+use blkq::erased::races_run::{Progress, command, refuse_words};
+use blkq::erased::streams::{self, IsTerminal};
 use std::io;
 use std::process::ExitCode;
 
@@ -20,8 +22,10 @@ fn words() -> io::Result<Vec<String>> {
 fn main() -> ExitCode {
     let (mut reader, mut writer) = (Counted::new(streams::stdin()), Counted::new(streams::stdout()));
     let mut errors = streams::stderr();
+    let is_shown = errors.is_terminal();
+    let mut progress = Progress::new(streams::stderr(), is_shown);
     ExitCode::from(match words() {
-        Ok(args) => command(&args, &mut reader, &mut writer, &mut errors),
+        Ok(args) => command(&args, &mut reader, &mut writer, &mut errors, &mut progress),
         Err(why) => refuse_words(&mut errors, &why),
     })
 }

@@ -6,7 +6,7 @@
 //! seen. Moments are compared whole. Exchanges may lead from one moment to another, as where two actors do the same: then the
 //! search keeps one moment that represents both. Its contract says that each moment in the list is reached by a schedule,
 //! that each moment that a schedule reaches is represented in it, and none is there twice. A course with more moments than the
-//! search may keep is refused. [`ends`] tells which of them nothing comes after, and [`schedule_to`] a schedule to each.
+//! search may keep is refused. A [`Watch`] learns how far a search is. [`ends`] tells which of them nothing comes after, and [`schedule_to`] a schedule to each.
 
 mod course;
 mod ending;
@@ -16,6 +16,7 @@ mod laws;
 mod moments;
 mod positions;
 mod schedule;
+mod watch;
 mod way;
 
 pub use course::Course;
@@ -26,4 +27,5 @@ pub use laws::schedules_are_carried;
 pub use moments::Moments;
 pub use positions::Positions;
 pub use schedule::schedule_to;
+pub use watch::{NoWatch, Watch};
 pub use way::{Step, Way};

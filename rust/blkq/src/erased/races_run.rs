@@ -4,17 +4,20 @@
 //! [`outcomes_bytes`] reads a race and writes the answers to its questions, or all its outcomes, each with a shortest schedule that
 //! leads to it. Data flows one
 //! way: `counted_io` reads, [`outcomes_text`] answers by `races_text` and `race_outcomes`, and `counted_io` writes.
-//! [`command`] is a program of it.
+//! [`command`] is a program of it, and [`Progress`] shows on a terminal how far it is.
 
 mod answer;
 mod arguments;
 mod fault;
 mod program;
+mod progress;
 mod run;
 
+pub use crate::erased::race_search::{NoWatch, Watch};
 pub use crate::erased::races_text::Form;
 pub use answer::outcomes_text;
 pub use arguments::{Task, requested};
 pub use fault::Fault;
 pub use program::{command, refuse_words};
+pub use progress::Progress;
 pub use run::{MOST_READ, outcomes_bytes};

@@ -5,7 +5,7 @@
 use crate::erased::pointers::open_stream;
 use std::fmt::Display;
 use std::fs::File;
-use std::io::{Read, Result, Write};
+use std::io::{IsTerminal as _, Read, Result, Write};
 use std::mem::ManuallyDrop;
 
 /// A standard stream, which is never closed.
@@ -25,6 +25,18 @@ pub fn stdout() -> Stream {
 /// Standard error.
 pub fn stderr() -> Stream {
     Stream(open_stream(2))
+}
+
+/// What may be a terminal: Rust's trait is for Rust's own types alone.
+pub trait IsTerminal {
+    /// Whether it is one.
+    fn is_terminal(&self) -> bool;
+}
+
+impl IsTerminal for Stream {
+    fn is_terminal(&self) -> bool {
+        self.0.is_terminal()
+    }
 }
 
 impl Read for Stream {

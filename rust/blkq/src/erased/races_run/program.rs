@@ -2,6 +2,7 @@
 //! The program, over any reader and writers.
 
 use crate::erased::counted_io::Counted;
+use crate::erased::race_search::Watch;
 use crate::erased::races_run::arguments::{Task, requested};
 use crate::erased::races_run::fault::Fault;
 use crate::erased::races_run::run::outcomes_bytes;
@@ -16,14 +17,15 @@ const USAGE: &str = "usage: gate_races [--outcomes | --summary] [--states N], wi
 const NOT_ANSWERED: u8 = 4;
 
 /// Answers the race that `reader` has, and tells the program's status, with a line to `errors` where it isn't 0.
-fn outcomes_reported<R: Read, W: Write, E: Write>(
+fn outcomes_reported<R: Read, W: Write, E: Write, H: Watch>(
     form: Form,
     most: Option<u64>,
     reader: &mut Counted<R>,
     writer: &mut Counted<W>,
     errors: &mut E,
+    watch: &mut H,
 ) -> u8 {
-    match outcomes_bytes(reader, writer, form, most) {
+    match outcomes_bytes(reader, writer, form, most, watch) {
         Ok(()) => 0,
         Err(fault) => {
             let _ = errors.writeln(fault);
@@ -37,15 +39,16 @@ fn outcomes_reported<R: Read, W: Write, E: Write>(
 /// outcomes. Any other status comes with a line to `errors`: 2 where the input is no race, and 4 where reading,
 /// writing or memory was refused, or the search would keep more states than `args` have behind `--states`, or they ask for
 /// nothing that there is. They are looked at before anything is read.
-/// Where `errors` fails, the line is lost and the status stays.
-pub fn command<R: Read, W: Write, E: Write>(
+/// Where `errors` fails, the line is lost and the status stays. `watch` learns how far the search is.
+pub fn command<R: Read, W: Write, E: Write, H: Watch>(
     args: &[String],
     reader: &mut Counted<R>,
     writer: &mut Counted<W>,
     errors: &mut E,
+    watch: &mut H,
 ) -> u8 {
     match requested(args) {
-        Task::Answer(form, most) => outcomes_reported(form, most, reader, writer, errors),
+        Task::Answer(form, most) => outcomes_reported(form, most, reader, writer, errors, watch),
         Task::Usage => {
             let _ = errors.writeln(USAGE);
             NOT_ANSWERED
