@@ -35,7 +35,7 @@ mod waiting;
 pub use callback::{Callback, CallbackStage};
 pub use control_place::LinuxControlProgress;
 pub use control_stage::{LinuxControlStage, Purpose};
-pub use course::{LinuxRace, NoExchange};
+pub use course::LinuxRace;
 pub use moment::LinuxMoment;
 pub use pass_place::LinuxPassProgress;
 pub use pass_stage::LinuxPassStage;

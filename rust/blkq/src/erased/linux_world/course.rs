@@ -5,17 +5,13 @@ use crate::erased::fallible::AllocError;
 use crate::erased::linux_world::moment::LinuxMoment;
 use crate::erased::linux_world::turn::LinuxTurn;
 use crate::erased::percpu_core::Memory;
-use crate::erased::race_search::Course;
+use crate::erased::race_search::{Course, NoExchange};
 use crate::erased::race_world::Race;
 
 /// A race whose calls are made on Linux's counter.
 pub struct LinuxRace {
     race: Race,
 }
-
-/// No exchange may be made at a moment.
-#[derive(Clone, Copy, Debug, PartialEq, Eq, Hash)]
-pub struct NoExchange;
 
 impl LinuxRace {
     /// The race on Linux's counter; no memory is taken.

@@ -5,15 +5,19 @@ use crate::erased::percpu_core::Memory;
 use crate::erased::race_outcomes::gathered::Gathered;
 use crate::erased::race_outcomes::outcome::Outcomes;
 use crate::erased::race_outcomes::telling::Telling;
-use crate::erased::race_search::{Moments, SearchFault, all_moments, ends};
+use crate::erased::race_search::{Moments, SearchFault, Watch, all_moments, ends};
 
 /// All outcomes of the course: the accounts that it may have when nothing may come next. Each stands there once, with a shortest
 /// schedule that leads to it. Shorter schedules come first; those of one length stand as the search meets them.
 ///
 /// `States` is the refusal where the search would keep more moments than `most`, if that is given; the course has more then. The
-/// only other one is `Memory`: a growth was refused, or there are 2^64 moments.
-pub fn outcomes<C: Telling>(course: &C, most: Option<u64>) -> Result<Outcomes<C>, SearchFault> {
-    let moments = all_moments(course, most)?;
+/// only other one is `Memory`: a growth was refused, or there are 2^64 moments. `watch` learns how far the search is.
+pub fn outcomes<C: Telling, W: Watch>(
+    course: &C,
+    most: Option<u64>,
+    watch: &mut W,
+) -> Result<Outcomes<C>, SearchFault> {
+    let moments = all_moments(course, most, watch)?;
     let found = outcomes_of(course, &moments)?;
     Ok(found)
 }
