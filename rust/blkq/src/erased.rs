@@ -10,6 +10,7 @@ pub mod counted_io;
 pub mod crossbeam_queue;
 pub mod env;
 pub mod gate_replay;
+pub mod gates_world;
 pub mod hex;
 pub mod itoa;
 pub mod line_text;

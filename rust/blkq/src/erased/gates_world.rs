@@ -1,0 +1,30 @@
+// Erased from crates/gates_world/src/lib.rt by tools/erase: edit that file.
+//! A race of several gates.
+//!
+//! A [`GatesRace`] says how each gate starts, and which calls each pass and the control make, one after another. A call is made at
+//! its gate. A call that sets a flag is made at every gate at once. Between two atomic steps the race is at a [`GatesMoment`]:
+//! each gate's own race is at a moment. `next_events` are the steps that may come next: a gate's race may take the step, and the
+//! call under way of its actor is made at that gate. A call begins once those before it have ended, whatever gates they are at.
+//! An actor takes one step at most, at one gate.
+//!
+//! A schedule is a list of [`GateEvent`]s. `parts_are_schedules` says that the events of each gate are a schedule of a race of
+//! that gate alone, so each law of one gate holds of each.
+
+mod actor;
+mod call_at;
+mod course;
+mod event;
+mod fingerprint;
+mod gate_start;
+mod joint;
+mod moment;
+mod order;
+mod telling;
+mod turns;
+
+pub use actor::Actor;
+pub use call_at::{ActorCall, CallAt, CallsAt};
+pub use event::GateEvent;
+pub use gate_start::GateStart;
+pub use joint::GatesRace;
+pub use moment::GatesMoment;

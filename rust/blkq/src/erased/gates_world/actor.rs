@@ -1,0 +1,20 @@
+// Erased from crates/gates_world/src/actor.rt by tools/erase: edit that file.
+//! The actors of a race.
+
+use crate::erased::percpu_core::Event;
+
+/// An actor of a race.
+#[derive(Clone, Copy, Debug, PartialEq, Eq)]
+pub enum Actor {
+    /// The pass of that number, counted from 0.
+    Pass(u32),
+    Control,
+}
+
+/// Whose step it is.
+pub(crate) fn actor_of(event: Event) -> Actor {
+    match event {
+        Event::Pass(pass, _) => Actor::Pass(pass),
+        Event::Control(_) => Actor::Control,
+    }
+}
