@@ -92,6 +92,7 @@ NAMELESS = HANDLE_TRAITS | GHOST_TRAITS | BRANDS | {ALLOCATOR_TYPE, ALLOCATOR_TR
 # Files in which each call of this name is of a method of the project, so that no trait is imported for it.
 OF_THE_PROJECT = {
     ("run_desk", "desk", "try_push"),
+    ("linux_world", "told", "try_to_vec"),
     ("race_outcomes", "race_account", "try_to_vec"),
     ("races_text", "printing", "try_to_vec"),
     ("races_text", "summary", "try_to_vec"),

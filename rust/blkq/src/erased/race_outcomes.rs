@@ -25,5 +25,6 @@ pub use claim::{Actor, CallPlace, Claim, GateClaim};
 pub use finding::outcomes;
 pub use outcome::{Outcome, Outcomes};
 pub use question::{Question, Verdict, Wanted};
+pub use race_account::lasts_of_all;
 pub use telling::Telling;
 pub use told::{PassTold, Told};

@@ -60,5 +60,9 @@ impl Course for LinuxRace {
         moment.is_same(other)
     }
 
+    fn bytes(moment: &LinuxMoment) -> u64 {
+        moment.bytes()
+    }
+
     fn is_sound(&self) {}
 }
