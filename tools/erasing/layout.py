@@ -11,8 +11,8 @@ PACKAGES = {
     "freeze-queue": ["queue_limits", "queue_core", "wait_queue", "freeze_queue"],
     "blkq": [
         "line_text", "ram_disk", "script_meaning", "script_overlap", "blk_script", "run_queues", "run_desk", "blk_workers",
-        "gate_replay", "race_calls", "race_world", "gates_world", "race_search", "race_outcomes",
-        "linux_world", "races_text", "counted_io", "blkq_run", "blkq", "races_run", "gate_races",
+        "gate_replay", "race_calls", "race_world", "race_search", "race_outcomes", "linux_world", "gates_world",
+        "races_text", "counted_io", "blkq_run", "blkq", "races_run", "gate_races",
     ],
     "trials": ["uses", "play_calls"],
     "c-memory": ["loose_box"],

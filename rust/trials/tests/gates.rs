@@ -1,10 +1,10 @@
 //! Races of several gates from inside: their outcomes, against those that tests/races/gates.py finds.
 
-use blkq::erased::gates_world::{Actor, CallAt, CallsAt, GateStart, GatesMoment, GatesRace};
+use blkq::erased::gates_world::{CallAt, CallsAt, GateStart, GatesRace};
 use blkq::erased::percpu_core::Start;
 use blkq::erased::race_calls::{Answer, Awaited, ControlCall, Count, Flag, PassCall};
-use blkq::erased::race_search::{NoWatch, all_moments, ends};
-use std::collections::HashMap;
+use blkq::erased::race_outcomes::{Actor, Outcomes, outcomes};
+use blkq::erased::race_search::NoWatch;
 
 const A: Flag = Flag { letter: b'a' };
 const B: Flag = Flag { letter: b'b' };
@@ -23,29 +23,14 @@ fn race(starts: [Start; 2], passes: Vec<Vec<CallAt<PassCall>>>, control: Vec<Cal
     GatesRace::new(&starts.map(start), passes.into_iter().map(CallsAt::new).collect(), control).unwrap()
 }
 
-fn actors(race: &GatesRace) -> impl Iterator<Item = Actor> {
-    (0..race.passes().len() as u32).map(Actor::Pass).chain([Actor::Control])
+fn found(race: &GatesRace) -> Outcomes<GatesRace> {
+    outcomes(race, None, &mut NoWatch).unwrap()
 }
 
-/// Each actor's answers, the condition that it waits for, and how often each gate was released.
-type Told = (Vec<Vec<Answer>>, Vec<Option<Awaited>>, Vec<u64>);
-
-fn told(race: &GatesRace, moment: &GatesMoment) -> Told {
-    (
-        actors(race).map(|actor| moment.told(race, actor).unwrap()).collect(),
-        actors(race).map(|actor| moment.awaited(race, actor)).collect(),
-        moment.gates().iter().map(|gate| gate.world().releases()).collect(),
-    )
-}
-
-/// The outcomes, with how many steps lead to each at least.
-fn outcomes(race: &GatesRace) -> HashMap<Told, usize> {
-    let moments = all_moments(race, None, &mut NoWatch).unwrap();
-    let mut found = HashMap::new();
-    for end in ends(race, &moments).unwrap() {
-        found.entry(told(race, &moments.as_slice()[end])).or_insert(moments.way(end).steps());
-    }
-    found
+/// How many outcomes there are, and how many steps lead to all of them, each by its shortest schedule.
+fn sizes(found: &Outcomes<GatesRace>) -> (usize, usize) {
+    let all = found.as_slice();
+    (all.len(), all.iter().map(|outcome| outcome.schedule().len()).sum())
 }
 
 /// Two queues are frozen, changed and thawed while a pass enters and leaves each of them.
@@ -63,11 +48,15 @@ fn a_freeze_of_two_gates() {
         vec![vec![at(0, TRY), at(1, TRY), at(0, PUT), at(1, PUT)], vec![]],
         control,
     );
-    let found = outcomes(&race);
-    assert_eq!((found.len(), found.values().sum::<usize>()), (9, 300));
-    for (_, waits, released) in found.keys() {
-        assert!(waits.iter().all(Option::is_none));
-        assert_eq!(released, &[1, 1]);
+    let found = found(&race);
+    assert_eq!(sizes(&found), (9, 300));
+    for (outcome, told) in found.as_slice().iter().zip(found.told(&race).unwrap()) {
+        assert!(!outcome.end().is_waiting(&race));
+        assert_eq!(told.answers(Actor::Control).len(), 8);
+        for gate in [0, 1] {
+            let told = told.gate(gate).unwrap();
+            assert_eq!((told.figures.releases, told.figures.kills, told.lasts), (1, 1, 1));
+        }
     }
 }
 
@@ -81,9 +70,13 @@ fn calls_that_wait_crosswise() {
         at(0, ControlCall::Sets(A)),
         at(1, ControlCall::Kill),
     ];
-    let found = outcomes(&race([Start::Slots, Start::Slots], vec![pass], control));
-    let (answers, waits, _) = found.keys().next().unwrap();
-    assert_eq!((found.len(), found.values().sum::<usize>()), (1, 6));
-    assert_eq!(answers, &[vec![], vec![Answer::Last]]);
-    assert_eq!(waits, &[Some(Awaited::Flagged(A)), Some(Awaited::Flagged(B))]);
+    let race = race([Start::Slots, Start::Slots], vec![pass], control);
+    let found = found(&race);
+    assert_eq!(sizes(&found), (1, 6));
+    let end = found.as_slice()[0].end();
+    let told = found.told(&race).unwrap().remove(0);
+    assert_eq!((told.answers(Actor::Pass(0)), told.answers(Actor::Control)), (&[][..], &[Answer::Last][..]));
+    assert_eq!(end.awaited(&race, Actor::Pass(0)), Some(Awaited::Flagged(A)));
+    assert_eq!(end.awaited(&race, Actor::Control), Some(Awaited::Flagged(B)));
+    assert!(end.is_waiting(&race));
 }

@@ -10,19 +10,21 @@
 //! A schedule is a list of [`GateEvent`]s. `parts_are_schedules` says that the events of each gate are a schedule of a race of
 //! that gate alone, so each law of one gate holds of each.
 
+mod account;
 mod actor;
+mod alike;
 mod call_at;
 mod course;
 mod event;
 mod fingerprint;
 mod gate_start;
 mod joint;
+mod joint_telling;
 mod moment;
 mod order;
 mod telling;
 mod turns;
 
-pub use actor::Actor;
 pub use call_at::{ActorCall, CallAt, CallsAt};
 pub use event::GateEvent;
 pub use gate_start::GateStart;

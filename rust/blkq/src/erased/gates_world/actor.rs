@@ -2,14 +2,7 @@
 //! The actors of a race.
 
 use crate::erased::percpu_core::Event;
-
-/// An actor of a race.
-#[derive(Clone, Copy, Debug, PartialEq, Eq)]
-pub enum Actor {
-    /// The pass of that number, counted from 0.
-    Pass(u32),
-    Control,
-}
+use crate::erased::race_outcomes::Actor;
 
 /// Whose step it is.
 pub(crate) fn actor_of(event: Event) -> Actor {
