@@ -94,8 +94,6 @@ OF_THE_PROJECT = {
     ("run_desk", "desk", "try_push"),
     ("linux_world", "told", "try_to_vec"),
     ("race_outcomes", "race_account", "try_to_vec"),
-    ("races_text", "printing", "try_to_vec"),
-    ("races_text", "summary", "try_to_vec"),
 }
 # Fields that only proofs read: (crate, type, field).
 READ_BY_PROOFS = {

@@ -6,7 +6,7 @@
 //! control, with `/` between them, or asks a question about all outcomes. [`parse_race`] gives the [`AskedRace`] that a text
 //! means, or the first fault of the text.
 //!
-//! [`shown`] prints of each outcome what the calls were answered, and a shortest schedule that leads to it, with the reply to
+//! The outcomes of any course that is [`Shown`] can be printed, as those of a race. [`shown`] prints of each outcome what the calls were answered, and a shortest schedule that leads to it, with the reply to
 //! each step behind it. The replies, and the state at the end, are on lines that begin with `#`, which a schedule's reader
 //! skips: so a schedule can be given to `blkq replay` as it is printed, and is answered with these replies. [`written`] prints
 //! the answers to the questions instead, or a line for each outcome.
@@ -24,6 +24,8 @@ mod pass_call;
 mod printing;
 mod question;
 mod race_parser;
+mod schedule;
+mod showing;
 mod steps;
 mod summary;
 mod verdicts;
@@ -33,4 +35,5 @@ mod writing;
 pub use asked_race::AskedRace;
 pub use printing::shown;
 pub use race_parser::parse_race;
+pub use showing::{Shown, Waits};
 pub use writing::{Form, written};
