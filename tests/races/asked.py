@@ -2,13 +2,17 @@
 
 from typing import NamedTuple
 
+from gates import Gates
+from printed import steps_of
+from searched import calls_of, lines_and_figures
+
 MARKS = ("zero", "dead", "live")
 RARE = ("given", "refused", "refused last", "not last", "last", "ok", "7", "closed -1", "yes", "no", "at zero", "held", "already dead")
 
 
 class Claim(NamedTuple):
     text: str
-    holds: object  # whether it holds, by the answers of each actor, and the figures of the gate
+    holds: object  # whether it holds, by the answers of each actor, and the figures of each gate
 
 
 class Question(NamedTuple):
@@ -20,7 +24,7 @@ class Question(NamedTuple):
 
     def is_against(self, told):
         """Whether an outcome that tells this is against it."""
-        *lines, figures = told
+        lines, figures = lines_and_figures(told)
         answers = answers_of(lines)
         return all(it.holds(answers, figures) for it in self.claims) == self.is_never
 
@@ -34,21 +38,30 @@ def answers_of(lines):
     return found
 
 
-def lasts(answers):
-    return sum(it in ("last", "refused last") for told in answers.values() for it in told)
+def lasts(answers, race, gate):
+    """How many calls at the gate were told that they were the last."""
+    calls = calls_of(race)
+    return sum(it in ("last", "refused last") for actor, told in answers.items() for it, (at, _) in zip(told, calls[actor]) if at == gate)
 
 
-def number_claim(draw):
+def gate_of(draw, race):
+    """A gate, and what names it in front of a claim. The first one needs no name."""
+    gate = draw.randrange(len(race.gates)) if isinstance(race, Gates) else 0
+    return gate, f"@{gate + 1} " if gate or draw.random() < 0.1 else ""
+
+
+def number_claim(draw, race):
+    gate, name = gate_of(draw, race)
     if draw.random() < 0.5:
         least = draw.randrange(4)
-        return Claim(f"last {least}", lambda answers, figures: lasts(answers) >= least)
+        return Claim(f"{name}last {least}", lambda answers, figures: lasts(answers, race, gate) >= least)
     held = draw.choice((0, 0, 1, 2, 65534))
-    return Claim(f"held {held}", lambda answers, figures: figures[-1] == held)
+    return Claim(f"{name}held {held}", lambda answers, figures: figures[gate][-1] == held)
 
 
-def mark_claim(draw):
-    mark = draw.choice(MARKS)
-    return Claim(mark, lambda answers, figures: figures[0] == mark)
+def mark_claim(draw, race):
+    (gate, name), mark = gate_of(draw, race), draw.choice(MARKS)
+    return Claim(f"{name}{mark}", lambda answers, figures: figures[gate][0] == mark)
 
 
 def call_claim(draw, race, outcomes):
@@ -56,7 +69,7 @@ def call_claim(draw, race, outcomes):
     calls = [(str(actor), at) for actor, of_pass in enumerate(race.passes) for at in range(len(of_pass))]
     calls += [("c", at) for at in range(len(race.control))]
     actor, at = draw.choice(calls)
-    told = sorted({it for told in outcomes for it in answers_of(told[:-1])[actor][at : at + 1]})
+    told = sorted({it for told in outcomes for it in answers_of(lines_and_figures(told)[0])[actor][at : at + 1]})
     answer = draw.choice(told) if told and draw.random() < 0.9 else draw.choice(RARE)
     # `not last` is an answer itself.
     if answer == "last" or draw.random() < 0.7:
@@ -67,8 +80,8 @@ def call_claim(draw, race, outcomes):
 def random_claim(draw, race, outcomes):
     kind = draw.random()
     if kind < 0.2:
-        return number_claim(draw)
-    return mark_claim(draw) if kind < 0.35 or not any((*race.passes, race.control)) else call_claim(draw, race, outcomes)
+        return number_claim(draw, race)
+    return mark_claim(draw, race) if kind < 0.35 or not any((*race.passes, race.control)) else call_claim(draw, race, outcomes)
 
 
 def random_questions(draw, race, outcomes):
@@ -94,7 +107,7 @@ def answers_to(questions, first_line, outcomes, printed):
             yield f"line {line}: yes, in all {len(outcomes)} outcomes"
             continue
         number, first = next((number, it) for number, it in enumerate(printed, 1) if question.is_against(it.told))
-        steps = sum(not it.startswith("#") for it in first.schedule[2:])
+        steps = steps_of(first.schedule)
         if steps != least:
             raise ValueError(f"{question.text()}: {steps} steps, and {least} lead to an outcome that is against it")
         yield f"line {line}: no, in {against} of {len(outcomes)} outcomes, as in outcome {number}"

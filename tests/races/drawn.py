@@ -1,6 +1,8 @@
 """Random races, of docs/FORMATS.md."""
 
 from gate import MOST_HELD, MOST_KILLS, Race
+from gates import Gates
+from searched import calls_of
 
 
 def pass_calls(draw, slots, words):
@@ -78,9 +80,33 @@ def random_race(draw):
     return Race(slots, start, kills, words, tuple(passes), tuple(control_calls(draw, slots, len(words))))
 
 
+def placed(draw, calls, gates):
+    """These calls, each at one of so many gates."""
+    return tuple((draw.randrange(gates), call) for call in calls)
+
+
+def random_gates(draw):
+    """A race of two gates, at times of three. The calls are those of a race of one gate."""
+    race, count = random_race(draw), draw.choice((2, 2, 2, 3))
+    gates = tuple(random_race(draw)._replace(passes=((),) * len(race.passes), control=()) for _ in range(count))
+    return Gates(gates, tuple(placed(draw, calls, count) for calls in race.passes), placed(draw, race.control, count))
+
+
+def any_race(draw):
+    return random_gates(draw) if draw.random() < 0.2 else random_race(draw)
+
+
+def world_of(gate):
+    return " ".join(map(str, ("world", gate.slots, len(gate.passes), gate.start, gate.kills, *gate.words)))
+
+
+def call_text(gate, call):
+    return " ".join(map(str, (*([f"@{gate + 1}"] if gate else []), *call)))
+
+
 def text_of(race):
-    lines = ["races 1", " ".join(map(str, ("world", race.slots, len(race.passes), race.start, race.kills, *race.words)))]
-    for actor, calls in (*enumerate(race.passes), ("c", race.control)):
+    lines = ["races 1", *map(world_of, race.gates if isinstance(race, Gates) else [race])]
+    for actor, calls in calls_of(race).items():
         if calls:
-            lines.append(f"{actor} " + " / ".join(" ".join(map(str, call)) for call in calls))
+            lines.append(f"{actor} " + " / ".join(call_text(*it) for it in calls))
     return "\n".join(lines) + "\n"

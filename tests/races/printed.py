@@ -2,31 +2,65 @@
 
 from typing import NamedTuple
 
+HEADS = ("gate 1", "gates 1")
+
 
 class Outcome(NamedTuple):
-    told: tuple  # a line for each actor, and the figures of the end
+    told: tuple  # a line for each actor, and the figures of the end of each gate
     schedule: list  # its lines, each step with its reply behind it
 
 
 def figures_of(line):
-    """Those of the line '# end MARK V front F kills K releases R held H' by which outcomes are told apart: all but V."""
-    words = line.split()
-    return (words[2], *(int(words[at]) for at in (5, 7, 9, 11)))
+    """Those of the line '# [@G] end MARK V front F kills K releases R held H' by which outcomes are told apart: all but V."""
+    words = line[line.index(" end ") :].split()
+    return (words[1], *(int(words[at]) for at in (4, 6, 8, 10)))
 
 
 def steps_of(schedule):
-    """How many steps it has, behind the lines of the version and of the world."""
-    return sum(not line.startswith("#") for line in schedule[2:])
+    """How many steps it has, behind the lines of the version and of the worlds."""
+    return sum(not line.startswith(("#", "world")) for line in schedule[1:])
+
+
+def ends_of(schedule):
+    """The lines of the end, one for each world. That of the one gate has no number, and the others have those from 1 on."""
+    count = sum(line.startswith("world") for line in schedule)
+    ends = schedule[-count:]
+    names = [f"# @{gate} end " for gate in range(1, count + 1)] if schedule[0] == "gates 1" else ["# end "]
+    if len(ends) != len(names) or not all(line.startswith(name) for line, name in zip(ends, names)):
+        raise ValueError(ends)
+    return ends
 
 
 def outcome_of(lines, number):
     """An outcome; its first line says its number, and how many steps its schedule has."""
-    head, begin = lines[0].split(), lines.index("gate 1")
+    head, begin = lines[0].split(), next(at for at, line in enumerate(lines) if line in HEADS)
     schedule = lines[begin:]
     deadlock = ["deadlock"] if any("waits for " in line for line in lines[1:begin]) else []
     if head != ["outcome", str(number), "steps", str(steps_of(schedule)), *deadlock]:
         raise ValueError(lines[0])
-    return Outcome((*lines[1:begin], figures_of(lines[-1])), schedule)
+    return Outcome((*lines[1:begin], *map(figures_of, ends_of(schedule))), schedule)
+
+
+def at_gate(schedule, gate):
+    """The schedule of this gate alone, counted from 1, with the replies of its steps behind them, and its end."""
+    worlds, name = [line for line in schedule if line.startswith("world")], f"@{gate} "
+    found, is_there = ["gate 1", worlds[gate - 1]], False
+    for line in schedule:
+        if line.startswith("@"):
+            is_there = line.startswith(name)
+            found += [line.removeprefix(name)] if is_there else []
+        elif line.startswith(f"# {name}"):
+            found.append(f"# {line.removeprefix('# ' + name)}")
+        elif line.startswith("# ") and not line.startswith("# @") and is_there:
+            found.append(line)
+    return found
+
+
+def parts_of(schedule):
+    """The schedules of the gates: for one gate the schedule as it is printed."""
+    if schedule[0] == "gate 1":
+        return [schedule]
+    return [at_gate(schedule, gate) for gate, _ in enumerate((it for it in schedule if it.startswith("world")), 1)]
 
 
 def outcomes_of(text):

@@ -53,14 +53,17 @@ function rowElements(rows, refused) {
 function callsOf(text) {
   const calls = new Map();
   for (const { words } of saidIn(text).slice(2)) {
+    if (words[0] === "world" || words[0] === "ask") continue;
     const actor = words[0] === "c" ? "c" : String(Number(words[0]));
     calls.set(actor, [...(calls.get(actor) ?? []), words.slice(1).join(" ")]);
   }
   return calls;
 }
 
+// The end of each gate: its line, without the words before it.
 function endOf({ schedule, isDeadlock }) {
-  const end = withBias(linesOf(schedule).at(-1).replace(/^# end /, ""));
+  const ends = linesOf(schedule).filter((line) => /^# (@\d+ )?end /.test(line));
+  const end = ends.map((line) => withBias(line.replace(/^# /, "").replace(/end /, ""))).join("; ");
   return isDeadlock ? `deadlock: ${end}` : end;
 }
 

@@ -96,6 +96,7 @@ class Schedule {
   constructor(text, answer, most = Infinity) {
     this.most = most;
     const said = saidIn(text);
+    wrongUnless(said[0]?.words.join(" ") !== "gates 1", "a schedule of several gates has no picture");
     const isSchedule = said.length >= 2 && said[0].words.join(" ") === "gate 1" && said[1].words[0] === "world";
     wrongUnless(isSchedule, "no schedule: its first two lines are 'gate 1' and 'world ..'");
     this.gate = worldOf(said[1].words);

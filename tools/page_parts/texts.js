@@ -79,7 +79,7 @@ function outcomesOf(answer) {
     const [, number, steps, deadlock] = /^outcome (\d+) steps (\d+)( deadlock)?$/.exec(line) ?? [];
     if (number) outcomes.push({ number: Number(number), steps: Number(steps), isDeadlock: deadlock !== undefined, actors: [], schedule: "" });
     else if (!now || /^outcomes \d+$/.test(line)) continue;
-    else if (now.schedule || line === "gate 1") now.schedule += `${line}\n`;
+    else if (now.schedule || line === "gate 1" || line === "gates 1") now.schedule += `${line}\n`;
     else now.actors.push({ actor: line.split(" ", 1)[0], answers: line.split(" ").slice(1).join(" ") });
   }
   return outcomes;

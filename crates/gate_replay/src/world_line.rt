@@ -145,7 +145,7 @@ fn values(alloc: Global, line: u32, mut words: Words<'_>) -> Result<Vec<u64>, Sc
     Ok(values)
 }
 
-/// The world that the words of a line tell.
+/// The world of the words of a line.
 pub(crate) fn world(
     alloc: Global,
     line: u32,
@@ -155,6 +155,16 @@ pub(crate) fn world(
     ensures within { IfOk result (λ world. IsWithinLimits (opened world)) }
 {
     at_line(line, named(&mut words))?;
+    world_said(alloc, line, words)
+}
+
+/// The world of the words behind `world`.
+///
+/// Refused with `Parse` for the first fault among them, with that line; with `Memory` only where a growth of memory was refused.
+pub fn world_said(alloc: Global, line: u32, mut words: Words<'_>) -> Result<WorldLine, ScriptFault>
+    ensures said { Tells opened result (at_line line (opening_of words.entry)) }
+    ensures within { IfOk result (λ world. IsWithinLimits (opened world)) }
+{
     let sizes = at_line(line, sizes(&mut words))?;
     let words = GuardedWords::new(values(alloc, line, words)?);
     Ok(WorldLine {

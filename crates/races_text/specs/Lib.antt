@@ -1,14 +1,17 @@
 -- What the contracts of this crate cite: the calls of a line by their words (CallWords), how the calls of a pass (PassCalls) and of
--- the control (ControlCalls) are spelled, and what they wait for (Waits), and which race a text means (Races); how a line tells a world
--- (Worlds), a step (Steps) and what calls were answered (Answers), and what is printed of outcomes (Shown), also in a line for each
--- (Summaries), and the schedule of a race (Schedules); how questions (QuestionLines) and the answers in them (AnswerWords) are spelled, what questions are answered (Verdicts), and
--- what is written of a race with questions (Written).
-pub mod Answers
+-- the control (ControlCalls) are spelled, and what they wait for (Waits), which race a text means (Races), of one gate or several (Raced);
+-- how a line tells a world (Worlds), a step (Steps) and what calls were answered (Answers), what is printed of outcomes (Shown), also in a
+-- line for each (Summaries), and the schedules of a race of one gate (Schedules) and of several (GatesSchedules); how questions
+-- (QuestionLines) and the answers in them (AnswerWords) are spelled, what questions are answered (Verdicts), and what is written of a race
+-- with questions (Written).
 pub mod AnswerWords
+pub mod Answers
 pub mod CallWords
 pub mod ControlCalls
+pub mod GatesSchedules
 pub mod PassCalls
 pub mod QuestionLines
+pub mod Raced
 pub mod Races
 pub mod Schedules
 pub mod Shown

@@ -1,9 +1,10 @@
 //! Races from inside: the calls that a text gives, and long lists of answers.
 
+use blkq::erased::gates_world::CallAt;
 use blkq::erased::percpu_core::Start;
 use blkq::erased::race_calls::Answers;
 use blkq::erased::race_calls::{Answer, Asked, Awaited, ControlCall, Count, Flag, Mode, PassCall};
-use blkq::erased::races_text::parse_race;
+use blkq::erased::races_text::{Raced, parse_race};
 
 const EVERY_CALL: &str = "# A race of every call.\n\nraces 1\nworld 2 4 slots 5 7 8\n\
     2 try 1 / live 0 / get 1 65535 / put 4294967295 1\n\
@@ -18,7 +19,7 @@ const EVERY_CALL: &str = "# A race of every call.\n\nraces 1\nworld 2 4 slots 5 
 fn calls_of_every_kind() {
     let asked = parse_race(EVERY_CALL.as_bytes()).unwrap();
     assert!(asked.questions().is_empty());
-    let race = asked.race();
+    let Raced::OneGate(race) = asked.raced() else { panic!("one gate") };
     assert_eq!(race.start(), Start::Slots);
     let questions = [Asked::Front, Asked::Dying, Asked::Zero, Asked::Word(u32::MAX)].map(PassCall::Asks);
     let counts =
@@ -50,6 +51,21 @@ fn calls_of_every_kind() {
         ControlCall::Sets(a),
     ];
     assert!(race.control() == control);
+}
+
+/// Each call of a race of several gates has its gate, counted from 0.
+#[test]
+fn calls_at_several_gates() {
+    let text = "races 1\nworld 1 1 atomic 0\nworld 2 1 dead 3\nc @2 kill / kill\n0 zero / @2 zero\n0 @1 front\nask never @2 zero\n";
+    let asked = parse_race(text.as_bytes()).unwrap();
+    assert_eq!(asked.questions().len(), 1);
+    let Raced::SeveralGates(race) = asked.raced() else { panic!("several gates") };
+    let starts: Vec<_> = race.gates().iter().map(|gate| (gate.slots(), gate.start(), gate.kills())).collect();
+    assert_eq!(starts, [(1, Start::Atomic, 0), (2, Start::Dead, 3)]);
+    let calls = [(0, Asked::Zero), (1, Asked::Zero), (0, Asked::Front)];
+    let [of_pass] = race.passes() else { panic!("one pass") };
+    assert!(of_pass.as_slice() == calls.map(|(gate, asked)| CallAt { gate, call: PassCall::Asks(asked) }));
+    assert!(race.control() == [1, 0].map(|gate| CallAt { gate, call: ControlCall::Kill }));
 }
 
 // A list is as deep as it is long: a call for each of its answers would end the program, since a thread's stack has some megabytes.

@@ -19,4 +19,4 @@ pub use replay::{Replay, Replayed, replay_text};
 pub use reply_lines::{push_delta, push_end, push_reply};
 pub use schedule::{Events, GuardedWords, Schedule};
 pub use schedule_parser::{next_world, parse_schedule};
-pub use world_line::WorldLine;
+pub use world_line::{WorldLine, world_said};

@@ -100,9 +100,16 @@ fn values(line: u32, mut words: Words<'_>) -> Result<Vec<u64>, ScriptFault> {
     Ok(values)
 }
 
-/// The world that the words of a line tell.
+/// The world of the words of a line.
 pub(crate) fn world(line: u32, mut words: Words<'_>) -> Result<WorldLine, ScriptFault> {
     at_line(line, named(&mut words))?;
+    world_said(line, words)
+}
+
+/// The world of the words behind `world`.
+///
+/// Refused with `Parse` for the first fault among them, with that line; with `Memory` only where a growth of memory was refused.
+pub fn world_said(line: u32, mut words: Words<'_>) -> Result<WorldLine, ScriptFault> {
     let sizes = at_line(line, sizes(&mut words))?;
     let words = GuardedWords::new(values(line, words)?);
     Ok(WorldLine { slots: sizes.slots, passes: sizes.passes, start: sizes.start, kills: sizes.kills, words })
