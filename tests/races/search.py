@@ -78,13 +78,17 @@ def told(moment, race):
     return (*lines, (marks, gate.front, gate.kills, gate.releases, sum(it.held for it in seats)))
 
 
-def all_outcomes(race):
+def told_at_ends(race, moments, told):
     """What each outcome tells, with how many steps lead to it at least."""
     found = {}
-    for moment, steps, is_end in search(race):
+    for moment, steps, is_end in moments:
         if is_end:
             found.setdefault(told(moment, race), steps)
     return found
+
+
+def all_outcomes(race):
+    return told_at_ends(race, search(race), told)
 
 
 def outcomes(race):

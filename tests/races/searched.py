@@ -53,8 +53,4 @@ def lines_and_figures(told):
 
 def all_outcomes(race):
     """What each outcome tells, with how many steps lead to it at least."""
-    found = {}
-    for moment, steps, is_end in moments(race):
-        if is_end:
-            found.setdefault(told(moment, race), steps)
-    return found
+    return search.told_at_ends(race, moments(race), told)
