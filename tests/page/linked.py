@@ -22,7 +22,7 @@ def whole_links(page, counts, url):
     page.open(f"{url}#race={urllib.parse.quote(text)}&outcome=2&step=3")
     page.until("!find('steps').hidden")
     shows = "[find('input').value, page.outcome, page.stepping.step, find('caption').textContent]"
-    wanted = [text, 2, 3, "Step 3 of 7: pass 0: add live → refused"]
+    wanted = [text, 2, 3, "Step 3 of 7: pass 0: look 0 → closed"]
     counts.equal("a link opens its input, outcome and step", page.js(shows), wanted)
     page.key("ArrowRight")
     page.open(page.js("location.href"))

@@ -10,8 +10,8 @@ from looks import LOOKS, OF_STEPS, fits_and_reads, shoot
 from tables import ROWS, outcomes_in
 
 ROOT = pathlib.Path(__file__).resolve().parents[2]
-RACES = ("removal", "killed_twice", "another_slot", "kill_and_switch", "freeze")
-STATE = "[...find('state').tBodies[0].rows].map((row) => [...row.cells].slice(0, 2).map((cell) => cell.textContent))"
+RACES = ("removal", "killed_twice", "another_slot", "kill_and_switch", "freeze", "two_queues", "linux_reinit")
+LOOKED_AT = ("another_slot", "two_queues", "linux_reinit")
 SHOWN = "[race.outcome, race.stepping.step, find('steps-head').textContent, location.hash]"
 CONTROLS = [*OF_STEPS, ["region", "Outcomes"], ["region", "The race"], ["button", "outcome 2: draw its schedule"]]
 
@@ -57,10 +57,10 @@ def steps(page, counts, name, schedules):
         drawn = page.js(f"lanesOf('A title', 'a name', race.stepping.schedule)")
         counts.equal(f"{name}: the lanes of outcome {number}", drawn, shown.drawn("A title", "a name", schedule, replies))
         page.key("ArrowLeft", last)
-        counts.equal(f"{name}: the start of outcome {number}", page.js(STATE), wanted[0])
+        counts.equal(f"{name}: the start of outcome {number}", page.js(shown.STATE), wanted[0])
         for step, caption in enumerate(captions, 1):
             page.key("ArrowRight")
-            found = page.js(f"[{STATE}, find('caption').textContent, location.hash]")
+            found = page.js(f"[{shown.STATE}, find('caption').textContent, location.hash]")
             counts.equal(f"{name}: outcome {number} after step {step}", found, [wanted[step], caption, f"#outcome={number}&step={step}"])
 
 
@@ -104,8 +104,9 @@ def of_races(page, counts, on):
         addresses(page, counts, urls["removal"])
         for wide, scheme in LOOKS:
             page.look(wide, 900, scheme, is_phone=wide < 600)
-            page.open(f"{urls['another_slot']}#outcome=2&step=3")
-            page.js("document.querySelectorAll('details').forEach((it) => (it.open = true))")
-            fits_and_reads(page, counts, f"a race's page, {wide} points, {scheme}", CONTROLS, wide)
-            shoot(page, on.shots, f"picture_{wide}_{scheme}")
+            for name in LOOKED_AT:
+                page.open(f"{urls[name]}#outcome=2&step=7")
+                page.js("document.querySelectorAll('details').forEach((it) => (it.open = true))")
+                fits_and_reads(page, counts, f"the page of {name}, {wide} points, {scheme}", CONTROLS, wide)
+                shoot(page, on.shots, f"picture_{name}_{wide}_{scheme}")
     page.open(on.url)

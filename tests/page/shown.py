@@ -1,4 +1,4 @@
-"""What the page has to show of a schedule, by tools/pictures: the gate between its steps, and its lanes."""
+"""What the page has to show of a schedule, by tools/pictures: the gates between its steps, and its lanes."""
 
 import pathlib
 import re
@@ -10,27 +10,31 @@ sys.path.insert(0, str(ROOT / "tools"))
 from pictures import lanes
 from pictures.schedule import Schedule, schedules_in
 
+# The rows of the table of the gates, as elements of the page.
+TABLE = "[...find('state').querySelectorAll('tbody tr')]"
+# The name and the value in each row; of a row with the number of a gate that alone.
+STATE = f"{TABLE}.map((row) => [...row.cells].slice(0, 2).map((cell) => cell.textContent))"
+
 
 def gates(text, answer):
-    """The rows of the table of the gate, before the first step and after each one: the name and the value."""
+    """The rows of the table of the gates, before the first step and after each one."""
     schedule = Schedule(text, answer)
-    return [rows(state) for state in [schedule.start, *(row.state for row in schedule.rows)]]
+    return [rows(moment, schedule.actors) for moment in [schedule.start, *(row.moment for row in schedule.rows)]]
 
 
-def rows(state):
-    found = [["shared word", " ".join([*lanes.marks_of(state), lanes.count_told(state)])], ["front", str(state.front)]]
-    found += [[f"slot {at}", "closed" if slot is None else f"{slot:+}" if slot else "0"] for at, slot in enumerate(state.slots)]
-    found += [[f"word {at}", str(value)] for at, value in enumerate(state.words)]
-    for actor in ["c", *range(len(state.passes))]:
-        name = "control" if actor == "c" else f"pass {actor}"
-        found.append([name, lanes.standing(actor, state)[2] or "holds nothing"])
+def rows(moment, actors):
+    found = []
+    for number, state in enumerate(moment, 1):
+        found += [[f"gate {number}"]] if len(moment) > 1 else []
+        found += [[word.name, word.told()] for word in sorted(state.words, key=lambda it: it.at is not None)]
+        found += [[lanes.name_of(actor), state.standing(actor).told or "holds nothing"] for actor in actors]
     return found
 
 
 def captions(text, answer):
     """The caption of each step."""
     steps = Schedule(text, answer).rows
-    named = [("the control" if row.step.actor == "c" else f"pass {row.step.actor}", row) for row in steps]
+    named = [("the control" if row.step.actor == "c" else lanes.name_of(row.step.actor), row) for row in steps]
     return [f"Step {at} of {len(steps)}: {name}: {row.step.text} → {lanes.with_bias(row.reply)}" for at, (name, row) in enumerate(named, 1)]
 
 

@@ -8,7 +8,7 @@ ROOT = inputs.ROOT
 
 def state(page):
     """The table of the gate as the page shows it."""
-    return page.js("[...find('state').tBodies[0].rows].map((row) => [...row.cells].slice(0, 2).map((cell) => cell.textContent))")
+    return page.js(shown.STATE)
 
 
 def stepping(page, counts):

@@ -4,6 +4,7 @@ import pathlib
 import re
 
 import shown
+from pictures.schedule import HEAD
 
 ROOT = pathlib.Path(__file__).resolve().parents[2]
 # The cells of the table of outcomes, row by row, and the words of its glossary.
@@ -54,8 +55,8 @@ def outcomes_in(answer):
     """The cells of the table: of each outcome its number, the answers of each actor, the steps and the end."""
     for part in re.split(r"^(?=outcome )", answer, flags=re.MULTILINE)[1:]:
         number, steps, deadlock = re.match(r"outcome (\d+) steps (\d+)( deadlock)?\n", part).groups()
-        said = [line.split(" ", 1)[1] for line in part[: part.index("gate 1\n")].splitlines()[1:]]
-        end = re.search(r"^# end (.*)$", part, re.MULTILINE)[1]
+        said = [line.partition(" ")[2] for line in part[: HEAD.search(part).start()].splitlines()[1:]]
+        end = "; ".join("".join(it) for it in re.findall(r"^# (@[0-9]+ )?end (.*)$", part, re.MULTILINE))
         yield [number, *said, steps, f"deadlock: {end}" if deadlock else end]
 
 
@@ -111,19 +112,28 @@ def slots(page, counts, answer):
     counts.equal("a schedule on three slots", page.js("page.answer"), answer)
     drawn = page.js(f"lanesOf('Slots', 'slots', new Schedule({SLOTS!r}, {answer!r}))")
     counts.equal("the lanes with three slots", drawn, shown.drawn("Slots", "slots", SLOTS, answer))
-    wanted, captions = shown.gates(SLOTS, answer), shown.captions(SLOTS, answer)
-    state = "[...find('state').tBodies[0].rows].map((row) => [...row.cells].map((cell) => cell.textContent))"
-    changed = "[...find('state').tBodies[0].rows].map((row) => row.className)"
+    walked(page, counts, "three slots", SLOTS, answer)
+
+
+def walked(page, counts, name, text, answer):
+    """A schedule step by step: its gates and what they were before, what is marked of it, the captions, the frame and the buttons."""
+    wanted, captions = shown.gates(text, answer), shown.captions(text, answer)
+    table = f"{shown.TABLE}.map((row) => [row.className, ...[...row.cells].map((cell) => cell.textContent)])"
     for step, now in enumerate(wanted):
         before = wanted[step - 1] if step else now
-        rows = [[name, value, "" if value == old else old] for (name, value), (_, old) in zip(now, before)]
-        counts.equal(f"three slots after step {step}", page.js(state), rows)
-        counts.equal(f"what changed in step {step}", page.js(changed), ["changed" if it[2] else "" for it in rows])
+        counts.equal(f"{name} after step {step}", page.js(table), [marked(*both) for both in zip(now, before)])
         if step:
-            counts.equal(f"the caption of step {step} on slots", page.js("find('caption').textContent"), captions[step - 1])
+            counts.equal(f"the caption of step {step} of {name}", page.js("find('caption').textContent"), captions[step - 1])
         frame(page, counts, step, len(captions))
         page.js("find('next').click()")
     by_buttons(page, counts, len(captions))
+
+
+def marked(now, before):
+    """A row of the table with its class: one with the number of a gate, one that has changed, or another one."""
+    if len(now) == 1:
+        return ["gate", *now]
+    return ["changed", *now, before[1]] if now != before else ["", *now, ""]
 
 
 def wrong_answers(page, counts, answer):
@@ -179,10 +189,10 @@ def cut(page, counts):
     words = "Lanes are drawn up to 600 steps and 16 passes; this schedule has"
     counts.equal("a long schedule", page.js(shows), [head, "600", True, f"{words} 601 and 1."])
     page.js(f"open({WIDE})")
-    page.until(f"page.stepping.schedule?.start.passes.length === 17 && {ANSWERED}")
+    page.until(f"page.stepping.schedule?.passes === 17 && {ANSWERED}")
     counts.equal("many passes", page.js("find('lanes').textContent"), f"{words} 1 and 17.")
     page.js("find('first').click()")
-    counts.equal("their gate is shown", page.js("find('state').tBodies[0].rows.length"), 2 + 1 + 18)
+    counts.equal("their gate is shown", page.js(f"{shown.TABLE}.length"), 2 + 1 + 18)
     page.js("open('blkq 1\\ndisk 4096 hw 7\\nwrite 0 4096 ' + '0102'.repeat(32) + '\\nstat\\nread 0 4096\\n')")
     page.until(f"page.kind === 'script' && {ANSWERED}")
     letters = page.js("[...find('rows').querySelectorAll('.reply')].map((it) => it.textContent.length)")

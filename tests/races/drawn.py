@@ -2,6 +2,7 @@
 
 from gate import MOST_HELD, MOST_KILLS, Race
 from gates import Gates
+from ref_steps import LinuxRace
 from searched import calls_of
 
 
@@ -92,12 +93,60 @@ def random_gates(draw):
     return Gates(gates, tuple(placed(draw, calls, count) for calls in race.passes), placed(draw, race.control, count))
 
 
+# The calls of a pass and of the control that the kernel's code has. The first ones are drawn most often: more calls need a reference,
+# and most calls of the control a gate that was killed.
+LINUX_CALLS = ("put", "put", "live", "try", "get", "dying", "zero")
+LINUX_CONTROL = ("kill", "reinit", "resurrect", "atomic", "slots", "kill", "kill", "zero")
+
+
+def linux_call(draw, slots):
+    what = draw.choice(LINUX_CALLS)
+    if what in ("dying", "zero"):
+        return (what,)
+    slot = draw.randrange(slots)
+    return (what, slot, draw.choice((0, 1, 1, 1, 2))) if what in ("get", "put") else (what, slot)
+
+
+def linux_pass(draw, slots):
+    """Some calls of a pass, of which mostly the first is a try."""
+    first = [(draw.choice(("try", "live")), draw.randrange(slots))] if draw.random() < 0.9 else []
+    return tuple(first + [linux_call(draw, slots) for _ in range(draw.randrange(1 - len(first), 4))])
+
+
+def kernel_race(draw):
+    """A race of calls that the kernel's code has."""
+    slots = draw.choice((1, 2))
+    passes = tuple(linux_pass(draw, slots) for _ in range(draw.choice((1, 2, 2, 3))))
+    control = tuple((draw.choice(LINUX_CONTROL),) for _ in range(draw.randrange(1, 5)))
+    return LinuxRace(slots, draw.choice(("atomic", "slots", "dead")), 0, (), passes, control)
+
+
+def with_call(draw, calls, call):
+    """The same calls, and mostly this one at some place."""
+    at = draw.randrange(len(calls) + 1)
+    return (*calls[:at], call, *calls[at:]) if draw.random() < 0.7 else calls
+
+
+def linux_race(draw):
+    """A race on Linux's percpu_ref. In half of them there are calls that wait, or that Linux doesn't have."""
+    race = kernel_race(draw)
+    if draw.random() < 0.5:
+        passes = tuple(with_call(draw, calls, pass_call(draw, race.slots, 1)) for calls in race.passes)
+        control = with_call(draw, race.control, control_call(draw, draw.choice(("wait", "wait", "store", *PARTS))))
+        race = race._replace(passes=passes, control=control)
+    return race._replace(start=draw.choice(("slots", "slots", "slots", "atomic", "dead")), kills=draw.choice((0, 0, 0, 3, MOST_KILLS)))
+
+
 def any_race(draw):
-    return random_gates(draw) if draw.random() < 0.2 else random_race(draw)
+    kind = draw.random()
+    if kind < 0.4:
+        return (random_gates if kind < 0.2 else linux_race)(draw)
+    return random_race(draw)
 
 
 def world_of(gate):
-    return " ".join(map(str, ("world", gate.slots, len(gate.passes), gate.start, gate.kills, *gate.words)))
+    words = ("linux",) if isinstance(gate, LinuxRace) else gate.words
+    return " ".join(map(str, ("world", gate.slots, len(gate.passes), gate.start, gate.kills, *words)))
 
 
 def call_text(gate, call):

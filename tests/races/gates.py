@@ -10,13 +10,13 @@ and holds back what is not the actor's turn; here nothing is held back, and no g
 """
 
 import sys
-from collections import deque
 from typing import NamedTuple
 
 sys.dont_write_bytecode = True
 
 from gate import Control, Pass, Race, begun, control_begun, control_step, first_gate, pass_step
-from search import calls_of
+from ref_steps import LinuxRace
+from search import calls_of, moments_from, told_at_ends
 
 
 class Gates(NamedTuple):
@@ -38,6 +38,13 @@ def at_its_gate(call):
     return (int(call[0][1:]) - 1, call[1:]) if str(call[0]).startswith("@") else (0, call)
 
 
+def gate_of(_, slots, passes, start, kills, *words):
+    """The race of a `world` line, without calls. It is on Linux's percpu_ref if that word stands in the place of the guarded words."""
+    is_linux = words == ("linux",)
+    guarded = () if is_linux else tuple(map(int, words))
+    return (LinuxRace if is_linux else Race)(int(slots), start, int(kills), guarded, ((),) * int(passes), ())
+
+
 def gates_of(text):
     """The race of a text that is right, with or without its first line."""
     lines = [line.split() for line in text.splitlines() if line.strip() and not line.strip().startswith("#")]
@@ -49,8 +56,7 @@ def gates_of(text):
             control += calls
         else:
             passes[int(actor)] += calls
-    gates = tuple(Race(int(it[1]), it[3], int(it[4]), tuple(map(int, it[5:])), ((),) * int(it[2]), ()) for it in worlds)
-    return Gates(gates, tuple(passes), control)
+    return Gates(tuple(gate_of(*it) for it in worlds), tuple(passes), control)
 
 
 def put(items, at, item):
@@ -80,6 +86,7 @@ def control_begins(race, gates, actor):
 
 
 def first(race):
+    """The moment at which the race begins."""
     gates = tuple(map(first_gate, race.gates))
     nothing = Actor((), (), "", (0,) * len(gates), ())
     wants = tuple("atomic" if it.start == "atomic" else "slots" for it in race.gates)
@@ -129,48 +136,40 @@ def control_goes(race, moment):
     return gates, passes, actor
 
 
-def nexts(race, moment):
-    """The moments that may come next."""
+def turns(race, moment):
+    """The actors that may go, each with the moment after its step: the number of a pass, or `c`."""
     _, passes, control = moment
     for number, actor in enumerate(passes):
         if may_go(race, moment, actor, race.passes[number]):
-            yield pass_goes(race, moment, number)
+            yield str(number), pass_goes(race, moment, number)
     if may_go(race, moment, control, race.control):
-        yield control_goes(race, moment)
+        yield "c", control_goes(race, moment)
 
 
-def told(race, moment):
-    """What an end tells: of each actor its answers and what it waits for, and of each gate its mark and its numbers."""
+def moments(race):
+    """Each moment, with how many steps lead to it at least, and whether nothing may come next."""
+    return moments_from(first(race), lambda moment: turns(race, moment))
+
+
+def line_of(name, actor, calls):
+    """What an actor's calls have answered, and what the next one waits for."""
+    waits = [f"waits for {it}"] if (it := wanted(actor, calls)) else []
+    return f"{name} {' / '.join([*actor.told, *waits])}".rstrip()
+
+
+def told(moment, race):
+    """What the end tells: a line for each actor, and the figures of each gate."""
     gates, passes, control = moment
-    actors = tuple((it.told, wanted(it, calls)) for it, calls in zip((*passes, control), (*race.passes, race.control)))
+    lines = [line_of(*it) for it in zip(range(len(passes)), passes, race.passes)] + [line_of("c", control, race.control)]
     marks = (("zero" if it.zero else "dead" if it.dead else "live", it.front, it.kills, it.releases) for it in gates)
-    held = (sum(it.held[at] for it in passes) for at in range(len(gates)))
-    return actors, tuple(zip(marks, held))
-
-
-def search(race, most):
-    """What each outcome tells, with how many steps lead to it at least, and how many moments there are; none of a race that has more."""
-    begin = first(race)
-    steps, left, found = {begin: 0}, deque([begin]), {}
-    while left:
-        moment = left.popleft()
-        after = list(nexts(race, moment))
-        if not after:
-            found.setdefault(told(race, moment), steps[moment])
-        for it in after:
-            if it not in steps:
-                steps[it] = steps[moment] + 1
-                left.append(it)
-        if len(steps) > most:
-            return None, len(steps)
-    return found, len(steps)
+    return (*lines, *((*it, sum(of.held[at] for of in passes)) for at, it in enumerate(marks)))
 
 
 def main():
     for name in sys.argv[1:]:
         with open(name, encoding="utf-8") as it:
             race = gates_of(it.read())
-        found, _ = search(race, 10_000_000)
+        found = told_at_ends(race, moments(race), told)
         print(name, len(found), sum(found.values()))
 
 

@@ -1,8 +1,10 @@
 """The outcomes of a race, as gate_races prints them: docs/FORMATS.md has the form."""
 
+import re
 from typing import NamedTuple
 
-HEADS = ("gate 1", "gates 1")
+HEADS = ("gate 1", "gates 1", "linux 1")
+LINUX_END = re.compile(r"# end (percpu|atomic|dead|atomic dead), count (\S+), counters [-0-9 ]+, releases (\d+), held (\d+)")
 
 
 class Outcome(NamedTuple):
@@ -16,9 +18,21 @@ def figures_of(line):
     return (words[1], *(int(words[at]) for at in (4, 6, 8, 10)))
 
 
+def linux_figures(schedule, lines):
+    """Those of the end on Linux's percpu_ref: it has no front, and its kills are those that lie behind the start and that returned."""
+    found = LINUX_END.fullmatch(schedule[-1])
+    if not found:
+        raise ValueError(schedule[-1])
+    flags, count, releases, held = found.groups()
+    kills = sum(answer in ("last", "not last") for answer in lines[-1].removeprefix("c ").split(" / "))
+    mark = "zero" if count == "0" else "dead" if "dead" in flags else "live"
+    return mark, 0, int(schedule[1].split()[4]) + kills, int(releases), int(held)
+
+
 def steps_of(schedule):
-    """How many steps it has, behind the lines of the version and of the worlds."""
-    return sum(not line.startswith(("#", "world")) for line in schedule[1:])
+    """How many steps it has, behind the lines of the version and of the worlds, and on Linux's percpu_ref behind those of the calls."""
+    begin = schedule.index("steps") + 1 if schedule[0] == "linux 1" else 1
+    return sum(not line.startswith(("#", "world")) for line in schedule[begin:])
 
 
 def ends_of(schedule):
@@ -38,6 +52,8 @@ def outcome_of(lines, number):
     deadlock = ["deadlock"] if any("waits for " in line for line in lines[1:begin]) else []
     if head != ["outcome", str(number), "steps", str(steps_of(schedule)), *deadlock]:
         raise ValueError(lines[0])
+    if schedule[0] == "linux 1":
+        return Outcome((*lines[1:begin], linux_figures(schedule, lines[:begin])), schedule)
     return Outcome((*lines[1:begin], *map(figures_of, ends_of(schedule))), schedule)
 
 
@@ -57,9 +73,9 @@ def at_gate(schedule, gate):
 
 
 def parts_of(schedule):
-    """The schedules of the gates: for one gate the schedule as it is printed."""
-    if schedule[0] == "gate 1":
-        return [schedule]
+    """The schedules of the gates, as `blkq replay` reads them: for one gate the schedule as it is printed, and for Linux's none."""
+    if schedule[0] != "gates 1":
+        return [schedule] if schedule[0] == "gate 1" else []
     return [at_gate(schedule, gate) for gate, _ in enumerate((it for it in schedule if it.startswith("world")), 1)]
 
 

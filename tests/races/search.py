@@ -37,31 +37,48 @@ def race_of(text):
     return Race(int(world[1]), world[3], int(world[4]), tuple(map(int, world[5:])), tuple(passes), control)
 
 
-def after(moment, race):
-    """The moments that may come next."""
+def moved(moment, number, race):
+    """The moment after the next step of the pass of that number, or of the control for None."""
     gate, seats, seat = moment
-    for at, of_pass in enumerate(seats):
-        if of_pass.stage and is_ready(moment, of_pass, race.passes[at], race):
-            then, moved = pass_step(gate, of_pass, race.passes[at], race)
-            yield then, seats[:at] + (moved,) + seats[at + 1 :], seat
-    if seat.stage and is_ready(moment, seat, race.control, race):
-        then, moved = control_step(gate, seat, race)
-        yield then, seats, moved
+    if number is None:
+        then, its = control_step(gate, seat, race)
+        return then, seats, its
+    then, its = pass_step(gate, seats[number], race.passes[number], race)
+    return then, seats[:number] + (its,) + seats[number + 1 :], seat
 
 
-def search(race):
-    """Each moment, with how many steps lead to it at least, and whether nothing may come next."""
+def first(race):
+    """The moment at which the race begins."""
     gate = first_gate(race)
-    first = (gate, tuple(first_pass(race, at) for at in range(len(race.passes))), first_control(race, gate))
+    return gate, tuple(first_pass(race, at) for at in range(len(race.passes))), first_control(race, gate)
+
+
+def turns(race, moment):
+    """The actors that may go, each with the moment after its step: the number of a pass, or `c`."""
+    _, seats, seat = moment
+    for number, of_pass in enumerate(seats):
+        if of_pass.stage and is_ready(moment, of_pass, race.passes[number], race):
+            yield str(number), moved(moment, number, race)
+    if seat.stage and is_ready(moment, seat, race.control, race):
+        yield "c", moved(moment, None, race)
+
+
+def moments_from(first, turns):
+    """Each moment to which steps lead, with how many of them at least, and whether nothing may come next."""
     steps, left = {first: 0}, deque([first])
     while left:
         moment = left.popleft()
-        nexts = list(after(moment, race))
+        nexts = [it for _, it in turns(moment)]
         yield moment, steps[moment], not nexts
         for it in nexts:
             if it not in steps:
                 steps[it] = steps[moment] + 1
                 left.append(it)
+
+
+def moments(race):
+    """Each moment of a race, as above."""
+    return moments_from(first(race), lambda moment: turns(race, moment))
 
 
 def line_of(actor, seat, calls):
@@ -78,17 +95,19 @@ def told(moment, race):
     return (*lines, (marks, gate.front, gate.kills, gate.releases, sum(it.held for it in seats)))
 
 
-def told_at_ends(race, moments, told):
-    """What each outcome tells, with how many steps lead to it at least."""
+def told_at_ends(race, moments, told, most=None):
+    """What each outcome tells, with how many steps lead to it at least; None of a race of more moments than these."""
     found = {}
-    for moment, steps, is_end in moments:
+    for seen, (moment, steps, is_end) in enumerate(moments):
+        if seen == most:
+            return None
         if is_end:
             found.setdefault(told(moment, race), steps)
     return found
 
 
 def all_outcomes(race):
-    return told_at_ends(race, search(race), told)
+    return told_at_ends(race, moments(race), told)
 
 
 def outcomes(race):

@@ -1,15 +1,17 @@
-"""All outcomes of a race of one gate or of several, as search.py and gates.py find them."""
-
-from collections import deque
+"""All outcomes of a race, as search.py finds them at one gate, gates.py at several, and ref_steps.py on Linux's percpu_ref."""
 
 import gates
+import ref_steps
 import search
 
 
 def race_of(text):
-    """The race of a text that is right: a Race of one gate, or the Gates of several."""
+    """The race of a text that is right: a Race of one gate, a LinuxRace on Linux's percpu_ref, or the Gates of several."""
     race = gates.gates_of(text)
-    return race if len(race.gates) > 1 else search.race_of("".join(f"{line}\n" for line in text.splitlines() if line.split()[:1] != ["ask"]))
+    if len(race.gates) > 1:
+        return race
+    passes = tuple(tuple(call for _, call in calls) for calls in race.passes)
+    return race.gates[0]._replace(passes=passes, control=tuple(call for _, call in race.control))
 
 
 def calls_of(race):
@@ -18,32 +20,21 @@ def calls_of(race):
     return calls if isinstance(race, gates.Gates) else {actor: tuple((0, call) for call in it) for actor, it in calls.items()}
 
 
+def search_of(race):
+    """The search that knows the steps of its gate or gates."""
+    if isinstance(race, ref_steps.LinuxRace):
+        return ref_steps
+    return gates if isinstance(race, gates.Gates) else search
+
+
 def moments(race):
     """Each moment, with how many steps lead to it at least, and whether nothing may come next."""
-    if not isinstance(race, gates.Gates):
-        yield from search.search(race)
-        return
-    first = gates.first(race)
-    steps, left = {first: 0}, deque([first])
-    while left:
-        moment = left.popleft()
-        nexts = list(gates.nexts(race, moment))
-        yield moment, steps[moment], not nexts
-        for it in nexts:
-            if it not in steps:
-                steps[it] = steps[moment] + 1
-                left.append(it)
+    return search_of(race).moments(race)
 
 
 def told(moment, race):
     """What an end tells: a line for each actor, and the figures of each gate."""
-    if not isinstance(race, gates.Gates):
-        return search.told(moment, race)
-    actors, figures = gates.told(race, moment)
-    names = (*range(len(actors) - 1), "c")
-    waits = ([f"waits for {wanted}"] if wanted else [] for _, wanted in actors)
-    lines = (f"{name} {' / '.join([*answers, *its])}".rstrip() for name, (answers, _), its in zip(names, actors, waits))
-    return (*lines, *((*marks, held) for marks, held in figures))
+    return search_of(race).told(moment, race)
 
 
 def lines_and_figures(told):
@@ -51,6 +42,26 @@ def lines_and_figures(told):
     return [it for it in told if isinstance(it, str)], [it for it in told if not isinstance(it, str)]
 
 
-def all_outcomes(race):
-    """What each outcome tells, with how many steps lead to it at least."""
-    return search.told_at_ends(race, moments(race), told)
+def summary_of(told):
+    """What --summary says of an outcome, behind its number."""
+    lines, figures = lines_and_figures(told)
+    return "; ".join([*lines, *(f"{mark}, held {held}" for mark, *_, held in figures)])
+
+
+def kept_of(moment, race):
+    """What all moments have alike that differ by an exchange of passes with equal calls. Nothing changes places in a race of several
+    gates, or on Linux's percpu_ref."""
+    if search_of(race) is not search:
+        return moment
+    gate, seats, seat = moment
+    return gate, tuple(sorted(zip(race.passes, seats), key=repr)), seat
+
+
+def states_of(race):
+    """How many states the program keeps of a race."""
+    return len({kept_of(moment, race) for moment, _, _ in moments(race)})
+
+
+def all_outcomes(race, most=None):
+    """What each outcome tells, with how many steps lead to it at least; None of a race of more moments than these."""
+    return search.told_at_ends(race, moments(race), told, most)

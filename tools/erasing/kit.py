@@ -24,6 +24,7 @@ REFUSABLE = {
     ("push_str", 1): "try_push_str",
     ("insert", 2): "try_put",
     ("reserve", 1): "try_make_room",
+    ("reserve_exact", 1): "try_make_exact_room",
 }
 # Calls that are handed the allocator, and those of associated functions by their types.
 REFUSABLE_WITH_ALLOCATOR = {
@@ -48,6 +49,7 @@ TRAIT_OF = {
     "try_from_elem": ("fallible", "TryVec"),
     "try_from_array": ("fallible", "TryVec"),
     "try_make_room": ("fallible", "TryRoom"),
+    "try_make_exact_room": ("fallible", "TryRoom"),
     "try_to_vec": ("fallible", "TryToVec"),
     "try_clone": ("fallible", "TryClone"),
     "try_push_str": ("fallible", "TryText"),

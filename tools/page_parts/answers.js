@@ -26,6 +26,13 @@ const MEANINGS = {
   "waits for dead": "a deadlock: this call waits until the gate is killed, and no call is left that kills it",
 };
 
+// Those that mean something else on Linux's percpu_ref.
+const MEANINGS_ON_LINUX = {
+  refused: "the try took none: the count was zero, or DEAD was set",
+  last: "this call dropped the last reference: it is the release",
+  "not zero": "refused: the count isn't zero; a callback that is still to come holds a reference too",
+};
+
 function clipped(text) {
   return text.length <= MOST_LETTERS ? text : `${text.slice(0, MOST_LETTERS)} .. (${text.length} letters)`;
 }
@@ -113,7 +120,8 @@ function hasWord({ actors }, word) {
 
 // The meanings of the words that these outcomes have, each with a button for the first of them.
 function glossaryOf(outcomes, onChoice) {
-  return Object.entries(MEANINGS).flatMap(([word, meaning]) => {
+  const isLinux = outcomes[0]?.schedule.startsWith("linux 1\n");
+  return Object.entries(isLinux ? { ...MEANINGS, ...MEANINGS_ON_LINUX } : MEANINGS).flatMap(([word, meaning]) => {
     const having = outcomes.filter((outcome) => hasWord(outcome, word));
     if (having.length === 0) return [];
     const first = element("button", { type: "button", textContent: `outcome ${having[0].number}` });

@@ -13,8 +13,9 @@ from pictures.svg import FONT, rules
 HERE = os.path.dirname(os.path.realpath(__file__))
 EXAMPLES = f"{os.path.dirname(os.path.dirname(HERE))}/examples"
 # Each uses those before it.
-SCRIPTS = ("texts", "gate", "schedule", "svg", "lanes", "running", "legend", "stepping", "answers", "address", "page")
-SCRIPTS_OF_RACE = ("texts", "gate", "schedule", "svg", "lanes", "legend", "stepping", "answers", "race")
+DRAWING = ("texts", "gate", "linux", "states", "schedule", "svg", "lanes", "legend", "stepping", "answers")
+SCRIPTS = (*DRAWING, "running", "address", "page")
+SCRIPTS_OF_RACE = (*DRAWING, "race")
 
 
 def packed(module):

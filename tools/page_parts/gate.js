@@ -27,6 +27,17 @@ function needs(holds, why) {
   if (!holds) throw new Stuck(why);
 }
 
+// What keeps a schedule from being drawn.
+class Wrong extends Error {}
+
+function wrongUnless(holds, why) {
+  if (!holds) throw new Wrong(why);
+}
+
+function isOwn(table, name) {
+  return Object.prototype.hasOwnProperty.call(table, name);
+}
+
 // A gate between two steps.
 class Gate {
   constructor({ slots, passes, start, kills, words }) {

@@ -1,66 +1,46 @@
 // A schedule as lanes: tools/pictures/lanes.py, for the page, with the same elements: one lane for each actor, its steps in order with
-// their replies, shaded where the actor holds references or has a step pending; beside them the words of the gate.
+// their replies, shaded where the actor holds references or has a step pending; beside them the words of each gate.
 
 const [SIZE, SMALL] = [13, 12];
 const [ROW, BOX] = [44, 26];
 const [TOP, EDGE, GAP, INNER] = [64, 16, 10, 12];
+const END = 18;
+// The kinds of words that have marks, and whether these stand in front of something else that such a word holds.
+const MARKED = { shared: true, flags: false };
 
-// A lane, or a word of the gate, from x on.
+// A lane, or a word of a gate, from x on.
 function column(name, x, wide) {
   return { name, x, wide, middle: x + wide / 2, end: x + wide };
 }
 
-// The value of the shared word, with the bias by its name.
-function countShown(state) {
-  if (!state.bias) return String(state.value);
-  const rest = state.value - BIAS;
-  return rest === 0 ? "bias" : `bias${rest > 0 ? "+" : ""}${rest}`;
-}
-
 // A reply or an end with the bias of the shared word by its name.
 function withBias(text) {
-  return text.replace(/\b(zero|dead|live) (\d{15,})\b/, (_, mark, value) => `${mark} ${countShown({ bias: true, value: Number(value) })}`);
-}
-
-function marksOf(state) {
-  return [...(state.dead ? ["DEAD"] : []), ...(state.zero ? ["ZERO"] : [])];
-}
-
-function slotShown(slot) {
-  return slot === null ? "closed" : slot > 0 ? `+${slot}` : String(slot);
+  return text.replace(/\b(zero|dead|live) (\d{15,})\b/, (_, mark, value) => `${mark} ${biasAnd(Number(value) - BIAS)}`);
 }
 
 // A reply as its box shows it, the shared word's with the bias by its name.
 function replyOf(row) {
-  if (row.isStuck) return row.reply.split(" ").slice(2).join(" ");
-  return row.step.name === "shared" ? `${row.reply.split(" ")[0]} ${countShown(row.state)}` : row.reply;
-}
-
-// What an actor holds and has pending between two steps, and the words for it.
-function standing(actor, state) {
-  const seat = actor === "c" ? { held: state.base ? 1 : 0, owes: state.owes, joined: false } : state.passes[actor];
-  if (seat.joined) return { holds: false, pending: false, words: "joined" };
-  const held = seat.held === 0 ? [] : [actor === "c" ? "the initial reference" : `holds ${seat.held}`];
-  const pending = seat.owes ? [`${seat.owes} pending`] : [];
-  return { holds: held.length > 0, pending: pending.length > 0, words: [...held, ...pending].join(", ") };
+  return row.isStuck ? row.reply.split(" ").slice(2).join(" ") : withBias(row.reply);
 }
 
 function actorName(actor) {
-  return actor === "c" ? "control" : `pass ${actor}`;
+  if (actor === "c") return "control";
+  return String(actor).startsWith("rcu ") ? actor : `pass ${actor}`;
 }
 
-// The value of a word of the gate, as a text that changes when the word does.
-function heldBy({ word, at }, state) {
-  if (word === "shared") return [state.dead, state.zero, state.value].join(" ");
-  return word === "front" ? String(state.front) : String((word === "slot" ? state.slots : state.words)[at]);
+// The words for what an actor holds and has pending at each gate. Of several gates those at which they are the same are named in front.
+function standingOf(actor, moment) {
+  const said = moment.map((state) => state.standing(actor).words);
+  if (said.length === 1) return said[0];
+  const gates = (words) => said.flatMap((it, index) => (it === words ? [`@${index + 1}`] : []));
+  return [...new Set(said)].filter((words) => words !== "").map((words) => [...gates(words), words].join(" ")).join("; ");
 }
 
 class Lanes {
   constructor(title, name, schedule) {
     Object.assign(this, { title, name, schedule });
-    this.states = [schedule.start, ...schedule.rows.map((row) => row.state)];
+    this.moments = [schedule.start, ...schedule.rows.map((row) => row.moment)];
     this.picture = new Picture(title, this.inWords());
-    this.actors = ["c", ...schedule.start.passes.keys()];
     this.place();
   }
 
@@ -68,57 +48,58 @@ class Lanes {
     const steps = this.schedule.rows.map(({ step, reply }) => {
       return `${step.actor === "c" ? "the control" : actorName(step.actor)}: ${step.text}, ${reply}`;
     });
-    return `${steps.join("; ")}; ${this.schedule.last}`;
+    return `${steps.join("; ")}; ${this.schedule.ends.join("; ")}`;
   }
 
   // The columns, each as wide as the longest of its texts.
   place() {
     let x = EDGE;
     this.lanes = new Map();
-    for (const actor of this.actors) {
+    for (const actor of this.schedule.actors) {
       const wide = this.wideOf(actor) + 2 * INNER;
       this.lanes.set(actor, column(actorName(actor), x, wide));
       x += wide + GAP;
     }
-    x += GAP;
-    this.words = this.shownWords().map(({ name, texts, ...word }) => {
-      const wide = Math.max(...[...texts, name].map((text) => widthOf(text, SMALL))) + 14;
-      const placed = { ...word, ...column(name, x, wide) };
-      x = placed.end + GAP;
-      return placed;
+    this.words = this.moments[0].flatMap((_, gate) => {
+      x += GAP;
+      return this.shownWords(gate).map((held) => {
+        const [{ kind, at, name }] = held;
+        const wide = Math.max(...[...this.textsOf(held), name].map((text) => widthOf(text, SMALL))) + 14;
+        const placed = { gate, kind, at, held, ...column(name, x, wide) };
+        x = placed.end + GAP;
+        return placed;
+      });
     });
-    this.wide = Math.max(x - GAP, EDGE + widthOf(this.title, 15) + 14 + widthOf(this.name, SMALL)) + EDGE;
+    const ends = this.schedule.ends.map((end) => EDGE + widthOf(withBias(end), SIZE));
+    this.wide = Math.max(x - GAP, EDGE + widthOf(this.title, 15) + 14 + widthOf(this.name, SMALL), ...ends) + EDGE;
   }
 
+  // How wide the longest text of a lane is.
   wideOf(actor) {
     const rows = this.schedule.rows.filter((row) => this.laneOf(row.step) === actor);
     const steps = rows.map((row) => widthOf(`${row.step.text}   ${replyOf(row)}`, SIZE));
-    const small = this.states.map((state) => widthOf(standing(actor, state).words, SMALL));
+    const small = this.moments.map((moment) => widthOf(standingOf(actor, moment), SMALL));
     return Math.max(...steps, ...small, 90);
   }
 
   // The lane of a step's actor; the control's if there is no such actor.
   laneOf(step) {
-    return this.actors.includes(step.actor) ? step.actor : "c";
+    return this.schedule.actors.includes(step.actor) ? step.actor : "c";
   }
 
-  // The words of the gate that are drawn: the shared word and the front, the slots if one was open, and the guarded words. Each comes
-  // with all that it holds in turn.
-  shownWords() {
-    const { states } = this;
-    const marks = Math.max(...states.map((state) => widthOf(marksOf(state).join(" "), 1)));
-    const room = " ".repeat(Math.round(marks / widthOf(" ", 1) + 3));
-    const shown = [{ word: "shared", name: "shared word", texts: states.map((state) => room + countShown(state)) }];
-    if (states.some((state) => state.slots.some((slot) => slot !== null))) {
-      states[0].slots.forEach((_, at) => {
-        shown.push({ word: "slot", at, name: `slot ${at}`, texts: states.map((state) => slotShown(state.slots[at])) });
-      });
-    }
-    shown.push({ word: "front", name: "front", texts: states.map((state) => String(state.front)) });
-    states[0].words.forEach((_, at) => {
-      shown.push({ word: "word", at, name: `word ${at}`, texts: states.map((state) => state.words[at]) });
-    });
-    return shown;
+  // The words of a gate that are drawn, each with all that it holds in turn. If there is nothing to be seen in any word of a kind, as in
+  // slots that were never open, these are left out.
+  shownWords(gate) {
+    const words = this.moments[0][gate].words.map((_, index) => this.moments.map((moment) => moment[gate].words[index]));
+    const seen = new Set(words.flat().flatMap(({ kind, isIdle }) => (isIdle ? [] : [kind])));
+    return words.filter(([{ kind }]) => seen.has(kind));
+  }
+
+  // The texts of a word, with room for its marks: in front, or alone.
+  textsOf(held) {
+    const [texts, room] = [held.map(({ text }) => text), " ".repeat(Math.max(...held.map(({ marks }) => marks.join(" ").length)) + 3)];
+    if (!isOwn(MARKED, held[0].kind)) return texts;
+    return MARKED[held[0].kind] ? texts.map((text) => room + text) : [...texts, room];
   }
 
   // The middle of a step's row; the gate stands between -1 and 0 as it starts.
@@ -129,13 +110,15 @@ class Lanes {
   drawn() {
     const last = this.yOf(this.schedule.rows.length) + 6;
     this.drawHeads(last);
-    this.actors.forEach((actor) => this.drawShades(actor));
+    this.drawNumbers();
+    this.lanes.forEach((_, actor) => this.drawShades(actor));
     this.words.forEach((word) => this.drawWord(word, last));
     this.schedule.rows.forEach((row, index) => this.drawStep(index, row));
-    this.actors.forEach((actor) => this.drawStanding(actor));
-    this.picture.text(EDGE, last + 14, withBias(this.schedule.last), { size: SIZE, isBold: true });
-    this.drawLegend(last + 34);
-    return this.picture.made(this.wide, last + 58);
+    this.lanes.forEach((_, actor) => this.drawStanding(actor));
+    this.schedule.ends.forEach((end, at) => this.picture.text(EDGE, last + 14 + END * at, withBias(end), { size: SIZE, isBold: true }));
+    const low = last + END * (this.schedule.ends.length - 1);
+    this.drawLegend(low + 34);
+    return this.picture.made(this.wide, low + 58);
   }
 
   drawHeads(last) {
@@ -150,10 +133,28 @@ class Lanes {
     });
   }
 
-  // What an actor holds and has pending, from the step that changes it to the next that does.
+  // The number of each of several gates, above its words.
+  drawNumbers() {
+    if (this.moments[0].length === 1) return;
+    this.moments[0].forEach((_, gate) => {
+      const columns = this.words.filter((word) => word.gate === gate);
+      const [x, end] = [columns[0].x, columns[columns.length - 1].end];
+      this.picture.text((x + end) / 2, TOP - 26, `gate ${gate + 1}`, { size: SMALL, anchor: "middle", isBold: true });
+      this.picture.line([[x, TOP - 20], [end, TOP - 20]], "rule");
+    });
+  }
+
+  // What an actor holds and has pending at each gate, each gate in its part of the lane.
   drawShades(actor) {
-    const parts = this.states.map((state) => standing(actor, state));
-    const { x, wide, end } = this.lanes.get(actor);
+    const [lane, gates] = [this.lanes.get(actor), this.moments[0].length];
+    const wide = lane.wide / gates;
+    for (let gate = 0; gate < gates; gate += 1) {
+      this.drawShade(lane.x + gate * wide, wide, this.moments.map((moment) => moment[gate].standing(actor)));
+    }
+  }
+
+  // What an actor holds and has pending at a gate, from the step that changes it to the next that does.
+  drawShade(x, wide, parts) {
     let since = 0;
     for (let index = 1; index <= parts.length; index += 1) {
       if (index < parts.length && parts[index].words === parts[since].words) continue;
@@ -161,7 +162,7 @@ class Lanes {
       const below = this.yOf(index - 1) - (index < parts.length ? 0 : 14);
       const { holds, pending } = parts[since];
       if (holds || pending) this.picture.box(x, above, wide, below - above, holds ? "hold" : "owe");
-      if (holds && pending) this.picture.box(end - INNER, above, INNER, below - above, "owe");
+      if (holds && pending) this.picture.box(x + wide - INNER, above, INNER, below - above, "owe");
       since = index;
     }
   }
@@ -169,8 +170,8 @@ class Lanes {
   // The words for what an actor holds and has pending, under the step that changed it.
   drawStanding(actor) {
     let before;
-    this.states.forEach((state, index) => {
-      const { words } = standing(actor, state);
+    this.moments.forEach((moment, index) => {
+      const words = standingOf(actor, moment);
       const y = index ? this.yOf(index - 1) + ROW / 2 + 4 : TOP + ROW / 2 - 2;
       if (words !== before) this.picture.text(this.lanes.get(actor).middle, y, words, { size: SMALL, anchor: "middle" });
       before = words;
@@ -191,50 +192,52 @@ class Lanes {
   }
 
   kindOf(row) {
-    if (row.isStuck || ["refused", "lost", "to mark"].includes(row.reply)) return "warn";
-    return row.reply === "last" ? "done" : "plain";
+    const answer = row.reply.split(", ").pop();
+    if (row.isStuck || ["refused", "lost", "to mark", "not zero"].includes(answer)) return "warn";
+    return answer === "last" ? "done" : "plain";
   }
 
+  // The line to the words that a step is taken on, with a dot on each.
   drawReach(index, row, lane, y) {
-    const target = this.words.find(({ word, at }) => word === row.step.target && (at === undefined || at === row.at));
-    if (!target || row.isStuck) return;
-    const isChanged = heldBy(target, this.states[index]) !== heldBy(target, this.states[index + 1]);
-    const kind = row.reply === "last" ? "done" : "dim";
-    this.picture.line([[lane.end - 4, y], [target.middle, y]], kind, !isChanged);
-    this.picture.dot(target.middle, y, kind, !isChanged);
+    const isTarget = (word) => row.targets.some(({ gate, kind, at }) => gate === word.gate && kind === word.kind && at === word.at);
+    const reached = this.words.filter(isTarget);
+    if (reached.length === 0 || row.isStuck) return;
+    const changed = reached.map(({ held }) => held[index].value !== held[index + 1].value);
+    const kind = this.kindOf(row) === "done" ? "done" : "dim";
+    const furthest = Math.max(...reached.map(({ middle }) => middle));
+    this.picture.line([[lane.end - 4, y], [furthest, y]], kind, !changed.includes(true));
+    reached.forEach(({ middle }, at) => this.picture.dot(middle, y, kind, !changed[at]));
   }
 
-  // What a word of the gate holds, after each step that changes it.
+  // What a word of a gate holds, after each step that changes it.
   drawWord(word, last) {
     this.picture.line([[word.middle, TOP + ROW / 2 - 6], [word.middle, last - 14]], "rule");
     let before;
-    this.states.forEach((state, index) => {
-      const now = heldBy(word, state);
-      if (now !== before) this.drawChip(word, state, index ? this.yOf(index - 1) + ROW / 2 : TOP + ROW / 2 - 6);
-      before = now;
+    word.held.forEach((now, index) => {
+      if (now.value !== before) this.drawChip(word, now, index ? this.yOf(index - 1) + ROW / 2 : TOP + ROW / 2 - 6);
+      before = now.value;
     });
   }
 
-  drawChip(word, state, y) {
+  drawChip(word, now, y) {
     this.picture.box(word.x, y - 10, word.wide, 20, "ground", { line: "rule", roundBy: 4 });
-    if (word.word !== "shared") {
-      const shown = word.word === "slot" ? slotShown(state.slots[word.at]) : heldBy(word, state);
-      this.picture.text(word.middle, y + 4, shown, { size: SMALL, anchor: "middle" });
+    if (now.marks.length === 0 && !MARKED[word.kind]) {
+      this.picture.text(word.middle, y + 4, now.text, { size: SMALL, anchor: "middle" });
       return;
     }
     let x = word.x + 3;
-    for (const mark of marksOf(state)) {
+    for (const mark of now.marks) {
       const wide = widthOf(mark, SMALL) + 8;
       this.picture.box(x, y - 8, wide, 16, mark === "ZERO" ? "done" : "mark", { roundBy: 3 });
       this.picture.text(x + 4, y + 4, mark, { kind: "on", size: SMALL, isBold: true });
       x += wide + 3;
     }
-    this.picture.text(word.end - 7, y + 4, countShown(state), { size: SMALL, anchor: "end" });
+    this.picture.text(word.end - 7, y + 4, now.text, { size: SMALL, anchor: "end" });
   }
 
   drawLegend(y) {
     let x = EDGE;
-    for (const [fill, words] of [["hold", "holds"], ["owe", "a step is pending"], ["done", "the release"]]) {
+    for (const [fill, words] of [["hold", "holds"], ["owe", this.moments[0][0].pendingShown], ["done", "the release"]]) {
       this.picture.box(x, y - 9, 14, 12, fill, { roundBy: 2 });
       this.picture.text(x + 20, y + 1, words, { kind: "dim", size: SMALL });
       x += 20 + widthOf(words, SMALL) + 18;

@@ -70,7 +70,8 @@ function clear() {
   find("glossary").hidden = true;
   find("answer").textContent = "";
   find("whole").hidden = true;
-  find("reason").textContent = find("notice").textContent = "";
+  Object.assign(find("reason"), { textContent: "", className: "fault" });
+  find("notice").textContent = "";
   markLine(0);
 }
 
@@ -84,16 +85,34 @@ async function runInput(chosen = {}) {
   page.asked = Object.fromEntries(Object.entries({ outcome, step }).filter(([, it]) => Number.isInteger(it)));
   page.turn += 1;
   const { turn } = page;
+  if (notReplayed(text)) return showPrinted(text, chosen);
   markStale(true);
   keepLink();
   startClock();
   const result = await answered(text, page.kind, page.most);
-  if (turn !== page.turn) return;
+  if (turn !== page.turn) return undefined;
   stopClock();
   clear();
   showAnswer(text, result, chosen);
   const isRight = typeof result.status === "number" && result.status >= 0 && result.status !== 4;
   find("notice").textContent = chosen.notice ?? (isRight ? missing(chosen) : undefined) ?? "";
+  keepLink();
+  return undefined;
+}
+
+// Shows a schedule that the page doesn't replay: what does, and its lanes if the replies are printed in it.
+function showPrinted(text, chosen) {
+  page.runner.stop();
+  stopClock();
+  clear();
+  const replies = repliesIn(text);
+  say(`not replayed here${replies ? ", but drawn by the replies that are printed in it" : ""}`);
+  Object.assign(find("reason"), { textContent: notReplayed(text), className: "dim" });
+  find("outcomes").hidden = true;
+  find("rows").hidden = false;
+  find("rows").replaceChildren(...rowElements(rowsOfPrinted(text)));
+  if (replies) showSchedule(page.name ?? "schedule", "", text, replies, chosen.step);
+  find("notice").textContent = chosen.notice ?? missing(chosen) ?? "";
   keepLink();
 }
 

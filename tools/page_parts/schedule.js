@@ -1,4 +1,5 @@
-// A schedule and its answer, compared by the machine of gate.js: tools/pictures/schedule.py, for the page.
+// A schedule and its answer, compared: of one gate or several by the machine of gate.js, and of Linux's percpu_ref by that of linux.js. It is
+// tools/pictures/schedule.py, for the page.
 
 // How many numbers follow the words of each step, and the word that the step looks at or changes.
 const PASS_STEPS = {
@@ -31,22 +32,16 @@ const CONTROL_STEPS = {
   join: [1, null],
   shared: [0, "shared"],
 };
+// A call of a race, as it stands above the steps on a percpu_ref.
+const CALL = new RegExp(
+  "^(?:(?:try|live|word) [0-9]+|(?:get|put|store) [0-9]+ [0-9]+|await (?:zero|dead|[a-z])|set [a-z]|front|dying|zero|kill|mark_dead|" +
+    "close_next|collect|confirm|drop_base|reinit|resurrect|slots|atomic)$",
+);
 
-// What keeps a schedule from being drawn.
-class Wrong extends Error {}
-
-function wrongUnless(holds, why) {
-  if (!holds) throw new Wrong(why);
-}
-
-function isOwn(table, name) {
-  return Object.prototype.hasOwnProperty.call(table, name);
-}
-
-// A step as its line says it.
+// A step as its line says it, at the gate with this index. What stands in front of it in the line is a part of its text.
 class Step {
-  constructor(line, words) {
-    Object.assign(this, { line, text: words.slice(1).join(" ") });
+  constructor(line, words, gate = 0, front = "") {
+    Object.assign(this, { line, gate, text: front + words.slice(1).join(" ") });
     wrongUnless(words[0] === "c" || /^[0-9]+$/.test(words[0]), `line ${line}: no actor`);
     this.actor = words[0] === "c" ? "c" : Number(words[0]);
     const known = this.actor === "c" ? CONTROL_STEPS : PASS_STEPS;
@@ -66,44 +61,112 @@ class Step {
   }
 }
 
-// What is shown of a gate between two steps.
-function stateOf(gate) {
-  return {
-    dead: gate.dead,
-    zero: gate.zero,
-    value: gate.value,
-    bias: gate.hasBias(),
-    slots: [...gate.slots],
-    front: gate.front,
-    words: gate.words.map(String),
-    base: gate.hasBase(),
-    owes: gate.control.owes,
-    passes: gate.passes.map((seat) => ({ ...seat })),
-  };
+// The gates of a schedule: one, or several, each of which has its number in front of what is said of it.
+class Gates {
+  constructor(gates, isNumbered) {
+    Object.assign(this, { gates, isNumbered, passes: gates[0].passes.length });
+    this.fronts = gates.map((_, index) => (isNumbered ? `@${index + 1} ` : ""));
+    this.actors = ["c", ...gates[0].passes.keys()];
+  }
+
+  // The step of a line.
+  step(line, words) {
+    if (!this.isNumbered) return new Step(line, words);
+    const gate = this.fronts.indexOf(`${words[0]} `);
+    wrongUnless(gate >= 0, `line ${line}: no gate`);
+    return new Step(line, words.slice(1), gate, this.fronts[gate]);
+  }
+
+  // The word that a step is taken on, if any, in the gates as they are before the step: its gate, its kind and its number.
+  targets(step) {
+    return step.target ? [{ gate: step.gate, kind: step.target, at: step.on(this.gates[step.gate]) }] : [];
+  }
+
+  // Takes a step and returns its reply. If it isn't enabled, Stuck is thrown.
+  take(step) {
+    return this.gates[step.gate].take(step);
+  }
+
+  // What is shown of each gate now.
+  moment() {
+    return this.gates.map((gate) => new GateState(gate));
+  }
+
+  // The lines of the end.
+  ends() {
+    return this.gates.map((gate, index) => this.fronts[index] + gate.end());
+  }
+}
+
+// What the line of a world says: the slots, the passes, the start, the kills, and the words behind them.
+function worldOf(words) {
+  const isWorld = words.length >= 5 && ["slots", "atomic", "dead"].includes(words[3]);
+  wrongUnless(isWorld && [words[1], words[2], words[4]].every((word) => /^[0-9]+$/.test(word)), "no world");
+  const [slots, passes, kills] = [words[1], words[2], words[4]].map(Number);
+  return { slots, passes, start: words[3], kills, more: words.slice(5) };
 }
 
 // The gate of a world's line.
-function worldOf(words) {
-  const isWorld = words.length >= 5 && ["slots", "atomic", "dead"].includes(words[3]);
-  wrongUnless(isWorld && [...words.slice(1, 3), ...words.slice(4)].every((word) => /^[0-9]+$/.test(word)), "no world");
-  const [slots, passes, kills] = [words[1], words[2], words[4]].map(Number);
-  return new Gate({ slots, passes, start: words[3], kills, words: words.slice(5).map(BigInt) });
+function gateOf(words) {
+  const { more, ...said } = worldOf(words);
+  wrongUnless(more.every((word) => /^[0-9]+$/.test(word)), "no world");
+  return new Gate({ ...said, words: more.map(BigInt) });
 }
 
-// A schedule with the reply to each of its steps, and the gate after each of the first `most`. The last row may be a step that isn't
+// The gate of the first of these lines, and the lines of the steps.
+function oneGate([world, ...lines]) {
+  return [new Gates([gateOf(world.words)], false), lines];
+}
+
+// The gates of the first of these lines, and the lines of the steps.
+function severalGates(lines) {
+  const end = lines.findIndex(({ words }) => words[0] !== "world");
+  const count = end < 0 ? lines.length : end;
+  const gates = lines.slice(0, count).map(({ words }) => gateOf(words));
+  wrongUnless(gates.every(({ passes }) => passes.length === gates[0].passes.length), "no schedule: its gates have other passes");
+  return [new Gates(gates, true), lines.slice(count)];
+}
+
+// The actor of a line of a race, and its calls, each as its words.
+function callsOn({ number, words }, passes) {
+  wrongUnless(words[0] === "c" || (/^[0-9]+$/.test(words[0]) && Number(words[0]) < passes), `line ${number}: no actor`);
+  const calls = words.slice(1).join(" ").split(" / ");
+  wrongUnless(calls.every((call) => CALL.test(call)), `line ${number}: no call`);
+  return [words[0] === "c" ? "c" : Number(words[0]), calls.map((call) => call.split(" "))];
+}
+
+// The percpu_ref of the first of these lines with the calls of the next ones, and the lines of the steps.
+function onLinux([world, ...lines]) {
+  const { more, ...said } = worldOf(world.words);
+  wrongUnless(more.join(" ") === "linux", "no world");
+  const found = lines.findIndex(({ words }) => words.join(" ") === "steps");
+  const [end, calls] = [found < 0 ? lines.length : found, new Map()];
+  for (const [actor, made] of lines.slice(0, end).map((line) => callsOn(line, said.passes))) {
+    calls.set(actor, [...(calls.get(actor) ?? []), ...made]);
+  }
+  return [new PercpuRef({ ...said, calls }), lines.slice(end + 1)];
+}
+
+// The first line of a schedule, and what makes its machine.
+const MACHINES = { "gate 1": oneGate, "gates 1": severalGates, "linux 1": onLinux };
+
+// The machine of a schedule, and the lines of its steps.
+function machineOf([first, ...lines]) {
+  const head = first?.words.join(" ");
+  const isSchedule = isOwn(MACHINES, head) && lines[0]?.words[0] === "world";
+  wrongUnless(isSchedule, "no schedule: its first two lines are 'gate 1' and 'world ..'");
+  return MACHINES[head](lines);
+}
+
+// A schedule with the reply to each of its steps, and the gates after each of the first `most`. The last row may be a step that isn't
 // enabled.
 class Schedule {
   constructor(text, answer, most = Infinity) {
-    this.most = most;
-    const said = saidIn(text);
-    wrongUnless(said[0]?.words.join(" ") !== "gates 1", "a schedule of several gates has no picture");
-    const isSchedule = said.length >= 2 && said[0].words.join(" ") === "gate 1" && said[1].words[0] === "world";
-    wrongUnless(isSchedule, "no schedule: its first two lines are 'gate 1' and 'world ..'");
-    this.gate = worldOf(said[1].words);
-    this.start = stateOf(this.gate);
-    this.rows = [];
-    this.steps = said.slice(2).map(({ number, words }) => new Step(number, words));
+    const [machine, lines] = machineOf(saidIn(text));
+    Object.assign(this, { most, machine, passes: machine.passes, start: machine.moment(), rows: [] });
+    this.steps = lines.map(({ number, words }) => machine.step(number, words));
     this.run(linesOf(answer));
+    this.actors = machine.actors;
   }
 
   run(answer) {
@@ -113,27 +176,28 @@ class Schedule {
     }
     const made = this.rows.map((row) => row.reply);
     const isStuck = this.rows.length > 0 && this.rows[this.rows.length - 1].isStuck;
-    this.last = isStuck ? made.pop() : this.gate.end();
-    [...made, this.last].forEach((mine, index) => {
+    this.ends = isStuck ? [made.pop()] : this.machine.ends();
+    made.push(...this.ends);
+    made.forEach((mine, index) => {
       wrongUnless(mine === answer[index], `the answer's line ${index + 1} says '${answer[index]}', and the machine '${mine}'`);
     });
-    wrongUnless(answer.length === made.length + 1, `the answer has ${answer.length} lines, and the machine gives ${made.length + 1}`);
+    wrongUnless(answer.length === made.length, `the answer has ${answer.length} lines, and the machine gives ${made.length}`);
   }
 
   take(step) {
-    const at = step.on(this.gate);
+    const targets = this.machine.targets(step);
     let [reply, isStuck] = ["", false];
     try {
-      reply = this.gate.take(step);
+      reply = this.machine.take(step);
     } catch (why) {
       if (!(why instanceof Stuck)) throw why;
       [reply, isStuck] = [`stuck ${step.line} ${why.message}`, true];
     }
-    this.rows.push({ step, at, reply, isStuck, state: this.rows.length < this.most ? stateOf(this.gate) : undefined });
+    this.rows.push({ step, targets, reply, isStuck, moment: this.rows.length < this.most ? this.machine.moment() : undefined });
   }
 
-  // The gate as it is after so many steps.
-  stateAfter(count) {
-    return count === 0 ? this.start : this.rows[count - 1].state;
+  // The gates as they are after so many steps.
+  momentAfter(count) {
+    return count === 0 ? this.start : this.rows[count - 1].moment;
   }
 }

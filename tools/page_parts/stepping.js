@@ -10,13 +10,19 @@ function element(tag, properties = {}, children = []) {
   return made;
 }
 
-// The rows of the table of a gate between two steps: the name and the value of each word, and what each actor holds.
-function gateShown(state) {
-  const shared = [...marksOf(state), countShown(state)].join(" ");
-  const slots = state.slots.map((slot, at) => [`slot ${at}`, slotShown(slot)]);
-  const words = state.words.map((word, at) => [`word ${at}`, word]);
-  const actors = ["c", ...state.passes.keys()].map((actor) => [actorName(actor), standing(actor, state).words || "holds nothing"]);
-  return [["shared word", shared], ["front", String(state.front)], ...slots, ...words, ...actors];
+// The rows of the table of a gate between two steps: the name and the value of each word, first of those that there is one of, and what
+// each actor holds.
+function gateShown(state, actors) {
+  const words = [...state.words.filter(({ at }) => at === null), ...state.words.filter(({ at }) => at !== null)];
+  const standing = actors.map((actor) => [actorName(actor), state.standing(actor).words || "holds nothing"]);
+  return [...words.map(({ name, value }) => [name, value]), ...standing];
+}
+
+// A row of that table, with what it was before.
+function rowOfGate([name, now], old) {
+  const isChanged = old !== now;
+  const cells = [element("th", { scope: "row", textContent: name }), element("td", { textContent: now })];
+  return element("tr", { className: isChanged ? "changed" : "" }, [...cells, element("td", { textContent: isChanged ? old : "" })]);
 }
 
 class Stepping {
@@ -43,17 +49,17 @@ class Stepping {
     const some = this.count < schedule.rows.length ? `, the first ${this.count} of ${counted(schedule.rows.length, "step")}` : "";
     find("steps-head").textContent = `Step by step: ${title}${some}`;
     find("step").max = this.count;
-    find("legend").replaceChildren(...legendOf(schedule.rows));
+    find("legend").replaceChildren(...legendOf(schedule));
     this.draw(title, name, schedule);
     this.goTo(step >= 0 ? step : this.count);
   }
 
   draw(title, name, schedule) {
     const lanes = this.find("lanes");
-    const isDrawn = schedule.rows.length <= MOST_STEPS && schedule.start.passes.length <= MOST_PASSES;
+    const isDrawn = schedule.rows.length <= MOST_STEPS && schedule.passes <= MOST_PASSES;
     if (!isDrawn) {
       this.drawing = undefined;
-      lanes.textContent = `Lanes are drawn up to ${MOST_STEPS} steps and ${MOST_PASSES} passes; this schedule has ${schedule.rows.length} and ${schedule.start.passes.length}.`;
+      lanes.textContent = `Lanes are drawn up to ${MOST_STEPS} steps and ${MOST_PASSES} passes; this schedule has ${schedule.rows.length} and ${schedule.passes}.`;
       return;
     }
     this.drawing = new Lanes(title, name, schedule);
@@ -102,7 +108,7 @@ class Stepping {
     find("next").disabled = find("last").disabled = this.step === this.count;
     find("caption").textContent = this.caption();
     find("caption").className = this.step > 0 && this.schedule.rows[this.step - 1].isStuck ? "fault" : "";
-    this.showGate();
+    this.showGates();
     if (this.drawing) this.markRow();
     this.onStep(this.step);
   }
@@ -113,15 +119,18 @@ class Stepping {
     return `Step ${this.step} of ${this.count}: ${step.actor === "c" ? "the control" : actorName(step.actor)}: ${step.text} → ${withBias(reply)}`;
   }
 
-  showGate() {
-    const before = this.step > 0 ? gateShown(this.schedule.stateAfter(this.step - 1)) : [];
-    const rows = gateShown(this.schedule.stateAfter(this.step)).map(([name, now], index) => {
-      const old = before[index]?.[1] ?? "";
-      const isChanged = this.step > 0 && old !== now;
-      const cells = [element("th", { scope: "row", textContent: name }), element("td", { textContent: now })];
-      return element("tr", { className: isChanged ? "changed" : "" }, [...cells, element("td", { textContent: isChanged ? old : "" })]);
+  // The table of the gate, or of each gate under its number.
+  showGates() {
+    const [{ schedule, step }, table] = [this, this.find("state")];
+    const [before, now] = [schedule.momentAfter(Math.max(0, step - 1)), schedule.momentAfter(step)];
+    const bodies = now.map((state, gate) => {
+      const old = gateShown(before[gate], schedule.actors);
+      const rows = gateShown(state, schedule.actors).map((row, index) => rowOfGate(row, old[index][1]));
+      const number = element("th", { scope: "rowgroup", colSpan: 3, textContent: `gate ${gate + 1}` });
+      return element("tbody", {}, now.length > 1 ? [element("tr", { className: "gate" }, [number]), ...rows] : rows);
     });
-    this.find("state").tBodies[0].replaceChildren(...rows);
+    [...table.tBodies].forEach((body) => body.remove());
+    table.append(...bodies);
   }
 
   // Frames the step's row in the lanes, and fades the later ones.

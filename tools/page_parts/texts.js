@@ -1,6 +1,13 @@
 // The texts: their lines, the kind of an input, the answer beside its lines, the outcomes of a race, and the fragment of a link.
 
-const HEADS = { blkq: "script", gate: "schedule", races: "race" };
+const HEADS = { __proto__: null, blkq: "script", gate: "schedule", gates: "schedule", linux: "schedule", races: "race" };
+const HEADS_OF_SCHEDULES = ["gate 1", "gates 1", "linux 1"];
+// What is said of a schedule that the page doesn't replay, by the first word of its text.
+const NOT_REPLAYED = {
+  __proto__: null,
+  gates: "This page replays schedules of one gate. In a terminal blkq replay takes the part of each gate: FORMATS.md tells how to cut it out.",
+  linux: "This page replays schedules of a gate, and none on Linux's percpu_ref. In a terminal ./gate_races --replay < FILE does.",
+};
 const BESIDE = 28;
 
 function linesOf(text) {
@@ -23,6 +30,11 @@ function saidIn(text) {
 // The kind of an input, by its first word; undefined if the word is none of the three.
 function kindOf(text) {
   return HEADS[saidIn(text)[0]?.words[0]];
+}
+
+// Why the page doesn't replay this text, and what does; undefined of any other text.
+function notReplayed(text) {
+  return NOT_REPLAYED[saidIn(text)[0]?.words[0]];
 }
 
 // A script's replies by the numbers of their lines, and the line of the disk.
@@ -54,6 +66,14 @@ function rowsBeside(kind, text, answer) {
   return rows;
 }
 
+// A row for each line of a schedule that has its replies printed below its steps.
+function rowsOfPrinted(text) {
+  return linesOf(text).map((line, index, lines) => {
+    const hasReply = line !== "" && !line.startsWith("#") && lines[index + 1]?.startsWith("# ");
+    return { number: index + 1, line, reply: hasReply ? lines[index + 1].slice(2) : undefined };
+  });
+}
+
 // The rows of a race's answer: each step with the reply that is printed below it.
 function rowsOfRace(answer) {
   const rows = [];
@@ -79,7 +99,7 @@ function outcomesOf(answer) {
     const [, number, steps, deadlock] = /^outcome (\d+) steps (\d+)( deadlock)?$/.exec(line) ?? [];
     if (number) outcomes.push({ number: Number(number), steps: Number(steps), isDeadlock: deadlock !== undefined, actors: [], schedule: "" });
     else if (!now || /^outcomes \d+$/.test(line)) continue;
-    else if (now.schedule || line === "gate 1" || line === "gates 1") now.schedule += `${line}\n`;
+    else if (now.schedule || HEADS_OF_SCHEDULES.includes(line)) now.schedule += `${line}\n`;
     else now.actors.push({ actor: line.split(" ", 1)[0], answers: line.split(" ").slice(1).join(" ") });
   }
   return outcomes;

@@ -1,119 +1,104 @@
 """A schedule as lanes: one for each actor, its steps in order with their replies; what each holds and owes shaded; beside
-them the words of the gate, with what they hold between the steps. The release is marked."""
+them the words of each gate, with what they hold between the steps. The release is marked."""
 
 import re
 
 from pictures.gate import BIAS
+from pictures.states import bias_told
 from pictures.svg import Page, width_of
 
 SIZE, SMALL = 13, 12
 ROW, BOX = 44, 26
 TOP, EDGE, GAP, INNER = 64, 16, 10, 12
+END = 18
+# The kinds of words that have marks, and whether these stand in front of something else that such a word holds.
+MARKED = {"shared": True, "flags": False}
 
 
 class Column:
-    """A lane, or a word of the gate, from x on."""
+    """A lane, or a word of a gate with all that it holds in turn, from x on."""
 
-    def __init__(self, name, x, wide):
-        self.name, self.x, self.wide = name, x, wide
+    def __init__(self, name, x, wide, held=()):
+        self.name, self.x, self.wide, self.held = name, x, wide, held
         self.middle, self.end = x + wide / 2, x + wide
-
-
-def count_told(state):
-    """The value of the shared word, with the bias by its name."""
-    if not state.bias:
-        return str(state.value)
-    rest = state.value - BIAS
-    return "bias" if rest == 0 else f"bias{rest:+}"
 
 
 def with_bias(text):
     """A reply or an end with the bias of the shared word by its name."""
-    found = re.match(r"(end )?(zero|dead|live) ([0-9]{15,})\b", text)
-    if not found:
-        return text
-    rest = int(found[3]) - BIAS
-    return text[: found.start(3)] + (f"bias{rest:+}" if rest else "bias") + text[found.end() :]
-
-
-def marks_of(state):
-    return [name for name, is_set in (("DEAD", state.dead), ("ZERO", state.zero)) if is_set]
+    found = re.match(r"(@[0-9]+ )?(end )?(zero|dead|live) ([0-9]{15,})\b", text)
+    return text[: found.start(4)] + bias_told(int(found[4]) - BIAS) + text[found.end() :] if found else text
 
 
 def reply_of(row):
     """A reply as its box shows it; the shared word's is told with the bias by its name."""
-    if row.is_stuck:
-        return row.reply.split(" ", 2)[2]
-    if row.step.name == "shared":
-        return f"{row.reply.split()[0]} {count_told(row.state)}"
-    return row.reply
+    return row.reply.split(" ", 2)[2] if row.is_stuck else with_bias(row.reply)
 
 
-def standing(actor, state):
-    """What an actor holds and owes between two steps: whether it holds, whether it owes, and the words for it."""
-    if actor == "c":
-        held = ["the initial reference"] if state.base else []
-        owes = state.owes
-    else:
-        count, owes, joined = state.passes[actor]
-        if joined:
-            return False, False, "joined"
-        held = [f"holds {count}"] if count else []
-    owed = {"undo": ["undo pending"], "mark": ["mark pending"], None: []}[owes]
-    return bool(held), bool(owed), ", ".join(held + owed)
+def name_of(actor):
+    return "control" if actor == "c" else f"pass {actor}" if isinstance(actor, int) else actor
+
+
+def standing_of(actor, moment):
+    """The words for what an actor holds and owes at each gate. Of several gates those at which they are the same are named in front."""
+    said = [state.standing(actor).told for state in moment]
+    if len(said) == 1:
+        return said[0]
+    at = {told: [f"@{gate}" for gate, it in enumerate(said, 1) if it == told] for told in said if told}
+    return "; ".join(" ".join([*gates, told]) for told, gates in at.items())
 
 
 class Lanes:
     def __init__(self, title, name, schedule):
         self.title, self.name, self.schedule = title, name, schedule
-        self.states = [schedule.start] + [row.state for row in schedule.rows]
+        self.moments = [schedule.start] + [row.moment for row in schedule.rows]
         self.page = Page(title, self.told())
-        self.actors = ["c", *range(len(schedule.start.passes))]
         self.place()
 
     def told(self):
         """The picture in words."""
         who = {"c": "the control"}
-        steps = [f"{who.get(row.step.actor, f'pass {row.step.actor}')}: {row.step.text}, {row.reply}" for row in self.schedule.rows]
-        return f"{'; '.join(steps)}; {self.schedule.last}"
+        steps = [f"{who.get(row.step.actor, name_of(row.step.actor))}: {row.step.text}, {row.reply}" for row in self.schedule.rows]
+        return f"{'; '.join(steps)}; {'; '.join(self.schedule.ends)}"
 
     def place(self):
         """The columns, each as wide as the longest of its texts."""
         x = EDGE
         self.lanes, self.words = {}, {}
-        for actor in self.actors:
-            texts = [f"{row.step.text}   {reply_of(row)}" for row in self.schedule.rows if self.lane_of(row.step) == actor]
-            small = [standing(actor, state)[2] for state in self.states]
-            wide = max([width_of(text, SIZE) for text in texts] + [width_of(text, SMALL) for text in small] + [90])
-            self.lanes[actor] = Column("control" if actor == "c" else f"pass {actor}", x, wide + 2 * INNER)
+        for actor in self.schedule.actors:
+            self.lanes[actor] = Column(name_of(actor), x, self.wide_of(actor) + 2 * INNER)
             x = self.lanes[actor].end + GAP
-        x += GAP
-        for key, name, texts in self.shown_words():
-            self.words[key] = Column(name, x, max(width_of(text, SMALL) for text in [*texts, name]) + 14)
-            x = self.words[key].end + GAP
-        self.wide = max(x - GAP, EDGE + width_of(self.title, 15) + 14 + width_of(self.name, SMALL)) + EDGE
+        for gate in range(len(self.moments[0])):
+            x += GAP
+            for held in self.shown_words(gate):
+                wide = max(width_of(text, SMALL) for text in [*self.texts_of(held), held[0].name]) + 14
+                self.words[gate, held[0].kind, held[0].at] = column = Column(held[0].name, x, wide, held)
+                x = column.end + GAP
+        ends = [width_of(with_bias(end), SIZE) for end in self.schedule.ends]
+        self.wide = max(x - GAP, EDGE + width_of(self.title, 15) + 14 + width_of(self.name, SMALL), *(EDGE + it for it in ends)) + EDGE
+
+    def wide_of(self, actor):
+        """How wide the longest text of a lane is."""
+        steps = [f"{row.step.text}   {reply_of(row)}" for row in self.schedule.rows if self.lane_of(row.step) == actor]
+        small = [standing_of(actor, moment) for moment in self.moments]
+        return max([width_of(text, SIZE) for text in steps] + [width_of(text, SMALL) for text in small] + [90])
 
     def lane_of(self, step):
         """The lane of a step's actor; where there is no such actor, the control's."""
-        return step.actor if step.actor in self.actors else "c"
+        return step.actor if step.actor in self.schedule.actors else "c"
 
-    def shown_words(self):
-        """The words of the gate that the picture has: the shared word and the front, the slots where one was open, and the
-        guarded words. Each with all that it holds in turn."""
-        states = self.states
-        marks = max(width_of(" ".join(marks_of(state)), 1) for state in states)
-        room = " " * round(marks / width_of(" ", 1) + 3)
-        shown = [("shared", "shared word", [room + count_told(state) for state in states])]
-        if any(slot is not None for state in states for slot in state.slots):
-            for at in range(len(states[0].slots)):
-                shown.append((("slot", at), f"slot {at}", [self.slot_told(state.slots[at]) for state in states]))
-        shown.append(("front", "front", [str(state.front) for state in states]))
-        for at in range(len(states[0].words)):
-            shown.append((("word", at), f"word {at}", [str(state.words[at]) for state in states]))
-        return shown
+    def shown_words(self, gate):
+        """The words of a gate that the picture has, each with all that it holds in turn. Where there is nothing to be seen in any word
+        of a kind, as in slots that were never open, these are left out."""
+        words = list(zip(*(moment[gate].words for moment in self.moments)))
+        seen = {word.kind for held in words for word in held if not word.is_idle}
+        return [held for held in words if held[0].kind in seen]
 
-    def slot_told(self, slot):
-        return "closed" if slot is None else f"{slot:+}" if slot else "0"
+    def texts_of(self, held):
+        """The texts of a word, with room for its marks: in front, or alone."""
+        texts, room = [word.text for word in held], " " * (max(len(" ".join(word.marks)) for word in held) + 3)
+        if held[0].kind not in MARKED:
+            return texts
+        return [room + text for text in texts] if MARKED[held[0].kind] else [*texts, room]
 
     def y_of(self, row):
         """The middle of a step's row; the gate stands between -1 and 0 as it starts."""
@@ -122,17 +107,20 @@ class Lanes:
     def drawn(self):
         last = self.y_of(len(self.schedule.rows)) + 6
         self.draw_heads(last)
-        for actor in self.actors:
+        self.draw_numbers()
+        for actor in self.lanes:
             self.draw_shades(actor)
-        for key, column in self.words.items():
-            self.draw_word(key, column, last)
+        for column in self.words.values():
+            self.draw_word(column, last)
         for index, row in enumerate(self.schedule.rows):
             self.draw_step(index, row)
-        for actor in self.actors:
+        for actor in self.lanes:
             self.draw_standing(actor)
-        self.page.text(EDGE, last + 14, with_bias(self.schedule.last), "ink", SIZE, bold=True)
-        self.draw_legend(last + 34)
-        return self.page.made(self.wide, last + 58)
+        for at, end in enumerate(self.schedule.ends):
+            self.page.text(EDGE, last + 14 + END * at, with_bias(end), "ink", SIZE, bold=True)
+        low = last + END * (len(self.schedule.ends) - 1)
+        self.draw_legend(low + 34)
+        return self.page.made(self.wide, low + 58)
 
     def draw_heads(self, last):
         self.page.text(EDGE, 24, self.title, "ink", 15, bold=True)
@@ -143,10 +131,25 @@ class Lanes:
         for column in self.words.values():
             self.page.text(column.middle, TOP - 6, column.name, "dim", SMALL, "middle")
 
+    def draw_numbers(self):
+        """The number of each of several gates, above its words."""
+        gates = range(len(self.moments[0]))
+        for gate in gates if len(gates) > 1 else ():
+            columns = [column for key, column in self.words.items() if key[0] == gate]
+            x, end = columns[0].x, columns[-1].end
+            self.page.text((x + end) / 2, TOP - 26, f"gate {gate + 1}", "ink", SMALL, "middle", True)
+            self.page.line([(x, TOP - 20), (end, TOP - 20)], "rule")
+
     def draw_shades(self, actor):
-        """What an actor holds and owes, from the step that changes it to the next that does."""
-        column, since = self.lanes[actor], 0
-        parts = [standing(actor, state) for state in self.states]
+        """What an actor holds and owes at each gate, each gate in its part of the lane."""
+        column, gates = self.lanes[actor], len(self.moments[0])
+        wide = column.wide / gates
+        for gate in range(gates):
+            self.draw_shade(column.x + gate * wide, wide, [moment[gate].standing(actor) for moment in self.moments])
+
+    def draw_shade(self, x, wide, parts):
+        """What an actor holds and owes at a gate, from the step that changes it to the next that does."""
+        since = 0
         for index in range(1, len(parts) + 1):
             if index < len(parts) and parts[index] == parts[since]:
                 continue
@@ -154,16 +157,16 @@ class Lanes:
             below = self.y_of(index - 1) if index < len(parts) else self.y_of(index - 1) - 14
             holds, owes, _ = parts[since]
             if holds or owes:
-                self.page.box(column.x, above, column.wide, below - above, "hold" if holds else "owe")
+                self.page.box(x, above, wide, below - above, "hold" if holds else "owe")
                 if holds and owes:
-                    self.page.box(column.end - INNER, above, INNER, below - above, "owe")
+                    self.page.box(x + wide - INNER, above, INNER, below - above, "owe")
             since = index
 
     def draw_standing(self, actor):
         """The words for what an actor holds and owes, under the step that changed it."""
         column, before = self.lanes[actor], None
-        for index, state in enumerate(self.states):
-            told = standing(actor, state)[2]
+        for index, moment in enumerate(self.moments):
+            told = standing_of(actor, moment)
             if told != before and told:
                 y = self.y_of(index - 1) + ROW / 2 + 4 if index else TOP + ROW / 2 - 2
                 self.page.text(column.middle, y, told, "ink", SMALL, "middle")
@@ -185,52 +188,47 @@ class Lanes:
         self.page.text(x + wide - 8, y + 4.5, reply, {"done": "on", "warn": "warn"}.get(kind, "dim"), SIZE, "end", kind == "done")
 
     def kind_of(self, row):
-        if row.is_stuck or row.reply in ("refused", "lost", "to mark"):
+        answer = row.reply.split(", ")[-1]
+        if row.is_stuck or answer in ("refused", "lost", "to mark", "not zero"):
             return "warn"
-        return "done" if row.reply == "last" else "plain"
+        return "done" if answer == "last" else "plain"
 
     def draw_reach(self, index, row, column, y):
-        key = (row.step.target, row.at) if row.step.target in ("slot", "word") else row.step.target
-        target = self.words.get(key)
-        if target is None or row.is_stuck:
+        """The line to the words that a step is taken on, with a dot on each."""
+        reached = [column for key, column in self.words.items() if key in row.targets]
+        if not reached or row.is_stuck:
             return
-        changed = self.held_by(key, self.states[index]) != self.held_by(key, self.states[index + 1])
-        self.page.line([(column.end - 4, y), (target.middle, y)], "done" if row.reply == "last" else "dim", dashed=not changed)
-        self.page.dot(target.middle, y, "done" if row.reply == "last" else "dim", hollow=not changed)
+        changed = [it.held[index].told() != it.held[index + 1].told() for it in reached]
+        kind = "done" if self.kind_of(row) == "done" else "dim"
+        self.page.line([(column.end - 4, y), (max(it.middle for it in reached), y)], kind, dashed=not any(changed))
+        for word, is_changed in zip(reached, changed):
+            self.page.dot(word.middle, y, kind, hollow=not is_changed)
 
-    def held_by(self, key, state):
-        if key == "shared":
-            return state.shared
-        return state.front if key == "front" else (state.slots if key[0] == "slot" else state.words)[key[1]]
-
-    def draw_word(self, key, column, last):
-        """What a word of the gate holds: told after each step that changes it."""
+    def draw_word(self, column, last):
+        """What a word of a gate holds: told after each step that changes it."""
         self.page.line([(column.middle, TOP + ROW / 2 - 6), (column.middle, last - 14)], "rule")
         before = None
-        for index, state in enumerate(self.states):
-            now = self.held_by(key, state)
-            if not index or now != before:
-                y = self.y_of(index - 1) + ROW / 2 if index else TOP + ROW / 2 - 6
-                self.draw_chip(key, column, state, y)
-            before = now
+        for index, word in enumerate(column.held):
+            if word.told() != before:
+                self.draw_chip(column, word, self.y_of(index - 1) + ROW / 2 if index else TOP + ROW / 2 - 6)
+            before = word.told()
 
-    def draw_chip(self, key, column, state, y):
+    def draw_chip(self, column, word, y):
         self.page.box(column.x, y - 10, column.wide, 20, "ground", "rule", 4)
-        if key != "shared":
-            told = self.slot_told(state.slots[key[1]]) if key[0] == "slot" else str(self.held_by(key, state))
-            self.page.text(column.middle, y + 4, told, "ink", SMALL, "middle")
+        if not word.marks and not MARKED.get(word.kind):
+            self.page.text(column.middle, y + 4, word.text, "ink", SMALL, "middle")
             return
         x = column.x + 3
-        for mark in marks_of(state):
+        for mark in word.marks:
             wide = width_of(mark, SMALL) + 8
             self.page.box(x, y - 8, wide, 16, "done" if mark == "ZERO" else "mark", round_by=3)
             self.page.text(x + 4, y + 4, mark, "on", SMALL, bold=True)
             x += wide + 3
-        self.page.text(column.end - 7, y + 4, count_told(state), "ink", SMALL, "end")
+        self.page.text(column.end - 7, y + 4, word.text, "ink", SMALL, "end")
 
     def draw_legend(self, y):
         x = EDGE
-        for fill, words in (("hold", "holds"), ("owe", "a step is pending"), ("done", "the release")):
+        for fill, words in (("hold", "holds"), ("owe", self.moments[0][0].owing), ("done", "the release")):
             self.page.box(x, y - 9, 14, 12, fill, round_by=2)
             self.page.text(x + 20, y + 1, words, "dim", SMALL)
             x += 20 + width_of(words, SMALL) + 18

@@ -1,8 +1,13 @@
-"""A schedule of a gate and its answer, read and held against each other by the machine of gate.py."""
+"""A schedule and its answer, read and held against each other: of one gate or several by the machine of gate.py, and of Linux's
+percpu_ref by that of linux.py."""
 
 import re
+from itertools import takewhile
+from math import inf
 
 from pictures.gate import Gate, Stuck
+from pictures.linux import PercpuRef
+from pictures.states import GateState
 from pictures.svg import Wrong
 
 # The words of each step, and how many numbers follow; those that only look, and the word that each looks at or changes.
@@ -36,14 +41,19 @@ CONTROL_STEPS = {
     "join": (1, None),
     "shared": (0, "shared"),
 }
+# A call of a race, as it stands above the steps on a percpu_ref.
+CALL = re.compile(
+    "(?:try|live|word) [0-9]+|(?:get|put|store) [0-9]+ [0-9]+|await (?:zero|dead|[a-z])|set [a-z]|front|dying|zero|kill|mark_dead|"
+    "close_next|collect|confirm|drop_base|reinit|resurrect|slots|atomic"
+)
 
 
 class Step:
-    """A step as its line says it."""
+    """A step as its line says it, at the gate with this index. What stands in front of it in the line is a part of its text."""
 
-    def __init__(self, line, words):
-        self.line, self.text = line, " ".join(words[1:])
-        if words[0] != "c" and not words[0].isdecimal():
+    def __init__(self, line, words, gate=0, front=""):
+        self.line, self.gate, self.text = line, gate, front + " ".join(words[1:])
+        if not words or words[0] != "c" and not words[0].isdecimal():
             raise Wrong(f"line {line}: no actor")
         self.actor = "c" if words[0] == "c" else int(words[0])
         known = CONTROL_STEPS if self.actor == "c" else PASS_STEPS
@@ -63,36 +73,57 @@ class Step:
         return None
 
 
-class State:
-    """What a picture shows of a gate between two steps."""
+class Gates:
+    """The gates of a schedule: one, or several, each of which has its number in front of what is said of it."""
 
-    def __init__(self, gate):
-        self.dead, self.zero, self.value, self.bias = gate.dead, gate.zero, gate.value, gate.has_bias()
-        self.slots, self.front, self.words = list(gate.slots), gate.front, list(gate.words)
-        self.base, self.owes = gate.has_base(), gate.control.owes
-        self.passes = [(seat.held, seat.owes, seat.joined) for seat in gate.passes]
-        self.shared = (self.dead, self.zero, self.value)
+    def __init__(self, gates, is_numbered):
+        self.gates, self.is_numbered = gates, is_numbered
+        self.fronts = [f"@{number} " if is_numbered else "" for number, _ in enumerate(gates, 1)]
+        self.actors = ["c", *range(len(gates[0].passes))]
+
+    def step(self, line, words):
+        """The step of a line."""
+        if not self.is_numbered:
+            return Step(line, words)
+        if f"{words[0]} " not in self.fronts:
+            raise Wrong(f"line {line}: no gate")
+        gate = self.fronts.index(f"{words[0]} ")
+        return Step(line, words[1:], gate, self.fronts[gate])
+
+    def targets(self, step):
+        """The word that a step is taken on, if any, in the gates as they are before the step: its gate, its kind and its number."""
+        return [(step.gate, step.target, step.at(self.gates[step.gate]))] if step.target else []
+
+    def take(self, step):
+        """Takes a step, and answers its reply; where it isn't enabled, Stuck."""
+        return self.gates[step.gate].take(step)
+
+    def moment(self):
+        """What is shown of each gate now."""
+        return [GateState(gate) for gate in self.gates]
+
+    def ends(self):
+        """The lines of the end."""
+        return [front + gate.end() for front, gate in zip(self.fronts, self.gates)]
 
 
 class Row:
-    """A step that was taken, or the last one, which wasn't enabled: its reply, and the gate after it."""
+    """A step that was taken, or the last one, which wasn't enabled: the words that it is taken on, its reply, and the gates after it."""
 
-    def __init__(self, step, at, reply, state, is_stuck=False):
-        self.step, self.at, self.reply, self.state, self.is_stuck = step, at, reply, state, is_stuck
+    def __init__(self, step, targets, reply, moment, is_stuck=False):
+        self.step, self.targets, self.reply, self.moment, self.is_stuck = step, targets, reply, moment, is_stuck
 
 
 class Schedule:
-    """A schedule with what each of its steps is answered, and the gate between them."""
+    """A schedule with what each of its steps is answered, and the gates after each of the first `most`."""
 
-    def __init__(self, text, answer):
-        said = [(line, words.split()) for line, words in enumerate(text.splitlines(), 1)]
-        said = [(line, words) for line, words in said if words and not words[0].startswith("#")]
-        if len(said) < 2 or said[0][1] != ["gate", "1"] or said[1][1][0] != "world":
-            raise Wrong("no schedule: its first two lines are 'gate 1' and 'world ..'")
-        self.gate = world(said[1][1])
-        self.start, self.rows = State(self.gate), []
-        self.steps = [Step(line, words) for line, words in said[2:]]
+    def __init__(self, text, answer, most=inf):
+        self.most = most
+        self.machine, lines = machine_of(text)
+        self.start, self.rows = self.machine.moment(), []
+        self.steps = [self.machine.step(line, words) for line, words in lines]
         self.run(answer.splitlines())
+        self.actors = self.machine.actors
 
     def run(self, answer):
         for step in self.steps:
@@ -100,34 +131,126 @@ class Schedule:
                 break
             self.take(step)
         made = [row.reply for row in self.rows]
-        self.last = made.pop() if self.rows and self.rows[-1].is_stuck else self.gate.end()
-        for line, (mine, theirs) in enumerate(zip([*made, self.last], answer), 1):
+        self.ends = [made.pop()] if self.rows and self.rows[-1].is_stuck else self.machine.ends()
+        made += self.ends
+        for line, (mine, theirs) in enumerate(zip(made, answer), 1):
             if mine != theirs:
                 raise Wrong(f"the answer's line {line} says '{theirs}', and the machine '{mine}'")
-        if len(answer) != len(made) + 1:
-            raise Wrong(f"the answer has {len(answer)} lines, and the machine gives {len(made) + 1}")
+        if len(answer) != len(made):
+            raise Wrong(f"the answer has {len(answer)} lines, and the machine gives {len(made)}")
 
     def take(self, step):
-        at = step.at(self.gate)
+        targets = self.machine.targets(step)
         try:
-            reply, is_stuck = self.gate.take(step), False
+            reply, is_stuck = self.machine.take(step), False
         except Stuck as why:
             reply, is_stuck = f"stuck {step.line} {why}", True
-        self.rows.append(Row(step, at, reply, State(self.gate), is_stuck))
+        moment = self.machine.moment() if len(self.rows) < self.most else None
+        self.rows.append(Row(step, targets, reply, moment, is_stuck))
+
+
+def said_in(text):
+    """The lines that say something, with their numbers from 1 and their words."""
+    said = [(line, words.split()) for line, words in enumerate(text.splitlines(), 1)]
+    return [(line, words) for line, words in said if words and not words[0].startswith("#")]
 
 
 def world(words):
-    """The gate of a world's line."""
+    """What the line of a world says: the slots, the passes, the start, the kills, and the words behind them."""
     if len(words) < 5 or words[3] not in ("slots", "atomic", "dead"):
         raise Wrong("no world")
-    if not all(word.isdecimal() for word in words[1:3] + words[4:]):
+    if not all(word.isdecimal() for word in words[1:3] + words[4:5]):
         raise Wrong("no world")
-    return Gate(int(words[1]), int(words[2]), words[3], int(words[4]), [int(word) for word in words[5:]])
+    return int(words[1]), int(words[2]), words[3], int(words[4]), words[5:]
+
+
+def gate_of(words):
+    """The gate of a world's line."""
+    *said, guarded = world(words)
+    if not all(word.isdecimal() for word in guarded):
+        raise Wrong("no world")
+    return Gate(*said, [int(word) for word in guarded])
+
+
+def one_gate(lines):
+    """The gate of the first of these lines, and the lines of the steps."""
+    return Gates([gate_of(lines[0][1])], False), lines[1:]
+
+
+def several_gates(lines):
+    """The gates of the first of these lines, and the lines of the steps."""
+    worlds = [words for _, words in takewhile(lambda line: line[1][0] == "world", lines)]
+    gates = [gate_of(words) for words in worlds]
+    if any(len(gate.passes) != len(gates[0].passes) for gate in gates):
+        raise Wrong("no schedule: its gates have other passes")
+    return Gates(gates, True), lines[len(gates) :]
+
+
+def calls_on(line, words, passes):
+    """The actor of a line of a race, and its calls, each as its words."""
+    if words[0] != "c" and not (words[0].isdecimal() and int(words[0]) < passes):
+        raise Wrong(f"line {line}: no actor")
+    calls = " ".join(words[1:]).split(" / ")
+    if not all(map(CALL.fullmatch, calls)):
+        raise Wrong(f"line {line}: no call")
+    return "c" if words[0] == "c" else int(words[0]), [call.split() for call in calls]
+
+
+def on_linux(lines):
+    """The percpu_ref of the first of these lines with the calls of the next ones, and the lines of the steps."""
+    slots, passes, start, _, more = world(lines[0][1])
+    if more != ["linux"]:
+        raise Wrong("no world")
+    end = next((at for at, (_, words) in enumerate(lines) if words == ["steps"]), len(lines))
+    calls = {}
+    for actor, more in (calls_on(line, words, passes) for line, words in lines[1:end]):
+        calls.setdefault(actor, []).extend(more)
+    return PercpuRef(slots, passes, start, calls), lines[end + 1 :]
+
+
+# The first line of a schedule, and what makes its machine.
+MACHINES = {"gate 1": one_gate, "gates 1": several_gates, "linux 1": on_linux}
+HEAD = re.compile(f"^(?:{'|'.join(MACHINES)})$", re.MULTILINE)
+
+
+def head_of(text):
+    """The first line that says something."""
+    return " ".join(next((words for _, words in said_in(text)), []))
+
+
+def machine_of(text):
+    """The machine of a schedule, and the lines of its steps."""
+    head, lines = head_of(text), said_in(text)[1:]
+    if head not in MACHINES or not lines or lines[0][1][0] != "world":
+        raise Wrong("no schedule: its first two lines are 'gate 1' and 'world ..'")
+    return MACHINES[head](lines)
+
+
+def replies_in(schedule):
+    """The replies that are printed in a schedule of a race, and its end."""
+    return "".join(f"{line[2:]}\n" for line in schedule.splitlines() if line.startswith("# "))
+
+
+def parts_of(text):
+    """The parts of a schedule of several gates, each a schedule of one of them."""
+    lines = [" ".join(words) for _, words in said_in(text)]
+    worlds = [line for line in lines if line.startswith("world ")]
+    for number, line in enumerate(worlds, 1):
+        front = f"@{number} "
+        yield "\n".join(["gate 1", line, *(it.removeprefix(front) for it in lines if it.startswith(front)), ""])
+
+
+def in_order_of(text, answers):
+    """What the parts of a schedule of several gates are answered, in the order of its steps, and the end of each gate."""
+    left = {f"@{number}": iter(answer.splitlines()) for number, answer in enumerate(answers, 1)}
+    made = [next(left[words[0]], "") for _, words in said_in(text) if words[0] in left]
+    ends = [f"{front} {line}" for front, more in left.items() for line in more]
+    return "".join(f"{line}\n" for line in [*made, *ends])
 
 
 def schedules_in(answer):
     """The schedules in the answer of a race, each with its replies."""
     for part in re.split(r"^outcomes? .*\n", answer, flags=re.MULTILINE)[1:]:
-        if "gate 1\n" in part:
-            schedule = part[part.index("gate 1\n") :]
-            yield schedule, "".join(f"{line[2:]}\n" for line in schedule.splitlines() if line.startswith("# "))
+        if found := HEAD.search(part):
+            schedule = part[found.start() :]
+            yield schedule, replies_in(schedule)

@@ -1,3 +1,5 @@
--- Steps that were read in front of those to come (Scheduling), and what is shown as a run of the machine (ShownRuns).
+-- A world with a mark by its parts (Marking), steps that were read in front of those to come (Scheduling), and what is shown as a run of the
+-- machine (ShownRuns).
+pub mod Marking
 pub mod Scheduling
 pub mod ShownRuns

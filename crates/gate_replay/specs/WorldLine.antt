@@ -1,6 +1,7 @@
 -- What the first two lines of a schedule say: its version, and the world.
-use Rattle.std.specs.Prelude.{ℕ, Bool, true, ◌&&◌, if◌then◌else◌, nat_lt, List, [], ◌∷◌, length, Result, Ok, Err, codes}
+use Rattle.std.specs.Prelude.{ℕ, Bool, true, false, ◌&&◌, if◌then◌else◌, nat_lt, List, [], ◌∷◌, drop, length, Result, Ok, Err, codes}
 use Rattle.std.specs.Str.{bytes_eq}
+use Rattle.line_text.specs.Words.{no_words}
 use Rattle.line_text.specs.Numbers.{◌>>=◌, number_in}
 use Rattle.line_text.specs.declared.fault.Why.{Why}
 use Rattle.line_text.specs.declared.fault.Why.TheVariants.{NoVersion, NoWorld, UnknownWord, MissingWord, ExtraWord}
@@ -29,26 +30,80 @@ values_of (word ∷ words) =
     values_of words >>= λ values.
     Ok (value ∷ values)
 
--- the world of these sizes, this start and these kills, with the guarded words that follow
-abbrev pub with_words : ℕ → ℕ → Start → ℕ → List (List ℕ) → Result Opening Why
-with_words slots passes start kills words = values_of words >>= λ values. Ok (opening slots passes start kills values)
+-- what a world says before its guarded words
+pub record Sizes : Type 0 where
+  pub slots : ℕ
+  pub passes : ℕ
+  pub start : Start
+  pub kills : ℕ
 
--- the slots, the passes, the start and the kills, and then up to 8 guarded words
-abbrev pub opening_of : List (List ℕ) → Result Opening Why
-opening_of [] = Err MissingWord
-opening_of (slots ∷ []) = Err MissingWord
-opening_of (slots ∷ passes ∷ []) = Err MissingWord
-opening_of (slots ∷ passes ∷ start ∷ []) = Err MissingWord
-opening_of (slots ∷ passes ∷ start ∷ kills ∷ words) =
+abbrev pub sizes : ℕ → ℕ → Start → ℕ → Sizes
+sizes slots passes start kills = record { slots = slots; passes = passes; start = start; kills = kills }
+
+-- the slots, the passes, the start and the kills, which up to 8 words follow
+abbrev pub sizes_of : List (List ℕ) → Result Sizes Why
+sizes_of [] = Err MissingWord
+sizes_of (slots ∷ []) = Err MissingWord
+sizes_of (slots ∷ passes ∷ []) = Err MissingWord
+sizes_of (slots ∷ passes ∷ start ∷ []) = Err MissingWord
+sizes_of (slots ∷ passes ∷ start ∷ kills ∷ words) =
     if nat_lt 8 (length words) then Err ExtraWord else (
     number_in 1 64 slots >>= λ slots.
     number_in 1 64 passes >>= λ passes.
     start_of start >>= λ start.
     number_in 0 1099511627776 kills >>= λ kills.
-    with_words slots passes start kills words
+    Ok (sizes slots passes start kills)
     )
+
+-- the world of these sizes and these guarded words
+abbrev pub with_values : Sizes → List ℕ → Opening
+with_values said values = opening said.slots said.passes said.start said.kills values
+
+-- the words behind SLOTS PASSES START KILLS
+abbrev pub behind_kills : List (List ℕ) → List (List ℕ)
+behind_kills words = drop 4 words
+
+-- the slots, the passes, the start and the kills, and then up to 8 guarded words
+abbrev pub opening_of : List (List ℕ) → Result Opening Why
+opening_of words =
+    sizes_of words >>= λ said.
+    values_of (behind_kills words) >>= λ values.
+    Ok (with_values said values)
+
+-- the words behind `world`
+abbrev pub behind_world : List (List ℕ) → Result (List (List ℕ)) Why
+behind_world [] = Err NoWorld
+behind_world (first ∷ words) = if bytes_eq first (codes "world") then Ok words else Err NoWorld
 
 -- the second line says `world SLOTS PASSES START KILLS [WORD ..]`
 abbrev pub world_of : List (List ℕ) → Result Opening Why
-world_of [] = Err NoWorld
-world_of (first ∷ words) = if bytes_eq first (codes "world") then opening_of words else Err NoWorld
+world_of words = behind_world words >>= opening_of
+
+-- a world, and whether a mark replaces its guarded words
+pub record Marked : Type 0 where
+  pub world : Opening
+  pub is_marked : Bool
+
+-- the mark, with no word behind it
+abbrev pub mark_alone : List (List ℕ) → Result (Bool × List ℕ) Why
+mark_alone words = no_words words >>= λ alone. Ok (true, [])
+
+-- guarded words, and no mark
+abbrev pub values_alone : List (List ℕ) → Result (Bool × List ℕ) Why
+values_alone words = values_of words >>= λ values. Ok (false, values)
+
+-- whether the first of these words is the mark; else they are guarded words
+abbrev pub mark_or_values : List ℕ → List (List ℕ) → Result (Bool × List ℕ) Why
+mark_or_values mark [] = Ok (false, [])
+mark_or_values mark (first ∷ words) = if bytes_eq first mark then mark_alone words else values_alone (first ∷ words)
+
+-- the slots, the passes, the start and the kills, and then the mark or up to 8 guarded words
+abbrev pub marked_of : List ℕ → List (List ℕ) → Result Marked Why
+marked_of mark words =
+    sizes_of words >>= λ said.
+    mark_or_values mark (behind_kills words) >>= λ rest.
+    Ok (record { world = with_values said rest.1; is_marked = rest.0 })
+
+-- a line says `world SLOTS PASSES START KILLS [WORD ..]`, or `world SLOTS PASSES START KILLS MARK`
+abbrev pub marked_world_of : List ℕ → List (List ℕ) → Result Marked Why
+marked_world_of mark words = behind_world words >>= marked_of mark

@@ -38,6 +38,13 @@ impl Model for Replay {
 }
 
 impl Replay {
+    /// A replay with this text, which ends so; no memory is taken.
+    pub fn new(text: Vec<u8>, ended: Replayed) -> Replay
+        ensures { result ≡ record { text = text.items; ended = ended } }
+    {
+        Replay { text, ended }
+    }
+
     /// A line for each step that was taken, and then the line of the end, or of the step that isn't enabled.
     pub fn text(&self) -> &[u8]
         ensures { result.now ≡ self.now.text }

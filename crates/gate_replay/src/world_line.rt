@@ -1,12 +1,12 @@
 //! What the first two lines of a schedule say: its version, and the world.
-ghost use Rattle.std.specs.Prelude.{◌≡◌, ◌∷◌, ◌≤◌, true, length, Err, IfOk, OnOk, MatchResult};
+ghost use Rattle.std.specs.Prelude.{◌≡◌, ◌∷◌, ◌≤◌, ◌+◌, true, length, Err, IfOk, OnOk, MatchResult};
 ghost use Rattle.line_text.specs.Answers.{Says, Tells, at_line};
-ghost use Rattle.percpu_core.specs.Starts.{IsWithinLimits};
-ghost use Rattle.gate_replay.specs.Schedules.{opened};
-ghost use Rattle.gate_replay.specs.WorldLine.{gate_of, start_of, values_of, with_words, opening_of, world_of};
+ghost use Rattle.percpu_core.specs.Starts.{IsWithinLimits, opening};
+ghost use Rattle.gate_replay.specs.Schedules.{marked, opened};
+ghost use Rattle.gate_replay.specs.WorldLine.{behind_kills, behind_world, gate_of, mark_alone, mark_or_values, marked_of, marked_world_of, opening_of, sizes, sizes_of, start_of, values_alone, values_of, world_of};
 
 use crate::schedule::GuardedWords;
-use line_text::{ScriptFault, Why, Words, at_line, is_word, long_number, short_number};
+use line_text::{ScriptFault, Why, Words, at_line, is_word, long_number, no_words, short_number};
 use percpu_core::{KILL_LIMIT, Start, WORD_LIMIT};
 use std::alloc::Global;
 
@@ -27,6 +27,29 @@ pub struct WorldLine {
     /// The kills that the gate starts with: 0 to 2^40.
     pub kills: u64,
     pub words: GuardedWords,
+}
+
+impl WorldLine {
+    // The world of these sizes and these guarded words.
+    fn new(sizes: WorldSizes, values: Vec<u64>) -> WorldLine
+        ensures { opened result ≡ opening sizes.slots sizes.passes sizes.start sizes.kills values.items }
+    {
+        WorldLine {
+            slots: sizes.slots,
+            passes: sizes.passes,
+            start: sizes.start,
+            kills: sizes.kills,
+            words: GuardedWords::new(values),
+        }
+    }
+}
+
+/// The world of a line in which a mark, a word of the caller's, may replace the guarded words.
+#[derive(Debug, Drop)]
+pub struct MarkedWorld {
+    pub world: WorldLine,
+    /// Whether the mark is there: the world has no guarded words then.
+    pub is_marked: bool,
 }
 
 /// Whether the line is that of the version.
@@ -70,7 +93,7 @@ struct SizeWords<'a> {
 fn size_words<'a>(words: &mut Words<'a>) -> Result<SizeWords<'a>, Why>
     ensures { MatchResult result
         (λ said. words.old ≡ said.slots.now ∷ said.passes.now ∷ said.start.now ∷ said.kills.now ∷ words.new)
-        (λ why. opening_of words.old ≡ Err why) }
+        (λ why. sizes_of words.old ≡ Err why) }
 {
     let slots = words.next().ok_or(Why::MissingWord)?;
     let passes = words.next().ok_or(Why::MissingWord)?;
@@ -93,11 +116,10 @@ struct WorldSizes {
     kills: u64,
 }
 
-// The slots, the passes, the start and the kills. The guarded words are left, few enough of them.
+// The slots, the passes, the start and the kills. The words behind them are left, few enough of them.
 fn sizes(words: &mut Words<'_>) -> Result<WorldSizes, Why>
-    ensures rest { MatchResult result
-        (λ said. opening_of words.old ≡ with_words said.slots said.passes said.start said.kills words.new)
-        (λ why. opening_of words.old ≡ Err why) }
+    ensures said { Says (λ said. sizes said.slots said.passes said.start said.kills) result (sizes_of words.old) }
+    ensures rest { OnOk result (words.new ≡ behind_kills words.old) }
     ensures slots { IfOk result (λ said. (1 ≤ said.slots) × (said.slots ≤ MOST_SLOTS)) }
     ensures passes { IfOk result (λ said. (1 ≤ said.passes) × (said.passes ≤ MOST_PASSES)) }
     ensures kills { IfOk result (λ said. said.kills ≤ KILL_LIMIT) }
@@ -121,9 +143,7 @@ fn sizes(words: &mut Words<'_>) -> Result<WorldSizes, Why>
 
 // Takes the word `world`.
 fn named(words: &mut Words<'_>) -> Result<(), Why>
-    ensures { MatchResult result
-        (λ _. world_of words.old ≡ opening_of words.new)
-        (λ why. world_of words.old ≡ Err why) }
+    ensures { Says (λ _. words.new) result (behind_world words.old) }
 {
     let first = words.next().ok_or(Why::NoWorld)?;
     if is_word(first, "world") {
@@ -145,6 +165,67 @@ fn values(alloc: Global, line: u32, mut words: Words<'_>) -> Result<Vec<u64>, Sc
     Ok(values)
 }
 
+// The guarded words, the first of which was taken.
+fn values_behind(
+    alloc: Global,
+    line: u32,
+    first: &[u8],
+    words: Words<'_>,
+) -> Result<Vec<u64>, ScriptFault>
+    ensures said { Tells (λ values. values.items) result (at_line line (values_of (first.now ∷ words.entry))) }
+    ensures count { IfOk result (λ values. length values.items ≡ length words.entry + 1) }
+{
+    let first = at_line(line, long_number(first, 0, u64::MAX))?;
+    let others = values(alloc, line, words)?;
+    let mut values = Vec::new(alloc);
+    values.push(first)?;
+    values.extend_from_slice(others.as_slice())?;
+    Ok(values)
+}
+
+// The mark, where no word is behind it: there are no guarded words.
+fn mark_alone(alloc: Global, line: u32, words: Words<'_>) -> Result<(bool, Vec<u64>), ScriptFault>
+    ensures said { Tells (λ said. (said.0, said.1.items)) result (at_line line (mark_alone words.entry)) }
+    ensures count { IfOk result (λ said. length said.1.items ≡ 0) }
+{
+    at_line(line, no_words(words))?;
+    Ok((true, Vec::new(alloc)))
+}
+
+// The guarded words, the first of which was taken, where there is no mark.
+fn values_alone(
+    alloc: Global,
+    line: u32,
+    first: &[u8],
+    words: Words<'_>,
+) -> Result<(bool, Vec<u64>), ScriptFault>
+    ensures said { Tells (λ said. (said.0, said.1.items)) result (at_line line (values_alone (first.now ∷ words.entry))) }
+    ensures count { IfOk result (λ said. length said.1.items ≡ length words.entry + 1) }
+{
+    let values = values_behind(alloc, line, first, words)?;
+    Ok((false, values))
+}
+
+// Whether the mark replaces the guarded words, and these words: none where it does.
+fn mark_or_values(
+    alloc: Global,
+    line: u32,
+    mut words: Words<'_>,
+    mark: &str,
+) -> Result<(bool, Vec<u64>), ScriptFault>
+    ensures said { Tells (λ said. (said.0, said.1.items)) result (at_line line (mark_or_values mark.now words.entry)) }
+    ensures count { IfOk result (λ said. length said.1.items ≤ length words.entry) }
+{
+    let Some(first) = words.next() else {
+        return Ok((false, Vec::new(alloc)));
+    };
+    if is_word(first, mark) {
+        mark_alone(alloc, line, words)
+    } else {
+        values_alone(alloc, line, first, words)
+    }
+}
+
 /// The world of the words of a line.
 pub(crate) fn world(
     alloc: Global,
@@ -158,6 +239,22 @@ pub(crate) fn world(
     world_said(alloc, line, words)
 }
 
+/// The world of the words of a line, in which this mark may replace the guarded words.
+///
+/// Refused with `Parse` for the first fault among them, with that line; with `Memory` only where a growth of memory was refused.
+pub fn marked_world(
+    alloc: Global,
+    line: u32,
+    mut words: Words<'_>,
+    mark: &str,
+) -> Result<MarkedWorld, ScriptFault>
+    ensures said { Tells marked result (at_line line (marked_world_of mark.now words.entry)) }
+    ensures within { IfOk result (λ said. IsWithinLimits (opened said.world)) }
+{
+    at_line(line, named(&mut words))?;
+    marked_world_said(alloc, line, words, mark)
+}
+
 /// The world of the words behind `world`.
 ///
 /// Refused with `Parse` for the first fault among them, with that line; with `Memory` only where a growth of memory was refused.
@@ -166,12 +263,24 @@ pub fn world_said(alloc: Global, line: u32, mut words: Words<'_>) -> Result<Worl
     ensures within { IfOk result (λ world. IsWithinLimits (opened world)) }
 {
     let sizes = at_line(line, sizes(&mut words))?;
-    let words = GuardedWords::new(values(alloc, line, words)?);
-    Ok(WorldLine {
-        slots: sizes.slots,
-        passes: sizes.passes,
-        start: sizes.start,
-        kills: sizes.kills,
-        words,
+    let values = values(alloc, line, words)?;
+    Ok(WorldLine::new(sizes, values))
+}
+
+// The world of the words behind `world`, in which the mark may replace the guarded ones.
+fn marked_world_said(
+    alloc: Global,
+    line: u32,
+    mut words: Words<'_>,
+    mark: &str,
+) -> Result<MarkedWorld, ScriptFault>
+    ensures said { Tells marked result (at_line line (marked_of mark.now words.entry)) }
+    ensures within { IfOk result (λ said. IsWithinLimits (opened said.world)) }
+{
+    let sizes = at_line(line, sizes(&mut words))?;
+    let (is_marked, values) = mark_or_values(alloc, line, words, mark)?;
+    Ok(MarkedWorld {
+        world: WorldLine::new(sizes, values),
+        is_marked,
     })
 }

@@ -1,8 +1,9 @@
 -- What the words after the program's name ask for.
-use Rattle.std.specs.Prelude.{◌≡◌, ℕ, if◌then◌else◌, List, [], ◌∷◌, Option, None, Some, codes, Ok}
+use Rattle.std.specs.Prelude.{◌≡◌, ◌⊎◌, ℕ, if◌then◌else◌, List, [], ◌∷◌, Option, None, Some, codes, Ok}
 use Rattle.std.specs.Str.{bytes_eq}
 use Rattle.line_text.specs.Numbers.{number_in}
-use Rattle.races_text.specs.declared.writing.Form.{Form}
+use Rattle.races_run.specs.declared.request.Request.{Request}
+use Rattle.races_run.specs.declared.request.Request.TheVariants.{Written, Beside}
 use Rattle.races_text.specs.declared.writing.Form.TheVariants.{Answers, Outcomes, Summary}
 
 -- no words set no bound, and `--states` with a number of 64 bits from 1, spelled as a race spells its numbers, that of so many states
@@ -11,18 +12,28 @@ Bounds [] most = most ≡ None
 Bounds (word ∷ number ∷ []) (Some most) = (word ≡ codes "--states") × (number_in 1 18446744073709551615 number ≡ Ok most)
 Bounds words most = ⊥
 
--- the form that the first word names, and the words behind it; any other words ask for answers
-abbrev pub form_in : List (List ℕ) → Form × List (List ℕ)
-form_in [] = (Answers, [])
-form_in (word ∷ words) =
-    if bytes_eq word (codes "--outcomes") then (Outcomes, words)
-    else if bytes_eq word (codes "--summary") then (Summary, words)
-    else (Answers, word ∷ words)
+-- what the first word asks of a race, and the words behind it; any other words ask for answers
+abbrev pub request_in : List (List ℕ) → Request × List (List ℕ)
+request_in [] = (Written Answers, [])
+request_in (word ∷ words) =
+    if bytes_eq word (codes "--outcomes") then (Written Outcomes, words)
+    else if bytes_eq word (codes "--summary") then (Written Summary, words)
+    else if bytes_eq word (codes "--beside") then (Beside, words)
+    else (Written Answers, word ∷ words)
 
--- first the form, then the bound
-abbrev pub Asks : List (List ℕ) → Form → Option ℕ → Type 0
-Asks words form most = ((form_in words).0 ≡ form) × Bounds (form_in words).1 most
+-- first what is asked of the race, then the bound
+abbrev pub Asks : List (List ℕ) → Request → Option ℕ → Type 0
+Asks words request most = ((request_in words).0 ≡ request) × Bounds (request_in words).1 most
 
--- an answer to a race, in some form, with a bound or without
+-- `--replay`, alone
+abbrev pub AsksReplay : List (List ℕ) → Type 0
+AsksReplay (word ∷ []) = word ≡ codes "--replay"
+AsksReplay words = ⊥
+
+-- an answer to a race, with a bound or without
+abbrev pub AsksAnswer : List (List ℕ) → Type 0
+AsksAnswer words = (request : Request) × (most : Option ℕ) × Asks words request most
+
+-- an answer or a replay
 abbrev pub AsksSomething : List (List ℕ) → Type 0
-AsksSomething words = (form : Form) × (most : Option ℕ) × Asks words form most
+AsksSomething words = AsksAnswer words ⊎ AsksReplay words

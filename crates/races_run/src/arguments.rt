@@ -1,17 +1,20 @@
 //! The task that the words after the program's name ask for.
-ghost use Rattle.std.specs.Prelude.{◌≡◌, ◌↔◌, ℕ, Option, Some, map, string_bytes};
+ghost use Rattle.std.specs.Prelude.{◌≡◌, ◌↔◌, ℕ, IsTrue, Option, Some, map, string_bytes};
 ghost use Rattle.std.specs.Str.{bytes_eq};
-ghost use Rattle.races_run.specs.Requests.{Asks, Bounds, form_in};
-ghost use Rattle.races_text.specs.declared.writing.Form.{Form};
+ghost use Rattle.races_run.specs.Requests.{Asks, AsksReplay, Bounds, request_in};
+ghost use Rattle.races_run.specs.declared.request.Request.{Request};
 
+use crate::request::Request;
 use line_text::{is_word, long_number};
 use races_text::Form;
 
 /// A task of the program.
 #[derive(Clone, Copy, Debug, PartialEq, Eq)]
 pub enum Task {
-    /// Answer the race that comes in, in this form, keeping so many states at most, if a number is given.
-    Answer(Form, Option<u64>),
+    /// Answer this of the race that comes in, keeping so many states at most in a search, if a number is given.
+    Answer(Request, Option<u64>),
+    /// Replay the schedule on Linux's percpu_ref that comes in.
+    Replay,
     /// Say how the program is called.
     Usage,
 }
@@ -22,19 +25,21 @@ fn is_spelled(word: &String, text: &str) -> bool
     is_word(word.as_bytes(), text)
 }
 
-// The form that the first word names, and the words behind it.
-fn form_in(words: &[String]) -> (Form, &[String])
-    ensures { (result.0, map string_bytes result.1.now) ≡ form_in (map string_bytes words.now) }
+// The request that the first word makes, and the words behind it.
+fn request_in(words: &[String]) -> (Request, &[String])
+    ensures { (result.0, map string_bytes result.1.now) ≡ request_in (map string_bytes words.now) }
 {
     let [word, rest @ ..] = words else {
-        return (Form::Answers, words);
+        return (Request::Written(Form::Answers), words);
     };
     if is_spelled(word, "--outcomes") {
-        (Form::Outcomes, rest)
+        (Request::Written(Form::Outcomes), rest)
     } else if is_spelled(word, "--summary") {
-        (Form::Summary, rest)
+        (Request::Written(Form::Summary), rest)
+    } else if is_spelled(word, "--beside") {
+        (Request::Beside, rest)
     } else {
-        (Form::Answers, words)
+        (Request::Written(Form::Answers), words)
     }
 }
 
@@ -54,15 +59,29 @@ fn bound_in(words: &[String]) -> Option<Option<u64>>
     }
 }
 
-/// The task that `words`, those after the program's name, ask for: first the form of the answer, by `--outcomes` or
-/// `--summary` or no word, and then the states that the search keeps at most, by `--states` and a number from 1. Anything else asks
-/// how the program is called.
-pub fn requested(words: &[String]) -> Task
-    ensures { (form : Form) (most : Option ℕ) → (result ≡ Task.Answer form most) ↔ Asks (map string_bytes words.now) form most }
+// Whether the words ask for a replay.
+fn asks_replay(words: &[String]) -> bool
+    ensures { IsTrue result ↔ AsksReplay (map string_bytes words.now) }
 {
-    let (form, rest) = form_in(words);
+    match words {
+        [word] => is_spelled(word, "--replay"),
+        _ => false,
+    }
+}
+
+/// The task that `words`, those after the program's name, ask for: `--replay` alone, or else first what is asked of a race, by
+/// `--outcomes`, `--summary`, `--beside` or no word, and then the states that a search keeps at most, by `--states` and a number from
+/// 1. Anything else asks how the program is called.
+pub fn requested(words: &[String]) -> Task
+    ensures answer { (request : Request) (most : Option ℕ) → (result ≡ Task.Answer request most) ↔ Asks (map string_bytes words.now) request most }
+    ensures replay { (result ≡ Task.Replay) ↔ AsksReplay (map string_bytes words.now) }
+{
+    if asks_replay(words) {
+        return Task::Replay;
+    }
+    let (request, rest) = request_in(words);
     match bound_in(rest) {
-        Some(most) => Task::Answer(form, most),
+        Some(most) => Task::Answer(request, most),
         None => Task::Usage,
     }
 }

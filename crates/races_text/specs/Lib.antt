@@ -3,12 +3,21 @@
 -- how a line tells a world (Worlds), a step (Steps) and what calls were answered (Answers), what is printed of outcomes (Shown), also in a
 -- line for each (Summaries), and the schedules of a race of one gate (Schedules) and of several (GatesSchedules); how questions
 -- (QuestionLines) and the answers in them (AnswerWords) are spelled, what questions are answered (Verdicts), and what is written of a race
--- with questions (Written).
+-- with questions (Written); how the calls (LinuxCalls) and the steps (LinuxSteps) of a race on Linux's percpu_ref are printed, what is replied
+-- to a step (LinuxReplies), and its schedules (LinuxSchedules); which step a line says (LinuxStepWords), that the lines of calls are read as
+-- they are printed (LinuxLines), and what is shown of a schedule that is replayed (LinuxReplays).
 pub mod AnswerWords
 pub mod Answers
 pub mod CallWords
 pub mod ControlCalls
 pub mod GatesSchedules
+pub mod LinuxCalls
+pub mod LinuxLines
+pub mod LinuxReplays
+pub mod LinuxReplies
+pub mod LinuxSchedules
+pub mod LinuxStepWords
+pub mod LinuxSteps
 pub mod PassCalls
 pub mod QuestionLines
 pub mod Raced

@@ -1,6 +1,6 @@
 //! All outcomes of a race.
 use crate::erased::counted_io::Counted;
-use crate::erased::races_run::{Form, NoWatch, outcomes_bytes};
+use crate::erased::races_run::{Form, NoWatch, Request, outcomes_bytes};
 use crate::errors::RaceError;
 use crate::text::Text;
 
@@ -31,6 +31,7 @@ use crate::text::Text;
 /// ```
 pub fn outcomes(race: &[u8]) -> Result<Vec<u8>, RaceError> {
     let mut text = Text::default();
-    outcomes_bytes(&mut Counted::new(race), &mut Counted::new(&mut text), Form::Outcomes, None, &mut NoWatch)?;
+    let request = Request::Written(Form::Outcomes);
+    outcomes_bytes(&mut Counted::new(race), &mut Counted::new(&mut text), request, None, &mut NoWatch)?;
     Ok(text.0)
 }

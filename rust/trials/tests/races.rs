@@ -1,10 +1,12 @@
 //! Races from inside: the calls that a text gives, and long lists of answers.
 
 use blkq::erased::gates_world::CallAt;
+use blkq::erased::line_text::ScriptFault;
 use blkq::erased::percpu_core::Start;
 use blkq::erased::race_calls::Answers;
 use blkq::erased::race_calls::{Answer, Asked, Awaited, ControlCall, Count, Flag, Mode, PassCall};
-use blkq::erased::races_text::{Raced, parse_race};
+use blkq::erased::race_world::Race;
+use blkq::erased::races_text::{Raced, parse_plan, parse_race};
 
 const EVERY_CALL: &str = "# A race of every call.\n\nraces 1\nworld 2 4 slots 5 7 8\n\
     2 try 1 / live 0 / get 1 65535 / put 4294967295 1\n\
@@ -66,6 +68,39 @@ fn calls_at_several_gates() {
     let [of_pass] = race.passes() else { panic!("one pass") };
     assert!(of_pass.as_slice() == calls.map(|(gate, asked)| CallAt { gate, call: PassCall::Asks(asked) }));
     assert!(race.control() == [1, 0].map(|gate| CallAt { gate, call: ControlCall::Kill }));
+}
+
+const CALLS: &str = "0 try 1\nc kill\nask never zero\n";
+
+/// Whether this is the race of CALLS at a counter of 2 slots and with 2 passes, which starts dead behind 3 kills.
+fn has_its_calls(race: &Race) -> bool {
+    let [first, second] = race.passes() else { panic!("two passes") };
+    (race.slots(), race.start(), race.kills()) == (2, Start::Dead, 3)
+        && first.as_slice() == [PassCall::Counts { slot: 1, count: Count::Try }]
+        && second.as_slice().is_empty()
+        && race.control() == [ControlCall::Kill]
+}
+
+/// A race on Linux's percpu_ref has no guarded words, and its questions.
+#[test]
+fn linux_in_place_of_guarded_words() {
+    let asked = parse_race(format!("races 1\nworld 2 2 dead 3 linux\n{CALLS}").as_bytes()).unwrap();
+    assert_eq!(asked.questions().len(), 1);
+    let Raced::OnLinux(race) = asked.raced() else { panic!("on Linux's percpu_ref") };
+    assert!(race.race().words().is_empty() && has_its_calls(race.race()));
+}
+
+/// The plan of a text is the same on either gate, but for the guarded words. It is of one gate.
+#[test]
+fn plans_of_either_gate() {
+    for (behind, words) in [("", &[][..]), (" linux", &[]), (" 7 8", &[7, 8])] {
+        let text = format!("races 1\nworld 2 2 dead 3{behind}\n{CALLS}");
+        let race = parse_plan(text.as_bytes()).unwrap();
+        assert!(race.words() == words && has_its_calls(&race));
+        let text = format!("races 1\nworld 2 2 dead 3{behind}\nworld 2 2 dead 3\n{CALLS}");
+        let Err(ScriptFault::Parse(fault)) = parse_plan(text.as_bytes()) else { panic!("two worlds") };
+        assert_eq!(fault.to_string(), "line 3: unknown word");
+    }
 }
 
 // A list is as deep as it is long: a call for each of its answers would end the program, since a thread's stack has some megabytes.

@@ -16,6 +16,7 @@ impl List {
         items.try_extend_from_slice(&[3, 4])?;
         items.try_resize(9, 0)?;
         items.try_make_room(room)?;
+        items.try_make_exact_room(1)?;
         Ok(List { items })
     }
 

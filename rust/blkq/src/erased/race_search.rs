@@ -6,7 +6,8 @@
 //! seen. Moments are compared whole. Exchanges may lead from one moment to another, as where two actors do the same: then the
 //! search keeps one moment that represents both. Its contract says that each moment in the list is reached by a schedule,
 //! that each moment that a schedule reaches is represented in it, and none is there twice. A course with more moments than the
-//! search may keep is refused. A [`Watch`] learns how far a search is. [`ends`] tells which of them nothing comes after, and [`schedule_to`] a schedule to each.
+//! search may keep is refused. A [`Watch`] learns how far a search is. [`ends`] tells which of them nothing comes after, and
+//! [`schedule_to`] a schedule to each: a shortest one, and of these one with the fewest switches from one actor to another.
 
 mod course;
 mod ending;
@@ -17,6 +18,7 @@ mod moments;
 mod no_exchange;
 mod positions;
 mod schedule;
+mod turning;
 mod watch;
 mod way;
 
@@ -30,4 +32,4 @@ pub use no_exchange::NoExchange;
 pub use positions::Positions;
 pub use schedule::schedule_to;
 pub use watch::{NoWatch, Watch};
-pub use way::{Step, Way};
+pub use way::{Last, Step, Way};

@@ -12,6 +12,7 @@
 //! says. `settled` leads the moments that differ by such exchanges to one of them, and so a search over a race, which is a
 //! `Course` of `race_search`, keeps one where it else kept many.
 
+mod actor;
 mod control_place;
 mod course;
 mod exchange;
@@ -23,6 +24,7 @@ mod race;
 mod settling;
 mod waiting;
 
+pub use actor::is_same_actor;
 pub use control_place::ControlProgress;
 pub use exchange::Exchange;
 pub use moment::Moment;

@@ -163,6 +163,9 @@ impl<T> TryVec<T> for Vec<T> {
 pub trait TryRoom {
     /// Makes room for `more` items behind those that are there.
     fn try_make_room(&mut self, more: usize) -> Result<(), AllocError>;
+
+    /// The same, and no more room than that.
+    fn try_make_exact_room(&mut self, more: usize) -> Result<(), AllocError>;
 }
 
 impl<T> TryRoom for Vec<T> {
@@ -170,12 +173,22 @@ impl<T> TryRoom for Vec<T> {
     fn try_make_room(&mut self, more: usize) -> Result<(), AllocError> {
         Ok(self.try_reserve(more)?)
     }
+
+    #[inline]
+    fn try_make_exact_room(&mut self, more: usize) -> Result<(), AllocError> {
+        Ok(self.try_reserve_exact(more)?)
+    }
 }
 
 impl<T> TryRoom for VecDeque<T> {
     #[inline]
     fn try_make_room(&mut self, more: usize) -> Result<(), AllocError> {
         Ok(self.try_reserve(more)?)
+    }
+
+    #[inline]
+    fn try_make_exact_room(&mut self, more: usize) -> Result<(), AllocError> {
+        Ok(self.try_reserve_exact(more)?)
     }
 }
 

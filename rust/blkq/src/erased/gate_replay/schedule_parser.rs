@@ -4,7 +4,7 @@
 use crate::erased::fallible::TryVec;
 use crate::erased::gate_replay::event_line;
 use crate::erased::gate_replay::schedule::{Events, Schedule};
-use crate::erased::gate_replay::world_line::{self, WorldLine};
+use crate::erased::gate_replay::world_line::{self, MarkedWorld, WorldLine};
 use crate::erased::line_text::{ParseFault, ScriptFault, Statements, Why, Words, at_line};
 use crate::erased::percpu_core::Event;
 
@@ -21,6 +21,15 @@ fn gate(text: &mut Statements<'_>) -> Result<(), ParseFault> {
 pub fn next_world(text: &mut Statements<'_>) -> Result<WorldLine, ScriptFault> {
     let (line, words) = text.next_or(Why::NoWorld)?;
     world_line::world(line, words)
+}
+
+/// Takes the next line, which has to be a world's. The word `mark` may replace its guarded words.
+///
+/// Refused as by [`next_world`], where a mark is no guarded word, and with `ExtraWord` for words behind it. After a refusal
+/// the line is taken as well.
+pub fn next_marked_world(text: &mut Statements<'_>, mark: &str) -> Result<MarkedWorld, ScriptFault> {
+    let (line, words) = text.next_or(Why::NoWorld)?;
+    world_line::marked_world(line, words, mark)
 }
 
 // The step that the words of a line tell, if it has any.

@@ -3,7 +3,7 @@
 
 use crate::erased::fallible::TryVec;
 use crate::erased::gate_replay::schedule::GuardedWords;
-use crate::erased::line_text::{ScriptFault, Why, Words, at_line, is_word, long_number, short_number};
+use crate::erased::line_text::{ScriptFault, Why, Words, at_line, is_word, long_number, no_words, short_number};
 use crate::erased::percpu_core::{KILL_LIMIT, Start, WORD_LIMIT};
 
 /// The most slots that a `world` has: of the format `gate 1`, whatever a gate takes.
@@ -23,6 +23,27 @@ pub struct WorldLine {
     /// The kills that the gate starts with: 0 to 2^40.
     pub kills: u64,
     pub words: GuardedWords,
+}
+
+impl WorldLine {
+    // The world of these sizes and these guarded words.
+    fn new(sizes: WorldSizes, values: Vec<u64>) -> WorldLine {
+        WorldLine {
+            slots: sizes.slots,
+            passes: sizes.passes,
+            start: sizes.start,
+            kills: sizes.kills,
+            words: GuardedWords::new(values),
+        }
+    }
+}
+
+/// The world of a line in which a mark, a word of the caller's, may replace the guarded words.
+#[derive(Debug)]
+pub struct MarkedWorld {
+    pub world: WorldLine,
+    /// Whether the mark is there: the world has no guarded words then.
+    pub is_marked: bool,
 }
 
 /// Whether the line is that of the version.
@@ -72,7 +93,7 @@ struct WorldSizes {
     kills: u64,
 }
 
-// The slots, the passes, the start and the kills. The guarded words are left, few enough of them.
+// The slots, the passes, the start and the kills. The words behind them are left, few enough of them.
 fn sizes(words: &mut Words<'_>) -> Result<WorldSizes, Why> {
     let said = size_words(words)?;
     if words.count_left() > WORD_LIMIT {
@@ -100,10 +121,48 @@ fn values(line: u32, mut words: Words<'_>) -> Result<Vec<u64>, ScriptFault> {
     Ok(values)
 }
 
+// The guarded words, the first of which was taken.
+fn values_behind(line: u32, first: &[u8], words: Words<'_>) -> Result<Vec<u64>, ScriptFault> {
+    let first = at_line(line, long_number(first, 0, u64::MAX))?;
+    let others = values(line, words)?;
+    let mut values = Vec::new();
+    values.try_push(first)?;
+    values.try_extend_from_slice(others.as_slice())?;
+    Ok(values)
+}
+
+// The mark, where no word is behind it: there are no guarded words.
+fn mark_alone(line: u32, words: Words<'_>) -> Result<(bool, Vec<u64>), ScriptFault> {
+    at_line(line, no_words(words))?;
+    Ok((true, Vec::new()))
+}
+
+// The guarded words, the first of which was taken, where there is no mark.
+fn values_alone(line: u32, first: &[u8], words: Words<'_>) -> Result<(bool, Vec<u64>), ScriptFault> {
+    let values = values_behind(line, first, words)?;
+    Ok((false, values))
+}
+
+// Whether the mark replaces the guarded words, and these words: none where it does.
+fn mark_or_values(line: u32, mut words: Words<'_>, mark: &str) -> Result<(bool, Vec<u64>), ScriptFault> {
+    let Some(first) = words.next() else {
+        return Ok((false, Vec::new()));
+    };
+    if is_word(first, mark) { mark_alone(line, words) } else { values_alone(line, first, words) }
+}
+
 /// The world of the words of a line.
 pub(crate) fn world(line: u32, mut words: Words<'_>) -> Result<WorldLine, ScriptFault> {
     at_line(line, named(&mut words))?;
     world_said(line, words)
+}
+
+/// The world of the words of a line, in which this mark may replace the guarded words.
+///
+/// Refused with `Parse` for the first fault among them, with that line; with `Memory` only where a growth of memory was refused.
+pub fn marked_world(line: u32, mut words: Words<'_>, mark: &str) -> Result<MarkedWorld, ScriptFault> {
+    at_line(line, named(&mut words))?;
+    marked_world_said(line, words, mark)
 }
 
 /// The world of the words behind `world`.
@@ -111,6 +170,13 @@ pub(crate) fn world(line: u32, mut words: Words<'_>) -> Result<WorldLine, Script
 /// Refused with `Parse` for the first fault among them, with that line; with `Memory` only where a growth of memory was refused.
 pub fn world_said(line: u32, mut words: Words<'_>) -> Result<WorldLine, ScriptFault> {
     let sizes = at_line(line, sizes(&mut words))?;
-    let words = GuardedWords::new(values(line, words)?);
-    Ok(WorldLine { slots: sizes.slots, passes: sizes.passes, start: sizes.start, kills: sizes.kills, words })
+    let values = values(line, words)?;
+    Ok(WorldLine::new(sizes, values))
+}
+
+// The world of the words behind `world`, in which the mark may replace the guarded ones.
+fn marked_world_said(line: u32, mut words: Words<'_>, mark: &str) -> Result<MarkedWorld, ScriptFault> {
+    let sizes = at_line(line, sizes(&mut words))?;
+    let (is_marked, values) = mark_or_values(line, words, mark)?;
+    Ok(MarkedWorld { world: WorldLine::new(sizes, values), is_marked })
 }

@@ -7,6 +7,7 @@ use crate::erased::gates_world::joint::GatesRace;
 use crate::erased::gates_world::moment::GatesMoment;
 use crate::erased::percpu_core::Memory;
 use crate::erased::race_search::{Course, NoExchange};
+use crate::erased::race_world::is_same_actor;
 
 impl Course for GatesRace {
     type Moment = GatesMoment;
@@ -35,12 +36,20 @@ impl Course for GatesRace {
         event
     }
 
+    fn is_same_actor(&self, event: GateEvent, other: GateEvent) -> bool {
+        is_same_actor(event.event, other.event)
+    }
+
     fn number(moment: &GatesMoment) -> u64 {
         moment.fingerprint()
     }
 
     fn is_same(moment: &GatesMoment, other: &GatesMoment) -> bool {
         moment.is_same(other)
+    }
+
+    fn bytes(moment: &GatesMoment) -> u64 {
+        moment.bytes()
     }
 
     fn is_sound(&self) {}

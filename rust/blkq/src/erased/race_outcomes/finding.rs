@@ -8,7 +8,8 @@ use crate::erased::race_outcomes::telling::Telling;
 use crate::erased::race_search::{Moments, SearchFault, Watch, all_moments, ends};
 
 /// All outcomes of the course: the accounts that it may have when nothing may come next. Each stands there once, with a shortest
-/// schedule that leads to it. Shorter schedules come first; those of one length stand as the search meets them.
+/// schedule that leads to it, and of these one with the fewest switches of actor. Shorter schedules come first, and of as long
+/// ones those with fewer switches; others stand as the search meets them.
 ///
 /// `States` is the refusal where the search would keep more moments than `most`, if that is given; the course has more then. The
 /// only other one is `Memory`: a growth was refused, or there are 2^64 moments. `watch` learns how far the search is.
@@ -28,8 +29,9 @@ pub fn outcomes<C: Telling, W: Watch>(
 ///
 /// - `AreTheMoments(rules(course), moments.points)`: each is reached by a schedule, whichever one is reached is
 ///   represented, and none is there twice.
-/// - `AreTheWays(rules(course), moments)`: each point has a way, whatever a schedule leads to is represented by a
-///   point whose way isn't longer, and a point comes before those whose ways are longer.
+/// - `AreTheWays(rules(course), moments)`: each point has a way; whatever a schedule leads to is represented by a
+///   point whose way isn't longer, and if it is as long, has no more switches; and a point comes before those whose
+///   ways are longer.
 fn outcomes_of<C: Telling>(course: &C, moments: &Moments<C>) -> Result<Outcomes<C>, Memory> {
     course.is_sound();
     course.tells_soundly();

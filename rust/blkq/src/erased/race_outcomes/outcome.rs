@@ -18,13 +18,14 @@ impl<C: Course> Outcome<C> {
         &self.end
     }
 
-    /// A shortest schedule that leads to it.
+    /// A shortest schedule that leads to it, of the fewest switches of actor.
     pub fn schedule(&self) -> &[C::Event] {
         self.schedule.as_slice()
     }
 }
 
-/// All outcomes of a course, each of them once, those with shorter schedules first.
+/// All outcomes of a course, each of them once, those with shorter schedules first, and of as long ones those with fewer
+/// switches of actor.
 pub struct Outcomes<C: Course> {
     pub(crate) list: Vec<Outcome<C>>,
 }

@@ -2,13 +2,25 @@
 //! A race with the questions about it.
 
 use crate::erased::gates_world::GatesRace;
+use crate::erased::linux_world::LinuxRace;
 use crate::erased::race_outcomes::Question;
 use crate::erased::race_world::Race;
 
-/// A race, by how many gates it has.
+/// The gates that a race can be on.
+#[derive(Clone, Copy)]
+pub(crate) enum GateKind {
+    /// This repository's own gate.
+    Own,
+    /// Linux's percpu_ref.
+    Linux,
+}
+
+/// A race, by the gates that it is on.
 pub enum Raced {
     OneGate(Race),
     SeveralGates(GatesRace),
+    /// On Linux's percpu_ref in the place of a gate.
+    OnLinux(LinuxRace),
 }
 
 /// A race, and the questions about it in the order of their lines.

@@ -1,0 +1,12 @@
+//! A request about a race.
+
+use races_text::Form;
+
+/// A request about a race.
+#[derive(Clone, Copy, Debug, PartialEq, Eq)]
+pub enum Request {
+    /// The race in this form.
+    Written(Form),
+    /// The outcomes that it has on this gate alone, or on Linux's percpu_ref alone.
+    Beside,
+}

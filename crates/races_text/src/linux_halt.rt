@@ -1,0 +1,102 @@
+//! The steps that a schedule on Linux's percpu_ref says, and why one isn't taken.
+ghost use Rattle.std.specs.Prelude.{◌≡◌, ◌++◌, true, IfNone, OnOk};
+ghost use Rattle.linux_world.specs.Points.{IsNext};
+ghost use Rattle.races_text.specs.LinuxReplays as replays;
+ghost use Rattle.races_text.specs.LinuxReplays.{StepsAreApart, halt_text, is_there, stuck_line};
+
+use crate::linux_step::{LinuxStep, next_step, push_step_words};
+use line_text::{push_number, push_text};
+use linux_world::{LinuxMoment, LinuxTurn};
+use race_world::Race;
+use std::alloc::AllocError;
+
+/// A step of an actor, as a line says it.
+#[derive(Clone, Copy, Debug, PartialEq, Eq)]
+pub(crate) struct SaidStep {
+    /// The number of the line, from 1.
+    pub(crate) line: u32,
+    pub(crate) turn: LinuxTurn,
+    pub(crate) step: LinuxStep,
+}
+
+/// Why a step isn't taken.
+#[derive(Clone, Copy, Debug, PartialEq, Eq)]
+pub(crate) enum Halt {
+    /// No pass has that number, or no callback of that number was given to RCU yet.
+    NoSuchActor,
+    /// Each of its calls has its answer, or the callback has returned.
+    NoStepLeft,
+    /// The next step of the actor is another one, this.
+    NextIs(LinuxStep),
+    /// The lock is held, a switch is under way, the condition doesn't hold, or the grace period hasn't ended.
+    MustWait,
+}
+
+// Whether the actor is there.
+fn is_there(moment: &LinuxMoment, turn: LinuxTurn) -> bool
+    ensures { result ≡ is_there moment.now turn }
+{
+    match turn {
+        LinuxTurn::Pass(pass) => pass < moment.passes().len(),
+        LinuxTurn::Control => true,
+        LinuxTurn::Callback(at) => at < moment.callbacks().len(),
+    }
+}
+
+// Why an actor, whose next step is this one and which may go or not, doesn't take the step that is said.
+fn halt_at(next: Option<LinuxStep>, said: LinuxStep, may_go: bool) -> Option<Halt>
+    ensures why { result ≡ replays.halt_at next said may_go }
+    ensures goes { IfNone result (may_go ≡ true) }
+{
+    let Some(step) = next else {
+        return Some(Halt::NoStepLeft);
+    };
+    if step != said {
+        return Some(Halt::NextIs(step));
+    }
+    if may_go { None } else { Some(Halt::MustWait) }
+}
+
+/// Why the step that is said isn't taken; None where the actor may take it.
+pub(crate) fn why_not_taken(race: &Race, moment: &LinuxMoment, said: SaidStep) -> Option<Halt>
+    ensures why { result ≡ replays.halt_of race.now moment.now said }
+    ensures goes { IfNone result (IsNext race.now moment.now said.turn) }
+{
+    if !is_there(moment, said.turn) {
+        return Some(Halt::NoSuchActor);
+    }
+    let may_go = moment.may_go(race, said.turn);
+    halt_at(next_step(moment, said.turn), said.step, may_go)
+}
+
+fn push_halt(out: &mut Vec<u8>, why: Halt) -> Result<(), AllocError>
+    ensures { OnOk result (out.new.items ≡ out.old.items ++ halt_text why) }
+{
+    match why {
+        Halt::NoSuchActor => push_text(out, "no such actor"),
+        Halt::NoStepLeft => push_text(out, "no step left"),
+        Halt::NextIs(step) => {
+            push_text(out, "next is")?;
+            push_step_words(out, step)
+        }
+        Halt::MustWait => push_text(out, "must wait"),
+    }
+}
+
+/// Appends the line of a step that isn't taken, and that stands on this line of the schedule.
+pub(crate) fn push_stuck(out: &mut Vec<u8>, line: u32, why: Halt) -> Result<(), AllocError>
+    ensures { OnOk result (out.new.items ≡ out.old.items ++ stuck_line line why) }
+{
+    push_text(out, "stuck ")?;
+    push_number(out, u64::from(line))?;
+    push_text(out, " ")?;
+    push_halt(out, why)?;
+    push_text(out, "\n")
+}
+
+/// A step that is said is the next one of its actor only where both are the same, their numbers and conditions included. The contract is
+/// the law; the function does nothing.
+#[tactic(auto, using(crate::proofs::StepsApart::steps_are_apart))]
+pub fn steps_are_apart()
+    ensures { StepsAreApart }
+{}

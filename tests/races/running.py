@@ -1,0 +1,23 @@
+"""Runs a program on a text."""
+
+import pathlib
+import subprocess
+
+HOME = pathlib.Path(__file__).resolve().parents[2]
+BUILT = [HOME / "crates/gate_races/out/gate_races", HOME / "crates/blkq/out/blkq"]
+SECONDS = 900
+
+
+def run(words, text):
+    """The status of a program, and what it writes to both outputs."""
+    given = text if isinstance(text, bytes) else text.encode()
+    done = subprocess.run(words, input=given, capture_output=True, timeout=SECONDS)
+    return done.returncode, done.stdout.decode(), done.stderr.decode()
+
+
+def written_by(words, text):
+    """What a program writes that ends well."""
+    status, out, errors = run(words, text)
+    if (status, errors) != (0, ""):
+        raise ValueError(f"status {status}: {errors}")
+    return out

@@ -1,0 +1,89 @@
+// What is shown of a gate, or of Linux's percpu_ref, between two steps: its words, and what each actor holds and has pending there. It is
+// tools/pictures/states.py, for the page.
+
+// A word: its kind, its number among those of its kind, its name, what it holds, the marks that are set in it, and whether there is
+// nothing to be seen in it.
+class Word {
+  constructor(kind, at, name, text, { marks = [], isIdle = false } = {}) {
+    Object.assign(this, { kind, at, name, text, marks, isIdle });
+  }
+
+  // All that it holds.
+  get value() {
+    return [...this.marks, this.text].filter((it) => it !== "").join(" ");
+  }
+}
+
+// What an actor holds and has pending, and the words for it.
+function standingWith(held, pending) {
+  return { holds: held.length > 0, pending: pending.length > 0, words: [...held, ...pending].join(", ") };
+}
+
+// The bias by its name, and what is counted beside it.
+function biasAnd(rest) {
+  return rest === 0 ? "bias" : `bias${rest > 0 ? "+" : ""}${rest}`;
+}
+
+function slotShown(slot) {
+  return slot === null ? "closed" : slot > 0 ? `+${slot}` : String(slot);
+}
+
+// A gate between two steps.
+class GateState {
+  pendingShown = "a step is pending";
+
+  constructor(gate) {
+    Object.assign(this, { hasBase: gate.hasBase(), owes: gate.control.owes, passes: gate.passes.map((seat) => ({ ...seat })) });
+    this.words = this.wordsOf(gate);
+  }
+
+  // The words in the order of their columns.
+  wordsOf(gate) {
+    const marks = [...(gate.dead ? ["DEAD"] : []), ...(gate.zero ? ["ZERO"] : [])];
+    const count = gate.hasBias() ? biasAnd(gate.value - BIAS) : String(gate.value);
+    const slots = gate.slots.map((slot, at) => new Word("slot", at, `slot ${at}`, slotShown(slot), { isIdle: slot === null }));
+    const guarded = gate.words.map((value, at) => new Word("word", at, `word ${at}`, String(value)));
+    const [shared, front] = [new Word("shared", null, "shared word", count, { marks }), new Word("front", null, "front", String(gate.front))];
+    return [shared, ...slots, front, ...guarded];
+  }
+
+  standing(actor) {
+    const seat = actor === "c" ? { held: this.hasBase ? 1 : 0, owes: this.owes, joined: false } : this.passes[actor];
+    if (seat.joined) return { holds: false, pending: false, words: "joined" };
+    const held = seat.held === 0 ? [] : [actor === "c" ? "the initial reference" : `holds ${seat.held}`];
+    return standingWith(held, seat.owes ? [`${seat.owes} pending`] : []);
+  }
+}
+
+// A percpu_ref between two steps.
+class RefState {
+  pendingShown = "a section, a lock, a grace period";
+
+  constructor(ref) {
+    this.words = this.wordsOf(ref.counter, ref.switching);
+    this.standings = new Map([...ref.seats].map(([actor, seat]) => [actor, this.standingIn(ref, actor, seat)]));
+  }
+
+  // The words in the order of their columns.
+  wordsOf(counter, switching) {
+    const marks = [...(counter.isAtomic ? ["ATOMIC"] : []), ...(counter.isDead ? ["DEAD"] : [])];
+    const isUnused = !counter.isPercpu();
+    const counters = counter.counters.map((value, at) => {
+      return new Word("counter", at, `counter ${at}`, slotShown(value), { isIdle: isUnused && value === 0 });
+    });
+    const flags = new Word("flags", null, "flags", marks.length > 0 ? "" : "percpu", { marks });
+    const count = new Word("count", null, "count", counter.shown());
+    return [flags, ...counters, count, new Word("switch", null, "switch", switching ?? "none", { isIdle: switching === null })];
+  }
+
+  standingIn(ref, actor, seat) {
+    if (actor === "c") return standingWith(ref.hasBase ? ["the initial reference"] : [], ref.isLocked() ? ["the lock"] : []);
+    const waits = seat.next?.waitsFor === "grace period" ? ["in a grace period"] : [];
+    return standingWith(seat.held ? [`holds ${seat.held}`] : [], seat.isInSection ? ["in a section"] : waits);
+  }
+
+  // What an actor holds and has pending; nothing of a callback that isn't there yet.
+  standing(actor) {
+    return this.standings.get(actor) ?? standingWith([], []);
+  }
+}
