@@ -11,11 +11,13 @@ from dataclasses import dataclass
 from typing import Callable, Optional, Sequence
 
 from counts import last_line_of
+from gate_parts.processes import how_many
 from proving.memory import free_memory
 from proving.proofs import text_of
 
-# The seconds between two looks at the steps, and between two lines that say what runs.
-LOOK, MINUTE = 0.5, 60
+# The seconds between two looks at the steps, and between two lines that say what runs; and for how many a step keeps a processor
+# that it doesn't use.
+LOOK, MINUTE, IDLE = 0.5, 60, 60
 
 
 @dataclass(frozen=True)
@@ -32,8 +34,10 @@ class Step:
     proved: frozenset = frozenset()
     # The folders that it writes: another step that names one of them doesn't run meanwhile.
     folders: Sequence[str] = ()
-    # How many processors it takes; and whether nothing else may run beside it.
+    # How many processors it takes at the most; the program that it runs on each, if it may take fewer; and whether nothing else may
+    # run beside it.
     width: int = 1
+    program: str = ""
     is_alone: bool = False
     # The GB of memory that are to be free when it begins beside others.
     memory: float = 0
@@ -56,6 +60,7 @@ class Running:
 
     def __init__(self, step, room):
         self.step, self.began, self.is_over_limit = step, time.monotonic(), False
+        self.used = {self.began: step.width}
         self.log = f"{room}/{re.sub(r'[^a-z0-9]+', '_', step.name)}.log"
         self.status, self.process = None, self.start(step.words, self.log, step.folder)
 
@@ -87,6 +92,14 @@ class Running:
                 os.killpg(self.process.pid, how)
             except ProcessLookupError:
                 pass
+
+    def width(self):
+        """How many processors are kept for it: as many as it used lately."""
+        now = time.monotonic()
+        if self.step.program and self.process:
+            self.used = {at: it for at, it in self.used.items() if now - at < IDLE}
+            self.used[now] = min(self.step.width, how_many(self.step.program, self.process.pid))
+        return max(self.used.values())
 
     def said(self):
         return text_of(self.log)
@@ -142,22 +155,23 @@ class Schedule:
             self.running.remove(it)
             self.count(it)
         there = self.built.look([it.proved for it in self.waiting if it.proved])
+        used = sum(it.width() for it in self.running)
         for step in list(self.waiting):
-            if all(it in self.ended for it in step.after) and step.proved <= there and self.fits(step):
+            if all(it in self.ended for it in step.after) and step.proved <= there and self.fits(step, used):
                 self.waiting.remove(step)
                 self.running.append(Running(step, self.room))
+                used += step.width
         if not self.running and not self.built.is_busy():
             self.give_up(there)
         if time.monotonic() - self.told >= MINUTE:
             self.told = time.monotonic()
             self.say(self.state())
 
-    def fits(self, step):
-        """Whether a step may run beside those that do."""
+    def fits(self, step, used):
+        """Whether a step may run beside those that do, which use so many processors."""
         if step.is_alone or any(it.step.is_alone for it in self.running):
             return not self.running and (not step.is_alone or all(it.is_alone for it in self.waiting))
         taken = {folder for it in self.running for folder in it.step.folders}
-        used = sum(it.step.width for it in self.running)
         has_room = used + step.width <= self.processors and free_memory() >= step.memory * 1e9
         return taken.isdisjoint(step.folders) and (not self.running or has_room)
 

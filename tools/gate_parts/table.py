@@ -21,7 +21,8 @@ def steps_of(crates, copy, log, processors, tries_all):
     most = max(1, processors - 1)
     changed = () if tries_all else ("--changed",)
     take = ("tools/prove_below", "--take", log, "--from", copy)
-    proofs = Step("proofs", ("rt", "ci"), 46, folder=copy, width=most, then=take, progress=lambda it: progress(it, len(crates)))
+    proved = {"progress": lambda it: progress(it, len(crates)), "then": take}
+    proofs = Step("proofs", ("rt", "ci"), 46, folder=copy, width=most, program="rattle", **proved)
     wrong = ("tools/wrong_bodies", *changed, "--told", log, "--from", copy, "--jobs", str(processors))
     c = {"after": ("archives",)}
     return [
