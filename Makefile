@@ -31,8 +31,9 @@ all:
 check:
 	tests/plain
 
+# What both stand on is proved side by side.
 prove:
-	tools/run_program --prove blkq
+	tools/run_program --prove blkq gate_races
 	tools/run_program --prove gate_races
 
 install: all

@@ -22,7 +22,7 @@ def steps_of(crates, copy, log, processors, tries_all):
     changed = () if tries_all else ("--changed",)
     take = ("tools/prove_below", "--take", log, "--from", copy)
     proved = {"progress": lambda it: progress(it, len(crates)), "then": take}
-    proofs = Step("proofs", ("rt", "ci"), 46, folder=copy, width=most, program="rattle", **proved)
+    proofs = Step("proofs", ("rt", "ci"), 40, folder=copy, width=most, program="rattle", **proved)
     wrong = ("tools/wrong_bodies", *changed, "--told", log, "--from", copy, "--jobs", str(processors))
     c = {"after": ("archives",)}
     return [
