@@ -16,7 +16,7 @@ sys.dont_write_bytecode = True
 
 from gate import Control, Pass, Race, begun, control_begun, control_step, first_gate, pass_step
 from ref_steps import LinuxRace
-from search import calls_of, moments_from, told_at_ends
+from search import calls_of, line_of, moments_from, told_at_ends
 
 
 class Gates(NamedTuple):
@@ -151,16 +151,11 @@ def moments(race):
     return moments_from(first(race), lambda moment: turns(race, moment))
 
 
-def line_of(name, actor, calls):
-    """What an actor's calls have answered, and what the next one waits for."""
-    waits = [f"waits for {it}"] if (it := wanted(actor, calls)) else []
-    return f"{name} {' / '.join([*actor.told, *waits])}".rstrip()
-
-
 def told(moment, race):
     """What the end tells: a line for each actor, and the figures of each gate."""
     gates, passes, control = moment
-    lines = [line_of(*it) for it in zip(range(len(passes)), passes, race.passes)] + [line_of("c", control, race.control)]
+    actors = (*zip(range(len(passes)), passes, race.passes), ("c", control, race.control))
+    lines = [line_of(name, it.told, wanted(it, calls)) for name, it, calls in actors]
     marks = (("zero" if it.zero else "dead" if it.dead else "live", it.front, it.kills, it.releases) for it in gates)
     return (*lines, *((*it, sum(of.held[at] for of in passes)) for at, it in enumerate(marks)))
 

@@ -3,7 +3,7 @@
 from collections import namedtuple
 
 from gate import MOST_HELD, Race
-from search import moments_from
+from search import line_of, moments_from
 
 MASK, BIAS = 2**64 - 1, 2**63
 
@@ -308,12 +308,6 @@ def moments(race):
     return moments_from(first(race), lambda point: turns(race, point))
 
 
-def line_of(name, place):
-    """What an actor's calls have answered, and what the next one waits for."""
-    waits = [f"waits for {place.stage[-1]}"] if place.stage else []
-    return f"{name} {' / '.join([*place.told, *waits])}".rstrip()
-
-
 def figures(race, point):
     """The mark, no front, the kills that lie behind the start and those that have returned, the releases, and the references held."""
     mark = "zero" if point.ref.count == 0 else "dead" if point.ref.is_dead else "live"
@@ -323,5 +317,6 @@ def figures(race, point):
 
 def told(point, race):
     """What an end tells: a line for each actor, and the figures."""
-    lines = [line_of(at, it) for at, it in enumerate(point.passes)] + [line_of("c", point.control)]
+    actors = (*enumerate(point.passes), ("c", point.control))
+    lines = [line_of(name, it.told, it.stage and it.stage[-1]) for name, it in actors]
     return (*lines, figures(race, point))

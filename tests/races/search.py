@@ -81,16 +81,17 @@ def moments(race):
     return moments_from(first(race), lambda moment: turns(race, moment))
 
 
-def line_of(actor, seat, calls):
-    """What an actor's calls have answered, and what the next one waits for."""
-    waits = [f"waits for {wanted}"] if (wanted := awaited(seat, calls)) else []
-    return f"{actor} {' / '.join([*seat.told, *waits])}".rstrip()
+def line_of(name, told, wanted):
+    """What an actor's calls have answered, and what the next one waits for, if it does."""
+    waits = [f"waits for {wanted}"] if wanted else []
+    return f"{name} {' / '.join([*told, *waits])}".rstrip()
 
 
 def told(moment, race):
     """What the end tells: a line for each actor, and the figures of its gate."""
     gate, seats, seat = moment
-    lines = [line_of(at, it, race.passes[at]) for at, it in enumerate(seats)] + [line_of("c", seat, race.control)]
+    actors = (*zip(range(len(seats)), seats, race.passes), ("c", seat, race.control))
+    lines = [line_of(name, it.told, awaited(it, calls)) for name, it, calls in actors]
     marks = "zero" if gate.zero else "dead" if gate.dead else "live"
     return (*lines, (marks, gate.front, gate.kills, gate.releases, sum(it.held for it in seats)))
 
