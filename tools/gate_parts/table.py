@@ -44,10 +44,9 @@ def steps_of(crates, copy, log, processors, tries_all):
         Step("answers", ("tests/answers",), 3, proved=frozenset(["blkq", "gate_races"]), folders=("rust/target",), **c),
         *of_list(),
         *of_programs(),
-        # The pages of claims, the clauses, and the English of pages, headers and comments, each with the tool that measures it.
+        # The pages of claims, and the clauses, each with its tool.
         Step("claims", ("tests/claims/run",), 1),
         Step("clauses", ("tests/clauses/run",), 1),
-        Step("words", ("tests/words/run",), 1),
         # The erased files of rust/ compared with the sources, and the tool that erases.
         Step("erase", ("tests/erase/run",), 1),
         # The gate's own schedule.
