@@ -2,7 +2,7 @@
 
 import shown
 from chromium import js
-from pictures.schedule import in_order_of, parts_of
+from races_pictures.schedule import in_order_of, parts_of
 from tables import ANSWERED, ROWS, outcomes_in, walked
 
 # Two gates, which differ in slots, words and starts. A pass holds references of both, and each has a release.

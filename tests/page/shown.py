@@ -1,4 +1,4 @@
-"""What the page has to show of a schedule, by tools/pictures: the gates between its steps, and its lanes."""
+"""What the page has to show of a schedule, by tools/races_pictures: the gates between its steps, and its lanes."""
 
 import pathlib
 import re
@@ -7,8 +7,8 @@ import sys
 ROOT = pathlib.Path(__file__).resolve().parents[2]
 sys.path.insert(0, str(ROOT / "tools"))
 
-from pictures import lanes
-from pictures.schedule import Schedule, schedules_in
+from races_pictures import lanes
+from races_pictures.schedule import Schedule, schedules_in
 
 # The rows of the table of the gates, as elements of the page.
 TABLE = "[...find('state').querySelectorAll('tbody tr')]"

@@ -4,7 +4,7 @@ import pathlib
 import re
 
 import shown
-from pictures.schedule import HEAD
+from races_pictures.schedule import HEAD
 
 ROOT = pathlib.Path(__file__).resolve().parents[2]
 # The cells of the table of outcomes, row by row, and the words of its glossary.

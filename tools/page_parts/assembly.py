@@ -8,7 +8,7 @@ import os
 import re
 
 from page_parts.sums import read
-from pictures.svg import FONT, rules
+from races_pictures.svg import FONT, rules
 
 HERE = os.path.dirname(os.path.realpath(__file__))
 EXAMPLES = f"{os.path.dirname(os.path.dirname(HERE))}/examples"

@@ -1,4 +1,4 @@
-// A schedule as lanes: tools/pictures/lanes.py, for the page, with the same elements: one lane for each actor, its steps in order with
+// A schedule as lanes: tools/races_pictures/lanes.py, for the page, with the same elements: one lane for each actor, its steps in order with
 // their replies, shaded where the actor holds references or has a step pending; beside them the words of each gate.
 
 const [SIZE, SMALL] = [13, 12];

@@ -1,5 +1,5 @@
 // A schedule and its answer, compared: of one gate or several by the machine of gate.js, and of Linux's percpu_ref by that of linux.js. It is
-// tools/pictures/schedule.py, for the page.
+// tools/races_pictures/schedule.py, for the page.
 
 // How many numbers follow the words of each step, and the word that the step looks at or changes.
 const PASS_STEPS = {

@@ -1,5 +1,5 @@
 // What is shown of a gate, or of Linux's percpu_ref, between two steps: its words, and what each actor holds and has pending there. It is
-// tools/pictures/states.py, for the page.
+// tools/races_pictures/states.py, for the page.
 
 // A word: its kind, its number among those of its kind, its name, what it holds, the marks that are set in it, and whether there is
 // nothing to be seen in it.

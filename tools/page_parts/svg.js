@@ -1,4 +1,4 @@
-// A page of SVG: tools/pictures/svg.py, for the page, element by element the same. The letters are all of one width, so the width of a
+// A page of SVG: tools/races_pictures/svg.py, for the page, element by element the same. The letters are all of one width, so the width of a
 // text is known from its length. Colours are named by their purpose; the style sheet has them, once for a light page and once for
 // a dark one.
 

@@ -5,7 +5,7 @@ of limits a median and a 99th percentile in microseconds, and the nanoseconds of
 import csv
 import math
 
-from pictures.svg import Page, Wrong, number, width_of
+from races_pictures.svg import Page, Wrong, number, width_of
 
 ROUNDS = ["what", "form", "threads", "least", "middle"]
 CHANGES = ["form", "threads", "median", "99th", "round"]

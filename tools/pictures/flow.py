@@ -3,7 +3,7 @@ of the crates or by plain words; a function that the sources don't have any more
 
 import os
 
-from pictures.svg import Page, Wrong, take_lines, width_of
+from races_pictures.svg import Page, Wrong, take_lines, width_of
 from sources.rattle import Crate
 
 SIZE, SMALL, LEADING = 13, 12, 16

@@ -1,7 +1,7 @@
 """A freeze in time: requests on their lanes under the old limits and under the new, and what the freezer does below them. The table
 says when each request enters and leaves; when the queue is drained follows from these, and a picture of what can't be is refused."""
 
-from pictures.svg import Page, Wrong, take_lines, width_of
+from races_pictures.svg import Page, Wrong, take_lines, width_of
 
 SIZE, SMALL = 13, 12
 EDGE, NAMES, WIDE, RIGHT = 16, 92, 660, 20

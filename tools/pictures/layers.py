@@ -3,7 +3,7 @@ to what a crate depends on; it is left out if another crate between the two lead
 
 from itertools import groupby
 
-from pictures.svg import Page, Wrong, width_of
+from races_pictures.svg import Page, Wrong, width_of
 from sources.crates import lines_in
 
 SIZE, SMALL = 13, 12

@@ -3,8 +3,8 @@ machine of gate.py."""
 
 import copy
 
-from pictures.gate import PHASES, Gate, Stuck
-from pictures.svg import Page, Wrong, width_of
+from races_pictures.gate import PHASES, Gate, Stuck
+from races_pictures.svg import Page, Wrong, width_of
 
 # The events of docs/GATE.md, by the words of a schedule's control.
 EVENTS = {

@@ -3,7 +3,7 @@ crates/percpu_gate/specs, and which steps change it from the tables of docs/GATE
 
 import re
 
-from pictures.svg import Page, Wrong, width_of
+from races_pictures.svg import Page, Wrong, width_of
 
 SIZE, SMALL = 13, 12
 EDGE, TOP, CELL, HIGH, ROW, TEXT = 16, 62, 17, 30, 76, 402

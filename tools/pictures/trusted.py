@@ -4,7 +4,7 @@ a file or a folder which is gone is refused, and a text that leaves its box."""
 import os
 import re
 
-from pictures.svg import Page, Wrong, take_lines, width_of
+from races_pictures.svg import Page, Wrong, take_lines, width_of
 
 SIZE, SMALL, LEADING = 14, 13, 18
 EDGE, TOP, PAD, GAP = 16, 66, 12, 14

@@ -5,10 +5,10 @@ import re
 from itertools import takewhile
 from math import inf
 
-from pictures.gate import Gate, Stuck
-from pictures.linux import PercpuRef
-from pictures.states import GateState
-from pictures.svg import Wrong
+from races_pictures.gate import Gate, Stuck
+from races_pictures.linux import PercpuRef
+from races_pictures.states import GateState
+from races_pictures.svg import Wrong
 
 # The words of each step, and how many numbers follow; those that only look, and the word that each looks at or changes.
 PASS_STEPS = {

@@ -3,9 +3,9 @@ them the words of each gate, with what they hold between the steps. The release 
 
 import re
 
-from pictures.gate import BIAS
-from pictures.states import bias_told
-from pictures.svg import Page, width_of
+from races_pictures.gate import BIAS
+from races_pictures.states import bias_told
+from races_pictures.svg import Page, width_of
 
 SIZE, SMALL = 13, 12
 ROW, BOX = 44, 26

@@ -3,9 +3,9 @@ after another, and what each step replies. It is written from these pages alone,
 
 from typing import NamedTuple
 
-from pictures.gate import ROOM, needs
-from pictures.states import RefState
-from pictures.svg import Wrong
+from races_pictures.gate import ROOM, needs
+from races_pictures.states import RefState
+from races_pictures.svg import Wrong
 
 FLAGS, COUNT, SWITCH = ("flags", None), ("count", None), ("switch", None)
 # What a call is answered that counts, and neither finds zero nor leaves it; and the words that an `await` looks at.

@@ -2,7 +2,7 @@
 
 from typing import NamedTuple
 
-from pictures.gate import BIAS
+from races_pictures.gate import BIAS
 
 
 class Word(NamedTuple):
