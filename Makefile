@@ -1,5 +1,5 @@
 # Installs the programs blkq and gate_races, and their pages blkq(1), gate_races(1) and blkq(5), of which the last is made of
-# docs/FORMATS.md; and apart from them the libraries for C, each of which its crate's Makefile installs too.
+# docs/FORMATS.md; and apart from them the libraries for C, by c/Makefile.
 #
 #   make                               builds the programs by cargo, if there is no proved build of this tree: some 15 s
 #   make check                         everything but the proofs, without the Rattle kit
@@ -18,11 +18,7 @@ AWK ?= awk
 CARGO ?= cargo
 DEB ?= out/deb
 AT = $(DESTDIR)$(PREFIX)
-# Which build of the libraries for C: tools/c_library/library.mk has them all.
 RELEASE ?= out/release
-BUILD ?= $(shell tools/c_library/which_build freeze_queue_c $(abspath $(RELEASE)))
-THE_BUILD = $(if $(filter erased,$(BUILD)),the erased build: plain Rust$(COMMA) by cargo,$(if $(filter released,$(BUILD)),the proved build of $(RELEASE),the proved build))
-COMMA = ,
 
 all:
 	./blkq run <examples/first.blkq >/dev/null
@@ -54,9 +50,7 @@ install-programs:
 	@echo "installed: $(PROGRAMS)"
 
 install-c:
-	$(MAKE) -C crates/percpu_gate_c install PREFIX=$(PREFIX) BUILD=$(BUILD)
-	$(MAKE) -C crates/freeze_queue_c install PREFIX=$(PREFIX) BUILD=$(BUILD)
-	@echo "installed: libpercpu_gate and libfreeze_queue, $(THE_BUILD)"
+	$(MAKE) -C c install PREFIX=$(PREFIX) RELEASE=$(abspath $(RELEASE))
 
 install-nbd:
 	$(MAKE) -C services/nbd install PREFIX=$(PREFIX)

@@ -94,8 +94,7 @@ class Builder:
         if self.prefix:
             include, archive = f"{self.prefix}/include", f"{self.prefix}/lib/lib{library}.a"
         else:
-            crate = f"{ROOT}/crates/{library}_c"
-            include, archive = f"{crate}/include", f"{crate}/out/c/lib{library}.a"
+            include, archive = f"{ROOT}/c/include", f"{ROOT}/c/out/proved/lib{library}.a"
         if not os.path.isfile(archive):
             raise CannotBuild(f"there is no {archive}: make install-c builds it, and --prefix says where it is installed")
         run([self.compiler, *OF_OURS, f"-I{include}", os.path.join(C, f"{kind}_ours.c"), archive, "-o", out])

@@ -11,7 +11,7 @@ ARCHIVES = ("percpu_gate_c", "freeze_queue_c")
 # find all in place.
 MAKE_ARCHIVES = f"""tools/prove_below --with {' '.join(ARCHIVES)} &&
 if command -v make && command -v cc && command -v objcopy; then
-    {' && '.join(f'make -s -C crates/{it}' for it in ARCHIVES)}
+    make -s -C c
 fi"""
 
 

@@ -11,7 +11,7 @@ from release_parts.provenance import LIBRARIES, PROGRAMS
 
 SECONDS = 900
 # The C callers that answer a row of calls, with the library that each is linked to.
-CALLERS = {"gate": ("tests/c/calls.c", "percpu_gate"), "queue": ("tests/c/queue/calls.c", "freeze_queue")}
+CALLERS = {"gate": ("c/tests/calls.c", "percpu_gate"), "queue": ("c/tests/queue/calls.c", "freeze_queue")}
 # Seen in the answers of ten thousand inputs: what a comparison that says little would lack.
 SEEN = {
     "script": (b" ok ", b"disk", b"line "),
@@ -46,7 +46,7 @@ class Callers:
         self.commands["race"] = [build.programs["gate_races"]]
         for kind, (source, library) in CALLERS.items():
             to = f"{folder}/{kind}"
-            words = ["cc", "-std=c11", "-O2", f"-I{ROOT}/crates/{library}_c/include", f"{ROOT}/{source}", build.archives[library]]
+            words = ["cc", "-std=c11", "-O2", f"-I{ROOT}/c/include", f"{ROOT}/{source}", build.archives[library]]
             subprocess.run([*words, "-pthread", "-o", to], check=True)
             self.commands[kind] = [to]
 

@@ -67,10 +67,10 @@ def put_x86(root, into, part):
 
 def put_aarch64(root, into):
     os.makedirs(f"{into}/aarch64-linux/lib")
+    make = ["make", "-s", "-C", "c", "BUILD=proved", f"TARGET={AARCH64}"]
+    ran(make, root)
+    folder = ran([*make, "folder"], root).strip()
     for name in LIBRARIES:
-        make = ["make", "-s", "-C", f"crates/{name}_c", "BUILD=proved", f"TARGET={AARCH64}"]
-        ran(make, root)
-        folder = ran([*make, "folder"], root).strip()
         for file in (f"lib{name}.a", f"lib{name}.so.2"):
             shutil.copy(f"{folder}/{file}", f"{into}/aarch64-linux/lib/{file}")
 

@@ -18,7 +18,7 @@ PROGRAMS = ("blkq", "gate_races")
 # What a check may be of, beside the whole release.
 PARTS = ("libraries",)
 # What the libraries for C are made with, beside their crates.
-C_PARTS = "tools/c_library"
+C_PARTS = "c"
 # Each program that writes bytes of a release beside the kit: Debian's package of it, and the words that ask its version.
 TOOLS = {
     "cc": ("gcc", "cc --version"),
@@ -75,9 +75,9 @@ def sources_here(root, part=None):
     known, found = crates_by_name(root), {}
     for name, _ in builds(part).values():
         for crate in [*known[name].below(), known[name]]:
-            parts = ("src", "specs", "proofs", "include", "library", "Makefile")
+            parts = ("src", "specs", "proofs")
             found[crate.name] = sum_of_folder(crate.folder, [it for it in parts if os.path.exists(f"{crate.folder}/{it}")])
-    found[C_PARTS] = sum_of_folder(os.path.join(root, C_PARTS))
+    found[C_PARTS] = sum_of_folder(os.path.join(root, C_PARTS), ("Makefile", "include", "src", "install"))
     return found
 
 

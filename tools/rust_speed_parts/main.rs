@@ -1,5 +1,5 @@
 //! Times rounds of the gate and of the queue and changes of the queue's limits from Rust, beside other guards of the same
-//! limits. `speed THREADS ROUNDS CHANGES` prints the lines that tests/c/speed.c and tests/c/queue/speed.c print:
+//! limits. `speed THREADS ROUNDS CHANGES` prints the lines that c/tests/speed.c and c/tests/queue/speed.c print:
 //! `gate,FORM,THREADS,NANOSECONDS` and `queue,FORM,THREADS,NANOSECONDS` for a round by the clock, and
 //! `change,FORM,THREADS,MEDIAN,NINETY_NINTH,NANOSECONDS` for the microseconds of a change under load, with a pause of 100
 //! microseconds before each, and the nanoseconds of a round meanwhile.

@@ -1,5 +1,5 @@
 //! A life through the exports, and each misuse. What the program does with C's threads, sanitizers and a failing
-//! `malloc` is tested by tests/c.
+//! `malloc` is tested by c/tests.
 mod amounts;
 mod ends;
 mod freed;

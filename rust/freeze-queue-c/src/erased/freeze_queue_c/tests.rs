@@ -1,6 +1,6 @@
 // Erased from crates/freeze_queue_c/src/tests.rt by tools/erase: edit that file.
 //! A life through the exports, and each misuse. What the program does with C's threads, sanitizers and a failing
-//! `malloc` is tested by tests/c.
+//! `malloc` is tested by c/tests.
 
 mod ends;
 mod freed;

@@ -1,6 +1,6 @@
 // Erased from crates/percpu_gate_c/src/tests.rt by tools/erase: edit that file.
 //! A life through the exports, and each misuse. What the program does with C's threads, sanitizers and a failing
-//! `malloc` is tested by tests/c.
+//! `malloc` is tested by c/tests.
 
 mod amounts;
 mod ends;
