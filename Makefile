@@ -50,7 +50,7 @@ install-programs:
 	@echo "installed: $(PROGRAMS)"
 
 install-c:
-	$(MAKE) -C c install PREFIX=$(PREFIX) RELEASE=$(abspath $(RELEASE))
+	$(MAKE) --no-print-directory -C c install PREFIX=$(PREFIX) RELEASE=$(abspath $(RELEASE))
 
 install-nbd:
 	$(MAKE) -C services/nbd install PREFIX=$(PREFIX)
