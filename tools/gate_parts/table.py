@@ -44,9 +44,8 @@ def steps_of(crates, copy, log, processors, tries_all):
         Step("answers", ("tests/answers",), 3, proved=frozenset(["blkq", "gate_races"]), folders=("rust/target",), **c),
         *of_list(),
         *of_programs(),
-        # The pages of claims, and the clauses, each with its tool.
-        Step("claims", ("tests/claims/run",), 1),
-        Step("clauses", ("tests/clauses/run",), 1),
+        # The contracts: how long a clause is, and what a layer carries of the layer below.
+        Step("contracts", ("tests/contracts",), 1),
         # The erased files of rust/ compared with the sources, and the tool that erases.
         Step("erase", ("tests/erase/run",), 1),
         # The gate's own schedule.
