@@ -42,6 +42,15 @@ fn on_slot_of_thread(queue: &Shared, mut tag: Body) -> Tag {
     Tag::of(tag)
 }
 
+/// A tag that is home, on the slot of this thread. None only if at one moment of the call no tag was home.
+#[inline]
+pub(crate) fn tag_at_once(queue: &Shared) -> Option<Tag> {
+    match queue.try_any() {
+        Some(tag) => Some(Tag::of(tag)),
+        None => queue.under_lock().map(|tag| on_slot_of_thread(queue, tag)),
+    }
+}
+
 /// The thread waits in line until it has a tag, or until the deadline.
 #[cold]
 pub(crate) fn wait_for_tag(queue: &Shared, deadline: Option<Instant>) -> Result<Tag, EnterAnyTimeoutError> {
@@ -52,20 +61,24 @@ pub(crate) fn wait_for_tag(queue: &Shared, deadline: Option<Instant>) -> Result<
         Ok(Joined::Waits(number)) => number,
         Err((why, _)) => return Err(why.into()),
     };
-    loop {
+    let waited = loop {
         drop(held);
         let in_time = park(deadline);
         held = queue.waits.lock();
         match held.line.look(number, &mut None) {
-            Turn::Has(tag) => return Ok(on_slot_of_thread(queue, tag)),
-            Turn::SentAway => return Err(EnterAnyError::Dying.into()),
+            Turn::Has(tag) => break Ok(on_slot_of_thread(queue, tag)),
+            Turn::SentAway => break Err(EnterAnyError::Dying.into()),
             Turn::Waits if in_time => {}
             Turn::Waits => {
                 held.line.go(number);
-                return Err(EnterAnyTimeoutError::TimedOut);
+                break Err(EnterAnyTimeoutError::TimedOut);
             }
         }
-    }
+    };
+    drop(held);
+    // The wait may have used up the thread's token, which was perhaps somebody else's: an executor's, that parks its thread.
+    sync::current().unpark();
+    waited
 }
 
 /// Sleeps until the thread is woken, perhaps for nothing; whether that was before the deadline.

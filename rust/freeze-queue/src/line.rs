@@ -35,8 +35,11 @@ pub(crate) enum Turn {
 
 #[derive(Default)]
 pub(crate) struct Line {
-    /// By their numbers, which only grow.
-    waiting: VecDeque<(u64, Notify)>,
+    /// By their numbers, which only grow. A waiter that left keeps its place, empty, until it is the first, or until half of the places
+    /// are empty: so leaving takes no walk along the line.
+    waiting: VecDeque<(u64, Option<Notify>)>,
+    /// How many of these places are empty.
+    left: usize,
     last: u64,
     /// Tags that were handed over and not fetched yet, with room for all of the queue.
     handed: Vec<(u64, Body)>,
@@ -51,7 +54,7 @@ impl Line {
     }
 
     pub(crate) fn is_empty(&self) -> bool {
-        self.waiting.is_empty()
+        self.waiting.len() == self.left
     }
 
     /// One more at the end: its number. If memory is refused it comes back.
@@ -60,19 +63,22 @@ impl Line {
             return Err(notify);
         }
         self.last += 1;
-        self.waiting.push_back((self.last, notify));
+        self.waiting.push_back((self.last, Some(notify)));
         Ok(self.last)
     }
 
     /// Hands a tag to the first, if there is one: how it is woken. Else the tag comes back.
     pub(crate) fn hand(&mut self, tag: Body) -> Result<Notify, Body> {
-        match self.waiting.pop_front() {
-            Some((number, notify)) => {
-                self.handed.push((number, tag)); // there is room: it is one of the queue's
-                Ok(notify)
+        while let Some((number, notify)) = self.waiting.pop_front() {
+            match notify {
+                Some(notify) => {
+                    self.handed.push((number, tag)); // there is room: it is one of the queue's
+                    return Ok(notify);
+                }
+                None => self.left -= 1,
             }
-            None => Err(tag),
         }
+        Err(tag)
     }
 
     /// The state that the waiter of this number sees. If it waits, this waker wakes it from now on, and the call returns the old one.
@@ -81,13 +87,13 @@ impl Line {
             return Turn::Has(self.handed.swap_remove(at).1);
         }
         match self.place_of(number) {
-            Some(at) => {
-                if let (Notify::Task(noted), Some(waker)) = (&mut self.waiting[at].1, waker) {
+            Some(Some(notify)) => {
+                if let (Notify::Task(noted), Some(waker)) = (notify, waker) {
                     mem::swap(noted, waker);
                 }
                 Turn::Waits
             }
-            None => Turn::SentAway,
+            Some(None) | None => Turn::SentAway,
         }
     }
 
@@ -96,24 +102,68 @@ impl Line {
         match self.look(number, &mut None) {
             Turn::Has(tag) => (Some(tag), None),
             Turn::Waits => {
-                let at = self.place_of(number).and_then(|at| self.waiting.remove(at));
-                (None, at.map(|(_, notify)| notify))
+                let notify = self.place_of(number).and_then(Option::take);
+                self.left += 1;
+                if self.left > self.waiting.len() / 2 {
+                    self.waiting.retain(|(_, notify)| notify.is_some());
+                    self.left = 0;
+                }
+                (None, notify)
             }
             Turn::SentAway => (None, None),
         }
     }
 
-    fn place_of(&self, number: u64) -> Option<usize> {
-        self.waiting.binary_search_by_key(&number, |(of, _)| *of).ok()
+    /// The place of the waiter of this number, unless it is gone.
+    fn place_of(&mut self, number: u64) -> Option<&mut Option<Notify>> {
+        let at = self.waiting.binary_search_by_key(&number, |(of, _)| *of).ok()?;
+        Some(&mut self.waiting[at].1)
     }
 
-    /// Sends all away that wait.
-    pub(crate) fn send_away(&mut self) -> VecDeque<(u64, Notify)> {
-        mem::take(&mut self.waiting)
+    /// Sends all away that wait: how each is woken.
+    pub(crate) fn send_away(&mut self) -> impl Iterator<Item = Notify> + use<> {
+        self.left = 0;
+        mem::take(&mut self.waiting).into_iter().filter_map(|(_, notify)| notify)
     }
 
     /// The tags that were handed to somebody that was forgotten.
     pub(crate) fn take_handed(&mut self) -> Vec<(u64, Body)> {
         mem::take(&mut self.handed)
+    }
+}
+
+#[cfg(test)]
+mod tests {
+    use super::*;
+    use std::task::Waker;
+
+    fn joined(line: &mut Line) -> u64 {
+        line.join(Notify::Task(Waker::noop().clone())).unwrap_or_else(|_| panic!("there is memory"))
+    }
+
+    #[test]
+    fn those_that_left_take_no_room() {
+        let mut line = Line::default();
+        joined(&mut line);
+        for _ in 0..10_000 {
+            let number = joined(&mut line);
+            assert!(matches!(line.go(number), (None, Some(_))));
+            assert!(line.waiting.len() <= 4 && !line.is_empty());
+        }
+    }
+
+    #[test]
+    fn those_that_stay_are_found_between_those_that_left() {
+        let mut line = Line::default();
+        let all: Vec<u64> = (0..100).map(|_| joined(&mut line)).collect();
+        for number in all.iter().filter(|number| **number % 3 != 0) {
+            assert!(matches!(line.go(*number), (None, Some(_))));
+            assert!(matches!(line.go(*number), (None, None)));
+        }
+        for number in &all {
+            assert_eq!(matches!(line.look(*number, &mut None), Turn::Waits), number % 3 == 0);
+        }
+        assert_eq!(line.send_away().count(), 33);
+        assert!(line.is_empty());
     }
 }

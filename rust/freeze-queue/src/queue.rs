@@ -8,7 +8,7 @@ use crate::in_flight::{InFlight, Watch};
 use crate::limits::Limits;
 use crate::line::Line;
 use crate::outcomes::Final;
-use crate::places::Places;
+use crate::places::{Place, Places};
 use crate::seats::Seats;
 use crate::shared::{Share, Shared};
 use crate::sync::{MOST_PATIENCE, sleep};
@@ -131,7 +131,7 @@ impl Queue {
     ///
     /// # Errors
     ///
-    /// [`NextTagError::NoSlot`] or [`NextTagError::NoTag`].
+    /// [`NextTagError::NoSlot`]; or [`NextTagError::NoTag`], if at one moment of the call no tag was free.
     ///
     /// # Examples
     ///
@@ -148,7 +148,7 @@ impl Queue {
         if slot >= self.shared.erased.slots() {
             return Err(NextTagError::NoSlot);
         }
-        let mut tag = self.shared.places.find().ok_or(NextTagError::NoTag)?;
+        let mut tag = self.shared.try_tag().ok_or(NextTagError::NoTag)?;
         tag.state.slot = slot;
         Ok(Tag::of(tag))
     }
@@ -235,12 +235,12 @@ impl Queue {
         if held.shares > 0 {
             return Err(RemoveError::FreezeOut);
         }
-        if !places.iter().all(|place| place.is_home()) {
+        if !places.iter().all(Place::is_home) {
             return Err(RemoveError::TagsOut);
         }
         held.freeze_to_end(&shared.erased)?;
         held.is_closed = true;
-        for tag in places.iter().filter_map(|place| place.take_or_ask()) {
+        for tag in places.iter().filter_map(Place::take_or_ask) {
             held.take_back(tag.end());
         }
         Ok(())
@@ -366,7 +366,7 @@ impl Queue {
     /// # Ok::<(), Box<dyn std::error::Error>>(())
     /// ```
     pub fn in_flight(&self) -> impl Iterator<Item = InFlight> {
-        self.shared.places.all().iter().filter_map(|place| place.in_flight())
+        self.shared.places.all().iter().filter_map(Place::in_flight)
     }
 
     /// Its number, from 1 on, which no other queue has.

@@ -10,7 +10,7 @@ use crate::places::Places;
 use crate::seats::{Wakers, wake_each};
 use crate::threads;
 use crate::waits::{Held, Seen, Waits};
-use std::collections::VecDeque;
+use std::iter;
 use std::mem;
 use std::num::NonZeroU64;
 use std::ops::Deref;
@@ -242,6 +242,18 @@ impl Shared {
         Some(tag)
     }
 
+    /// A tag that is home, for a caller that keeps it. None only if at one moment of the call no tag was home.
+    pub(crate) fn try_tag(&self) -> Option<Body> {
+        self.places.try_take(0).map(|(_, tag)| tag).or_else(|| self.under_lock())
+    }
+
+    /// A tag that is home, looked for under the lock. None only if at one moment of the call no tag was home.
+    #[cold]
+    pub(crate) fn under_lock(&self) -> Option<Body> {
+        let _held = self.waits.lock(); // so none comes home behind the look
+        self.places.take_or_ask()
+    }
+
     /// The slot of a thread, by its number.
     #[inline]
     pub(crate) fn slot_of(&self, thread: u32) -> u32 {
@@ -282,7 +294,7 @@ impl Share<'_> {
     /// Ends a freeze, and wakes those that wait to enter if it was the last.
     pub(crate) fn thaw(self) {
         let wakers = self.waits.thaw(&self.erased, self.shares());
-        self.wake(VecDeque::new(), wakers);
+        self.wake(iter::empty(), wakers);
     }
 
     /// Notes that a freeze is never thawed, and sends those away that wait to enter, or for a tag.
@@ -292,14 +304,14 @@ impl Share<'_> {
     }
 
     /// Wakes these, and the futures of later seats. The share is over before the last futures are woken, one of which may remove the queue.
-    fn wake(self, line: VecDeque<(u64, Notify)>, wakers: Wakers) {
+    fn wake(self, line: impl Iterator<Item = Notify>, wakers: Wakers) {
         let mut share = (!wakers.are_last()).then_some(self); // else it is over here
         let later = |next| {
             let wakers = share.as_ref().map_or_else(Wakers::none, |it| it.waits.later_wakers(next, it.shares()));
             share = share.take().filter(|_| !wakers.are_last());
             wakers
         };
-        wake_each(line.into_iter().map(|(_, one)| one).chain(wakers.and_then(later)));
+        wake_each(line.chain(wakers.and_then(later)));
     }
 }
 

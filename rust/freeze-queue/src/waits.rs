@@ -14,7 +14,6 @@ use crate::patience::Patience;
 use crate::places::Place;
 use crate::seats::{Seats, Wakers, wake_each};
 use crate::sync::{Condvar, MOST_PATIENCE};
-use std::collections::VecDeque;
 use std::mem;
 use std::sync::atomic::{AtomicBool, Ordering::Relaxed};
 use std::task::Waker;
@@ -211,7 +210,7 @@ impl Waits {
     }
 
     /// Notes that the freeze of the caller is never thawed, and sends those away that wait to enter, or for a tag. The caller wakes these.
-    pub(crate) fn mark_dying(&self, shares: u32) -> (VecDeque<(u64, Notify)>, Wakers) {
+    pub(crate) fn mark_dying(&self, shares: u32) -> (impl Iterator<Item = Notify> + use<>, Wakers) {
         let mut held = self.lock();
         held.is_dying = true;
         let sent_away = held.line.send_away();
@@ -261,14 +260,14 @@ impl Waits {
     }
 
     /// The queue was dropped: each tag that is home ends, and any other as it comes home.
-    pub(crate) fn close(&self, places: &[&'static Place]) {
+    pub(crate) fn close(&self, places: &'static [Place]) {
         let mut held = self.lock();
         if mem::replace(&mut held.is_closed, true) {
             return;
         }
         let (handed, sent_away) = (held.line.take_handed(), held.line.send_away());
         drop(held);
-        let homes = places.iter().filter_map(|place| place.take_or_ask());
+        let homes = places.iter().filter_map(Place::take_or_ask);
         for tag in homes.chain(handed.into_iter().map(|(_, tag)| tag)) {
             tag.end();
         }

@@ -174,7 +174,7 @@ fn a_forgotten_request_is_listed() {
     assert_eq!(only(&queue), noted);
 }
 
-/// A queue that takes the places of one that ended lists nothing of it.
+/// A queue that is made after others ended lists nothing of theirs.
 #[test]
 fn the_next_queue_lists_its_own() {
     for _ in 0..10 {

@@ -59,6 +59,43 @@ fn in_order_of_arrival() {
     remove(queue);
 }
 
+/// With a tag at home at every moment, no try finds none.
+#[test]
+fn a_tag_that_is_home_is_found() {
+    let queue = queue(3);
+    let tries = number_of("TRIES", 20_000);
+    thread::scope(|threads| {
+        for _ in 0..2 {
+            threads.spawn(|| {
+                for _ in 0..tries {
+                    drop(queue.try_enter_any().expect("the other thread has one of three tags at most"));
+                    drop(queue.next_tag(0).expect("the same"));
+                }
+            });
+        }
+    });
+    remove(queue);
+}
+
+/// A thread that parks for somebody else, as an executor does, finds its token after a wait for a tag.
+#[test]
+fn a_wait_leaves_the_threads_token() {
+    let (queue, request) = whose_tag_is_out();
+    ends(move || {
+        thread::current().unpark();
+        assert_eq!(queue.enter_any_timeout(Duration::from_millis(1)).unwrap_err(), EnterAnyTimeoutError::TimedOut);
+        thread::park(); // returns at once
+        thread::current().unpark();
+        thread::scope(|threads| {
+            let leaves = threads.spawn(move || drop(request));
+            let other = queue.enter_any().unwrap();
+            leaves.join().unwrap();
+            drop(other);
+        });
+        thread::park();
+    });
+}
+
 /// One that leaves the line takes nobody's turn, and passes a tag on that it was handed.
 #[test]
 fn one_is_cancelled_in_line() {

@@ -12,7 +12,7 @@ use std::future::Future;
 use std::mem;
 use std::pin::pin;
 use std::ptr;
-use std::sync::{Arc, Mutex, MutexGuard, PoisonError};
+use std::sync::Arc;
 use std::task::{Context, Poll, Waker};
 use std::time::Duration;
 
@@ -68,27 +68,18 @@ fn after<T>(allowed: u64, call: impl FnOnce() -> T) -> T {
     answer
 }
 
-/// The test has the store of places to itself, which has some for each tag that it uses: they are kept for the queues to come.
-fn with_places() -> MutexGuard<'static, ()> {
-    static ONE: Mutex<()> = Mutex::new(());
-    let one = ONE.lock().unwrap_or_else(PoisonError::into_inner);
-    drop(Queue::new(LIMITS, 1, 1023).unwrap());
-    one
-}
-
 fn end(queue: Queue, tag: Tag) {
     queue.give_back(tag).unwrap();
     assert_eq!(queue.remove().unwrap().limits, LIMITS);
 }
 
-/// The bytes of a queue are those of rust/README.md, beside its tags' places, which are kept.
+/// The bytes of a queue are those of rust/README.md.
 #[test]
 fn a_queue_has_the_bytes_of_the_page() {
-    let _one = with_places();
     for (slots, tags) in [(1, 1), (512, 1), (1, 1_023), (512, 1_023)] {
         let before = BYTES.get();
         let queue = Queue::new(LIMITS, slots, tags).unwrap();
-        let rest = BYTES.get() - before - 128 * i64::from(slots) - 200 * i64::from(tags);
+        let rest = BYTES.get() - before - 128 * i64::from(slots) - 448 * i64::from(tags);
         assert!((1_400..1_700).contains(&rest), "{rest} bytes beside {slots} slots and {tags} tags");
         queue.remove().unwrap();
     }
@@ -97,7 +88,6 @@ fn a_queue_has_the_bytes_of_the_page() {
 /// Each allocation but the last, the `Arc` that the queue and its tags share: stable Rust can't refuse it.
 #[test]
 fn each_allocation_refused() {
-    let _one = with_places();
     let new = || Queue::new(LIMITS, 512, 2);
     let (asked, blocks) = (ASKED.get(), BLOCKS.get());
     let queue = new().unwrap();
@@ -118,7 +108,6 @@ fn each_allocation_refused() {
 /// No call but `Queue::new` asks for memory: neither those that wait, nor a future that does, nor the end.
 #[test]
 fn the_rest_needs_no_memory() {
-    let _one = with_places();
     let blocks = BLOCKS.get();
     let queue = Queue::new(LIMITS, 4, 3).unwrap();
     let (mut tag, mut other) = (queue.next_tag(3).unwrap(), queue.next_tag(0).unwrap());
@@ -149,10 +138,9 @@ fn the_rest_needs_no_memory() {
 }
 
 /// A queue takes 128 bytes for each slot, and the same for each tag as for any other, whatever the greatest queue takes: counts lie in lines of their
-/// own. (The places of its tags are in the store.)
+/// own.
 #[test]
 fn memory_grows_by_what_is_asked_for() {
-    let _one = with_places();
     let taken = |slots, tags| {
         let before = BYTES.get();
         let queue = Queue::new(LIMITS, slots, tags).unwrap();
@@ -169,39 +157,25 @@ fn memory_grows_by_what_is_asked_for() {
     }
 }
 
-/// The memory of places is refused, where the store has too few: nothing is lost, and the store has what was made.
+/// Queues that ended leave nothing behind, however many there were at once.
 #[test]
-fn the_memory_of_places_is_refused() {
-    let _one = with_places();
-    let new = || Queue::new(LIMITS, 1, 1023);
-    let asked = ASKED.get();
-    drop(new().unwrap());
-    let (usual, mut all) = (ASKED.get() - asked, vec![]);
-    let most = loop {
-        let asked = ASKED.get();
-        all.push(new().unwrap());
-        let asked = ASKED.get() - asked;
-        if asked > usual {
-            break asked;
+fn ended_queues_leave_nothing() {
+    let (bytes, blocks) = (BYTES.get(), BLOCKS.get());
+    let all: Vec<Queue> = (0..100).map(|_| Queue::new(LIMITS, 4, 64).unwrap()).collect();
+    for (number, queue) in all.into_iter().enumerate() {
+        if number % 2 == 0 {
+            drop(queue);
+        } else {
+            queue.remove().unwrap();
         }
-    };
-    let refused = (0..most - 1).filter(|allowed| {
-        let made = after(*allowed, new);
-        assert!(made.as_ref().err().is_none_or(|why| *why == NewError::NoMemory));
-        made.is_err()
-    });
-    assert_eq!(refused.count() as u64, most - 1);
-    drop(all);
-    let (asked, blocks) = (ASKED.get(), BLOCKS.get());
-    drop(new().unwrap());
-    assert_eq!((ASKED.get() - asked, BLOCKS.get()), (usual, blocks));
+    }
+    assert_eq!((BYTES.get(), BLOCKS.get()), (bytes, blocks));
 }
 
 /// The forms with a tag of their own and freezes need no memory either; the line does, and says so, and a future that waits for
 /// the drain does without.
 #[test]
 fn memory_of_what_waits() {
-    let _one = with_places();
     let blocks = BLOCKS.get();
     let queue = Queue::new(LIMITS, 4, 2).unwrap();
     let mut context = Context::from_waker(Waker::noop());
@@ -230,7 +204,6 @@ fn memory_of_what_waits() {
 /// A future of the drain whose waker can't be noted wakes itself, and so looks again.
 #[test]
 fn a_drain_is_waited_for_without_memory() {
-    let _one = with_places();
     let queue = Queue::new(LIMITS, 1, 1).unwrap();
     let request = queue.enter_any().unwrap();
     let woken = Arc::new(Woken::default());
@@ -251,7 +224,6 @@ fn a_drain_is_waited_for_without_memory() {
 /// a share of the queue that a request has.
 #[test]
 fn what_is_dropped_is_freed() {
-    let _one = with_places();
     let blocks = BLOCKS.get();
     let queue = Queue::new(LIMITS, 4, 4).unwrap();
     let (mut tag, other) = (queue.next_tag(3).unwrap(), queue.next_tag(0).unwrap());
@@ -265,22 +237,17 @@ fn what_is_dropped_is_freed() {
     drop(request.leave());
     assert_ne!(BLOCKS.get(), blocks, "a freeze has a share");
     drop(freezing);
-    assert_eq!(BLOCKS.get(), blocks);
-    drop(Queue::new(LIMITS, 1, 1023).unwrap()); // the place of a forgotten request goes to no other queue
+    assert_eq!(BLOCKS.get(), blocks + 1, "the places, of which a forgotten request has one");
 }
 
-/// The place of a tag that ends its queue goes to the next one.
+/// A tag that is out when its queue is dropped frees it as it is dropped itself.
 #[test]
-fn the_last_tag_gives_its_place_back() {
-    let _one = with_places();
-    let new = || Queue::new(LIMITS, 1, 1023).unwrap();
-    let asked = ASKED.get();
-    let queue = new();
-    let usual = ASKED.get() - asked;
+fn the_last_tag_frees_its_queue() {
+    let blocks = BLOCKS.get();
+    let queue = Queue::new(LIMITS, 1, 1023).unwrap();
     let tag = queue.next_tag(0).unwrap();
     drop(queue);
+    assert_ne!(BLOCKS.get(), blocks);
     drop(tag);
-    let asked = ASKED.get();
-    drop(new());
-    assert_eq!(ASKED.get() - asked, usual);
+    assert_eq!(BLOCKS.get(), blocks);
 }

@@ -97,8 +97,8 @@ impl Queue {
     /// # Ok::<(), Box<dyn std::error::Error>>(())
     /// ```
     pub fn try_enter_any(&self) -> Result<OwnedEntered, TryEnterAnyError> {
-        let tag = self.shared().try_any().ok_or(TryEnterAnyError::NoTag)?;
-        self.try_enter_owned(Tag::of(tag)).map_err(|refused| match refused.reason {
+        let tag = enter_any::tag_at_once(self.shared()).ok_or(TryEnterAnyError::NoTag)?;
+        self.try_enter_owned(tag).map_err(|refused| match refused.reason {
             TryEnterError::Dying => TryEnterAnyError::Dying,
             _ => TryEnterAnyError::Frozen, // a free tag is this queue's, and hasn't entered
         })
