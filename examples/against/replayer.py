@@ -1,7 +1,7 @@
 #!/usr/bin/env python3
 """A gate's replayer: reads a schedule from standard input, takes its steps on a gate, and writes their replies.
 
-The gate is the machine of tools/races_pictures/gate.py. Who has a gate of his own puts it in the place of `Gate`: one call for
+The gate is the machine of tests/machines/gate.py. Who has a gate of his own puts it in the place of `Gate`: one call for
 each step, which answers the reply, or says why the step isn't enabled and leaves the gate as it was.
 """
 
@@ -9,10 +9,10 @@ import os
 import re
 import sys
 
-sys.path.insert(0, os.path.join(os.path.dirname(os.path.realpath(__file__)), "..", "..", "tools"))
+sys.path.insert(0, os.path.join(os.path.dirname(os.path.realpath(__file__)), "..", "..", "tests"))
 
 from lines import Fault, Text
-from races_pictures.gate import Gate, Stuck
+from machines.gate import Gate, Stuck
 
 AMOUNT = (0, 65_535)
 INDEX = (0, 0xFFFF_FFFF)

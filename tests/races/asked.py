@@ -2,9 +2,9 @@
 
 from typing import NamedTuple
 
-from gates import Gates
+from machines.race import Gates, calls_of
 from printed import steps_of
-from searched import calls_of, lines_and_figures
+from searched import lines_and_figures
 
 MARKS = ("zero", "dead", "live")
 RARE = ("given", "refused", "refused last", "not last", "last", "ok", "7", "closed -1", "yes", "no", "at zero", "held", "already dead")

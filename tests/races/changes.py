@@ -1,6 +1,6 @@
 """Changes of a schedule on Linux's percpu_ref: most of them lead to a step that isn't taken."""
 
-from walked import Walk, parted, step_of
+from machines.walk import Walk, parted, step_of
 
 STEPS = (
     "load",

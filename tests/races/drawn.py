@@ -1,9 +1,7 @@
 """Random races, of docs/FORMATS.md."""
 
-from gate import MOST_HELD, MOST_KILLS, Race
-from gates import Gates
-from ref_steps import LinuxRace
-from searched import calls_of
+from machines.gate import KILLS, ROOM
+from machines.race import Gates, LinuxRace, Race, calls_of
 
 
 def pass_calls(draw, slots, words):
@@ -21,7 +19,7 @@ def pass_call(draw, slots, words):
     if kind < 0.7:
         return ("get", slot, draw.choice((1, 2)))
     if kind < 0.75:
-        return draw.choice((("get", slot, MOST_HELD - 1), ("put", slot, 0), ("try", slots), ("put", slots, 1), ("word", words)))
+        return draw.choice((("get", slot, ROOM - 1), ("put", slot, 0), ("try", slots), ("put", slots, 1), ("word", words)))
     if kind < 0.85:
         return waiting_call(draw)
     return draw.choice((("front",), ("dying",), ("zero",), ("word", draw.randrange(2))))
@@ -77,7 +75,7 @@ def random_race(draw):
     slots, start = draw.choice((1, 1, 2, 3)), draw.choice(("slots", "slots", "atomic", "dead"))
     words = tuple(draw.choice((0, 5, 2**64 - 1)) for _ in range(draw.randrange(3)))
     passes = all_pass_calls(draw, slots, len(words))
-    kills = draw.choice((0, 0, 0, 0, 3, MOST_KILLS - 1, MOST_KILLS))
+    kills = draw.choice((0, 0, 0, 0, 3, KILLS - 1, KILLS))
     return Race(slots, start, kills, words, tuple(passes), tuple(control_calls(draw, slots, len(words))))
 
 
@@ -134,7 +132,7 @@ def linux_race(draw):
         passes = tuple(with_call(draw, calls, pass_call(draw, race.slots, 1)) for calls in race.passes)
         control = with_call(draw, race.control, control_call(draw, draw.choice(("wait", "wait", "store", *PARTS))))
         race = race._replace(passes=passes, control=control)
-    return race._replace(start=draw.choice(("slots", "slots", "slots", "atomic", "dead")), kills=draw.choice((0, 0, 0, 3, MOST_KILLS)))
+    return race._replace(start=draw.choice(("slots", "slots", "slots", "atomic", "dead")), kills=draw.choice((0, 0, 0, 3, KILLS)))
 
 
 def any_race(draw):

@@ -1,30 +1,27 @@
-"""All outcomes of a race, as search.py finds them at one gate, gates.py at several, and ref_steps.py on Linux's percpu_ref."""
+#!/usr/bin/env python3
+"""Finds all outcomes of a race by exhaustive search, from docs/GATE.md, docs/LINUX.md and docs/FORMATS.md alone.
 
-import gates
-import ref_steps
-import search
+usage: tests/races/searched.py [--outcomes] FILE ..
 
+A line for each race: its file, the number of its outcomes, and how many steps lead to them at least, all told. With --outcomes each
+outcome, as docs/FORMATS.md has it, without its schedule. A FILE is a race that is right. The search goes through every moment, also
+where passes with equal calls have changed places. An outcome is what the calls have answered at an end, with the figures that the end of
+a replay tells but for the value. tests/rows/races.rows has these numbers of some races.
+"""
 
-def race_of(text):
-    """The race of a text that is right: a Race of one gate, a LinuxRace on Linux's percpu_ref, or the Gates of several."""
-    race = gates.gates_of(text)
-    if len(race.gates) > 1:
-        return race
-    passes = tuple(tuple(call for _, call in calls) for calls in race.passes)
-    return race.gates[0]._replace(passes=passes, control=tuple(call for _, call in race.control))
+import pathlib
+import sys
 
+sys.dont_write_bytecode = True
+sys.path.insert(0, str(pathlib.Path(__file__).resolve().parents[1]))
 
-def calls_of(race):
-    """The calls of each actor, by its name, with their gates, counted from 0."""
-    calls = {str(at): it for at, it in enumerate(race.passes)} | {"c": race.control}
-    return calls if isinstance(race, gates.Gates) else {actor: tuple((0, call) for call in it) for actor, it in calls.items()}
+from machines import gate_calls, percpu_ref
+from machines.race import Gates, LinuxRace, Race, calls_of, race_of
 
 
 def search_of(race):
-    """The search that knows the steps of its gate or gates."""
-    if isinstance(race, ref_steps.LinuxRace):
-        return ref_steps
-    return gates if isinstance(race, gates.Gates) else search
+    """The machine that knows the steps of the race's calls."""
+    return percpu_ref if isinstance(race, LinuxRace) else gate_calls
 
 
 def moments(race):
@@ -48,20 +45,39 @@ def summary_of(told):
     return "; ".join([*lines, *(f"{mark}, held {held}" for mark, *_, held in figures)])
 
 
-def kept_of(moment, race):
-    """What all moments have alike that differ by an exchange of passes with equal calls. Nothing changes places in a race of several
-    gates, or on Linux's percpu_ref."""
-    if search_of(race) is not search:
-        return moment
-    gate, seats, seat = moment
-    return gate, tuple(sorted(zip(race.passes, seats), key=repr)), seat
-
-
 def states_of(race):
-    """How many states the program keeps of a race."""
-    return len({kept_of(moment, race) for moment, _, _ in moments(race)})
+    """How many states the program keeps of a race: on Linux's percpu_ref nothing changes places."""
+    kept = gate_calls.kept if search_of(race) is gate_calls else lambda moment, _: moment
+    return len({kept(moment, race) for moment, _, _ in moments(race)})
 
 
 def all_outcomes(race, most=None):
     """What each outcome tells, with how many steps lead to it at least; None of a race of more moments than these."""
-    return search.told_at_ends(race, moments(race), told, most)
+    found = {}
+    for seen, (moment, steps, is_end) in enumerate(moments(race)):
+        if seen == most:
+            return None
+        if is_end:
+            found.setdefault(told(moment, race), steps)
+    return found
+
+
+def show(found):
+    for number, (lines, steps) in enumerate(found.items(), 1):
+        lines, _ = lines_and_figures(lines)
+        deadlock = " deadlock" if any("waits for " in line for line in lines) else ""
+        print(f"outcome {number} steps {steps}{deadlock}", *lines, sep="\n")
+    print(f"outcomes {len(found)}")
+
+
+def main():
+    for name in (word for word in sys.argv[1:] if word != "--outcomes"):
+        found = all_outcomes(race_of(pathlib.Path(name).read_text(encoding="utf-8")))
+        if "--outcomes" in sys.argv:
+            show(found)
+        else:
+            print(name, len(found), sum(found.values()))
+
+
+if __name__ == "__main__":
+    main()

@@ -1,9 +1,9 @@
-"""Random schedules, which follow the machine of a gate (tools/races_pictures/gate.py), and at times end in a step that it refuses."""
+"""Random schedules, which follow the machine of a gate (tests/machines/gate.py), and at times end in a step that it refuses."""
 
 import copy
 
 from against_parts.spelling import once_in, text_of
-from races_pictures.gate import DELTA, KILLS, ROOM, Gate, Stuck
+from machines.gate import DELTA, KILLS, ROOM, Gate, Stuck
 
 KNOWN = (
     "gate world atomic dead c add try live get sub undo mark look take give shared front word close collect confirm base clear"

@@ -1,4 +1,4 @@
-// The machine of a gate, as docs/GATE.md and docs/FORMATS.md have it: tools/races_pictures/gate.py, for the page. The answer of the proved
+// The machine of a gate, as docs/GATE.md and docs/FORMATS.md have it: tests/machines/gate.py, for the page. The answer of the proved
 // module is compared with it before anything is drawn. The guarded words have 64 bits, so they are BigInts.
 
 const BIAS = 2 ** 48;

@@ -3,7 +3,7 @@ them the words of each gate, with what they hold between the steps. The release 
 
 import re
 
-from races_pictures.gate import BIAS
+from machines.gate import BIAS
 from races_pictures.states import bias_told
 from races_pictures.svg import Page, width_of
 

@@ -1,13 +1,14 @@
-"""A schedule and its answer, read and held against each other: of one gate or several by the machine of gate.py, and of Linux's
-percpu_ref by that of linux.py."""
+"""A schedule and its answer, read and compared: of one gate or several by the machine of tests/machines/gate.py, and of Linux's
+percpu_ref by that of tests/machines/walk.py."""
 
 import re
 from itertools import takewhile
 from math import inf
 
-from races_pictures.gate import Gate, Stuck
-from races_pictures.linux import PercpuRef
-from races_pictures.states import GateState
+from machines.gate import Gate, Stuck
+from machines.race import race_of
+from machines.walk import Walk
+from races_pictures.states import GateState, RefState
 from races_pictures.svg import Wrong
 
 # The words of each step, and how many numbers follow; those that only look, and the word that each looks at or changes.
@@ -107,6 +108,48 @@ class Gates:
         return [front + gate.end() for front, gate in zip(self.fronts, self.gates)]
 
 
+class RefStep:
+    """A step on a percpu_ref as its line says it."""
+
+    def __init__(self, line, words):
+        *is_callback, number = words[: 2 if words[0] == "rcu" else 1]
+        if words[0] != "c" and not number.isdecimal():
+            raise Wrong(f"line {line}: no actor")
+        self.line, self.gate, self.text = line, 0, " ".join(words[len(is_callback) + 1 :])
+        self.actor = "c" if words[0] == "c" else f"rcu {int(number)}" if is_callback else int(number)
+
+
+class PercpuRef(Walk):
+    """A percpu_ref and the calls on it between two steps."""
+
+    def step(self, line, words):
+        """The step of a line."""
+        return RefStep(line, words)
+
+    @property
+    def actors(self):
+        return ["c", *(int(it) if it.isdecimal() else it for it in self.names() if it != "c")]
+
+    def targets(self, step):
+        """The words that a step is taken on: of the one counter, each one's kind and its number."""
+        return [(0, *word) for word in self.words_of(str(step.actor))]
+
+    def take(self, step):
+        """Takes a step, and returns its reply. If it isn't its actor's next one, or may not come yet, Stuck is raised."""
+        reply, why = self.try_line(f"{step.actor} {step.text}")
+        if why:
+            raise Stuck(why)
+        return reply
+
+    def moment(self):
+        """What is shown of it now."""
+        return [RefState(self)]
+
+    def ends(self):
+        """The lines of the end."""
+        return [self.end()]
+
+
 class Row:
     """A step that was taken, or the last one, which wasn't enabled: the words that it is taken on, its reply, and the gates after it."""
 
@@ -186,26 +229,24 @@ def several_gates(lines):
     return Gates(gates, True), lines[len(gates) :]
 
 
-def calls_on(line, words, passes):
-    """The actor of a line of a race, and its calls, each as its words."""
+def check_calls(line, words, passes):
+    """Whether a line of a race has an actor and its calls."""
     if words[0] != "c" and not (words[0].isdecimal() and int(words[0]) < passes):
         raise Wrong(f"line {line}: no actor")
-    calls = " ".join(words[1:]).split(" / ")
-    if not all(map(CALL.fullmatch, calls)):
+    if not all(map(CALL.fullmatch, " ".join(words[1:]).split(" / "))):
         raise Wrong(f"line {line}: no call")
-    return "c" if words[0] == "c" else int(words[0]), [call.split() for call in calls]
 
 
 def on_linux(lines):
     """The percpu_ref of the first of these lines with the calls of the next ones, and the lines of the steps."""
-    slots, passes, start, _, more = world(lines[0][1])
+    _, passes, _, _, more = world(lines[0][1])
     if more != ["linux"]:
         raise Wrong("no world")
     end = next((at for at, (_, words) in enumerate(lines) if words == ["steps"]), len(lines))
-    calls = {}
-    for actor, more in (calls_on(line, words, passes) for line, words in lines[1:end]):
-        calls.setdefault(actor, []).extend(more)
-    return PercpuRef(slots, passes, start, calls), lines[end + 1 :]
+    for line, words in lines[1:end]:
+        check_calls(line, words, passes)
+    race = race_of("\n".join(" ".join(words) for _, words in lines[:end]))
+    return PercpuRef(race), lines[end + 1 :]
 
 
 # The first line of a schedule, and what makes its machine.

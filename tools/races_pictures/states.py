@@ -2,7 +2,7 @@
 
 from typing import NamedTuple
 
-from races_pictures.gate import BIAS
+from machines.gate import BIAS
 
 
 class Word(NamedTuple):
@@ -78,25 +78,21 @@ class RefState:
     owing = "a section, a lock, a grace period"
 
     def __init__(self, ref):
-        self.words = self.words_of(ref.counter, ref.switching)
-        self.standings = {actor: self.standing_in(ref, actor, seat) for actor, seat in ref.seats.items()}
+        self.words = self.words_of(ref)
+        self.standings = {int(it) if it.isdecimal() else it: self.standing_in(it, *ref.standing(it)) for it in ref.names()}
 
-    def words_of(self, counter, switching):
+    def words_of(self, ref):
         """The words in the order of their columns."""
-        marks = tuple(name for name, is_set in (("ATOMIC", counter.is_atomic), ("DEAD", counter.is_dead)) if is_set)
+        marks, switching = ref.marks(), ref.switching()
         counters = [
-            Word("counter", at, f"counter {at}", slot_told(value), is_idle=not value and not counter.is_percpu())
-            for at, value in enumerate(counter.counters)
+            Word("counter", at, f"counter {at}", slot_told(value), is_idle=not value and not ref.is_percpu())
+            for at, value in enumerate(ref.counters())
         ]
         switch = Word("switch", None, "switch", switching or "none", is_idle=not switching)
-        return [Word("flags", None, "flags", "" if marks else "percpu", marks), *counters, Word("count", None, "count", counter.shown()), switch]
+        return [Word("flags", None, "flags", "" if marks else "percpu", marks), *counters, Word("count", None, "count", ref.count()), switch]
 
-    def standing_in(self, ref, actor, seat):
-        if actor == "c":
-            return standing_with(["the initial reference"] if ref.has_base else [], ["the lock"] if ref.is_locked() else [])
-        is_waiting = seat.next is not None and seat.next.waits_for == "grace period"
-        owed = ["in a section"] if seat.is_in_section else ["in a grace period"] if is_waiting else []
-        return standing_with([f"holds {seat.held}"] if seat.held else [], owed)
+    def standing_in(self, actor, held, owed):
+        return standing_with(([] if not held else ["the initial reference"] if actor == "c" else [f"holds {held}"]), owed)
 
     def standing(self, actor):
         """The standing of an actor; nothing of a callback that isn't there yet."""

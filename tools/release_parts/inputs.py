@@ -5,7 +5,7 @@ import random
 import sys
 
 ROOT = os.path.dirname(os.path.dirname(os.path.dirname(os.path.realpath(__file__))))
-sys.path += [os.path.join(ROOT, "tests", it) for it in ("races", "page")]
+sys.path += [os.path.join(ROOT, "tests", it) for it in ("", "races", "page")]
 
 from against_parts.schedules import schedule
 from against_parts.scripts import script

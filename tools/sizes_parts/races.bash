@@ -176,7 +176,7 @@ many_states() {
     ends_so 'passes that are all equal' 1 128 2145
 }
 
-# More than ten thousand outcomes: four looks at the front beside ten kills and revivals, of which tests/races/search.py finds as many. More
+# More than ten thousand outcomes: four looks at the front beside ten kills and revivals, of which tests/races/searched.py finds as many. More
 # than 65,536: five looks beside eleven, the fronts of each outcome being five of 0 to 22 in their order. And sixteen passes that make equal
 # calls: any of them are given a reference, or none is, and then the kill or one of the sixteen is the last. They have more outcomes than
 # states are kept.

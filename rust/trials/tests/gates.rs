@@ -1,4 +1,4 @@
-//! Races of several gates from inside: their outcomes, against those that tests/races/gates.py finds.
+//! Races of several gates from inside: their outcomes, against those that tests/races/searched.py finds.
 
 use blkq::erased::gates_world::{CallAt, CallsAt, GateStart, GatesRace};
 use blkq::erased::percpu_core::Start;

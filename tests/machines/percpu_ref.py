@@ -1,16 +1,12 @@
-"""The steps of Linux's percpu_ref a second time, by the definitions of crates/linux_world/specs: all moments of a race by them."""
+"""The machine of Linux's percpu_ref, as docs/LINUX.md and docs/FORMATS.md have it: the calls of a race, and the steps of each. It goes from
+value to value, which a search keeps. walk.py has the words of the steps and their replies."""
 
 from collections import namedtuple
 
-from gate import MOST_HELD, Race
-from search import line_of, moments_from
+from machines.gate import ROOM
+from machines.race import line_of, moments_from, replaced
 
 MASK, BIAS = 2**64 - 1, 2**63
-
-
-class LinuxRace(Race):
-    """A race whose calls are made on Linux's percpu_ref. It has no guarded words."""
-
 
 # The flags ATOMIC and DEAD, the count, the counters, and how often the count was released.
 Ref = namedtuple("Ref", "is_atomic is_dead count counters releases")
@@ -55,8 +51,8 @@ def can_count(race, held, what, slot, n=1):
     if slot >= race.slots:
         return False
     if what in ("try", "live"):
-        return held < MOST_HELD
-    return 0 < n and (0 < held and held + n <= MOST_HELD if what == "get" else n <= held)
+        return held < ROOM
+    return 0 < n and (0 < held and held + n <= ROOM if what == "get" else n <= held)
 
 
 def pass_begun(race, held, call):
@@ -226,10 +222,6 @@ def first(race):
     ref, wants = first_ref(race), "atomic" if race.start == "atomic" else "slots"
     passes = tuple(pass_begins(race, calls, 0, ()) for calls in race.passes)
     return Point(ref, passes, control_begins(ref, False, wants, race.control, ()), ())
-
-
-def replaced(items, at, item):
-    return (*items[:at], item, *items[at + 1 :])
 
 
 def after_pass(race, point, at):

@@ -1,5 +1,5 @@
-"""The machine of a gate, as docs/GATE.md and docs/FORMATS.md tell it: a world, its atomic steps, and what each is
-answered. It is written from these pages alone, to hold a schedule's answer against."""
+"""The machine of a gate, as docs/GATE.md and docs/FORMATS.md have it: a world, its atomic steps, and the reply to each. It is written from
+these pages alone. A schedule's answer is compared with it, and gate_calls.py makes the calls of a race of its steps."""
 
 BIAS = 1 << 48
 DELTA = 1 << 20
@@ -28,8 +28,8 @@ class Stuck(Exception):
 class Seat:
     """What a pass holds and owes: nothing, `undo` or `mark`. The control's seat may owe a mark."""
 
-    def __init__(self):
-        self.held, self.owes, self.joined = 0, None, False
+    def __init__(self, held=0, owes=None, joined=False):
+        self.held, self.owes, self.joined = held, owes, joined
 
 
 def needs(holds, why):
@@ -50,6 +50,21 @@ class Gate:
         self.phase, self.at = ("live in slots" if in_slots else "dead" if dead else "live atomic"), 0
         self.passes, self.control = [Seat() for _ in range(passes)], Seat()
 
+    def key(self):
+        """All that it is, as the key of a table."""
+        seats = tuple((seat.held, seat.owes, seat.joined) for seat in (*self.passes, self.control))
+        counts = (self.zero, self.dead, self.value, self.front, self.kills, self.releases, self.collected, self.phase, self.at)
+        return (*counts, tuple(self.slots), tuple(self.words), seats)
+
+    @classmethod
+    def of(cls, key):
+        """The gate of a key."""
+        it = cls.__new__(cls)
+        it.zero, it.dead, it.value, it.front, it.kills, it.releases, it.collected, it.phase, it.at, slots, words, seats = key
+        it.slots, it.words = list(slots), list(words)
+        *it.passes, it.control = (Seat(*seat) for seat in seats)
+        return it
+
     def has_base(self):
         """Whether the initial reference is in."""
         return self.phase != "dead"
@@ -59,6 +74,10 @@ class Gate:
 
     def held(self):
         return sum(seat.held for seat in self.passes)
+
+    def figures(self):
+        """The mark, the front, and how many kills, releases and references there are."""
+        return ("zero" if self.zero else "dead" if self.dead else "live"), self.front, self.kills, self.releases, self.held()
 
     def shown(self):
         """The shared word, as a step that loads it is answered."""
