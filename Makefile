@@ -22,7 +22,7 @@ RELEASE ?= out/release
 
 all:
 	./blkq run <examples/first.blkq >/dev/null
-	./gate_races <examples/removal.races >/dev/null
+	./gate_races <examples/races/removal.races >/dev/null
 
 check:
 	tests/plain
@@ -37,7 +37,7 @@ install: all
 
 # The programs that cargo builds, whatever else is there.
 plain:
-	cd rust && $(CARGO) build -q --offline --locked --release --target-dir target -p blkq --bins
+	cd rust && $(CARGO) build -q --offline --locked --release --target-dir target -p blkq -p gate-races --bins
 
 install-plain: plain
 	$(MAKE) install-programs PROGRAMS="rust/target/release/blkq rust/target/release/gate_races"

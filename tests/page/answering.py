@@ -71,7 +71,8 @@ def greatest(page, counts, programs):
 def beside(page, counts):
     """The lines with their answers, as examples/beside prints them, and the same in the page's rows."""
     for given, _ in inputs.examples():
-        done = subprocess.run([ROOT / "examples/beside", ROOT / "examples" / given.name], capture_output=True, text=True, check=False)
+        path = next((ROOT / "examples").rglob(given.name))
+        done = subprocess.run([ROOT / "examples/beside", path], capture_output=True, text=True, check=False)
         page.js(f"openExample({given.name!r})")
         page.until("find('status').textContent.startsWith('answered')")
         rows = "rowsOfRace(page.answer)" if given.kind == "race" else "rowsBeside(page.kind, find('input').value, page.answer)"

@@ -51,7 +51,7 @@ CHANGES = {
     "how the module is made": ("tools/page_parts/module.py", "4 << 30", "2 << 30", module_changed("tools/page_parts/module.py")),
     "the style sheet": ("tools/page_parts/page.css", "#ffffff", "#fffffe", AROUND),
     "the worker": ("tools/page_parts/worker.js", "FAULT = -1", "FAULT = -2", AROUND),
-    "an example": ("examples/removal.races", "One slot", "1 slot", AROUND),
+    "an example": ("examples/races/removal.races", "One slot", "1 slot", AROUND),
     "the menu": ("tools/page_parts/examples.txt", "in all orders", "in each order", AROUND),
     "the page by hand": ("docs/try.html", "<main>", "<main >", AROUND),
     "a sum by hand": ("docs/try.html", '"crates/line_text": "', '"crates/line_text": "0', module_changed("crates/line_text")),

@@ -33,7 +33,7 @@ class Native(NamedTuple):
 
 def examples():
     """Each example, with the answer beside it."""
-    for path in sorted((ROOT / "examples").iterdir()):
+    for path in sorted((ROOT / "examples").rglob("*")):
         if path.suffix in KINDS:
             yield Input(path.name, KINDS[path.suffix], path.read_bytes()), path.with_suffix(".answer").read_bytes()
 

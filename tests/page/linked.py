@@ -18,7 +18,7 @@ def opened(page, text):
 
 def whole_links(page, counts, url):
     """A link opens its input, with the outcome and the step; and the page's own link leads back."""
-    text = (ROOT / "examples/removal.races").read_text(encoding="utf-8")
+    text = (ROOT / "examples/races/removal.races").read_text(encoding="utf-8")
     page.open(f"{url}#race={urllib.parse.quote(text)}&outcome=2&step=3")
     page.until("!find('steps').hidden")
     shows = "[find('input').value, page.outcome, page.stepping.step, find('caption').textContent]"

@@ -127,7 +127,7 @@ def outcomes(page, counts):
     """The table of the outcomes of a race of two gates has the end of each of them, and which one is a deadlock."""
     page.js("openExample('two_queues.races')")
     page.until(f"page.outcomes.length === 3 && {ANSWERED}")
-    answer = (shown.ROOT / "examples/two_queues.answer").read_text(encoding="utf-8")
+    answer = (shown.ROOT / "examples/races/two_queues.answer").read_text(encoding="utf-8")
     counts.equal("the outcomes of two gates", page.js(ROWS), list(outcomes_in(answer)))
 
 

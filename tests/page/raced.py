@@ -23,9 +23,9 @@ def picture(program, *words):
 
 def as_a_file(counts, work, program):
     """What a race's page is made of, and what it isn't made of."""
-    (work / "a.races").write_text((ROOT / "examples/removal.races").read_text(encoding="utf-8"), encoding="utf-8")
-    right = (ROOT / "examples/removal.answer").read_text(encoding="utf-8")
-    status, page, _ = picture(program, "race", str(ROOT / "examples/removal.races"))
+    (work / "a.races").write_text((ROOT / "examples/races/removal.races").read_text(encoding="utf-8"), encoding="utf-8")
+    right = (ROOT / "examples/races/removal.answer").read_text(encoding="utf-8")
+    status, page, _ = picture(program, "race", str(ROOT / "examples/races/removal.races"))
     addresses = sorted(set(re.findall(r"https?://[^\s\"'`]*", page)))
     counts.equal("a race's page names no address but that of SVG", [status, addresses], [0, ["http://www.w3.org/2000/svg"]])
     counts.check("it loads nothing", not re.search(r"\bsrc=|@import|url\(|\bfetch\(|XMLHttpRequest", page))
@@ -98,7 +98,7 @@ def of_races(page, counts, on):
         as_a_file(counts, work, on.picture)
         urls = {}
         for name in RACES:
-            (work / f"{name}.html").write_text(picture(on.picture, "race", str(ROOT / f"examples/{name}.races"))[1], encoding="utf-8")
+            (work / f"{name}.html").write_text(picture(on.picture, "race", str(ROOT / f"examples/races/{name}.races"))[1], encoding="utf-8")
             urls[name] = (work / f"{name}.html").as_uri()
             whole(page, counts, name, urls[name])
         addresses(page, counts, urls["removal"])

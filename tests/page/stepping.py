@@ -15,7 +15,7 @@ def stepping(page, counts):
     """Steps through the schedule of an outcome by the keys, and through another by the slider."""
     page.js("openExample('removal.races')")
     page.until("page.outcomes.length === 4")
-    schedule, replies = list(shown.schedules_in((ROOT / "examples/removal.answer").read_text(encoding="utf-8")))[1]
+    schedule, replies = list(shown.schedules_in((ROOT / "examples/races/removal.answer").read_text(encoding="utf-8")))[1]
     page.js("find('outcomes').querySelectorAll('tbody button')[1].focus()")
     page.key("Enter")
     wanted, captions = shown.gates(schedule, replies), shown.captions(schedule, replies)

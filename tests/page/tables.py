@@ -64,7 +64,7 @@ def outcomes(page, counts):
     """The table of the outcomes has what the answer has, and a click on a row, on its button or in the glossary draws the outcome."""
     page.js("openExample('removal.races')")
     page.until(f"page.outcomes.length === 4 && {ANSWERED}")
-    answer = (ROOT / "examples/removal.answer").read_text(encoding="utf-8")
+    answer = (ROOT / "examples/races/removal.answer").read_text(encoding="utf-8")
     counts.equal("the table of the outcomes", page.js(ROWS), list(outcomes_in(answer)))
     heads = page.js("[...find('outcomes').querySelectorAll('thead th')].map((cell) => cell.textContent)")
     counts.equal("its heads", heads[:3], ["outcome", "pass 0live 0 / put 0 1", "controlkill"])
@@ -82,7 +82,7 @@ def deadlock(page, counts):
     """The table says which outcome is a deadlock, and the glossary what its actor waits for."""
     page.js("openExample('freeze.races')")
     page.until(f"page.outcomes.length === 12 && {ANSWERED}")
-    answer = (ROOT / "examples/freeze.answer").read_text(encoding="utf-8")
+    answer = (ROOT / "examples/races/freeze.answer").read_text(encoding="utf-8")
     wanted = [row[:-1] for row in outcomes_in(answer)]
     counts.equal("the table of a race with a deadlock", page.js(f"{ROWS}.map((row) => row.slice(0, -1))"), wanted)
     ends = page.js(f"{ROWS}.map((row) => row.at(-1).startsWith('deadlock: '))")

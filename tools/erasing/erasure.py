@@ -4,7 +4,7 @@ import os
 
 from erasing import allocators, by_hand, clauses, comments, errors, forms, handles, kit, memory
 from erasing import parameters, paths, preconditions, runtime, unread
-from erasing.layout import LEFT_OUT, PACKAGES, WITHOUT_STD, finished, place
+from erasing.layout import LEFT_OUT, PACKAGES, placed
 from erasing.source import CannotErase, Source
 from sources.crates import lines_of
 from sources.rattle import files_in
@@ -39,15 +39,14 @@ def erase(root):
     sources = list(files.values())
     cut_what_is_handed_on(sources, gone, ghosts)
     clauses.cut_types_of_proofs(sources, gone)
-    places = paths.Places(PACKAGES, WITHOUT_STD)
+    places = paths.Places(PACKAGES)
     definitions = preconditions.Definitions(root, {s.crate for s in sources})
     asserted = preconditions.Asserted(sources)
     for s in sources:
         preconditions.tell(s, definitions, asserted)
         rewrite(s, places, gone)
     clauses.cut_empty_modules(files)
-    packages = {crate: package for package, crates in PACKAGES.items() for crate in crates}
-    return {place(packages[s.crate], s.crate, s.name): finished(s) for s in files.values()}
+    return {path: text for s in files.values() for path, text in placed(s).items()}
 
 
 def cut_for_the_prover(files, gone, ghosts):
@@ -87,8 +86,9 @@ def rewrite(s, places, gone):
     runtime.mend_macros(s)
     paths.name_crates(s, places)
     forms.mend_taken_fields(s)
+    forms.open_to_above(s)
     unread.mend_unread(s)
-    if s.crate in places.without_std:
+    if not places.has_std(s):
         s.imports |= {path for word, path in kit.OF_ALLOC.items() if s.words(word)}
     paths.rewrite_imports(s, places, gone)
     comments.mend_comments(s, places, gone)

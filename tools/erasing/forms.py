@@ -1,4 +1,6 @@
-"""Forms that the sources have for the prover, and Rust says shorter."""
+"""Forms that the sources have for the prover, and Rust says shorter; and what a package above its crate's own needs."""
+
+from erasing.layout import ABOVE
 
 
 def mend_taken_fields(s):
@@ -40,3 +42,12 @@ def tail_name(s, end, name):
             return None
         k = s.after(s.partner[k]) if s.opens(k) else s.after(k)
     return first if count == 1 else None
+
+
+def open_to_above(s):
+    """`pub(crate)` is `pub` where a file of the crate stands in another package."""
+    if s.crate not in ABOVE or s.name in ABOVE[s.crate][1]:
+        return
+    for i in s.words("crate"):
+        if s.at(s.before(i), "(") and s.at(s.before(s.before(i)), "pub"):
+            s.cut(s.before(i), s.after(i))

@@ -8,28 +8,47 @@ import tempfile
 # The crates of each package of rust/, the lowest first. `main` files become programs of their package.
 PACKAGES = {
     "percpu-gate": ["percpu_words", "percpu_core", "percpu_gate"],
-    "freeze-queue": ["queue_limits", "queue_core", "wait_queue", "freeze_queue"],
+    "freeze-queue": ["queue_limits", "queue_core"],
     "blkq": [
-        "line_text", "ram_disk", "script_meaning", "script_overlap", "blk_script", "run_queues", "run_desk", "blk_workers",
-        "gate_replay", "race_calls", "race_world", "race_search", "race_outcomes", "linux_world", "gates_world",
-        "races_text", "counted_io", "blkq_run", "blkq", "races_run", "gate_races",
+        "wait_queue", "freeze_queue", "line_text", "ram_disk", "script_meaning", "script_overlap", "blk_script", "run_queues",
+        "run_desk", "blk_workers", "gate_replay", "counted_io", "blkq_run", "blkq",
+    ],
+    "gate-races": [
+        "race_calls", "race_world", "race_search", "race_outcomes", "linux_world", "gates_world", "races_text", "races_run",
+        "gate_races",
     ],
     "trials": ["uses", "play_calls"],
     "c-memory": ["loose_box"],
     "percpu-gate-c": ["percpu_gate_c"],
     "freeze-queue-c": ["freeze_queue_c"],
 }  # fmt: skip
+# Packages that need `core` and `alloc` alone.
+WITHOUT_STD = {"percpu-gate", "freeze-queue", "c-memory", "percpu-gate-c", "freeze-queue-c"}
+# The files of a crate that stand in a package above its own: (package, files, what that package's file says of them).
+ABOVE = {
+    "percpu_core": (
+        "blkq",
+        {
+            "control_event", "control_standing", "event", "not_enabled", "pass_event", "pass_standing", "replay_fault", "schedule",
+            "shared_word", "sizes", "slots", "world",
+        },
+        "//! The machine of a gate, over the phases, starts and limits that the running gate has too. The package percpu-gate has those.",
+    ),
+}  # fmt: skip
 # Programs of several files, each in a folder of its own.
 PROGRAMS = {"play_calls"}
 # The first lines of the files among them.
 ERASED_LINE = "// Erased from"
 STAND_IN_LINE = "// A stand-in for"
-# These need `core` and `alloc` alone.
-WITHOUT_STD = {
-    "percpu_words", "percpu_core", "percpu_gate", "queue_limits", "queue_core", "loose_box", "percpu_gate_c", "freeze_queue_c",
-}  # fmt: skip
 # Crates of crates.txt that aren't erased: rust/ has no use for them.
 LEFT_OUT = {"bench", "browser", "race_laws", "trials_rows", "trials_calls"}
+
+
+def package_of(crate, name):
+    """The package of a source file."""
+    if crate in ABOVE and name in ABOVE[crate][1]:
+        return ABOVE[crate][0]
+    return next(package for package, crates in PACKAGES.items() if crate in crates)
 
 
 def place(package, crate, name):
@@ -39,6 +58,23 @@ def place(package, crate, name):
     if name == "main":
         return f"{package}/src/bin/{crate}.rs"
     return f"{package}/src/erased/{crate}.rs" if name == "lib" else f"{package}/src/erased/{crate}/{name}.rs"
+
+
+def placed(s):
+    """The files that a source file becomes, each with its text. The lib of a crate in two packages has a part for each."""
+    if s.crate not in ABOVE or s.name != "lib":
+        return {place(package_of(s.crate, s.name), s.crate, s.name): finished(s)}
+    package, files, comment = ABOVE[s.crate]
+    lower, upper = [], []
+    for line in finished(s).split("\n"):
+        module = re.match(r"(?:pub )?(?:mod|use) (\w+)", line)
+        (upper if module and module[1] in files else lower).append(line)
+    below = f"pub use ::{package_of(s.crate, s.name).replace('-', '_')}::erased::{s.crate}::*;"
+    upper = [lower[0], comment, "", *upper, below, ""]
+    return {
+        place(package_of(s.crate, s.name), s.crate, s.name): "\n".join(lower),
+        place(package, s.crate, s.name): "\n".join(upper),
+    }
 
 
 def finished(s):

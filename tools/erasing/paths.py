@@ -3,7 +3,7 @@
 import re
 
 from erasing import kit
-from erasing.layout import PROGRAMS
+from erasing.layout import ABOVE, PROGRAMS, WITHOUT_STD, package_of
 from erasing.shape import item_start, leaves, uses
 
 ERASED = "erased"
@@ -12,29 +12,37 @@ ERASED = "erased"
 class Places:
     """Which package has each erased crate, and how a file names it."""
 
-    def __init__(self, packages, without_std):
-        self.packages, self.without_std = packages, without_std
+    def __init__(self, packages):
         self.crates = {crate for crates in packages.values() for crate in crates} | kit.KIT_CRATES
+
+    def has_std(self, s):
+        return package_of(s.crate, s.name) not in WITHOUT_STD
 
     def root(self, s):
         """How a file names the module that has all erased crates."""
-        package = next(name for name, crates in self.packages.items() if s.crate in crates)
-        return (package.replace("-", "_") if s.name == "main" or s.crate in PROGRAMS else "crate", ERASED)
+        is_program = s.name == "main" or s.crate in PROGRAMS
+        return (package_of(s.crate, s.name).replace("-", "_") if is_program else "crate", ERASED)
 
     def top(self, s):
         """How a file names its own crate's root."""
         return ("crate",) if s.crate in PROGRAMS else (*self.root(s), s.crate)
 
+    def within(self, s, path):
+        """A path within the crate: a file above names what stands below as the crate hands it on."""
+        package, files, _ = ABOVE.get(s.crate, (None, (), None))
+        is_below = package == package_of(s.crate, s.name) and path[0] not in files
+        return path[1:] if is_below else path
+
     def target(self, s, path):
         """What a path of the sources is in Rust, or None where nothing stands for it."""
         if path[0] == "crate":
-            return (*self.top(s), *path[1:])
+            return (*self.top(s), *self.within(s, path[1:]))
         if path[0] in self.crates:
             return (*self.root(s), *path)
         if path in kit.STAND_INS:
             stand_in = kit.STAND_INS[path]
             return stand_in and (*self.root(s), *stand_in)
-        if path[0] == "std" and s.crate in self.without_std:
+        if path[0] == "std" and not self.has_std(s):
             return ("alloc" if path[1] in kit.ALLOC_MODULES else "core", *path[1:])
         return path
 
@@ -67,7 +75,7 @@ def name_crates(s, places):
             s.write(i, "::".join(places.top(s)), "a path")
         elif s.text[i] in places.crates:
             s.imports.add((s.text[i],))
-        elif s.text[i] == "std" and s.crate in places.without_std:
+        elif s.text[i] == "std" and not places.has_std(s):
             module = s.text[s.after(s.after(s.after(i)))]
             s.write(i, "alloc" if module in kit.ALLOC_MODULES else "core", "a path")
 
@@ -142,6 +150,6 @@ def line_of(head, names):
 def added(s, places, path):
     """The path of what a rule needs."""
     if path[0] in ("core", "std", "alloc"):
-        head = "std" if path[0] == "core" and s.crate not in places.without_std else path[0]
+        head = "std" if path[0] == "core" and places.has_std(s) else path[0]
         return "::".join((head, *path[1:]))
     return "::".join((*places.root(s), *path))

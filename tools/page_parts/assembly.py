@@ -27,7 +27,8 @@ def menu():
     """The examples in the order of the menu: each one's file, its text, and what it shows."""
     lines = [it for it in read(f"{HERE}/examples.txt").splitlines() if it and not it.startswith("#")]
     pairs = [it.split(" ", 1) for it in lines]
-    return [{"name": name, "shows": shows, "text": read(f"{EXAMPLES}/{name}")} for name, shows in pairs]
+    folders = {name: f"{EXAMPLES}/races" if name.endswith(".races") else EXAMPLES for name, _ in pairs}
+    return [{"name": name, "shows": shows, "text": read(f"{folders[name]}/{name}")} for name, shows in pairs]
 
 
 def colours():

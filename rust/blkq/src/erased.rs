@@ -8,32 +8,25 @@ pub mod blk_workers;
 pub mod blkq_run;
 pub mod counted_io;
 pub mod crossbeam_queue;
+pub mod crossbeam_utils;
 pub mod env;
+pub mod freeze_queue;
 pub mod gate_replay;
-pub mod gates_world;
 pub mod hex;
 pub mod itoa;
 pub mod line_text;
-pub mod linux_world;
-pub mod maps;
 pub mod memchr;
+pub mod percpu_core;
 pub mod pointers;
-pub mod race_calls;
-pub mod race_outcomes;
-pub mod race_search;
-pub mod race_world;
-pub mod races_run;
-pub mod races_text;
 pub mod ram_disk;
 pub mod run_desk;
 pub mod run_queues;
 pub mod script_meaning;
 pub mod script_overlap;
 pub mod streams;
+pub mod sync;
 pub mod thread;
-pub mod time;
+pub mod wait_queue;
 
-pub use ::freeze_queue::erased::{
-    atomic_table, crossbeam_utils, fallible, freeze_queue, percpu_core, percpu_gate, percpu_words, queue_core,
-    queue_limits, sync, wait_queue,
-};
+pub use ::freeze_queue::erased::{queue_core, queue_limits};
+pub use ::percpu_gate::erased::{atomic_table, fallible, percpu_gate, percpu_words};

@@ -1,13 +1,10 @@
-//! A block request queue in front of a disk in memory, and all that may happen at the gate that freezes it: three functions
-//! from bytes to bytes, for tests of other queues and gates. The programs `blkq` and `gate_races` do the same from standard
-//! input to standard output.
+//! A block request queue in front of a disk in memory, and the gate that freezes it: two functions from bytes to bytes, for
+//! tests of other queues and gates. The program `blkq` does the same from standard input to standard output.
 //!
 //! - [`run`] runs a script of reads, writes, freezes and settings on several threads. Its answer is what one thread writes
 //!   that takes the script line by line, and then the disk.
 //! - [`replay`] takes a schedule, the atomic steps of a gate one after another, and answers each. A gate of your own that
 //!   takes the same steps has to answer the same.
-//! - [`outcomes`] takes a race, the calls of several actors at a gate, and gives every outcome that some order of their
-//!   atomic steps has, each with a shortest schedule that leads to it.
 //!
 //! ```
 //! use blkq::Config;
@@ -18,7 +15,8 @@
 //! # Ok::<(), blkq::RunError>(())
 //! ```
 //!
-//! The module [`formats`] has the three formats, and each reason for which an input is refused.
+//! The page docs/FORMATS.md of the repository has both formats, and each reason for which an input is refused. It is installed
+//! as blkq(5). The crate `gate-races` lists the outcomes of all interleavings of some calls of a gate.
 //!
 //! # What is proved, and what isn't
 //!
@@ -28,8 +26,8 @@
 //! for threads, locks and memory, the Rust compiler and this file aren't proved. One file has `unsafe`,
 //! `src/erased/pointers.rs`, which says why.
 //!
-//! The module `erased` is public for the programs, and no part of what versions promise: its functions trust their
-//! preconditions, so no user calls them.
+//! The module `erased` is public for the programs and the crates above, and no part of what versions promise: its functions trust
+//! their preconditions, so no user calls them.
 //!
 //! # Memory
 //!
@@ -40,16 +38,13 @@ mod config;
 #[doc(hidden)]
 pub mod erased;
 mod errors;
-#[cfg(doc)]
-pub mod formats;
-mod outcomes;
 mod replay;
 mod run;
-mod text;
+#[doc(hidden)]
+pub mod text;
 
 pub use config::Config;
-pub use errors::{LineError, RaceError, Reason, ReplayError, RunError};
-pub use outcomes::outcomes;
+pub use errors::{LineError, Reason, ReplayError, RunError};
 pub use replay::{Replay, replay};
 pub use run::run;
 

@@ -1,9 +1,9 @@
-//! A text in memory, which the erased functions write.
+//! A text in memory, which the erased functions write, here and in the crate above.
 use std::io::{ErrorKind, Result, Write};
 
 /// A text that grows. A growth that is refused is an error, which leaves it as it was.
-#[derive(Default)]
-pub(crate) struct Text(pub(crate) Vec<u8>);
+#[derive(Debug, Default)]
+pub struct Text(pub Vec<u8>);
 
 impl Write for Text {
     fn write(&mut self, bytes: &[u8]) -> Result<usize> {

@@ -1,5 +1,5 @@
 //! Why an input is refused: each reason, by its line, its number and its text (docs/FORMATS.md).
-use blkq::{Config, LineError, RaceError, Reason, ReplayError, RunError};
+use blkq::{Config, LineError, Reason, ReplayError, RunError};
 
 fn script(text: &str) -> Result<Vec<u8>, RunError> {
     blkq::run(text.as_bytes(), Config::default())
@@ -43,7 +43,7 @@ fn texts_and_numbers() {
     assert_eq!(RunError::Memory.to_string(), "memory");
     assert_eq!(RunError::Thread.to_string(), "thread");
     assert_eq!(RunError::Overlap { line: 4, earlier: 3 }.to_string(), "line 4: overlaps line 3");
-    assert_eq!((ReplayError::Memory.to_string(), RaceError::Memory.to_string()), ("memory".into(), "memory".into()));
+    assert_eq!(ReplayError::Memory.to_string(), "memory");
 }
 
 #[test]
@@ -51,20 +51,18 @@ fn what_is_no_text() {
     let refused = LineError { line: 2, reason: Reason::NotUtf8 };
     assert_eq!(blkq::run(b"blkq 1\ndisk \xff\n", Config::default()), Err(RunError::Script(refused)));
     assert_eq!(blkq::replay(b"gate 1\n\xff\n"), Err(ReplayError::Schedule(refused)));
-    assert_eq!(blkq::outcomes(b"races 1\n\xff\n"), Err(RaceError::Race(refused)));
 }
 
 /// The longest text that there is, and one with a byte more.
 #[test]
 fn the_longest_texts() {
-    for begins in ["blkq 1\ndisk 1 hw 1\n#", "gate 1\nworld 1 1 slots 0\n#", "races 1\nworld 1 1 slots 0\n#"] {
+    for begins in ["blkq 1\ndisk 1 hw 1\n#", "gate 1\nworld 1 1 slots 0\n#"] {
         let mut text = begins.as_bytes().to_vec();
         text.resize(1_048_576, b'#');
         let refused = LineError { line: 1, reason: Reason::TooLong };
         let answers = |text: &[u8]| match begins.as_bytes()[0] {
             b'b' => blkq::run(text, Config::default()).map(drop).map_err(|why| why == RunError::Script(refused)),
-            b'g' => blkq::replay(text).map(drop).map_err(|why| why == ReplayError::Schedule(refused)),
-            _ => blkq::outcomes(text).map(drop).map_err(|why| why == RaceError::Race(refused)),
+            _ => blkq::replay(text).map(drop).map_err(|why| why == ReplayError::Schedule(refused)),
         };
         assert_eq!(answers(&text), Ok(()));
         text.push(b'#');
@@ -73,10 +71,9 @@ fn the_longest_texts() {
 }
 
 #[test]
-fn schedules_and_races() {
+fn a_schedule_without_a_world() {
     let refused = LineError { line: 2, reason: Reason::NoWorld };
     assert_eq!(blkq::replay(b"gate 1\nwords\n"), Err(ReplayError::Schedule(refused)));
-    assert_eq!(blkq::outcomes(b"races 1\nwords\n"), Err(RaceError::Race(refused)));
 }
 
 #[test]

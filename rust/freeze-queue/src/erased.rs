@@ -3,11 +3,7 @@
 #![forbid(unsafe_code)]
 #![allow(missing_docs, missing_debug_implementations, clippy::all, clippy::pedantic, rustdoc::all)]
 
-pub mod crossbeam_utils;
-pub mod freeze_queue;
 pub mod queue_core;
 pub mod queue_limits;
-pub mod sync;
-pub mod wait_queue;
 
 pub use ::percpu_gate::erased::{atomic_table, fallible, percpu_core, percpu_gate, percpu_words};

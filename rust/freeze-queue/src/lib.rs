@@ -106,8 +106,6 @@ extern crate alloc;
 mod readme {}
 
 mod body;
-#[cfg(test)]
-mod counted;
 mod drained;
 mod drains;
 mod enter_any;

@@ -1,12 +1,12 @@
-//! The erased gate and queue of the crates beside this one, over stand-ins that hand each step to the scheduler. Nothing here is
-//! checked for a caller. `gate`, `queue` and `crossbeam_utils/sync.rs` are links to the erased files of those crates, which
-//! `cargo package` follows.
+//! The erased gate and queue, over stand-ins that hand each step to the scheduler. Nothing here is checked for a caller. The files of
+//! `gate`, `queue` and `waits` are those of the crates beside this one.
 #![allow(dead_code, missing_docs, missing_debug_implementations, clippy::all, clippy::pedantic, rustdoc::all)]
 
 pub mod atomic_table;
 pub mod crossbeam_utils;
 pub mod sync;
 
+#[path = "../../percpu-gate/src/erased"]
 mod gate {
     pub mod fallible;
     pub mod percpu_core;
@@ -14,12 +14,18 @@ mod gate {
     pub mod percpu_words;
 }
 
+#[path = "../../freeze-queue/src/erased"]
 mod queue {
-    pub mod freeze_queue;
     pub mod queue_core;
     pub mod queue_limits;
+}
+
+#[path = "../../blkq/src/erased"]
+mod waits {
+    pub mod freeze_queue;
     pub mod wait_queue;
 }
 
 pub use gate::{fallible, percpu_core, percpu_gate, percpu_words};
-pub use queue::{freeze_queue, queue_core, queue_limits, wait_queue};
+pub use queue::{queue_core, queue_limits};
+pub use waits::{freeze_queue, wait_queue};

@@ -1,7 +1,7 @@
 //! The erased gate and queue, in all orders of their steps, or in all with a bound of context switches.
 //!
 //! A test with threads sees the orders that the machine happens to take. This crate takes one after the other. It compiles the erased
-//! files of `percpu-gate` and `freeze-queue` again, the same files, over stand-ins of its own: each atomic step, each lock and
+//! files of `percpu-gate`, `freeze-queue` and `blkq` again, the same files, over stand-ins of its own: each atomic step, each lock and
 //! unlock, each sleep and each wake goes to a scheduler.
 //!
 //! There are no threads. The next step of an actor follows from the results of its steps before. The scheduler therefore runs

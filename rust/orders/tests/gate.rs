@@ -58,7 +58,7 @@ fn printed(answer: &str) -> Outcomes {
 }
 
 fn by_the_library(text: &str) -> Outcomes {
-    printed(std::str::from_utf8(&blkq::outcomes(text.as_bytes()).unwrap()).unwrap())
+    printed(std::str::from_utf8(&gate_races::outcomes(text.as_bytes()).unwrap()).unwrap())
 }
 
 /// By another program, if one is named.
@@ -91,7 +91,7 @@ fn is_of_one_gate(text: &str) -> bool {
 
 #[test]
 fn the_races_of_the_examples() {
-    let folder = concat!(env!("CARGO_MANIFEST_DIR"), "/../../examples");
+    let folder = concat!(env!("CARGO_MANIFEST_DIR"), "/../../examples/races");
     let mut races: Vec<_> = fs::read_dir(folder).unwrap().map(|entry| entry.unwrap().path()).collect();
     races.retain(|path| path.extension().is_some_and(|it| it == "races"));
     races.sort();

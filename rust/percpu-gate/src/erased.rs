@@ -2,8 +2,8 @@
 //! above it. tools/erase writes the files that say so in their first line.
 //!
 //! `percpu_gate` is the running gate: a call of `Pass` or `Control` steps through a seat (`PassSeat`, `ControlSeat`), whose
-//! methods are one atomic step each. `percpu_words` spells its words, and `atomic_table` has the atomics. `percpu_core`
-//! replays a schedule of steps on a machine of plain numbers; the running gate uses its limits, `Start`, `Phase` and `Memory` alone.
+//! methods are one atomic step each. `percpu_words` spells its words, and `atomic_table` has the atomics. `percpu_core` has
+//! the limits, starts and phases of a gate. Its machine, which replays a schedule of steps on plain numbers, is in the package blkq.
 //!
 //! A precondition may name a `view`, as in `self.view.standing.held`: what the owner of a seat knows of the gate by its own steps
 //! (docs/GATE.md, "The running gate"). Proofs alone have it; it is no field.

@@ -7,6 +7,6 @@ pub mod uses;
 
 pub use ::blkq::erased::{
     atomic_table, blk_script, blk_workers, blkq_run, counted_io, crossbeam_queue, crossbeam_utils, env, fallible,
-    freeze_queue, gate_replay, line_text, maps, percpu_core, percpu_gate, percpu_words, pointers, queue_core,
-    queue_limits, ram_disk, run_queues, script_meaning, streams, sync, thread, wait_queue,
+    freeze_queue, gate_replay, line_text, percpu_core, percpu_gate, percpu_words, pointers, queue_core, queue_limits,
+    ram_disk, run_queues, script_meaning, streams, sync, thread, wait_queue,
 };

@@ -6,7 +6,6 @@ use blkq::erased::atomic_table::Table;
 use blkq::erased::crossbeam_queue::RuledArrayQueue;
 use blkq::erased::fallible::{AllocError, TryClone, TryCollect, TryRoom, TryText, TryToVec, TryVec};
 use blkq::erased::hex;
-use blkq::erased::maps::{HashMap, TryMap};
 use blkq::erased::pointers::{Arc, Rc, TryBox};
 use std::cell::Cell;
 use std::collections::VecDeque;
@@ -51,7 +50,6 @@ fn each_call_is_refused() {
     assert_eq!(each_refused(|| Table::of_words(&[1, 2])), 1);
     assert_eq!(each_refused(|| RuledArrayQueue::<u32>::ruled(3)), 1);
     assert_eq!(each_refused(|| hex::decode(b"00ff").map_err(|_| AllocError)), 1);
-    assert_eq!(each_refused(|| HashMap::default().try_put(1, 2)), 1);
 }
 
 /// If a growth is refused, the value stays as it was.
@@ -60,10 +58,6 @@ fn a_refused_growth_changes_nothing() {
     let mut list = Vec::try_from_array([1, 2]).unwrap();
     let mut queue = VecDeque::from([1, 2]);
     let mut text = String::try_from_text("ab").unwrap();
-    let mut map = HashMap::default();
-    for key in 0..3 {
-        assert_eq!(map.try_put(key, key).unwrap(), None);
-    }
     ALLOWED.set(Some(0));
     let refusals = [
         list.try_push(3),
@@ -74,17 +68,9 @@ fn a_refused_growth_changes_nothing() {
         text.try_push_str("and so on, and so on"),
     ];
     let is_kept = (list == [1, 2], queue == [1, 2], text == "ab");
-    let mut put = Ok(None);
-    let mut key = 3;
-    while put.is_ok() {
-        put = map.try_put(key, key);
-        key += 1;
-    }
-    let kept = map.len() as i32 == key - 1 && (0..key - 1).all(|key| map.get(&key) == Some(&key));
     ALLOWED.set(None);
     assert_eq!(refusals, [Err(AllocError); 6]);
     assert_eq!(is_kept, (true, true, true));
-    assert!(kept);
 }
 
 #[test]
@@ -106,10 +92,6 @@ fn calls_by_hand() {
     let mut text = String::try_from_text("a").unwrap();
     text.try_push_str("bc").unwrap();
     assert_eq!(text.try_clone().unwrap(), "abc");
-    let mut map = HashMap::default();
-    assert_eq!(map.try_put("key", 1).unwrap(), None);
-    assert_eq!(map.try_put("key", 2).unwrap(), Some(1));
-    assert_eq!(map.len(), 1);
 }
 
 struct Dropped<'a>(&'a Cell<u32>);

@@ -10,7 +10,6 @@
 use blkq::erased::blk_workers::{Config, Point, Stall};
 use blkq::erased::blkq_run::{self, replay_bytes, run_bytes};
 use blkq::erased::counted_io::Counted;
-use blkq::erased::races_run::{self, Form, NoWatch, Request, outcomes_bytes};
 use std::env::{args, current_exe};
 use std::fs::{read, read_dir};
 use std::io::{self, Read};
@@ -120,11 +119,6 @@ fn answer(example: &Path, input: &[u8], room: &mut [u8], helps: bool) -> Result<
     let (mut reader, mut writer) = (Counted::new(&mut feed), Counted::new(room));
     let points = Points::new(helps);
     let answered = match kind_of(example) {
-        "races" => outcomes_bytes(&mut reader, &mut writer, Request::Written(Form::Answers), None, &mut NoWatch)
-            .map_err(|fault| match fault {
-                races_run::Fault::Memory => MEMORY,
-                _ => OTHER,
-            }),
         "gate" => replay_bytes(&mut reader, &mut writer).map(drop).map_err(number),
         _ => {
             let config = Config::new(WORKERS, 2, 2).unwrap();
@@ -234,7 +228,7 @@ fn main() {
     for example in &examples {
         let kind = kind_of(example);
         let is_short = read(example).is_ok_and(|text| text.len() < 1_500);
-        if matches!(kind, "blkq" | "gate" | "races") && is_short {
+        if matches!(kind, "blkq" | "gate") && is_short {
             for helps in if kind == "blkq" { &[false, true][..] } else { &[false] } {
                 let aborts = each_refused(example, *helps);
                 // For a thread std allocates up to 4 blocks (a handle, a packet, a closure and its box), for all of them a scope.

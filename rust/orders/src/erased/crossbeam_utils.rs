@@ -1,7 +1,8 @@
-//! Pauses between tries, which are no steps. Threads sleep as in freeze-queue, by the same file.
+//! Pauses between tries, which are no steps. Threads sleep as in blkq, by the same file.
 
 use std::cell::Cell;
 
+#[path = "../../../blkq/src/erased/crossbeam_utils/sync.rs"]
 pub mod sync;
 
 /// One try comes before the wait is announced.

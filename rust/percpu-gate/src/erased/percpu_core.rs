@@ -22,38 +22,16 @@
 //! taken; `replay` takes a list of them. The laws of docs/GATE.md hold of every world, whatever its seats do
 //! and in whatever order. That page has the life of a gate step by step, and why each order is as it is.
 
-mod control_event;
-mod control_standing;
-mod event;
 mod limits;
 mod memory;
-mod not_enabled;
-mod pass_event;
-mod pass_standing;
 mod phase;
-mod replay_fault;
 mod reply;
-mod schedule;
-mod shared_word;
-mod sizes;
 mod slot;
-mod slots;
 mod start;
-mod world;
 
-pub use control_event::ControlEvent;
-pub use control_standing::ControlStanding;
-pub use event::Event;
 pub use limits::{HELD_LIMIT, KILL_LIMIT, PASS_LIMIT, SLOT_LIMIT, WORD_LIMIT};
 pub use memory::Memory;
-pub use not_enabled::NotEnabled;
-pub use pass_event::PassEvent;
-pub use pass_standing::{PassStanding, Pending};
 pub use phase::Phase;
-pub use replay_fault::ReplayFault;
 pub use reply::Reply;
-pub use schedule::replay;
-pub use sizes::Sizes;
 pub use slot::Slot;
 pub use start::Start;
-pub use world::World;

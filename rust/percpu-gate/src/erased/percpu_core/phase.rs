@@ -40,7 +40,7 @@ impl Phase {
     }
 
     /// Whether the gate is live.
-    pub(crate) fn is_live(self) -> bool {
+    pub fn is_live(self) -> bool {
         matches!(self, Phase::LiveSlots | Phase::LiveAtomic)
     }
 
@@ -51,7 +51,7 @@ impl Phase {
     }
 
     /// Whether one of so many slots is to be closed, as the next step of a kill or of a switch.
-    pub(crate) fn has_slot_to_close(self, slots: usize) -> bool {
+    pub fn has_slot_to_close(self, slots: usize) -> bool {
         match self {
             Phase::LiveSlots => true,
             Phase::Closing(closed) => (closed as usize) < slots,
@@ -60,7 +60,7 @@ impl Phase {
     }
 
     /// Whether each of so many slots is closed, and none collected.
-    pub(crate) fn has_closed_all(self, slots: usize) -> bool {
+    pub fn has_closed_all(self, slots: usize) -> bool {
         match self {
             Phase::Closing(closed) => closed as usize == slots,
             _ => false,
@@ -68,7 +68,7 @@ impl Phase {
     }
 
     /// The slot that is closed or opened next.
-    pub(crate) fn next_slot(self) -> u32 {
+    pub fn next_slot(self) -> u32 {
         match self {
             Phase::Closing(slot) | Phase::Opening(slot) => slot,
             _ => 0,

@@ -34,7 +34,7 @@ pub enum Reply {
 
 impl Reply {
     /// The delta of the slot that was closed.
-    pub(crate) fn closed_delta(self) -> i64 {
+    pub fn closed_delta(self) -> i64 {
         match self {
             Reply::Collected(delta) => delta,
             _ => 0,
@@ -42,7 +42,7 @@ impl Reply {
     }
 
     /// 1 for a release, else 0.
-    pub(crate) fn won(self) -> u64 {
+    pub fn won(self) -> u64 {
         match self {
             Reply::Last => 1,
             _ => 0,

@@ -21,7 +21,7 @@ impl Slot {
     /// # Preconditions
     ///
     /// - `IsDelta(cells.delta(self))`: a delta is within its limit, on either side of 0.
-    pub(crate) fn word(self) -> u64 {
+    pub fn word(self) -> u64 {
         match self {
             Slot::Closed => CLOSED,
             Slot::Open(delta) => slot_word(delta),
@@ -29,7 +29,7 @@ impl Slot {
     }
 
     /// What it counts; a closed slot counts nothing.
-    pub(crate) fn delta(self) -> i64 {
+    pub fn delta(self) -> i64 {
         match self {
             Slot::Closed => 0,
             Slot::Open(delta) => delta,
@@ -37,7 +37,7 @@ impl Slot {
     }
 
     /// Whether it is open with this delta.
-    pub(crate) fn is_open_with(self, seen: i64) -> bool {
+    pub fn is_open_with(self, seen: i64) -> bool {
         match self {
             Slot::Closed => false,
             Slot::Open(delta) => delta == seen,
@@ -45,7 +45,7 @@ impl Slot {
     }
 
     /// What a look at it answers.
-    pub(crate) fn look_reply(self) -> Reply {
+    pub fn look_reply(self) -> Reply {
         match self {
             Slot::Closed => Reply::Closed,
             Slot::Open(delta) => Reply::Opened(delta),
@@ -53,7 +53,7 @@ impl Slot {
     }
 
     /// What an exchange of the delta `seen` answers.
-    pub(crate) fn exchange_reply(self, seen: i64) -> Reply {
+    pub fn exchange_reply(self, seen: i64) -> Reply {
         if self.is_open_with(seen) { Reply::Won } else { Reply::Lost }
     }
 }

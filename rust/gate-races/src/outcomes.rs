@@ -1,11 +1,11 @@
 //! All outcomes of a race.
 use crate::erased::counted_io::Counted;
 use crate::erased::races_run::{Form, NoWatch, Request, outcomes_bytes};
-use crate::errors::RaceError;
-use crate::text::Text;
+use crate::error::RaceError;
+use blkq::text::Text;
 
 /// Goes through all orders of the atomic steps of a race, and returns its outcomes: what the calls answer, and a shortest schedule
-/// that leads there, which [`replay`](crate::replay()) takes unchanged if it has at most 1,048,576 bytes. The program
+/// that leads there, which [`blkq::replay()`] takes unchanged if it has at most 1,048,576 bytes. The program
 /// `gate_races --outcomes` writes the same. The questions of a race are read, and not answered.
 ///
 /// It keeps the states that it has seen until all are, so a race of many calls takes much memory. Passes that make equal calls may change
@@ -20,14 +20,14 @@ use crate::text::Text;
 /// ```
 /// // A request on a device that is removed meanwhile: exactly one of both is the last, in each outcome.
 /// let race = b"races 1\nworld 1 1 atomic 0\n0 live 0 / put 0 1\nc kill\n";
-/// let outcomes = String::from_utf8(blkq::outcomes(race)?).unwrap();
+/// let outcomes = String::from_utf8(gate_races::outcomes(race)?).unwrap();
 /// let answers: Vec<&str> = outcomes.split("outcome ").skip(1).collect();
 /// assert_eq!(answers.len(), 4);
 /// for answer in answers {
 ///     let calls: Vec<&str> = answer.lines().skip(1).take(2).collect();
 ///     assert_eq!(calls.concat().matches("last").count() - calls.concat().matches("not last").count(), 1);
 /// }
-/// # Ok::<(), blkq::RaceError>(())
+/// # Ok::<(), gate_races::RaceError>(())
 /// ```
 pub fn outcomes(race: &[u8]) -> Result<Vec<u8>, RaceError> {
     let mut text = Text::default();

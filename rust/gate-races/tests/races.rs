@@ -1,12 +1,12 @@
 //! Races from inside: the calls that a text gives, and long lists of answers.
 
-use blkq::erased::gates_world::CallAt;
-use blkq::erased::line_text::ScriptFault;
-use blkq::erased::percpu_core::Start;
-use blkq::erased::race_calls::Answers;
-use blkq::erased::race_calls::{Answer, Asked, Awaited, ControlCall, Count, Flag, Mode, PassCall};
-use blkq::erased::race_world::Race;
-use blkq::erased::races_text::{Raced, parse_plan, parse_race};
+use gate_races::erased::gates_world::CallAt;
+use gate_races::erased::line_text::ScriptFault;
+use gate_races::erased::percpu_core::Start;
+use gate_races::erased::race_calls::Answers;
+use gate_races::erased::race_calls::{Answer, Asked, Awaited, ControlCall, Count, Flag, Mode, PassCall};
+use gate_races::erased::race_world::Race;
+use gate_races::erased::races_text::{Raced, parse_plan, parse_race};
 
 const EVERY_CALL: &str = "# A race of every call.\n\nraces 1\nworld 2 4 slots 5 7 8\n\
     2 try 1 / live 0 / get 1 65535 / put 4294967295 1\n\
@@ -81,7 +81,7 @@ fn has_its_calls(race: &Race) -> bool {
         && race.control() == [ControlCall::Kill]
 }
 
-/// A race on Linux's percpu_ref has no guarded words, and its questions.
+/// A race on Linux's `percpu_ref` has no guarded words, and its questions.
 #[test]
 fn linux_in_place_of_guarded_words() {
     let asked = parse_race(format!("races 1\nworld 2 2 dead 3 linux\n{CALLS}").as_bytes()).unwrap();

@@ -1,8 +1,8 @@
 // Erased from crates/percpu_core/src/not_enabled.rt by tools/erase: edit that file.
 //! Why an event isn't enabled.
 
-use core::error::Error;
-use core::fmt;
+use std::error::Error;
+use std::fmt;
 
 /// Why a step can't be taken now, the first reason in the order in which they are tested.
 #[derive(Clone, Copy, Debug, PartialEq, Eq)]

@@ -6,11 +6,11 @@
 //! over any reader and writers; here it gets the words after the program's name and the standard streams. Where standard error is a
 //! terminal, a line there shows how far the search is.
 
-use blkq::erased::counted_io::Counted;
-use blkq::erased::env;
-use blkq::erased::fallible::TryCollect;
-use blkq::erased::races_run::{Progress, command, refuse_words};
-use blkq::erased::streams::{self, IsTerminal};
+use gate_races::erased::counted_io::Counted;
+use gate_races::erased::env;
+use gate_races::erased::fallible::TryCollect;
+use gate_races::erased::races_run::{Progress, command, refuse_words};
+use gate_races::erased::streams::{self, IsTerminal};
 use std::io;
 use std::process::ExitCode;
 

@@ -1,7 +1,7 @@
 // Erased from crates/percpu_core/src/shared_word.rt by tools/erase: edit that file.
 //! What steps find on the shared word, and what they leave there.
 
-use crate::erased::percpu_core::reply::Reply;
+use crate::erased::percpu_core::Reply;
 use crate::erased::percpu_words::{BIAS, DEAD, ZERO};
 
 /// The answer of a subtraction that left this word.

@@ -2,8 +2,8 @@
 //! Why a replay ends early.
 
 use crate::erased::percpu_core::not_enabled::NotEnabled;
-use core::error::Error;
-use core::fmt;
+use std::error::Error;
+use std::fmt;
 
 /// Why a replay ended before its last event.
 #[derive(Clone, Copy, Debug, PartialEq, Eq)]

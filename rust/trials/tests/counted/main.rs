@@ -1,5 +1,12 @@
 //! On which slot a tag of the queue that waits counts: no clause names it, and no caller can see it. A kill by hand shows it,
 //! which closes one slot after the other and returns the count of each.
+//!
+//! The erased files of the queue are compiled again here, for the fields that only they see.
+
+extern crate alloc;
+
+#[allow(dead_code, unused_imports, clippy::all, clippy::pedantic)]
+mod erased;
 
 use crate::erased::freeze_queue::{
     BlockQueue, Enter, FreezeFault, Freezer, Limits, MOST_DEPTH, Mode, SharedFreezer, Tag,

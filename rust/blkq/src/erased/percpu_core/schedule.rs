@@ -2,11 +2,10 @@
 //! A whole schedule on a world.
 
 use crate::erased::fallible::{AllocError, TryVec};
+use crate::erased::percpu_core::Reply;
 use crate::erased::percpu_core::event::Event;
 use crate::erased::percpu_core::replay_fault::ReplayFault;
-use crate::erased::percpu_core::reply::Reply;
 use crate::erased::percpu_core::world::World;
-use alloc::vec::Vec;
 
 /// Takes the events one after another, and gives their replies.
 ///

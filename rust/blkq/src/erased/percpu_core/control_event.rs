@@ -1,8 +1,8 @@
 // Erased from crates/percpu_core/src/control_event.rt by tools/erase: edit that file.
 //! The steps of the control.
 
+use crate::erased::percpu_core::Phase;
 use crate::erased::percpu_core::control_standing::ControlStanding;
-use crate::erased::percpu_core::phase::Phase;
 use crate::erased::percpu_core::shared_word::{collected, marked};
 use crate::erased::percpu_words::{BIAS, DEAD};
 

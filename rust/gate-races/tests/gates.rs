@@ -1,10 +1,10 @@
 //! Races of several gates from inside: their outcomes, against those that tests/races/searched.py finds.
 
-use blkq::erased::gates_world::{CallAt, CallsAt, GateStart, GatesRace};
-use blkq::erased::percpu_core::Start;
-use blkq::erased::race_calls::{Answer, Awaited, ControlCall, Count, Flag, PassCall};
-use blkq::erased::race_outcomes::{Actor, Outcomes, outcomes};
-use blkq::erased::race_search::NoWatch;
+use gate_races::erased::gates_world::{CallAt, CallsAt, GateStart, GatesRace};
+use gate_races::erased::percpu_core::Start;
+use gate_races::erased::race_calls::{Answer, Awaited, ControlCall, Count, Flag, PassCall};
+use gate_races::erased::race_outcomes::{Actor, Outcomes, outcomes};
+use gate_races::erased::race_search::NoWatch;
 
 const A: Flag = Flag { letter: b'a' };
 const B: Flag = Flag { letter: b'b' };

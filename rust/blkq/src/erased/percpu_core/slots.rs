@@ -4,9 +4,7 @@
 use crate::erased::fallible::{AllocError, TryVec};
 use crate::erased::percpu_core::control_event::ControlEvent;
 use crate::erased::percpu_core::pass_event::PassEvent;
-use crate::erased::percpu_core::phase::Phase;
-use crate::erased::percpu_core::slot::Slot;
-use alloc::vec::Vec;
+use crate::erased::percpu_core::{Phase, Slot};
 
 /// The slots of a gate, from the first on.
 pub(crate) struct Slots {

@@ -1,11 +1,10 @@
 // Erased from crates/percpu_core/src/pass_standing.rt by tools/erase: edit that file.
 //! Where a pass stands between two of its steps.
 
-use crate::erased::percpu_core::limits::HELD_LIMIT;
 use crate::erased::percpu_core::not_enabled::NotEnabled;
 use crate::erased::percpu_core::pass_event::PassEvent;
-use crate::erased::percpu_core::reply::Reply;
 use crate::erased::percpu_core::sizes::Sizes;
+use crate::erased::percpu_core::{HELD_LIMIT, Reply};
 
 /// What a pass still owes before it may take another step.
 #[derive(Clone, Copy, Debug, PartialEq, Eq)]

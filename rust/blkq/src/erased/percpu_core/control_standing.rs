@@ -2,12 +2,10 @@
 //! Where the control stands between two of its steps.
 
 use crate::erased::percpu_core::control_event::ControlEvent;
-use crate::erased::percpu_core::limits::KILL_LIMIT;
 use crate::erased::percpu_core::not_enabled::NotEnabled;
 use crate::erased::percpu_core::pass_standing::{PassStanding, Pending};
-use crate::erased::percpu_core::phase::Phase;
-use crate::erased::percpu_core::reply::Reply;
 use crate::erased::percpu_core::sizes::Sizes;
+use crate::erased::percpu_core::{KILL_LIMIT, Phase, Reply};
 
 /// The phase, the kills so far (those that the gate started with included), whether the control has a zero
 /// to mark, and the sum of the deltas that it has closed and not collected yet.

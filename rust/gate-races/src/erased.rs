@@ -1,0 +1,19 @@
+//! The race explorer of ../../../crates without its contracts. Nothing here is checked for a caller: it is for this crate and its
+//! tests. tools/erase writes the files that say so in their first line.
+#![forbid(unsafe_code)]
+#![allow(missing_docs, missing_debug_implementations, clippy::all, clippy::pedantic, rustdoc::all)]
+
+pub mod gates_world;
+pub mod linux_world;
+pub mod maps;
+pub mod race_calls;
+pub mod race_outcomes;
+pub mod race_search;
+pub mod race_world;
+pub mod races_run;
+pub mod races_text;
+pub mod time;
+
+pub use ::blkq::erased::{
+    counted_io, env, fallible, gate_replay, line_text, percpu_core, percpu_words, pointers, streams,
+};

@@ -1,0 +1,85 @@
+//! Want of memory: each allocation of a race's search is refused in turn, and each growth of a map.
+//! (This program's allocator is its own, which refuses and counts, so it has `unsafe`.)
+#![allow(unsafe_code)]
+
+use gate_races::erased::counted_io::Counted;
+use gate_races::erased::maps::{HashMap, TryMap};
+use gate_races::erased::races_run::{Fault, Form, NoWatch, Request, outcomes_bytes};
+use std::fs::{read, read_dir};
+use std::io::{self, Read};
+use std::path::{Path, PathBuf};
+
+#[path = "../../trials/tests/shared/refused_thread.rs"]
+mod refused_thread;
+use refused_thread::{ALLOWED, BLOCKS, IS_ONE};
+
+/// An input that comes whole, and counts how often it is read.
+struct Feed<'a> {
+    rest: &'a [u8],
+    reads: u32,
+}
+
+impl Read for Feed<'_> {
+    fn read(&mut self, buf: &mut [u8]) -> io::Result<usize> {
+        self.reads += 1;
+        self.rest.read(buf)
+    }
+}
+
+/// Searches a race with one allocation refused, if so many succeed before it. Whether that was asked for.
+fn one_run(race: &[u8], answer: &[u8], allowed: u64) -> bool {
+    let mut room = vec![0; answer.len() + 1];
+    let mut feed = Feed { rest: race, reads: 0 };
+    let blocks = BLOCKS.get();
+    IS_ONE.set(true);
+    ALLOWED.set(Some(allowed));
+    let (mut reader, mut writer) = (Counted::new(&mut feed), Counted::new(&mut room[..]));
+    let answered =
+        outcomes_bytes(&mut reader, &mut writer, Request::Written(Form::Answers), None, &mut NoWatch).map(drop);
+    let is_refused = ALLOWED.take().is_none();
+    assert_eq!(BLOCKS.get(), blocks, "a block is left");
+    assert!(feed.reads <= 2, "the input was read again");
+    match answered {
+        Ok(()) => assert!(room.starts_with(answer) && room.ends_with(&[0])),
+        Err(fault) => assert!(is_refused && matches!(fault, Fault::Memory) && room.iter().all(|byte| *byte == 0)),
+    }
+    is_refused
+}
+
+/// The search either needs no such memory, or returns that it was refused, and writes nothing. It frees its blocks.
+#[test]
+fn each_allocation_of_a_search() {
+    let here = Path::new(env!("CARGO_MANIFEST_DIR"));
+    let folders = [here.join("../../examples/races"), here.join("tests/refused")];
+    let files = folders.iter().flat_map(|folder| read_dir(folder).unwrap());
+    let mut races: Vec<PathBuf> = files.map(|entry| entry.unwrap().path()).collect();
+    races.retain(|path| path.extension().is_some_and(|kind| kind == "races"));
+    assert!(races.len() > 5);
+    for path in races {
+        let (race, answer) = (read(&path).unwrap(), read(path.with_extension("answer")).unwrap());
+        let asked = (0..).find(|allowed| !one_run(&race, &answer, *allowed)).unwrap();
+        assert!(asked > 100, "{}", path.display());
+    }
+}
+
+/// If a growth is refused, the map stays as it was.
+#[test]
+fn a_refused_growth_of_a_map() {
+    let mut map = HashMap::default();
+    for key in 0..3 {
+        assert_eq!(map.try_put(key, key), Ok(None));
+    }
+    ALLOWED.set(Some(0));
+    let mut put = Ok(None);
+    let mut keys = 3;
+    while put.is_ok() {
+        put = map.try_put(keys, keys);
+        keys += 1;
+    }
+    let is_kept = map.len() == keys - 1 && (0..keys - 1).all(|key| map.get(&key) == Some(&key));
+    ALLOWED.set(None);
+    assert!(is_kept);
+    assert_eq!(map.try_put(keys - 1, 7), Ok(None));
+    assert_eq!(map.try_put(keys - 1, 8), Ok(Some(7)));
+    assert_eq!(map.len(), keys);
+}

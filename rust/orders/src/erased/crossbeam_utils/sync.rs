@@ -1,1 +1,0 @@
-../../../../freeze-queue/src/erased/crossbeam_utils/sync.rs
