@@ -8,8 +8,8 @@
 #   make install-c PREFIX=/usr/local   builds and puts there both libraries for C, the queue's and the gate's: the proved ones
 #                                    where the Rattle kit or a release of this tree is, else by cargo in seconds
 #   make deb                           builds packages for Debian by cargo, in out/deb; DEB is another folder
-#   make release                       makes a release of the proved builds in out/release: needs the kit; RELEASE is another folder
-#   make release-check DIR=..          checks a release, and builds it again: needs the kit
+#   make dist                          makes a release of the last commit in out/release, with the proved libraries for C if the kit is
+#                                    here; RELEASE is another folder
 #   make install-nbd PREFIX=/usr/local   builds the queue's library, and puts there nbdkit-blkq-filter and blkqctl
 #   make uninstall-nbd PREFIX=/usr/local removes them
 PREFIX ?= /usr/local
@@ -61,11 +61,7 @@ uninstall-nbd:
 deb:
 	tools/debian_packages $(DEB)
 
-release:
-	tools/release $(RELEASE)
+dist:
+	tools/dist $(RELEASE)
 
-# Of the folder DIR.
-release-check:
-	tools/release --check $(or $(DIR),$(RELEASE))
-
-.PHONY: all check prove plain install install-plain install-programs install-c install-nbd uninstall-nbd deb release release-check
+.PHONY: all check prove plain install install-plain install-programs install-c install-nbd uninstall-nbd deb dist

@@ -39,8 +39,8 @@ def steps_of(crates, copy, log, processors, tries_all):
         # has cargo's tests and tests/list over cargo's builds; and further tests of the crates: lints, packages, sanitizers.
         Step("plain", ("tests/fresh",), 15, memory=2),
         Step("rust", ("tests/rust/run", "rest"), 4, folders=("rust/target",)),
-        # A release of what is proved here, and mistakes in one; and cargo's builds beside these, by random inputs.
-        Step("release", ("tests/release/run",), 8, proved=frozenset(["blkq", "gate_races"]), memory=3, **c),
+        # A release of what is proved here; and cargo's builds beside these, by random inputs.
+        Step("dist", ("tests/dist",), 1, **c),
         Step("answers", ("tests/answers",), 3, proved=frozenset(["blkq", "gate_races"]), folders=("rust/target",), **c),
         *of_list(),
         *of_programs(),

@@ -6,9 +6,10 @@ import subprocess
 import tempfile
 from typing import NamedTuple
 
-from release_parts.inputs import ROOT, input_of
-from release_parts.provenance import LIBRARIES, PROGRAMS
+from same_answers_parts.inputs import ROOT, input_of
 
+LIBRARIES = ("percpu_gate", "freeze_queue")
+PROGRAMS = ("blkq", "gate_races")
 SECONDS = 900
 # The C callers that answer a row of calls, with the library that each is linked to.
 CALLERS = {"gate": ("c/tests/calls.c", "percpu_gate"), "queue": ("c/tests/queue/calls.c", "freeze_queue")}
@@ -30,8 +31,8 @@ class Build(NamedTuple):
     archives: dict
 
 
-def released(folder, name):
-    """The build of a release."""
+def build_in(folder, name):
+    """The build in a folder, which has its programs in x86_64-linux/bin and its archives in x86_64-linux/lib."""
     there = f"{folder}/x86_64-linux"
     archives = {it: f"{there}/lib/lib{it}.a" for it in LIBRARIES}
     return Build(name, {it: f"{there}/bin/{it}" for it in PROGRAMS}, archives)
