@@ -2,7 +2,8 @@
 # docs/FORMATS.md; and apart from them the libraries for C, by c/Makefile.
 #
 #   make                               builds the programs by cargo, if there is no proved build of this tree: some 15 s
-#   make check                         everything but the proofs, without the Rattle kit
+#   make check                         everything but the proofs and the races, without the Rattle kit
+#   make check-races                   the explorer of races, without the kit
 #   make prove                         proves the crates, and builds the programs from them: needs the kit, and some minutes
 #   make install PREFIX=/usr/local     puts the programs and the pages there; DESTDIR goes before it
 #   make install-c PREFIX=/usr/local   builds and puts there both libraries for C, the queue's and the gate's: the proved ones
@@ -24,8 +25,27 @@ all:
 	./blkq run <examples/first.blkq >/dev/null
 	./gate_races <examples/races/removal.races >/dev/null
 
-check:
-	tests/plain
+# Each test prints TAP, and tests/prove runs them side by side, the longest first. The programs and libraries that they run over are
+# named by BLKQ, GATE_RACES, PLAY_CALLS and BUILD, or are what cargo builds.
+OVER_LIBRARIES = tests/nbd/run tests/c/run 'COMPILER=clang tests/c/run' tests/pages/run
+OVER_BOTH = tools/sizes tools/sweep_devices tests/switches/run tests/examples tests/rows/run tests/rows/calls
+OVER_PROGRAMS = $(OVER_BOTH) tests/pictures/run tests/install
+OVER_TREE = tests/packages 'tools/erase --check' 'tools/version --check'
+OF_RACES = $(addprefix tests/races/,random_races large program watched beside replayed longest_on_linux most_asked asked_lines run)
+
+check: builds
+	tests/prove 'tests/rust/run tests' $(if $(shell command -v $(CARGO)),$(OVER_LIBRARIES) $(OVER_PROGRAMS)) $(OVER_TREE)
+
+check-races: builds
+	tests/prove $(OF_RACES)
+
+# What cargo and a C compiler build for the tests.
+builds:
+	@$(if $(shell command -v $(CARGO)),cd rust && $(CARGO) build -q --offline --locked --release --target-dir target --bins, \
+		echo 'skipped: the tests over what cargo builds (https://rustup.rs, or apt-get install cargo)')
+	@$(if $(and $(shell command -v $(CARGO)),$(shell command -v cc),$(shell command -v objcopy)), \
+		$(MAKE) -s -C crates/percpu_gate_c BUILD=erased && $(MAKE) -s -C crates/freeze_queue_c BUILD=erased, \
+		echo 'skipped: the libraries for C (apt-get install gcc libc6-dev binutils)')
 
 # What both stand on is proved side by side.
 prove:
@@ -64,4 +84,4 @@ deb:
 dist:
 	tools/dist $(RELEASE)
 
-.PHONY: all check prove plain install install-plain install-programs install-c install-nbd uninstall-nbd deb dist
+.PHONY: all check check-races builds prove plain install install-plain install-programs install-c install-nbd uninstall-nbd deb dist

@@ -1,45 +1,79 @@
-"""How many checks passed and how many failed, as each test and each tool that checks prints it at its end; tests/counted.bash has the
-same for bash."""
+"""Prints each check of a test as a line of TAP, with the reasons of a failure in comments behind, and at the end the plan.
+tests/counted.bash has the same for bash, and tests/prove runs such tests."""
 
+import os
+import pathlib
 import re
+import sys
 
-LAST_LINE = re.compile(r"(\d+) passed, (\d+) failed")
-
-
-def last_line_of(said):
-    """The match of the last line of what a test printed, or None where it has another one."""
-    return LAST_LINE.fullmatch(said.rstrip("\n").rpartition("\n")[2])
+HOME = pathlib.Path(__file__).resolve().parent.parent
 
 
 class Counts:
-    """Counts checks, and prints a line for each fault."""
+    """Counts checks, and how many failed."""
 
     def __init__(self):
-        self.passed = self.failed = 0
+        self.checks = self.failed = 0
 
-    def hold(self, faults):
-        """Counts one check by its faults, none of which is there if it passed. Whether it did."""
+    def hold(self, name, faults):
+        """Counts a check by its faults, none of which is there if it passed. Whether it did."""
         faults = list(faults)
-        self.passed, self.failed = self.passed + (not faults), self.failed + bool(faults)
-        for fault in faults:
-            print(f"FAILED: {fault}", flush=True)
+        self.checks, self.failed = self.checks + 1, self.failed + bool(faults)
+        print(f"{'not ' if faults else ''}ok {self.checks} - {in_one_line(name)}", flush=True)
+        comment(*faults)
         return not faults
 
     def check(self, name, is_so, more=""):
-        """Counts a check by its name; behind it stands more of why it failed. Whether it passed."""
-        return self.hold([] if is_so else [f"{name}: {more}" if more else name])
+        """Counts a check, with more of why it failed. Whether it passed."""
+        return self.hold(name, [] if is_so else [more])
 
     def equal(self, name, found, wanted):
         return self.check(name, found == wanted, f"found {str(found)[:300]!r}, wanted {str(wanted)[:300]!r}")
 
-    def add(self, said):
-        """Adds the last line of what a test printed. The match of that line, or None."""
-        found = last_line_of(said)
-        if found:
-            self.passed, self.failed = self.passed + int(found[1]), self.failed + int(found[2])
-        return found
+    def skip(self, why):
+        """Counts a check that isn't made, since something is missing: why, and how to get it."""
+        self.checks += 1
+        print(f"ok {self.checks} # SKIP {why}", flush=True)
+
+    def add(self, name, said):
+        """Adds the checks that another test printed. Whether it printed all that it planned."""
+        made, plan = 0, None
+        for line in said.splitlines():
+            if found := re.match(r"(not )?ok (\d+) (- |# SKIP )(.*)", line):
+                made += 1
+                if found[3] == "# SKIP ":
+                    self.skip(found[4])
+                else:
+                    self.check(f"{name}: {found[4]}", not found[1])
+            elif found := re.match(r"1\.\.(\d+)", line):
+                plan = int(found[1])
+            else:
+                comment(line)
+        return plan == made
 
     def end(self):
-        """Prints the last line. The status: 1 where a check failed."""
-        print(f"{self.passed} passed, {self.failed} failed", flush=True)
+        """Prints the plan. The status: 1 if a check failed."""
+        print(f"1..{self.checks}", flush=True)
         return 1 if self.failed else 0
+
+
+def comment(*texts):
+    """Prints texts that aren't checks."""
+    for line in "\n".join(map(str, texts)).splitlines():
+        print(f"# {line}".rstrip(), flush=True)
+
+
+def skip_all(why):
+    """Ends a test that made no check, since something is missing: why, and how to get it."""
+    print(f"1..0 # SKIP {why}", flush=True)
+    sys.exit(0)
+
+
+def in_one_line(name):
+    """A check's name, in which # begins no directive."""
+    return str(name).replace("\\", "\\\\").replace("#", "\\#").replace("\n", " ").replace("\r", " ")
+
+
+def program_of(name):
+    """The program of this name that a test runs over: BLKQ, GATE_RACES or PLAY_CALLS in the environment names it, else it is cargo's."""
+    return HOME / os.environ.get(name.upper(), f"rust/target/release/{name}")

@@ -8,7 +8,6 @@ import subprocess
 import sys
 import tempfile
 
-from counts import last_line_of
 
 ROOT = pathlib.Path(__file__).resolve().parents[2]
 PAGE = ROOT / "docs/try.html"
@@ -106,7 +105,7 @@ def changed_sources(counts, copy=None):
 def heap(counts, parts=PARTS):
     """The heap under sanitizers."""
     if not shutil.which("cc"):
-        print("skipped: there is no C compiler for the heap (apt-get install gcc)")
+        counts.skip("there is no C compiler for the heap (apt-get install gcc)")
         return
     with tempfile.TemporaryDirectory() as work:
         files = [pathlib.Path(__file__).with_name("heap_test.c"), *(parts / name for name in ("heap.c", "wide.c"))]
@@ -115,6 +114,5 @@ def heap(counts, parts=PARTS):
         if done.returncode == 0:
             # A heap that gives one block again and again has no end.
             done = subprocess.run(["timeout", "3000", f"{work}/heap"], capture_output=True, text=True, errors="replace", check=False)
-        is_right = done.returncode == 0 and last_line_of(done.stdout)
-        counts.check("the heap is right under sanitizers", is_right, (done.stdout + done.stderr)[-2000:])
-        counts.add(done.stdout)
+        is_right = counts.add("the heap", done.stdout) and done.returncode == 0
+        counts.check("the heap is right under sanitizers", is_right, done.stderr[-2000:])

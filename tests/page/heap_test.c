@@ -1,5 +1,5 @@
 /* The heap of the page's module over an arena of this program: large blocks cut into small ones, blocks beside one another in random
- * calls, refusals at the bound, and the product of 128 bits against the compiler's own. The last line is 'N passed, M failed'. */
+ * calls, refusals at the bound, and the product of 128 bits against the compiler's own. */
 #include "heap.h"
 
 #include <sanitizer/asan_interface.h>
@@ -19,7 +19,7 @@ wide product_of(wide x, wide y);
 static _Alignas(65536) byte arena[ARENA_PAGES * PAGE_BYTES];
 /* The first page is the module's own, as far as the heap is concerned. */
 static word there = 2;
-static int passed, failed;
+static int checks, failed;
 
 byte *first_byte(void)
 {
@@ -49,10 +49,8 @@ word add_pages(word count)
 
 static void check(const char *name, int is_so)
 {
-    passed += is_so;
     failed += !is_so;
-    if (!is_so)
-        printf("FAILED: %s\n", name);
+    printf("%sok %d - %s\n", is_so ? "" : "not ", ++checks, name);
 }
 
 static unsigned long long seed = 1;
@@ -301,6 +299,6 @@ int main(void)
     random_calls();
     refusals();
     products();
-    printf("%d passed, %d failed\n", passed, failed);
+    printf("1..%d\n", checks);
     return failed > 0;
 }

@@ -1,10 +1,7 @@
 """Runs a program on a text."""
 
-import pathlib
 import subprocess
 
-HOME = pathlib.Path(__file__).resolve().parents[2]
-BUILT = [HOME / "crates/gate_races/out/gate_races", HOME / "crates/blkq/out/blkq"]
 SECONDS = 900
 
 

@@ -19,11 +19,11 @@ def check(rust, texts):
     layouts = laid_out(texts, rust)[0] if has_rustfmt() else {}
     for path, text in sorted(texts.items()):
         line = differs(os.path.join(rust, path), text, layouts.get(path))
-        counts.check(f"rust/{path}{line}", not line)
+        counts.check(f"rust/{path}{line or ''}", not line)
     for path in strangers(rust, texts):
         counts.check(f"rust/{path}: it is nobody's: no source erases to it, and it isn't a stand-in", False)
     if not layouts:
-        print(f"skipped: the layout isn't compared, since {RUSTFMT} isn't there (rustup component add rustfmt)")
+        counts.skip(f"the layout isn't compared, since {RUSTFMT} isn't there (rustup component add rustfmt)")
     return counts.end() == 0
 
 

@@ -6,6 +6,7 @@ import subprocess
 import tempfile
 from typing import NamedTuple
 
+from counts import Counts
 from same_answers_parts.inputs import ROOT, input_of
 
 LIBRARIES = ("percpu_gate", "freeze_queue")
@@ -83,11 +84,9 @@ def compare(one, other, count, seed=1):
 
 
 def main(one, other, count, seed=1):
-    """Prints what differs, and 'N passed, M failed', of inputs."""
+    """Prints how many inputs are answered alike, and some that aren't."""
+    counts = Counts()
     same, faults = compare(one, other, count, seed)
-    for it in faults:
-        print(f"FAILED: {it}")
-    failed = count - same or len(faults)
-    print(f"{same} passed, {failed} failed", flush=True)
-    return 1 if failed else 0
+    counts.hold(f"{same} of {count} inputs are answered alike", faults)
+    return counts.end()
 

@@ -36,7 +36,7 @@ is_alone_so() {
     sed -n 's/^linux [0-9]*: //p' out | sort >said_of_linux
     if [[ $status == 0 && ! -s errors ]] && sed 's/: .*//' out | cmp -s - numbers &&
         sort "$gate" | cmp -s - said_of_gate && sort "$linux" | cmp -s - said_of_linux; then
-        passed=$((passed + 1))
+        passes "$name"
     else
         fails "$name: status $status, $(head -c 200 errors), and ends '$(tail -n 1 out)', not '$(tail -n 1 numbers)'"
     fi

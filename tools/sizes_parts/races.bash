@@ -35,10 +35,9 @@ ends_so() {
     status=$?
     if [[ $status == 0 && ! -s errors && $(sed -n 2p out) == "outcome 1 steps $steps" && $(tail -n 1 out) == "outcomes $count" ]] &&
         [[ $(grep -c '^outcome ' out) == "$count" ]]; then
-        passed=$((passed + 1))
+        passes "$name"
     else
-        failed=$((failed + 1))
-        echo "FAILED: $name: status $status, $(head -c 200 errors), and ends '$(tail -n 1 out)', not 'outcomes $count'"
+        fails "$name: status $status, $(head -c 200 errors), and ends '$(tail -n 1 out)', not 'outcomes $count'"
     fi
     is "$name, with a state fewer" input 4 states nothing --states $((states - 1))
 }
@@ -49,7 +48,7 @@ gives_up_early() {
     (ulimit -v 262144 && timeout 3000 "$program" --states "$most" <input >out 2>errors)
     status=$?
     if [[ $status == 4 && $(<errors) == states && ! -s out ]]; then
-        passed=$((passed + 1))
+        passes "$name"
     else
         fails "$name: status $status, '$(head -c 200 errors)', $(stat -c %s out) bytes, and not status 4, 'states'"
     fi
