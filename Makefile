@@ -27,10 +27,10 @@ all:
 
 # Each test prints TAP, and tests/prove runs them side by side, the longest first. The programs and libraries that they run over are
 # named by BLKQ, GATE_RACES, PLAY_CALLS and BUILD, or are what cargo builds.
-OVER_LIBRARIES = tests/nbd/run tests/c/run 'COMPILER=clang tests/c/run' tests/pages/run
+OVER_LIBRARIES = tests/nbd/run c/tests/run 'COMPILER=clang c/tests/run' tests/pages/run
 OVER_BOTH = tools/sizes tools/sweep_devices tests/switches/run tests/examples tests/rows/run tests/rows/calls
 OVER_PROGRAMS = $(OVER_BOTH) tests/pictures/run tests/install
-OVER_TREE = tests/packages 'tools/erase --check' 'tools/version --check'
+OVER_TREE = tests/packages tests/contracts 'tools/erase --check' 'tools/version --check'
 OF_RACES = $(addprefix tests/races/,random_races large program watched beside replayed longest_on_linux most_asked asked_lines run)
 
 check: builds
@@ -44,7 +44,7 @@ builds:
 	@$(if $(shell command -v $(CARGO)),cd rust && $(CARGO) build -q --offline --locked --release --target-dir target --bins, \
 		echo 'skipped: the tests over what cargo builds (https://rustup.rs, or apt-get install cargo)')
 	@$(if $(and $(shell command -v $(CARGO)),$(shell command -v cc),$(shell command -v objcopy)), \
-		$(MAKE) -s -C crates/percpu_gate_c BUILD=erased && $(MAKE) -s -C crates/freeze_queue_c BUILD=erased, \
+		$(MAKE) -s -C c BUILD=erased, \
 		echo 'skipped: the libraries for C (apt-get install gcc libc6-dev binutils)')
 
 # What both stand on is proved side by side.
