@@ -12,11 +12,11 @@ import tempfile
 ROOT = pathlib.Path(__file__).resolve().parents[2]
 PAGE = ROOT / "docs/try.html"
 MOST_BYTES = 300_000
-PARTS = ROOT / "tools/page_parts"
+PARTS = ROOT / "docs/try"
 SANITIZED = "-std=c17 -g -O1 -Wall -Wextra -Werror -fsanitize=address,undefined -fno-sanitize-recover=all".split()
 # What tools/page --check reads. A folder `out` is left behind.
-READ = ("crates", "tools", "examples", "docs/try.html", "crates.txt")
-AROUND = "tools/page_parts or examples/ has changed since: run tools/page --around"
+READ = ("crates", "tools", "examples", "docs/try", "docs/try.html", "crates.txt")
+AROUND = "docs/try or examples/ has changed since: run tools/page --around"
 
 
 def told_by_check(root):
@@ -46,12 +46,12 @@ CHANGES = {
     "a body below": ("crates/line_text/src/fault.rt", "Why::NoDisk => 3,", "Why::NoDisk => 4,", module_changed("crates/line_text")),
     "a contract": ("crates/browser/src/calls.rt", "ensures no_line {", "ensures none {", module_changed("crates/browser")),
     "a comment": ("crates/browser/src/calls.rt", "/// Replays a schedule.", "/// Replays it.", None),
-    "the heap": ("tools/page_parts/heap.c", "#define LEAST_GROWTH 16", "#define LEAST_GROWTH 17", module_changed("tools/page_parts/heap.c")),
+    "the heap": ("docs/try/heap.c", "#define LEAST_GROWTH 16", "#define LEAST_GROWTH 17", module_changed("docs/try/heap.c")),
     "how the module is made": ("tools/page_parts/module.py", "4 << 30", "2 << 30", module_changed("tools/page_parts/module.py")),
-    "the style sheet": ("tools/page_parts/page.css", "#ffffff", "#fffffe", AROUND),
-    "the worker": ("tools/page_parts/worker.js", "FAULT = -1", "FAULT = -2", AROUND),
+    "the style sheet": ("docs/try/page.css", "#ffffff", "#fffffe", AROUND),
+    "the worker": ("docs/try/worker.js", "FAULT = -1", "FAULT = -2", AROUND),
     "an example": ("examples/races/removal.races", "One slot", "1 slot", AROUND),
-    "the menu": ("tools/page_parts/examples.txt", "in all orders", "in each order", AROUND),
+    "the menu": ("docs/try/examples.txt", "in all orders", "in each order", AROUND),
     "the page by hand": ("docs/try.html", "<main>", "<main >", AROUND),
     "a sum by hand": ("docs/try.html", '"crates/line_text": "', '"crates/line_text": "0', module_changed("crates/line_text")),
     "a crate that isn't below": ("crates/run_desk/src/desk.rt", "\n", "\n// Another line.\nconst MORE: u32 = 1;\n", None),

@@ -10,8 +10,8 @@ import re
 from page_parts.sums import read
 from races_pictures.svg import FONT, rules
 
-HERE = os.path.dirname(os.path.realpath(__file__))
-EXAMPLES = f"{os.path.dirname(os.path.dirname(HERE))}/examples"
+ROOT = os.path.dirname(os.path.dirname(os.path.dirname(os.path.realpath(__file__))))
+SOURCES, EXAMPLES = f"{ROOT}/docs/try", f"{ROOT}/examples"
 # Each uses those before it.
 DRAWING = ("texts", "gate", "linux", "states", "schedule", "svg", "lanes", "legend", "stepping", "answers")
 SCRIPTS = (*DRAWING, "running", "address", "page")
@@ -25,7 +25,7 @@ def packed(module):
 
 def menu():
     """The examples in the order of the menu: each one's file, its text, and what it shows."""
-    lines = [it for it in read(f"{HERE}/examples.txt").splitlines() if it and not it.startswith("#")]
+    lines = [it for it in read(f"{SOURCES}/examples.txt").splitlines() if it and not it.startswith("#")]
     pairs = [it.split(" ", 1) for it in lines]
     folders = {name: f"{EXAMPLES}/races" if name.endswith(".races") else EXAMPLES for name, _ in pairs}
     return [{"name": name, "shows": shows, "text": read(f"{folders[name]}/{name}")} for name, shows in pairs]
@@ -46,18 +46,18 @@ def in_script(value):
 def filled(template, scripts, parts):
     """A template with its parts in their places."""
     parts |= {
-        "/*STYLE*/": f"{colours()}\n{read(f'{HERE}/page.css').strip()}",
-        "<!--STEPS-->": read(f"{HERE}/steps.html").strip(),
-        "/*SCRIPTS*/": "\n".join(read(f"{HERE}/{name}.js").strip() for name in scripts),
+        "/*STYLE*/": f"{colours()}\n{read(f'{SOURCES}/page.css').strip()}",
+        "<!--STEPS-->": read(f"{SOURCES}/steps.html").strip(),
+        "/*SCRIPTS*/": "\n".join(read(f"{SOURCES}/{name}.js").strip() for name in scripts),
     }
-    return re.sub("|".join(map(re.escape, parts)), lambda it: parts[it[0]], read(f"{HERE}/{template}"))
+    return re.sub("|".join(map(re.escape, parts)), lambda it: parts[it[0]], read(f"{SOURCES}/{template}"))
 
 
 def assembled(module, sums):
     """The page with a packed module, which was made of sources with these sums."""
     parts = {
         "/*MADE-OF*/": json.dumps(sums, indent=0),
-        "/*WORKER*/": read(f"{HERE}/worker.js").strip(),
+        "/*WORKER*/": read(f"{SOURCES}/worker.js").strip(),
         "/*EXAMPLES*/": in_script(menu()),
         "/*MODULE*/": module,
     }

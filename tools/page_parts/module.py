@@ -12,8 +12,8 @@ import tempfile
 from proving.crates import crates_of
 from proving.kit import kit
 
-HERE = os.path.dirname(os.path.realpath(__file__))
-ROOT = os.path.dirname(os.path.dirname(HERE))
+ROOT = os.path.dirname(os.path.dirname(os.path.dirname(os.path.realpath(__file__))))
+SOURCES = f"{ROOT}/docs/try"
 
 CRATE = "browser"
 EXPORTS = ("browser_script", "browser_replay", "browser_race", "room", "bound")
@@ -103,7 +103,7 @@ def compiled(work, clang):
     for name in C_FILES:
         objects.append(f"{work}/{name}.o")
         of_c = ["-std=c17", "-Wall", "-Wextra", "-fwrapv", "-ffreestanding", "-nostdinc"]
-        ran([clang, *FLAGS, *of_c, "-c", f"{HERE}/{name}", "-o", objects[-1]])
+        ran([clang, *FLAGS, *of_c, "-c", f"{SOURCES}/{name}", "-o", objects[-1]])
     return objects
 
 

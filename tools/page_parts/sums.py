@@ -7,8 +7,7 @@ from proving.crates import crates_of
 from sources.rattle import files_in
 from sources.statements import without_comments
 
-HERE = os.path.dirname(os.path.realpath(__file__))
-PARTS = ("heap.c", "heap.h", "module.py", "wasm.c", "wide.c")
+PARTS = ("docs/try/heap.c", "docs/try/heap.h", "docs/try/wasm.c", "docs/try/wide.c", "tools/page_parts/module.py")
 
 
 def read(path):
@@ -27,10 +26,10 @@ def code_of(crate):
 
 
 def sums_of_module(root):
-    """A sum for each crate of the module, and for each part of tools/page_parts that it is made of."""
+    """A sum for each crate of the module, and for each other file that it is made of."""
     crate = next(it for it in crates_of(root) if it.name == "browser")
     of_crates = {f"crates/{it.name}": sum_of(code_of(it)) for it in [*crate.below(), crate]}
-    return of_crates | {f"tools/page_parts/{name}": sum_of(read(f"{HERE}/{name}")) for name in PARTS}
+    return of_crates | {name: sum_of(read(f"{root}/{name}")) for name in PARTS}
 
 
 def changed(old, new):
