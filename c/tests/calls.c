@@ -1,4 +1,4 @@
-/* Asks the library a row of calls from standard input, and writes each answer: docs/AGAINST.md has the format, and tests/rows/calls
+/* Asks the library a row of calls from standard input, and writes each answer: docs/FORMATS.md has the format, and tests/rows/calls
  * compares the answers. What this library can't tell is answered '?'. */
 #include "percpu_gate.h"
 

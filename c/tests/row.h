@@ -1,4 +1,4 @@
-/* Included by tests that answer a row of calls from standard input: docs/AGAINST.md has the format. */
+/* Included by tests that answer a row of calls from standard input: docs/FORMATS.md has the format. */
 #ifndef ROW_H
 #define ROW_H
 #include <inttypes.h>

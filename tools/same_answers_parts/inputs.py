@@ -16,7 +16,7 @@ KINDS = ("script", "schedule", "race", "gate", "queue")
 EDGES = (0, 1, 2, 63, 64, 65_534, 65_535, 65_536, 2**32 - 1)
 GREATEST = 2**64 - 1
 
-# The calls of a gate's pass and control, and of a queue's tag and freezer, as docs/AGAINST.md has them; some of them more often.
+# The calls of a gate's pass and control, and of a queue's tag and freezer, as docs/FORMATS.md has them; some of them more often.
 PASS = "try try live live get put put put put word front dying zero retire lose".split()
 CONTROL = (
     "kill kill kill kill_and_confirm mark_dead close_next close_next collect confirm drop_base reinit reinit resurrect store word"

@@ -1,4 +1,4 @@
-/* Asks the library a row of calls of a queue from standard input, and writes each answer: docs/AGAINST.md has the format, and
+/* Asks the library a row of calls of a queue from standard input, and writes each answer: docs/FORMATS.md has the format, and
  * tests/rows/calls compares the answers. What this library can't tell is answered '?'. */
 #include "freeze_queue.h"
 

@@ -2,7 +2,7 @@
 //! Rows of calls, played on a gate or a queue.
 //!
 //! The program reads a gate or a queue and its calls from standard input, makes these calls one after another, and writes the
-//! answer to each. docs/AGAINST.md has the format, and tests/rows the rows.
+//! answer to each. docs/FORMATS.md has the format, and tests/rows the rows.
 
 mod answer;
 mod gate;
