@@ -1,5 +1,5 @@
-# Installs the programs blkq and gate_races, and their pages blkq(1), gate_races(1) and blkq(5), of which the last is made of
-# docs/FORMATS.md; and apart from them the libraries for C, by c/Makefile.
+# Installs the programs blkq and gate_races with their manuals, of which section 5 is made of docs/FORMATS.md and docs/races/FORMATS.md; and
+# apart from them the libraries for C, by c/Makefile.
 #
 #   make                               builds the programs by cargo, if there is no proved build of this tree: some 15 s
 #   make check                         everything but the proofs and the races, without the Rattle kit
@@ -65,8 +65,9 @@ install-plain: plain
 install-programs:
 	install -d $(AT)/bin $(AT)/share/man/man1 $(AT)/share/man/man5
 	install -m 755 $(PROGRAMS) $(AT)/bin
-	install -m 644 docs/blkq.1 docs/gate_races.1 $(AT)/share/man/man1
+	install -m 644 docs/blkq.1 docs/races/gate_races.1 $(AT)/share/man/man1
 	$(AWK) -f tools/formats_page docs/FORMATS.md >$(AT)/share/man/man5/blkq.5
+	$(AWK) -v of=gate_races -f tools/formats_page docs/races/FORMATS.md >$(AT)/share/man/man5/gate_races.5
 	@echo "installed: $(PROGRAMS)"
 
 install-c:

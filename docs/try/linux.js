@@ -1,4 +1,4 @@
-// The machine of Linux's percpu_ref, as docs/LINUX.md and docs/FORMATS.md have it: tests/machines/walk.py, for the page. A schedule takes
+// The machine of Linux's percpu_ref, as docs/LINUX.md and docs/races/FORMATS.md have it: tests/machines/walk.py, for the page. A schedule takes
 // the steps of a race's calls one after another.
 
 const [FLAGS, COUNT, SWITCH] = ["flags", "count", "switch"].map((kind) => ({ gate: 0, kind, at: null }));

@@ -5,7 +5,7 @@ const HEADS_OF_SCHEDULES = ["gate 1", "gates 1", "linux 1"];
 // What is said of a schedule that the page doesn't replay, by the first word of its text.
 const NOT_REPLAYED = {
   __proto__: null,
-  gates: "This page replays schedules of one gate. In a terminal blkq replay takes the part of each gate: FORMATS.md tells how to cut it out.",
+  gates: "This page replays schedules of one gate. In a terminal blkq replay takes the part of each gate: races/FORMATS.md tells how to cut it out.",
   linux: "This page replays schedules of a gate, and none on Linux's percpu_ref. In a terminal ./gate_races --replay < FILE does.",
 };
 const BESIDE = 28;

@@ -1,4 +1,4 @@
-"""The machine of Linux's percpu_ref, as docs/LINUX.md and docs/FORMATS.md have it: the calls of a race, and the steps of each. It goes from
+"""The machine of Linux's percpu_ref, as docs/LINUX.md and docs/races/FORMATS.md have it: the calls of a race, and the steps of each. It goes from
 value to value, which a search keeps. walk.py has the words of the steps and their replies."""
 
 from collections import namedtuple

@@ -1,4 +1,4 @@
-"""A race as its text says it, and the search through all of its moments. docs/FORMATS.md has the texts."""
+"""A race as its text says it, and the search through all of its moments. docs/races/FORMATS.md has the texts."""
 
 from collections import deque
 from typing import NamedTuple

@@ -1,4 +1,4 @@
-"""A race on Linux's percpu_ref that goes on step by step: docs/FORMATS.md has the words of the steps and the replies."""
+"""A race on Linux's percpu_ref that goes on step by step: docs/races/FORMATS.md has the words of the steps and the replies."""
 
 from machines.percpu_ref import BIAS, CALLBACK_SECTION, PASS_SECTION, first, is_locked, is_percpu, turns
 

@@ -1,4 +1,4 @@
-"""Questions about a race: drawn at random, and answered by what each outcome tells, from docs/FORMATS.md alone."""
+"""Questions about a race: drawn at random, and answered by what each outcome tells, from docs/races/FORMATS.md alone."""
 
 from typing import NamedTuple
 

@@ -1,4 +1,4 @@
-"""Random races, of docs/FORMATS.md."""
+"""Random races, of docs/races/FORMATS.md."""
 
 from machines.gate import KILLS, ROOM
 from machines.race import Gates, LinuxRace, Race, calls_of

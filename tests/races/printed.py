@@ -1,4 +1,4 @@
-"""The outcomes of a race, as gate_races prints them: docs/FORMATS.md has the form."""
+"""The outcomes of a race, as gate_races prints them: docs/races/FORMATS.md has the form."""
 
 import re
 from typing import NamedTuple

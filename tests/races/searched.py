@@ -1,10 +1,10 @@
 #!/usr/bin/env python3
-"""Finds all outcomes of a race by exhaustive search, from docs/GATE.md, docs/LINUX.md and docs/FORMATS.md alone.
+"""Finds all outcomes of a race by exhaustive search, from docs/GATE.md, docs/LINUX.md and docs/races/FORMATS.md alone.
 
 usage: tests/races/searched.py [--outcomes] FILE ..
 
 A line for each race: its file, the number of its outcomes, and how many steps lead to them at least, all told. With --outcomes each
-outcome, as docs/FORMATS.md has it, without its schedule. A FILE is a race that is right. The search goes through every moment, also
+outcome, as docs/races/FORMATS.md has it, without its schedule. A FILE is a race that is right. The search goes through every moment, also
 where passes with equal calls have changed places. An outcome is what the calls have answered at an end, with the figures that the end of
 a replay tells but for the value. tests/rows/races.rows has these numbers of some races.
 """

@@ -1,4 +1,4 @@
-//! Why a race is refused, by its line and its reason (docs/FORMATS.md).
+//! Why a race is refused, by its line and its reason (docs/races/FORMATS.md).
 use gate_races::{LineError, RaceError, Reason, outcomes};
 
 fn refused(race: &[u8]) -> Option<LineError> {

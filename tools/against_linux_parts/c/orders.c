@@ -1,4 +1,4 @@
-/* All orders of races on the kernel's own percpu_ref. Reads races (docs/FORMATS.md, with the calls that Linux has), each with a
+/* All orders of races on the kernel's own percpu_ref. Reads races (docs/races/FORMATS.md, with the calls that Linux has), each with a
  * line `run` behind it, and prints the outcomes of each once, and how many moments it has. A moment is left by each actor that
  * may go, one step at a time, and is gone on from once: memory and stacks are copied to come back to it.
  *
