@@ -98,13 +98,6 @@ class Kit:
         """A process that ends when this one does."""
         return subprocess.Popen(words, cwd=folder, stdin=subprocess.DEVNULL, **how, **group(self.guard.pid))
 
-    def tokens(self, path):
-        """A row for each token of a .rt file, or none if the kit doesn't show them: then each edit is tried alone."""
-        if self.lacks():
-            return []
-        words = [self.prover, "fmt", "--tokens", path]
-        return subprocess.run(words, capture_output=True, encoding="utf-8", check=True).stdout.split("\n")[1:]
-
     def words(self, crate, jobs):
         """The words by which the prover finds a crate and the libraries below it."""
         words = ["--crate-name", crate.name, "src/main.rt" if crate.is_program else "src/lib.rt"]

@@ -37,11 +37,12 @@ def indent_of(line):
 
 
 def without_comments(path, text):
-    """The lines of a .rt or .antt text that aren't empty, without its comments. What a string has is no comment."""
+    """The lines of a .rt or .antt text that aren't empty, without its comments. What a string of Rust has is no comment."""
     if path.endswith(".rt"):
         text = RUST_COMMENT.sub(lambda it: it[0] if it["text"] else "", text)
-    lines = [it.rstrip() for it in text.split("\n") if it.strip()]
-    return [it for it in lines if not (path.endswith(".antt") and re.match(r" *--( |$)", it))]
+    else:
+        text = re.sub(r"(?m)(^|[ \t])--([ \t].*)?$", "", text)
+    return [it.rstrip() for it in text.split("\n") if it.strip()]
 
 
 def imported(words):

@@ -64,15 +64,15 @@ class Texts:
         except OSError:
             raise CannotApply(f"there is no file {path}") from None
 
-    def place(self, pair):
-        """Where the old text of a pair stands, as an offset."""
+    def row(self, pair):
+        """The line of the old text of a pair."""
         text = self.read(pair.path)
         if text.count(pair.old) != 1:
             raise CannotApply(f"an old text is {text.count(pair.old)} times in {pair.path}: {pair.old}")
-        return text.index(pair.old)
+        return text.count("\n", 0, text.index(pair.old)) + 1
 
     def with_pair(self, pair):
-        self.place(pair)
+        self.row(pair)
         text = self.read(pair.path).replace(pair.old, pair.new)
         return Texts(self.crate_folder, {**self.changed, pair.path: text})
 

@@ -3,9 +3,9 @@
 import sys
 import time
 
-from edits.files import CannotApply, Texts
-from edits.functions import functions_of
-from edits.reasons import Kind, reasons_in, telling
+from wrong_bodies_parts.files import CannotApply, Texts
+from wrong_bodies_parts.functions import functions_of
+from wrong_bodies_parts.reasons import Kind, reasons_in, telling
 
 
 class Answer:
@@ -21,16 +21,12 @@ class Placed:
         # Whether it may change what the proofs of other functions read, and whether it stands in no function.
         self.is_alone = self.is_anywhere = False
         for pair in edit.pairs:
-            self.put(pair, texts.place(pair), texts, functions)
+            self.put(pair, texts.row(pair), functions)
             texts = texts.with_pair(pair)
 
-    def put(self, pair, place, texts, functions):
-        before = texts.read(pair.path)[:place].encode()
-        row = before.count(b"\n") + 1
-        start = None if pair.path in texts.changed else len(before)
-        end = len(before) + len(pair.old.encode())
+    def put(self, pair, row, functions):
         inside = [it for it in functions if it.file == pair.path and it.has_row(row)]
-        bodies = [it for it in inside if it.has_in_body(row, start, end) and not it.is_alone]
+        bodies = [it for it in inside if it.has_in_body(row) and not it.is_alone]
         self.rows.add((pair.path, row))
         self.functions += [it for it in inside if it not in self.functions]
         self.is_alone = self.is_alone or not bodies
@@ -65,9 +61,9 @@ def shown(reason):
 
 
 class Trial:
-    def __init__(self, prover, edits, jobs, alone, said):
+    def __init__(self, prover, edits, jobs, alone):
         self.prover, self.edits, self.jobs = prover, edits, jobs
-        self.texts, self.alone, self.said = Texts(prover.crate.folder), alone, said
+        self.texts, self.alone = Texts(prover.crate.folder), alone
         self.answers, self.unread, self.checks = {}, [], 0
 
     def check(self, edited, placed):
@@ -77,9 +73,6 @@ class Trial:
         ran = self.prover.check(self.made(edited), names_of(placed), self.jobs())
         name, what = self.prover.crate.name, ", ".join(it.edit.name for it in edited) or "no edit"
         print(f"{name}, {time.monotonic() - began:.0f} s: {what}", file=sys.stderr, flush=True)
-        if self.said:
-            with open(f"{self.said}/{name}.{self.checks}", "w", encoding="utf-8") as it:
-                it.write(f"{what}\n{ran.said}")
         return ran
 
     def answer(self, placed, passed, text):
@@ -87,7 +80,7 @@ class Trial:
 
     def run(self, is_known_proved=False):
         """An answer for each edit, in their order. That the crate is proved without edits may be known."""
-        functions, ready = functions_of(self.prover.kit, self.prover.crate.folder), []
+        functions, ready = functions_of(self.prover.crate.folder), []
         for edit in self.edits:
             try:
                 self.texts.with_edit(edit)

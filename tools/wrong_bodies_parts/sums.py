@@ -1,16 +1,19 @@
 """The sum under which the wrong bodies of a crate are refused: over all that decides what the prover says of them, and that isn't
-the machine's. A comment or an empty line changes none, and neither does another kit whose logic and statements are the same."""
+the machine's. Better words change none: comments and empty lines of sources and edits, and comments and docstrings of the code that judges.
+Neither does another kit whose logic and statements are the same."""
 
 import functools
-import glob
 import hashlib
 import json
 import os
+import re
 
 from sources.rattle import files_in
 from sources.statements import Item, statements_of, without_comments, words_of
 
-TOOLS = os.path.dirname(os.path.dirname(os.path.realpath(__file__)))
+HERE = os.path.dirname(os.path.realpath(__file__))
+# The files here whose code tries edits and judges what the prover says; the others keep what it found.
+JUDGING = ("files", "functions", "prover", "reasons", "trials")
 # Whatever a crate names, it reads the kit's std, and what that passes on.
 OF_STD = ("core", "std", "std_alloc", "std_collections", "std_heap", "std_io")
 PARTS = ("src", "specs", "proofs")
@@ -29,11 +32,11 @@ class Sums:
         texts = [*own, *(item for _, items in stated for item in items)]
         named = set().union(*(words_of(text) for _, text in texts))
         parts = [
-            judging(f"{TOOLS}/edits"),
+            judging(),
             self.kit.logic(),
             kind_of(crate),
             own,
-            [(it.name, [(pair.path, pair.old, pair.new) for pair in it.pairs]) for it in edits],
+            [(it.name, list(map(words_in, it.pairs))) for it in edits],
             stated,
             self.said_by_kit({name for it in [crate, *below] for name in it.of_kit}, named),
         ]
@@ -81,12 +84,17 @@ def kind_of(crate):
     return crate.name, kind, sorted(crate.of_kit), sorted(it.name for it in crate.deps)
 
 
+def words_in(pair):
+    """The file of an edit's pair, and both its texts without comments."""
+    return pair.path, *("\n".join(without_comments(pair.path, text)) for text in (pair.old, pair.new))
+
+
 @functools.lru_cache(maxsize=None)
-def judging(folder):
-    """The code that tries edits and judges what the prover says, without its comments."""
+def judging():
+    """The code that tries edits and judges what the prover says, without its comments and docstrings."""
     found = []
-    for path in sorted(glob.glob(f"{folder}/*.py")):
-        with open(path, encoding="utf-8") as it:
-            lines = [line.rstrip() for line in it if line.strip() and not line.lstrip().startswith("#")]
-        found.append((os.path.basename(path), lines))
+    for name in JUDGING:
+        with open(f"{HERE}/{name}.py", encoding="utf-8") as it:
+            text = re.sub(r'(?ms)^ *""".*?"""$', "", it.read())
+        found.append((name, [it.rstrip() for it in text.split("\n") if it.strip() and not it.lstrip().startswith("#")]))
     return found
