@@ -6,7 +6,7 @@ import os
 import re
 
 HEAD = """# The crates whose wrong bodies were all seen refused: the name, how many there are, and a sum of all that decides it
-# (docs/CHECKS.md). tools/wrong_bodies alone writes this file: what anybody else writes here is tried again, or fails.
+# (CONTRIBUTING.md). tools/wrong_bodies alone writes this file: what anybody else writes here is tried again, or fails.
 """
 LINE = re.compile(r"(\w+) ([1-9]\d*) ([0-9a-f]{32})")
 
