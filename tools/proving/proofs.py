@@ -6,16 +6,12 @@ which are some thirty times as much. rt check and rt lib keep the proofs too, so
 Libraries that rt has built are used, after rt lib has brought them up to date.
 """
 
-import fcntl
 import hashlib
 import os
 import re
 import shutil
 import subprocess
 import sys
-
-from proving.crates import crates_of
-from proving.kit import hold, let_go, link_or_copy
 
 
 class Proofs:
@@ -79,51 +75,13 @@ class Proofs:
             write(self.note(crate), self.noted(crate))
         return status
 
-    def take(self, crates, log, origin):
-        """Takes what rt ci has proved and built in another copy of the repository, as far as this log of it goes, for each of these
-        crates with the same sources; the lowest first. The copy's crates.txt has the time of the copy. The names of the crates taken."""
-        said = text_of(log)
-        proved, began, lines = proved_in(said), os.path.getmtime(f"{origin}/crates.txt"), last_lines(said)
-        theirs, taken = {it.name: it for it in crates_of(origin)}, []
-        for crate in crates:
-            other = theirs.get(crate.name)
-            if not other or crate.name not in proved or any(it.name not in taken for it in crate.below()):
-                continue
-            if sources_of(crate) == sources_of(other) and self.take_one(crate, other, began):
-                taken.append(crate.name)
-                if crate.name in lines and not crate.is_static:
-                    replace(f"{crate.folder}/out/proved.log", f"{lines[crate.name]}\n")
-        return taken
-
-    def take_one(self, crate, other, began):
-        """Takes a crate's library, or its programs, and its tests' program. Whether there is something to take."""
-        os.makedirs(f"{crate.folder}/out", exist_ok=True)
-        if crate.makes_rlib():
-            if not os.path.isfile(made_of(other)):
-                return False
-            if sum_of(made_of(crate)) != sum_of(made_of(other)) or not self.has(crate):
-                self.take_library(crate, other)
-        for name in (crate.name, f"{crate.name}.by-rattle", f"{crate.name}_tests"):
-            take_program(f"{other.folder}/out/{name}", f"{crate.folder}/out/{name}", began)
-        if crate.is_program and os.path.isfile(made_of(crate)):
-            replace(self.note(crate), self.noted(crate))
-        return True
-
-    def take_library(self, crate, other):
-        held = hold([crate], fcntl.LOCK_EX)
-        rlib = os.path.dirname(crate.rlib)
-        shutil.rmtree(rlib, ignore_errors=True)
-        shutil.copytree(os.path.dirname(other.rlib), rlib, copy_function=link_or_copy)
-        replace(self.note(crate), self.noted(crate))
-        let_go(held)
-
-
-def take_program(made, to, began):
-    """Takes a built program as it is there, with the time at which its proof began: what was edited since is newer."""
-    if os.path.isfile(made) and sum_of(made) != sum_of(to):
-        shutil.copy(made, f"{to}.new")
-        os.utime(f"{to}.new", (began, began))
-        os.replace(f"{to}.new", to)
+    def note_all(self, crates):
+        """Notes the libraries and programs that rt ci has just proved and built here, but for those that an earlier note is of: rt ci
+        puts back what it found. The names of their crates."""
+        there = [it for it in crates if not it.is_static and os.path.isfile(made_of(it)) and not text_of(self.note(it))]
+        for crate in there:
+            write(self.note(crate), self.noted(crate))
+        return [it.name for it in there]
 
 
 def made_of(crate):
@@ -148,17 +106,6 @@ def proved_in(said):
     return {*re.findall(r"^rt: (\w+) (?:proved$|is kept: )", said, re.MULTILINE)}
 
 
-def last_lines(said):
-    """The prover's last line of each crate that rt ci said to be proved, or rt's own if it kept an earlier proof."""
-    found, last = {}, None
-    for line in said.splitlines():
-        if line.startswith("logic=proved ") and " tests=" not in line:
-            last = line
-        elif told := re.match(r"rt: (\w+) (?:(proved)$|is kept: )", line):
-            found[told[1]], last = (last if told[2] else line), None
-    return {name: line for name, line in found.items() if line}
-
-
 def text_of(path):
     try:
         with open(path, encoding="utf-8", errors="replace") as it:
@@ -178,10 +125,3 @@ def sum_of(path):
 def write(path, text):
     with open(path, "w", encoding="utf-8") as it:
         it.write(text)
-
-
-def replace(path, text):
-    """Writes a file anew, and leaves another one alone to which its name was linked."""
-    if os.path.lexists(path):
-        os.remove(path)
-    write(path, text)
