@@ -1,6 +1,6 @@
 //! A small service on the queue. Threads that come and go take any free tag for each request. A change of the limits has a deadline, and
 //! gives up. The end lets each thread go, and gives everything back.
-use freeze_queue::{EnterAnyError, Limits, Queue};
+use freeze_queue::{EnterAnyError, Limits, Queue, UpdateError};
 use std::error::Error;
 use std::sync::Arc;
 use std::thread;
@@ -25,10 +25,9 @@ fn work(queue: &Queue) -> u64 {
     sent
 }
 
-/// Changes one limit, or gives up after a while: then the queue is thawed, and has its old limits.
-fn change(queue: &Queue, max: u32, patience: Duration) -> Result<(), Box<dyn Error>> {
-    let frozen = queue.freeze_timeout(patience)?;
-    Ok(frozen.set(frozen.limits().with_max(max))?)
+/// Changes one limit, or gives up after a while. Then the queue is thawed, and has its old limits.
+fn change(queue: &Queue, max: u32, patience: Duration) -> Result<Limits, UpdateError> {
+    queue.update_timeout(patience, |limits| limits.with_max(max))
 }
 
 fn main() -> Result<(), Box<dyn Error>> {
@@ -51,7 +50,7 @@ fn main() -> Result<(), Box<dyn Error>> {
     }
     queue.update(|limits| limits.with_max(5))?;
 
-    queue.freeze()?.mark_dying(); // each enter, waiting or to come, answers Dying
+    queue.mark_dying(); // each enter, waiting or to come, returns Dying
     for worker in workers {
         sent += worker.join().expect("it works to the end");
     }

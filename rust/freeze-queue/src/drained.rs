@@ -3,6 +3,7 @@ use crate::errors::FreezeError;
 use crate::freezing::Freeze;
 use crate::frozen::Frozen;
 use crate::queue::Queue;
+use crate::shared::Shared;
 use std::fmt;
 use std::pin::Pin;
 use std::task::{Context, Poll, Waker};
@@ -37,25 +38,52 @@ pub struct Drained<'q> {
     noted: Option<u64>,
 }
 
+/// Whether the queue is drained. If it isn't the context's waker is noted, under this number or a new one.
+fn is_drained_or_noted(queue: &Shared, noted: &mut Option<u64>, context: &Context<'_>) -> bool {
+    let mut waker = Some(context.waker().clone()); // before the lock, since it is somebody's code
+    let mut held = queue.waits.lock();
+    let is_drained = held.freezer.poll_drained(&queue.erased);
+    if !is_drained {
+        held.drains.note(noted, &mut waker);
+    }
+    drop(held);
+    if !is_drained && noted.is_none() {
+        context.waker().wake_by_ref();
+    }
+    is_drained
+}
+
+/// A wait by a future for the drain of a queue that the future didn't freeze.
+pub(crate) struct Drain<'q> {
+    queue: &'q Shared,
+    noted: Option<u64>,
+}
+
+impl<'q> Drain<'q> {
+    pub(crate) fn of(queue: &'q Shared) -> Drain<'q> {
+        Drain { queue, noted: None }
+    }
+
+    pub(crate) fn poll(&mut self, context: &Context<'_>) -> Poll<()> {
+        if is_drained_or_noted(self.queue, &mut self.noted, context) { Poll::Ready(()) } else { Poll::Pending }
+    }
+}
+
+impl Drop for Drain<'_> {
+    fn drop(&mut self) {
+        let noted = self.noted.and_then(|number| self.queue.waits.lock().drains.forget(number));
+        drop(noted);
+    }
+}
+
 impl<'q> Drained<'q> {
     pub(crate) fn of(freeze: Freeze<'q>) -> Drained<'q> {
         Drained { freeze: Some(freeze), noted: None }
     }
 
-    /// Whether the queue is drained. If it isn't the context's waker is noted.
     fn is_drained_or_noted(&mut self, context: &Context<'_>) -> bool {
         let queue = self.freeze.as_ref().expect("it isn't polled once it is done").queue();
-        let mut waker = Some(context.waker().clone()); // before the lock, since it is somebody's code
-        let mut held = queue.waits.lock();
-        let is_drained = held.freezer.poll_drained(&queue.erased);
-        if !is_drained {
-            held.drains.note(&mut self.noted, &mut waker);
-        }
-        drop(held);
-        if !is_drained && self.noted.is_none() {
-            context.waker().wake_by_ref();
-        }
-        is_drained
+        is_drained_or_noted(queue, &mut self.noted, context)
     }
 
     /// The waker that was noted, if it is there still.

@@ -2,7 +2,7 @@
 use crate::body::Body;
 use crate::enter_owned_async::EnterOwnedAsync;
 use crate::errors::{EnterAnyError, EnterAnyTimeoutError};
-use crate::line::{Notify, Turn};
+use crate::line::{self, Notify, Turn, Waited};
 use crate::owned::OwnedEntered;
 use crate::shared::{Shared, bring_home};
 use crate::sync;
@@ -33,6 +33,7 @@ fn join(queue: &Shared, held: &mut Held, notify: Notify) -> Result<Joined, (Ente
             return Ok(Joined::Has(tag, notify));
         }
     }
+    held.counts.waited += 1;
     held.line.join(notify).map(Joined::Waits).map_err(|notify| (EnterAnyError::NoMemory, notify))
 }
 
@@ -55,41 +56,18 @@ pub(crate) fn tag_at_once(queue: &Shared) -> Option<Tag> {
 #[cold]
 pub(crate) fn wait_for_tag(queue: &Shared, deadline: Option<Instant>) -> Result<Tag, EnterAnyTimeoutError> {
     let notify = Notify::Thread(sync::current());
-    let mut held = queue.waits.lock();
+    let lock = || queue.waits.lock();
+    let mut held = lock();
     let number = match join(queue, &mut held, notify) {
         Ok(Joined::Has(tag, _)) => return Ok(on_slot_of_thread(queue, tag)),
         Ok(Joined::Waits(number)) => number,
         Err((why, _)) => return Err(why.into()),
     };
-    let waited = loop {
-        drop(held);
-        let in_time = park(deadline);
-        held = queue.waits.lock();
-        match held.line.look(number, &mut None) {
-            Turn::Has(tag) => break Ok(on_slot_of_thread(queue, tag)),
-            Turn::SentAway => break Err(EnterAnyError::Dying.into()),
-            Turn::Waits if in_time => {}
-            Turn::Waits => {
-                held.line.go(number);
-                break Err(EnterAnyTimeoutError::TimedOut);
-            }
-        }
-    };
-    drop(held);
-    // The wait may have used up the thread's token, which was perhaps somebody else's: an executor's, that parks its thread.
-    sync::current().unpark();
-    waited
-}
-
-/// Sleeps until the thread is woken, perhaps for nothing; whether that was before the deadline.
-fn park(deadline: Option<Instant>) -> bool {
-    let Some(deadline) = deadline else {
-        sync::park();
-        return true;
-    };
-    let left = deadline.saturating_duration_since(Instant::now());
-    sync::park_timeout(left);
-    Instant::now() < deadline
+    match line::wait(held, lock, |held| &mut held.line, number, deadline) {
+        Waited::Has(tag) => Ok(on_slot_of_thread(queue, tag)),
+        Waited::SentAway => Err(EnterAnyError::Dying.into()),
+        Waited::TimedOut => Err(EnterAnyTimeoutError::TimedOut),
+    }
 }
 
 /// The future of [`Queue::enter_any_async`](crate::Queue::enter_any_async).

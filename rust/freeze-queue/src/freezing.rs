@@ -26,10 +26,10 @@ impl Freeze<'_> {
         self.queue().waits.until_drained(&self.queue().erased, deadline)
     }
 
-    /// Never thaws it, and sends those away that wait to enter. A waker may panic by that: it is for ever by then.
+    /// Ends the freeze of a queue that no request enters any more. A waker may panic by that: it is so by then.
     pub(crate) fn mark_dying(mut self) {
         if let Some(queue) = self.queue.take() {
-            queue.mark_dying();
+            queue.mark_dying(true);
         }
     }
 }
@@ -146,8 +146,7 @@ impl<'q> Freezing<'q> {
         Drained::of(self.freeze)
     }
 
-    /// Never thaws this freeze, as [`Frozen::mark_dying`], and waits for no request: those in flight run to their end. A queue dies
-    /// also while a request hangs. Linux: `blk_queue_start_drain` with `QUEUE_FLAG_DYING`.
+    /// Marks the queue dying, as [`Queue::mark_dying`](crate::Queue::mark_dying), and ends this freeze: no request enters between. Linux: `blk_queue_start_drain` with `QUEUE_FLAG_DYING`.
     ///
     /// ```
     /// # use freeze_queue::{Limits, Queue, TryEnterError};

@@ -1,8 +1,8 @@
 //! A frozen queue.
-use crate::erased::queue_core;
 use crate::errors::SetError;
 use crate::freezing::Freeze;
 use crate::limits::Limits;
+use crate::queue::Update;
 use std::fmt;
 
 /// A freeze of a queue, which is drained: no request is under way, and none enters while it is there.
@@ -66,9 +66,9 @@ impl<'q> Frozen<'q> {
         self.freeze.queue().store_limits(limits.checked()?)
     }
 
-    /// Sets limits of the same hardware in place of those seen before. If others are in force by now, it sets nothing.
-    pub(crate) fn replace(&self, seen: Limits, limits: queue_core::Limits) -> bool {
-        self.freeze.queue().replace_limits(seen, limits)
+    /// Sets the limits of an update, unless others are in force by now than it saw. Whether it did.
+    pub(crate) fn replace(&self, update: Update) -> bool {
+        self.freeze.queue().replace_limits(update)
     }
 
     /// The limits that were set last. Only holders of a freeze change them.
@@ -86,9 +86,7 @@ impl<'q> Frozen<'q> {
         self.freeze.queue().waits.lock().freezer.limits().into()
     }
 
-    /// Never thaws this freeze, since the device is gone: no request enters any more, and those that wait to enter, or
-    /// will, are refused ([`EnterError::Dying`](crate::EnterError::Dying)). Later freezes and updates are done as before.
-    /// Linux: `QUEUE_FLAG_DYING`, by which `blk_queue_enter` refuses.
+    /// Marks the queue dying, as [`Queue::mark_dying`](crate::Queue::mark_dying), and ends this freeze: no request enters between.
     ///
     /// ```
     /// # use freeze_queue::{EnterError, Limits, Queue};

@@ -38,7 +38,7 @@
 //!
 #![doc = include_str!("guarded/beside.md")]
 //!
-//! The limits change by [`update`](Queue::update). A queue under load ends by [`mark_dying`](Frozen::mark_dying): each thread that enters is
+//! The limits change by [`update`](Queue::update). A queue under load ends by [`mark_dying`](Queue::mark_dying): each thread that enters is
 //! refused then. Once the threads have ended, [`Arc::into_inner`](std::sync::Arc::into_inner) has the queue for its removal.
 //!
 //! ```
@@ -62,7 +62,7 @@
 //!     thread::spawn(move || serve(&queue))
 //! });
 //! queue.update(|limits| limits.with_max(limits.max / 2))?;
-//! queue.freeze()?.mark_dying(); // no request enters any more
+//! queue.mark_dying(); // no request enters any more
 //! for thread in threads {
 //!     assert_eq!(thread.join().unwrap(), EnterAnyError::Dying);
 //! }

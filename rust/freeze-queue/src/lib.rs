@@ -43,8 +43,9 @@
 //! every freeze.
 //!
 //! Freezes nest, of one thread or of several: each [`Frozen`] is one, and the last that is dropped lets requests enter again.
-//! An [`OwnedFrozen`] borrows nothing. A device that goes away is frozen for ever ([`Frozen::mark_dying`]): then no thread waits to
-//! enter any more.
+//! An [`OwnedFrozen`] borrows nothing. [`Queue::update`] freezes, changes the limits and thaws in one call; updates take turns, so none loses
+//! the change of another. The queue of a device that goes away is marked dying ([`Queue::mark_dying`]): no request enters any more, and none
+//! waits.
 //!
 //! A queue around a value of Rust's own, as a whole device, is a [`guarded::Queue<T>`](guarded::Queue): a request lends `&T`, a freeze
 //! `&mut T`, and the end gives T back.
@@ -64,6 +65,8 @@
 //! | [`enter_owned`](Queue::enter_owned), [`enter_owned_timeout`](Queue::enter_owned_timeout) | [`enter_owned_async`](Queue::enter_owned_async) | the thaw |
 //! | [`enter_any`](Queue::enter_any), [`enter_any_timeout`](Queue::enter_any_timeout) | [`enter_any_async`](Queue::enter_any_async) | a tag, in order of arrival, and the thaw |
 //! | [`freeze`](Queue::freeze), [`freeze_timeout`](Queue::freeze_timeout), [`Freezing::wait`] | [`freeze_async`](Queue::freeze_async), [`Freezing::drained`] | the drain |
+//! | [`update`](Queue::update), [`update_timeout`](Queue::update_timeout) | [`update_async`](Queue::update_async) | its turn, in order of arrival, and the drain |
+//! | [`shut_down`](Queue::shut_down), [`shut_down_timeout`](Queue::shut_down_timeout) | [`shut_down_async`](Queue::shut_down_async) | the drain |
 //!
 //! A thread that waits looks for some microseconds before it sleeps, and less if that was in vain before. If a freeze hangs, a queue that is
 //! [watched](Queue::watch) lists the requests in flight, since when, and by which thread ([`Queue::in_flight`]).
@@ -78,7 +81,7 @@
 //! are woken, and the panic goes on in the call that woke it, unless its thread unwinds already. A task that is woken by a call within
 //! a waker is woken once that waker has returned.
 //!
-//! [`Queue::new`] asks for memory, and so does the line of those that wait for a tag. Want of it is an ordinary refusal, but for one
+//! [`Queue::new`] asks for memory, and so do the lines of those that wait for a tag or to update. Want of it is an ordinary refusal, but for one
 //! allocation of `Queue::new`, an `Arc`, which stable Rust can't refuse. A future that waits for the drain asks for memory too; without
 //! it, it polls again and again. The holder of a [`Frozen`] sees all writes of requests that left before or during the freeze. A request
 //! that enters after a thaw sees all writes from before the thaw.
@@ -106,6 +109,7 @@ extern crate alloc;
 mod readme {}
 
 mod body;
+mod counts;
 mod drained;
 mod drains;
 mod enter_any;
@@ -138,8 +142,10 @@ mod shared;
 mod sync;
 mod tag;
 mod threads;
+mod turns;
 mod waits;
 
+pub use counts::Stats;
 pub use drained::{Drained, FreezeAsync};
 pub use enter_any::EnterAny;
 pub use enter_async::EnterAsync;

@@ -1,5 +1,6 @@
 //! A queue: made and ended, its tags, and what it is asked.
 use crate::body::{Parts, TagState};
+use crate::counts::Stats;
 use crate::erased::percpu_core::SLOT_LIMIT;
 use crate::erased::queue_core::{self as erased, BlockQueue, Mode};
 use crate::errors::{GiveBackError, NewError, NextTagError, RemoveError};
@@ -13,17 +14,22 @@ use crate::seats::Seats;
 use crate::shared::{Share, Shared};
 use crate::sync::{MOST_PATIENCE, sleep};
 use crate::tag::Tag;
+use crate::turns::Turns;
 use crate::waits::{Held, Waits};
 use std::fmt;
 use std::num::NonZeroU64;
 use std::sync::Arc;
 use std::sync::atomic::{AtomicU64, Ordering::Relaxed};
 
+mod dying;
 mod enters;
 mod enters_any;
 mod enters_owned;
 mod freezes;
 mod stays;
+mod updates;
+
+pub(crate) use updates::Update;
 
 /// A queue that requests enter and leave on many threads, and that a freeze changes the limits of.
 ///
@@ -104,12 +110,12 @@ impl Queue {
         static NUMBERS: AtomicU64 = AtomicU64::new(0);
         let (erased, freezer, mut tags) = BlockQueue::new(limits, slots, tags).ok()?;
         let count = tags.len();
-        let (seats, places, line) = (Seats::new(count)?, Places::new(count)?, Line::new(count)?);
+        let (seats, places, line, turns) = (Seats::new(count)?, Places::new(count)?, Line::new(count)?, Turns::new()?);
         let mut kept = Vec::new();
         kept.try_reserve_exact(count).ok()?;
         let number = NonZeroU64::MIN.saturating_add(NUMBERS.fetch_add(1, Relaxed));
         let waits = Waits::of(Held::new(freezer, seats, line, kept));
-        let shared = Arc::new(Shared { number, watch: Watch::new(), erased, places, waits });
+        let shared = Arc::new(Shared { number, watch: Watch::new(), erased, places, waits, turns });
         for (number, (erased, place)) in tags.drain(..).zip(shared.places.all()).enumerate() {
             let state = TagState { erased, slot: 0, number, is_noted: false, is_watched: false };
             place.fill(Parts { state, shared: Arc::clone(&shared) });
@@ -238,7 +244,7 @@ impl Queue {
         if !places.iter().all(Place::is_home) {
             return Err(RemoveError::TagsOut);
         }
-        held.freeze_to_end(&shared.erased)?;
+        held.shut(&shared.erased);
         held.is_closed = true;
         for tag in places.iter().filter_map(Place::take_or_ask) {
             held.take_back(tag.end());
@@ -298,7 +304,7 @@ impl Queue {
     /// ```
     #[must_use]
     pub fn depth(&self) -> u32 {
-        self.shared.waits.lock().freezer.depth()
+        self.shared.waits.lock().depth()
     }
 
     /// Whether the queue is frozen and drained, at a moment of the call. Linux: `percpu_ref_is_zero` in
@@ -317,12 +323,27 @@ impl Queue {
         self.shared.waits.lock().freezer.poll_drained(&self.shared.erased)
     }
 
-    /// Whether its device is gone: [`Frozen::mark_dying`](crate::Frozen::mark_dying). Linux: `blk_queue_dying`.
+    /// What the queue has done since it was made.
     ///
     /// ```
     /// # use freeze_queue::{Limits, Queue};
     /// # let queue = Queue::new(Limits::of_hardware(64), 1, 1)?;
-    /// queue.freeze()?.mark_dying();
+    /// queue.update(|limits| limits.with_max(8))?;
+    /// let stats = queue.stats();
+    /// assert_eq!((stats.freezes, stats.updates, stats.waited), (1, 1, 0));
+    /// # Ok::<(), Box<dyn std::error::Error>>(())
+    /// ```
+    #[must_use]
+    pub fn stats(&self) -> Stats {
+        self.shared.waits.lock().counts.stats()
+    }
+
+    /// Whether its device is gone: [`mark_dying`](Queue::mark_dying). Linux: `blk_queue_dying`.
+    ///
+    /// ```
+    /// # use freeze_queue::{Limits, Queue};
+    /// # let queue = Queue::new(Limits::of_hardware(64), 1, 1)?;
+    /// queue.mark_dying();
     /// assert!(queue.is_dying());
     /// # Ok::<(), Box<dyn std::error::Error>>(())
     /// ```

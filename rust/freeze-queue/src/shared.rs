@@ -7,8 +7,10 @@ use crate::in_flight::{InFlight, Watch};
 use crate::limits::Limits;
 use crate::line::Notify;
 use crate::places::Places;
+use crate::queue::Update;
 use crate::seats::{Wakers, wake_each};
 use crate::threads;
+use crate::turns::Turns;
 use crate::waits::{Held, Seen, Waits};
 use std::iter;
 use std::mem;
@@ -27,6 +29,7 @@ pub(crate) struct Shared {
     /// One for each tag.
     pub(crate) places: Places,
     pub(crate) waits: Waits,
+    pub(crate) turns: Turns,
 }
 
 impl Shared {
@@ -98,7 +101,10 @@ impl Shared {
                 Err(TryEnterError::Frozen) => {}
             }
             let mut waker = Some(context.waker().clone()); // before the lock, since it is somebody's code
-            let seen = self.waits.lock().seen_or_noted(tag.number, &mut waker);
+            let mut held = self.waits.lock();
+            let seen = held.seen_or_noted(tag.number, &mut waker);
+            held.counts.waited += u64::from(seen.is_none() && !tag.is_noted);
+            drop(held);
             tag.is_noted |= seen.is_none();
             match seen {
                 Some(Seen::Live) => {}
@@ -123,6 +129,7 @@ impl Shared {
         deadline: Option<Instant>,
     ) -> Result<(), EnterTimeoutError> {
         let mut why = why;
+        let _waits = self.waits.begin_to_wait();
         loop {
             match why {
                 TryEnterError::OtherQueue => return Err(EnterTimeoutError::OtherQueue),
@@ -158,12 +165,13 @@ impl Shared {
         Ok(())
     }
 
-    /// Sets such limits in place of those seen before, in one hold of the lock; or nothing, if others are in force by now.
-    pub(crate) fn replace_limits(&self, seen: Limits, limits: queue_core::Limits) -> bool {
+    /// Sets the limits of an update in place of those that it saw, in one hold of the lock; or nothing, if others are in force by now.
+    pub(crate) fn replace_limits(&self, Update { from, to }: Update) -> bool {
         let mut held = self.waits.lock();
-        let is_so_still = Limits::from(held.freezer.limits()) == seen;
+        let is_so_still = Limits::from(held.freezer.limits()) == from;
         if is_so_still {
-            self.set(&mut held, limits);
+            self.set(&mut held, to);
+            held.counts.updates += 1;
         }
         is_so_still
     }
@@ -297,9 +305,10 @@ impl Share<'_> {
         self.wake(iter::empty(), wakers);
     }
 
-    /// Notes that a freeze is never thawed, and sends those away that wait to enter, or for a tag.
-    pub(crate) fn mark_dying(self) {
-        let (line, wakers) = self.waits.mark_dying(self.shares());
+    /// No request enters any more, and the freeze of this share ends, if it is one's. Wakes those that wait to enter, or for a tag, which
+    /// are refused.
+    pub(crate) fn mark_dying(self, is_freeze: bool) {
+        let (line, wakers) = self.waits.mark_dying(&self.erased, is_freeze.then(|| self.shares()));
         self.wake(line, wakers);
     }
 

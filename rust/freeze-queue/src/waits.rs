@@ -4,9 +4,11 @@
 //! itself, and a waking thread changes the queue before it locks to wake. No thread holds the lock while the queue drains,
 //! and no user's code runs under it: wakers are called after it is released.
 use crate::body::Body;
+use crate::counts::Counts;
 use crate::drains::Drains;
+use crate::erased::percpu_core::KILL_LIMIT;
 use crate::erased::queue_core::{BlockQueue, Final, FreezeFault, Freezer, LIMIT_WORDS, RemoveFault, Tag};
-use crate::errors::{FreezeError, RemoveError};
+use crate::errors::FreezeError;
 use crate::excluded::excluded;
 use crate::line::{Line, Notify};
 use crate::locked::{Lock, Locked};
@@ -23,19 +25,32 @@ use std::time::Instant;
 pub(crate) struct Held {
     pub(crate) freezer: Freezer,
     pub(crate) seats: Seats,
-    pub(crate) line: Line,
+    pub(crate) line: Line<Body>,
     pub(crate) drains: Drains,
     /// Room for the tags of a queue that ends.
     room: Vec<Tag>,
     /// Freezes that have a share of the queue.
     pub(crate) shares: u32,
-    /// The device is gone, and its freeze is never thawed.
+    /// The device is gone: no request enters any more.
     pub(crate) is_dying: bool,
+    /// The queue is dying and no freeze holds it: the gate stays closed by this alone, which counts as no freeze.
+    is_shut: bool,
     /// The queue was dropped, or its tags were taken back: a tag that comes home ends.
     pub(crate) is_closed: bool,
     /// Threads that sleep until the queue is live, or until it is drained.
     entering: u32,
     draining: u32,
+    waiting: Waiting,
+    pub(crate) counts: Counts,
+}
+
+/// The threads that wait to enter, from before they sleep until they have entered or given up.
+#[derive(Default)]
+struct Waiting {
+    now: u32,
+    /// How many of them were there at the last thaw: an update lets these in first.
+    owed: u32,
+    thaws: u64,
 }
 
 /// The end of a wait to enter.
@@ -47,21 +62,76 @@ pub(crate) enum Seen {
 
 impl Held {
     /// For a queue at which no thread waits, with room for all its tags.
-    pub(crate) fn new(freezer: Freezer, seats: Seats, line: Line, room: Vec<Tag>) -> Held {
-        let drains = Drains::default();
-        let (is_dying, is_closed) = (false, false);
-        Held { freezer, seats, line, drains, room, shares: 0, is_dying, is_closed, entering: 0, draining: 0 }
+    pub(crate) fn new(freezer: Freezer, seats: Seats, line: Line<Body>, room: Vec<Tag>) -> Held {
+        let (drains, counts, waiting) = (Drains::default(), Counts::default(), Waiting::default());
+        let (is_dying, is_shut, is_closed) = (false, false, false);
+        let (entering, draining) = (0, 0);
+        Held {
+            freezer,
+            seats,
+            line,
+            drains,
+            room,
+            shares: 0,
+            is_dying,
+            is_shut,
+            is_closed,
+            entering,
+            draining,
+            waiting,
+            counts,
+        }
     }
 
-    /// Freezes a queue that is to end, unless it is frozen.
-    pub(crate) fn freeze_to_end(&mut self, queue: &BlockQueue) -> Result<(), RemoveError> {
-        if self.freezer.depth() > 0 {
-            return Ok(());
+    /// The freezes that aren't thawed.
+    pub(crate) fn depth(&self) -> u32 {
+        self.freezer.depth() - u32::from(self.is_shut)
+    }
+
+    /// Begins a freeze. A queue's last kill is kept for its end.
+    fn start_freeze(&mut self, queue: &BlockQueue) -> Result<(), FreezeError> {
+        if mem::take(&mut self.is_shut) {
+            return Ok(()); // it holds the queue from now on
         }
+        if self.freezer.depth() == 0 && self.counts.kills >= KILL_LIMIT - 1 {
+            return Err(FreezeError::WornOut);
+        }
+        self.kill_or_nest(queue)
+    }
+
+    fn kill_or_nest(&mut self, queue: &BlockQueue) -> Result<(), FreezeError> {
         match self.freezer.start_freeze(queue) {
-            Ok(_) => Ok(()),
-            Err(FreezeFault::WornOut) => Err(RemoveError::WornOut),
+            Ok(frozen) if frozen.depth == 1 => self.counts.begins(self.freezer.poll_drained(queue)),
+            Ok(_) => {}
+            Err(FreezeFault::DepthFull) => return Err(FreezeError::DepthFull),
             Err(other) => excluded("start_freeze", other),
+        }
+        Ok(())
+    }
+
+    /// Ends a freeze. Whether requests enter again.
+    fn end_freeze(&mut self, queue: &BlockQueue) -> bool {
+        if self.is_dying && self.freezer.depth() == 1 {
+            self.is_shut = true;
+            return false;
+        }
+        let is_live = match self.freezer.thaw(queue) {
+            Ok(thawed) => thawed.live,
+            Err(fault) => excluded("thaw", fault),
+        };
+        if is_live {
+            self.counts.ends();
+            self.waiting.owed = self.waiting.now;
+            self.waiting.thaws += 1;
+        }
+        is_live
+    }
+
+    /// Closes a queue for good, whether it is frozen or not. Needs no depth.
+    pub(crate) fn shut(&mut self, queue: &BlockQueue) {
+        if self.freezer.depth() == 0 {
+            self.kill_or_nest(queue).unwrap_or_else(|fault| excluded("start_freeze", fault));
+            self.is_shut = true;
         }
     }
 
@@ -113,9 +183,31 @@ pub(crate) struct Waits {
     /// Where threads sleep that wait to enter, and threads that wait for the drain.
     live: Condvar,
     drained: Condvar,
+    /// Where an update sleeps until the threads have entered that waited at the last thaw.
+    let_in: Condvar,
     for_live: Patience,
     for_drain: Patience,
     shut: Shut,
+}
+
+/// A thread that waits to enter, until this is dropped.
+pub(crate) struct WaitsToEnter<'q> {
+    waits: &'q Waits,
+    /// How many thaws there were when it began to wait.
+    thaws: u64,
+}
+
+impl Drop for WaitsToEnter<'_> {
+    fn drop(&mut self) {
+        let mut held = self.waits.lock();
+        held.waiting.now -= 1;
+        if self.thaws < held.waiting.thaws {
+            held.waiting.owed -= 1;
+            if held.waiting.owed == 0 {
+                self.waits.let_in.notify_all();
+            }
+        }
+    }
 }
 
 /// Whether an entering has to wait, on a line of its own: a hint for a thread that is about to sleep, set under the lock.
@@ -128,6 +220,7 @@ impl Waits {
             held: Lock::new(held),
             live: Condvar::new(),
             drained: Condvar::new(),
+            let_in: Condvar::new(),
             for_live: Patience::new(MOST_PATIENCE),
             for_drain: Patience::new(MOST_PATIENCE),
             shut: Shut(AtomicBool::new(false)),
@@ -165,12 +258,8 @@ impl Waits {
     /// Begins a freeze. The caller thaws it. If it drains the queue, those that wait for the drain look by themselves.
     pub(crate) fn begin_freeze(&self, queue: &BlockQueue, shares: u32) -> Result<(), FreezeError> {
         let mut held = self.lock();
-        match held.freezer.start_freeze(queue) {
-            Ok(_) => {}
-            Err(FreezeFault::DepthFull) => return Err(FreezeError::DepthFull),
-            Err(FreezeFault::WornOut) => return Err(FreezeError::WornOut),
-            Err(other) => excluded("start_freeze", other),
-        }
+        held.start_freeze(queue)?;
+        held.counts.freezes += 1;
         held.shares += shares;
         self.shut.0.store(!held.is_dying, Relaxed);
         Ok(())
@@ -199,22 +288,51 @@ impl Waits {
     /// wakes these futures.
     pub(crate) fn thaw(&self, queue: &BlockQueue, shares: u32) -> Wakers {
         let mut held = self.lock();
-        match held.freezer.thaw(queue) {
-            Ok(thawed) if thawed.live => self.all_who_enter(&mut held, shares),
-            Ok(_) => {
-                held.shares -= shares;
-                Wakers::none()
-            }
-            Err(fault) => excluded("thaw", fault),
+        if held.end_freeze(queue) {
+            return self.all_who_enter(&mut held, shares);
+        }
+        held.shares -= shares;
+        Wakers::none()
+    }
+
+    /// No request enters any more, and a freeze ends, if the caller has one. Sends those away that wait to enter, or for a tag. The caller
+    /// wakes these.
+    pub(crate) fn mark_dying(
+        &self,
+        queue: &BlockQueue,
+        freeze: Option<u32>,
+    ) -> (impl Iterator<Item = Notify> + use<>, Wakers) {
+        let mut held = self.lock();
+        held.is_dying = true;
+        if freeze.is_some() {
+            held.end_freeze(queue);
+        } else {
+            held.shut(queue);
+        }
+        let sent_away = held.line.send_away();
+        (sent_away, self.all_who_enter(&mut held, freeze.unwrap_or(0)))
+    }
+
+    /// Notes a thread that waits to enter.
+    pub(crate) fn begin_to_wait(&self) -> WaitsToEnter<'_> {
+        let mut held = self.lock();
+        held.waiting.now += 1;
+        held.counts.waited += 1;
+        WaitsToEnter { waits: self, thaws: held.waiting.thaws }
+    }
+
+    /// Waits until the threads have entered, or given up, that waited at the last thaw.
+    pub(crate) fn let_in(&self, deadline: Option<Instant>) {
+        let (mut held, mut in_time) = (self.lock(), true);
+        while held.waiting.owed > 0 && held.freezer.depth() == 0 && in_time {
+            (held, in_time) = held.sleep(&self.let_in, deadline);
         }
     }
 
-    /// Notes that the freeze of the caller is never thawed, and sends those away that wait to enter, or for a tag. The caller wakes these.
-    pub(crate) fn mark_dying(&self, shares: u32) -> (impl Iterator<Item = Notify> + use<>, Wakers) {
-        let mut held = self.lock();
-        held.is_dying = true;
-        let sent_away = held.line.send_away();
-        (sent_away, self.all_who_enter(&mut held, shares))
+    /// Whether all of those threads have entered or given up.
+    pub(crate) fn has_let_in(&self) -> bool {
+        let held = self.lock();
+        held.waiting.owed == 0 || held.freezer.depth() > 0
     }
 
     pub(crate) fn is_dying(&self) -> bool {
@@ -239,6 +357,7 @@ impl Waits {
     #[cold]
     pub(crate) fn tell_drained(&self) {
         let mut held = self.lock();
+        held.counts.drained();
         if held.draining > 0 {
             self.drained.notify_all();
         }

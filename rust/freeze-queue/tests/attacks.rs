@@ -318,14 +318,14 @@ fn a_waker_panics_as_the_device_goes() {
         assert!(Pin::new(future).poll(&mut Context::from_waker(waker)).is_pending());
     }
     assert!(panics(|| frozen.mark_dying()));
-    assert_eq!((counts.0.load(Ordering::SeqCst), queue.depth(), queue.is_dying()), (1, 1, true));
+    assert_eq!((counts.0.load(Ordering::SeqCst), queue.depth(), queue.is_dying()), (1, 0, true));
     assert_eq!(queue.try_enter(&mut other).unwrap_err(), TryEnterError::Dying);
     for mut future in entering {
         let polled = Pin::new(&mut future).poll(&mut Context::from_waker(Waker::noop()));
         assert!(matches!(polled, Poll::Ready(Err(EnterError::Dying))));
     }
     drop(queue.freeze().unwrap());
-    assert_eq!(queue.depth(), 1);
+    assert_eq!((queue.depth(), queue.is_drained()), (0, true));
 }
 
 /// A waker that panics where the thaw is part of a panic already: it isn't a second one, which would abort.

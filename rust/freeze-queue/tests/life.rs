@@ -193,7 +193,7 @@ fn a_device_that_is_gone() {
     let (queue, mut tag) = with_tag();
     assert!(!queue.is_dying());
     queue.freeze().unwrap().mark_dying();
-    assert_eq!((queue.is_dying(), queue.depth(), queue.is_drained()), (true, 1, true));
+    assert_eq!((queue.is_dying(), queue.depth(), queue.is_drained()), (true, 0, true));
     assert_eq!(queue.enter(&mut tag).unwrap_err(), EnterError::Dying);
     assert_eq!(queue.try_enter(&mut tag).unwrap_err(), TryEnterError::Dying);
     assert_eq!(queue.enter_timeout(&mut tag, Duration::MAX).unwrap_err(), EnterTimeoutError::Dying);
@@ -201,11 +201,48 @@ fn a_device_that_is_gone() {
     let changed = Limits::of_hardware(64).with_max(9);
     assert_eq!((queue.update(|_| changed), queue.limits()), (Ok(changed), changed));
     queue.freeze().unwrap().set(Limits::of_hardware(64)).unwrap();
-    assert_eq!((queue.is_dying(), queue.depth()), (true, 1));
+    assert_eq!((queue.is_dying(), queue.depth()), (true, 0));
     let another = queue.next_tag(1).unwrap();
     queue.give_back(another).unwrap();
     queue.give_back(tag).unwrap();
     assert_eq!(queue.remove().unwrap(), Final { kills: 1, releases: 1, limits: Limits::of_hardware(64) });
+}
+
+/// A queue dies behind as many freezes as there can be, and each of them is thawed and begun again as before.
+#[test]
+fn a_device_goes_at_the_greatest_depth() {
+    let (queue, mut tag) = with_tag();
+    let mut all: Vec<_> = (0..Queue::MOST_DEPTH).map(|_| queue.freeze().unwrap()).collect();
+    queue.mark_dying();
+    queue.mark_dying();
+    assert_eq!((queue.freeze().unwrap_err(), queue.depth()), (FreezeError::DepthFull, Queue::MOST_DEPTH));
+    while let Some(frozen) = all.pop() {
+        drop(frozen);
+        assert_eq!((queue.depth() as usize, queue.is_drained()), (all.len(), true));
+        assert_eq!(queue.try_enter(&mut tag).unwrap_err(), TryEnterError::Dying);
+    }
+    let again: Vec<_> = (0..Queue::MOST_DEPTH).map(|_| queue.freeze().unwrap()).collect();
+    assert_eq!(queue.freeze().unwrap_err(), FreezeError::DepthFull);
+    drop((all, again));
+    queue.give_back(tag).unwrap();
+    assert_eq!(queue.remove().unwrap(), Final { kills: 1, releases: 1, limits: LIMITS });
+}
+
+/// A device that goes marks its queue, frozen or not, and the wait ends with the last request.
+#[test]
+fn a_device_that_goes_is_waited_for() {
+    let (queue, mut tag) = with_tag();
+    let mut other = queue.next_tag(1).unwrap();
+    let hung = queue.enter(&mut tag).unwrap();
+    assert!(!queue.shut_down_timeout(Duration::ZERO));
+    assert_eq!(queue.try_enter(&mut other).unwrap_err(), TryEnterError::Dying);
+    thread::scope(|threads| {
+        let waits = threads.spawn(|| queue.shut_down());
+        drop(hung);
+        waits.join().unwrap();
+    });
+    assert_eq!((queue.is_drained(), queue.depth()), (true, 0));
+    queue.shut_down();
 }
 
 /// A queue dies while a request is in flight: one that waits is sent away, the request leaves, and a freeze drains.
@@ -220,7 +257,7 @@ fn a_device_that_is_gone_while_a_request_hangs() {
         freezing.mark_dying();
         assert_eq!(sent_away.join().unwrap(), Err(EnterError::Dying));
     });
-    assert_eq!((queue.is_dying(), queue.depth(), queue.is_drained()), (true, 1, false));
+    assert_eq!((queue.is_dying(), queue.depth(), queue.is_drained()), (true, 0, false));
     assert_eq!(queue.freeze_timeout(Duration::ZERO).unwrap_err(), FreezeTimeoutError::TimedOut);
     drop(hung);
     assert_eq!((queue.is_drained(), queue.freeze().unwrap().limits()), (true, LIMITS));

@@ -275,7 +275,7 @@ fn a_waker_in_line_panics_as_the_device_goes() {
     all_wait(&mut line, &wakers);
     let frozen = queue.freeze_owned().unwrap();
     assert!(panics(|| frozen.mark_dying()));
-    assert_eq!((woken.times(), queue.depth(), queue.is_dying()), (1, 1, true));
+    assert_eq!((woken.times(), queue.depth(), queue.is_dying()), (1, 0, true));
     for mut future in line {
         assert!(matches!(polled(&mut future, Waker::noop()), Poll::Ready(Err(EnterAnyError::Dying))));
     }

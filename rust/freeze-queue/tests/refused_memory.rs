@@ -80,7 +80,7 @@ fn a_queue_has_the_bytes_of_the_page() {
         let before = BYTES.get();
         let queue = Queue::new(LIMITS, slots, tags).unwrap();
         let rest = BYTES.get() - before - 128 * i64::from(slots) - 448 * i64::from(tags);
-        assert!((1_400..1_700).contains(&rest), "{rest} bytes beside {slots} slots and {tags} tags");
+        assert!((1_700..2_000).contains(&rest), "{rest} bytes beside {slots} slots and {tags} tags");
         queue.remove().unwrap();
     }
 }

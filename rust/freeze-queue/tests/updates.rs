@@ -1,10 +1,16 @@
-//! Updates of the limits, of several threads, beside freezes that set limits, and within one another: none is lost.
+//! Updates of the limits, of several threads and tasks, and beside freezes that set limits: none is lost.
 use freeze_queue::{Limits, Queue, UpdateError};
+use std::future::Future;
 use std::hint;
+use std::panic::{AssertUnwindSafe, catch_unwind};
+use std::pin::pin;
+use std::sync::atomic::{AtomicBool, Ordering::Relaxed};
+use std::task::{Context, Poll, Waker};
 use std::thread;
+use std::time::Duration;
 
 mod shared;
-use shared::number_of;
+use shared::{number_of, until};
 
 const THREADS: u32 = 4;
 
@@ -86,12 +92,93 @@ fn updates_beside_freezes_that_set() {
     assert_eq!(queue.limits(), LIMITS.with_chunk(rounds).with_max(most));
 }
 
+/// The closure of an update enters and freezes its queue, and is refused an update of it.
 #[test]
 fn an_update_within_an_update() {
-    let queue = queue();
+    let (queue, other) = (queue(), queue());
     let (set, calls) = update_beside(&queue, one_more, |_| {
-        assert_eq!(queue.update(one_more).unwrap().max, 2);
+        assert_eq!(queue.update(one_more), Err(UpdateError::Nested));
+        assert_eq!(queue.update_timeout(Duration::MAX, one_more), Err(UpdateError::Nested));
+        assert_eq!(ready(queue.update_async(one_more)), Err(UpdateError::Nested));
+        assert_eq!(other.update(one_more).unwrap().max, 2);
+        drop(queue.freeze().unwrap());
         drop(queue.enter_any().unwrap()); // the closure isn't called under a freeze
     });
-    assert_eq!((set.unwrap().max, queue.limits().max, calls), (3, 3, 2));
+    assert_eq!((set.unwrap().max, queue.limits().max, calls), (2, 2, 1));
+    assert_eq!(queue.update(one_more).unwrap().max, 3);
+}
+
+/// A closure that panics ends its turn.
+#[test]
+fn a_closure_panics() {
+    let queue = queue();
+    assert!(catch_unwind(AssertUnwindSafe(|| queue.update(|_| panic!("on purpose")))).is_err());
+    assert_eq!((queue.depth(), queue.update(one_more).unwrap().max), (0, 2));
+}
+
+/// An update that waits for its turn gives up at its deadline, and so does one that waits for the drain, whose freeze is thawed.
+#[test]
+fn a_late_update_sets_nothing() {
+    let queue = queue();
+    let request = queue.enter_any().unwrap();
+    thread::scope(|threads| {
+        let drains = threads.spawn(|| queue.update(one_more));
+        until("it freezes", || queue.depth() == 1);
+        assert_eq!(queue.update_timeout(Duration::from_millis(1), one_more), Err(UpdateError::TimedOut));
+        drop(request);
+        assert_eq!(drains.join().unwrap().unwrap().max, 2);
+    });
+    let request = queue.enter_any().unwrap();
+    assert_eq!(queue.update_timeout(Duration::from_millis(1), one_more), Err(UpdateError::TimedOut));
+    assert_eq!((queue.depth(), queue.stats().updates), (0, 1));
+    drop(request);
+    assert_eq!(queue.update_timeout(Duration::ZERO, one_more).unwrap().max, 3);
+}
+
+fn ready<T>(future: impl Future<Output = T>) -> T {
+    let Poll::Ready(done) = pin!(future).poll(&mut Context::from_waker(Waker::noop())) else { panic!("it waits") };
+    done
+}
+
+/// Futures have their turns in order, and a future that is dropped passes its turn on.
+#[test]
+fn updates_by_futures() {
+    let queue = queue();
+    let request = queue.enter_any().unwrap();
+    let mut context = Context::from_waker(Waker::noop());
+    let mut all: Vec<_> = (0..5).map(|_| Box::pin(queue.update_async(one_more))).collect();
+    for future in &mut all {
+        assert!(future.as_mut().poll(&mut context).is_pending());
+    }
+    assert_eq!(queue.depth(), 1, "one has its turn");
+    drop(all.remove(2));
+    drop(all.remove(0));
+    assert_eq!(queue.depth(), 0, "it thaws, and the next hasn't been polled");
+    drop(request);
+    assert!(all[1].as_mut().poll(&mut context).is_pending());
+    for (future, most) in all.iter_mut().zip(2..) {
+        let Poll::Ready(set) = future.as_mut().poll(&mut context) else { panic!("it is its turn") };
+        assert_eq!(set.unwrap().max, most);
+    }
+    assert_eq!(queue.update(one_more).unwrap().max, 5);
+}
+
+/// An update lets a thread in that waited at the last thaw: its request has left when the update is done.
+#[test]
+fn an_update_lets_a_thread_in() {
+    let queue = queue();
+    for round in 1..=u64::from(rounds().min(200)) {
+        let has_entered = AtomicBool::new(false);
+        let frozen = queue.freeze().unwrap();
+        thread::scope(|threads| {
+            threads.spawn(|| {
+                let _request = queue.enter_any().unwrap();
+                has_entered.store(true, Relaxed);
+            });
+            until("it waits", || queue.stats().waited == round);
+            drop(frozen);
+            queue.update(one_more).unwrap();
+            assert!(has_entered.load(Relaxed), "round {round}");
+        });
+    }
 }

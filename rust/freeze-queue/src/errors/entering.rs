@@ -28,7 +28,7 @@ pub enum EnterError {
 /// # use freeze_queue::{Limits, Queue, TryEnterError};
 /// let queue = Queue::new(Limits::of_hardware(64), 1, 1)?;
 /// let mut tag = queue.next_tag(0)?;
-/// queue.freeze()?.mark_dying();
+/// queue.mark_dying();
 /// assert_eq!(queue.try_enter(&mut tag).unwrap_err(), TryEnterError::Dying);
 /// # Ok::<(), Box<dyn std::error::Error>>(())
 /// ```
@@ -53,7 +53,7 @@ pub enum TryEnterError {
 /// # use std::time::Duration;
 /// let queue = Queue::new(Limits::of_hardware(64), 1, 1)?;
 /// let mut tag = queue.next_tag(0)?;
-/// queue.freeze()?.mark_dying();
+/// queue.mark_dying();
 /// let refused = queue.enter_timeout(&mut tag, Duration::from_secs(9));
 /// assert_eq!(refused.unwrap_err(), EnterTimeoutError::Dying);
 /// # Ok::<(), Box<dyn std::error::Error>>(())

@@ -9,7 +9,7 @@ use std::fmt;
 /// ```
 /// # use freeze_queue::{EnterAnyError, Limits, Queue};
 /// let queue = Queue::new(Limits::of_hardware(64), 1, 1)?;
-/// queue.freeze()?.mark_dying();
+/// queue.mark_dying();
 /// assert_eq!(queue.enter_any().unwrap_err(), EnterAnyError::Dying);
 /// # Ok::<(), Box<dyn std::error::Error>>(())
 /// ```

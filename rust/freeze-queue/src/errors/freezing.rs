@@ -1,5 +1,6 @@
 //! Why a queue isn't frozen.
 use super::{LimitsError, SetError};
+use crate::turns::NoTurn;
 use std::error::Error;
 use std::fmt;
 
@@ -86,6 +87,32 @@ pub enum UpdateError {
     DepthFull,
     /// The queue was frozen 2^40 times.
     WornOut,
+    /// Another update, or requests, were under way for as long as was waited.
+    TimedOut,
+    /// The closure of an update updates the same queue.
+    Nested,
+    /// There is no memory to wait for the update before.
+    NoMemory,
+}
+
+impl From<NoTurn> for UpdateError {
+    fn from(why: NoTurn) -> UpdateError {
+        match why {
+            NoTurn::Nested => UpdateError::Nested,
+            NoTurn::TimedOut => UpdateError::TimedOut,
+            NoTurn::NoMemory => UpdateError::NoMemory,
+        }
+    }
+}
+
+impl From<FreezeTimeoutError> for UpdateError {
+    fn from(why: FreezeTimeoutError) -> UpdateError {
+        match why {
+            FreezeTimeoutError::DepthFull => UpdateError::DepthFull,
+            FreezeTimeoutError::WornOut => UpdateError::WornOut,
+            FreezeTimeoutError::TimedOut => UpdateError::TimedOut,
+        }
+    }
 }
 
 impl From<FreezeError> for UpdateError {
@@ -143,5 +170,8 @@ texts_or_limits! {
         OtherHardware => "a hardware limit that isn't the queue's",
         DepthFull => "1000 freezes aren't thawed yet",
         WornOut => "the queue was frozen 2^40 times",
+        TimedOut => "the deadline has passed",
+        Nested => "an update within an update of the same queue",
+        NoMemory => "no memory to wait for another update",
     }
 }

@@ -32,6 +32,33 @@ impl<T> Queue<T> {
         self.queue.update(change)
     }
 
+    /// Updates the limits as [`Queue::update_timeout`](crate::Queue::update_timeout) does.
+    ///
+    /// # Errors
+    ///
+    /// Returns [`UpdateError`], and sets nothing.
+    pub fn update_timeout(
+        &self,
+        patience: Duration,
+        change: impl FnMut(Limits) -> Limits,
+    ) -> Result<Limits, UpdateError> {
+        self.queue.update_timeout(patience, change)
+    }
+
+    /// Updates the limits as [`Queue::update_async`](crate::Queue::update_async) does.
+    ///
+    /// # Errors
+    ///
+    /// Returns [`UpdateError`], and sets nothing.
+    pub async fn update_async(&self, change: impl FnMut(Limits) -> Limits) -> Result<Limits, UpdateError> {
+        self.queue.update_async(change).await
+    }
+
+    /// Marks the queue dying, as [`Queue::mark_dying`](crate::Queue::mark_dying) does. [`as_queue`](Queue::as_queue) has the forms that wait.
+    pub fn mark_dying(&self) {
+        self.queue.mark_dying();
+    }
+
     /// Begins a freeze, as [`Queue::begin_freeze`](crate::Queue::begin_freeze) does. It lends nothing before it is drained.
     ///
     /// # Errors

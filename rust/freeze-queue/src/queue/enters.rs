@@ -24,7 +24,7 @@ impl Queue {
     /// let request = queue.enter(&mut tag)?;
     /// assert_eq!(request.limits().hardware, 64);
     /// drop(request);
-    /// queue.freeze()?.mark_dying();
+    /// queue.mark_dying();
     /// assert_eq!(queue.enter(&mut tag).unwrap_err(), EnterError::Dying);
     /// # Ok::<(), Box<dyn std::error::Error>>(())
     /// ```

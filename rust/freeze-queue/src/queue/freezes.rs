@@ -1,10 +1,9 @@
 //! The queue is frozen.
 use super::Queue;
 use crate::drained::FreezeAsync;
-use crate::errors::{FreezeError, FreezeTimeoutError, TryFreezeError, UpdateError};
+use crate::errors::{FreezeError, FreezeTimeoutError, TryFreezeError};
 use crate::freezing::{Freezing, OwnedFreezing};
 use crate::frozen::{Frozen, OwnedFrozen};
-use crate::limits::Limits;
 use crate::shared::Share;
 use std::time::Duration;
 
@@ -170,41 +169,5 @@ impl Queue {
     /// ```
     pub fn freeze_timeout(&self, patience: Duration) -> Result<Frozen<'_>, FreezeTimeoutError> {
         self.begin_freeze()?.wait_timeout(patience).map_err(|_thawed| FreezeTimeoutError::TimedOut)
-    }
-
-    /// Sets the limits that `change` makes of those in force, under a freeze of its own, and returns them.
-    ///
-    /// No set is lost, as in `fetch_update` of std's atomics. `change` runs before the freeze, so a slow one holds nobody up. The
-    /// limits that it saw are then compared with those in force, and set in the same hold of the lock. If another call has set
-    /// others meanwhile, the queue is thawed, and `change` is called again. It may update, freeze and enter this queue too.
-    ///
-    /// Limits that are refused freeze nothing, and neither does a `change` that panics.
-    ///
-    /// # Errors
-    ///
-    /// [`UpdateError`] has each. Then nothing is set.
-    ///
-    /// # Examples
-    ///
-    /// ```
-    /// # use freeze_queue::{Limits, LimitsError, Queue, UpdateError};
-    /// # let queue = Queue::new(Limits::of_hardware(64), 1, 1)?;
-    /// let halved = queue.update(|limits| limits.with_max(limits.max / 2))?;
-    /// assert_eq!((halved.max, queue.limits().max), (32, 32));
-    /// let refused = queue.update(|limits| limits.with_max(65));
-    /// assert_eq!(refused, Err(UpdateError::Limits(LimitsError::AboveHardware)));
-    /// # Ok::<(), Box<dyn std::error::Error>>(())
-    /// ```
-    pub fn update(&self, mut change: impl FnMut(Limits) -> Limits) -> Result<Limits, UpdateError> {
-        loop {
-            let seen = self.limits();
-            let limits = change(seen).checked().map_err(UpdateError::Limits)?;
-            if limits.hw() != seen.hardware {
-                return Err(UpdateError::OtherHardware);
-            }
-            if self.freeze()?.replace(seen, limits) {
-                return Ok(limits.into());
-            }
-        }
     }
 }

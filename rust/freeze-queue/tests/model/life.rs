@@ -293,7 +293,7 @@ impl<'q, 'c> Life<'q, 'c> {
             assert_eq!(queue.freeze().unwrap_err(), FreezeError::DepthFull);
             return;
         }
-        let before = plain.depth;
+        let (before, was_closed) = (plain.depth, plain.is_closed());
         let drained = plain.freezes();
         let frozen = match how {
             0 if drained => agrees(queue.freeze(), None),
@@ -305,7 +305,7 @@ impl<'q, 'c> Life<'q, 'c> {
             Some(frozen) => self.frozen.push((q, frozen)),
             None => plain.depth = before,
         }
-        if !drained && before == 0 {
+        if !drained && !was_closed {
             self.all_woken(q);
         }
     }
@@ -337,9 +337,15 @@ impl<'q, 'c> Life<'q, 'c> {
     }
 
     fn mark_dying(&mut self, q: usize) {
-        let Some(which) = self.frozen.iter().position(|(of, _)| *of == q) else { return };
-        self.frozen.swap_remove(which).1.mark_dying();
-        self.plains[q].dying = true;
+        let freeze = self.frozen.iter().position(|(of, _)| *of == q);
+        if let Some(which) = freeze.filter(|_| self.chance.one_in(2)) {
+            self.frozen.swap_remove(which).1.mark_dying();
+            self.plains[q].dying = true;
+            self.plains[q].depth -= 1;
+        } else {
+            self.queues[q].0.mark_dying();
+            self.plains[q].dies();
+        }
         self.all_woken(q);
         self.all_sent_away(q);
     }
@@ -365,6 +371,9 @@ impl<'q, 'c> Life<'q, 'c> {
         let (plain, queue) = (&self.plains[q], &self.queues[q].0);
         assert_eq!((queue.depth(), queue.is_drained()), (plain.depth, plain.is_drained()));
         assert_eq!((queue.limits(), queue.is_dying()), (plain.limits, plain.dying));
+        let stats = queue.stats();
+        assert_eq!((stats.freezes, stats.updates), (plain.begun, plain.updates));
+        assert!(stats.longest_drain <= stats.draining);
         if self.chance.one_in(2) { queue.switch_to_atomic() } else { queue.switch_to_slots() }
     }
 
@@ -395,7 +404,7 @@ pub fn is_free(seat: &mut Seat<'_>) -> bool {
 /// The queue is removed, as far as its tags are back.
 pub fn end(queue: Arc<Queue>, plain: &Plain) {
     let Some(queue) = Arc::into_inner(queue) else { panic!("each request has left") };
-    let live = u64::from(plain.depth == 0); // it is frozen once more, and drained by that
+    let live = u64::from(!plain.is_closed()); // it is frozen once more, and drained by that
     let limits: Limits = plain.limits;
     match queue.remove() {
         Ok(last) => {

@@ -74,13 +74,13 @@ impl<'q> Life<'q, '_> {
         let entered = match (plain.waiting, plain.depth, plain.dying, waits) {
             (0, _, _, false) => queue.try_enter_any().map_err(|why| assert_eq!(why, TryEnterAnyError::NoTag)),
             (0, _, _, true) => queue.enter_any_timeout(Duration::ZERO).map_err(|_| ()),
-            (_, 0, _, false) => queue.try_enter_any().map_err(|why| panic!("{why}")),
-            (_, 0, _, true) => queue.enter_any().map_err(|why| panic!("{why}")),
+            (_, 0, false, false) => queue.try_enter_any().map_err(|why| panic!("{why}")),
+            (_, 0, false, true) => queue.enter_any().map_err(|why| panic!("{why}")),
             (_, _, true, true) => queue.enter_any().map_err(|why| assert_eq!(why, EnterAnyError::Dying)),
             (_, _, true, false) => queue.try_enter_any().map_err(|why| assert_eq!(why, TryEnterAnyError::Dying)),
             (..) => queue.try_enter_any().map_err(|why| assert_eq!(why, TryEnterAnyError::Frozen)),
         };
-        assert_eq!(entered.is_ok(), plain.waiting > 0 && plain.depth == 0);
+        assert_eq!(entered.is_ok(), plain.waiting > 0 && !plain.is_closed());
         if let Ok(request) = entered {
             (plain.waiting, plain.out) = (plain.waiting - 1, plain.out + 1);
             plain.entered += 1;
@@ -219,6 +219,7 @@ impl<'q> Life<'q, '_> {
             return; // nothing was frozen
         }
         plain.freezes();
+        plain.updates += 1;
         plain.limits = plain::kept(limits);
         assert_eq!(set, Ok(plain.limits));
         self.is_thawed(q);

@@ -12,6 +12,9 @@ pub struct Plain {
     pub entered: u32,
     pub depth: u32,
     pub dying: bool,
+    /// Freezes that began, and updates that set limits.
+    pub begun: u64,
+    pub updates: u64,
     pub kills: u64,
     pub releases: u64,
     pub limits: Limits,
@@ -20,17 +23,47 @@ pub struct Plain {
 impl Plain {
     pub fn new(slots: u32, tags: u32, limits: Limits) -> Plain {
         let limits = kept(limits);
-        Plain { slots, waiting: tags, out: 0, entered: 0, depth: 0, dying: false, kills: 0, releases: 0, limits }
+        let (begun, updates, kills, releases) = (0, 0, 0, 0);
+        Plain {
+            slots,
+            waiting: tags,
+            out: 0,
+            entered: 0,
+            depth: 0,
+            dying: false,
+            begun,
+            updates,
+            kills,
+            releases,
+            limits,
+        }
+    }
+
+    /// Whether no request enters.
+    pub fn is_closed(&self) -> bool {
+        self.depth > 0 || self.dying
     }
 
     pub fn is_drained(&self) -> bool {
-        self.depth > 0 && self.entered == 0
+        self.is_closed() && self.entered == 0
     }
 
     /// One freeze more: whether it is drained.
     pub fn freezes(&mut self) -> bool {
+        let first = !self.is_closed();
         self.depth += 1;
-        let first = self.depth == 1;
+        self.begun += 1;
+        self.closes(first)
+    }
+
+    /// The device is gone.
+    pub fn dies(&mut self) {
+        let first = !self.is_closed();
+        self.dying = true;
+        self.closes(first);
+    }
+
+    fn closes(&mut self, first: bool) -> bool {
         self.kills += u64::from(first);
         self.releases += u64::from(first && self.is_drained());
         self.is_drained()

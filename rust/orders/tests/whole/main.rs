@@ -34,6 +34,7 @@ mod erased_queue {
 #[path = "../../../freeze-queue/src"]
 mod files {
     pub(crate) mod body;
+    pub(crate) mod counts;
     pub(crate) mod drained;
     pub(crate) mod drains;
     pub(crate) mod enter_any;
@@ -60,13 +61,14 @@ mod files {
     pub(crate) mod seats;
     pub(crate) mod shared;
     pub(crate) mod tag;
+    pub(crate) mod turns;
     pub(crate) mod waits;
 }
 
 use files::{
-    body, drained, drains, enter_any, enter_async, enter_owned_async, entered, errors, excluded, freezing, frozen,
-    guarded, handed_back, in_flight, lent, limits, line, locked, outcomes, owned, patience, pieces, places, queue,
-    seats, shared, tag, waits,
+    body, counts, drained, drains, enter_any, enter_async, enter_owned_async, entered, errors, excluded, freezing,
+    frozen, guarded, handed_back, in_flight, lent, limits, line, locked, outcomes, owned, patience, pieces, places,
+    queue, seats, shared, tag, turns, waits,
 };
 
 mod sync {

@@ -104,7 +104,7 @@ fn the_device_goes_away() {
     race("a thread and a task at a device that goes away", 3, parts, &[enters, enters_async, goes], |parts| {
         let mut tag = parts.tags[0].lock().unwrap();
         assert_eq!(parts.queue.try_enter(&mut tag).unwrap_err(), TryEnterError::Dying);
-        assert_eq!((parts.queue.depth(), parts.queue.is_dying()), (1, true));
+        assert_eq!((parts.queue.depth(), parts.queue.is_dying()), (0, true));
     });
 }
 
