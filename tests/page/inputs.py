@@ -39,7 +39,7 @@ def examples():
 
 
 def rows():
-    for path in sorted((ROOT / "tests/rows").glob("*.rows")):
+    for path in sorted((*(ROOT / "tests/rows").glob("*.rows"), *(ROOT / "tests/races/rows").glob("*.rows"))):
         for row in rows_of(path):
             word = "replay" if row.runs[0][1:2] == ["replay"] else row.runs[0][0]
             yield Input(row.name, WORDS[word], row.text)

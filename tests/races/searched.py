@@ -6,7 +6,7 @@ usage: tests/races/searched.py [--outcomes] FILE ..
 A line for each race: its file, the number of its outcomes, and how many steps lead to them at least, all told. With --outcomes each
 outcome, as docs/races/FORMATS.md has it, without its schedule. A FILE is a race that is right. The search goes through every moment, also
 where passes with equal calls have changed places. An outcome is what the calls have answered at an end, with the figures that the end of
-a replay tells but for the value. tests/rows/races.rows has these numbers of some races.
+a replay tells but for the value. tests/races/rows/races.rows has these numbers of some races.
 """
 
 import pathlib

@@ -47,12 +47,19 @@ def full_depth(*more):
     return text_of(["blkq 1", "disk 8 hw 8", "write 0 1 ab", *["freeze"] * 1001, *["thaw"] * 1000, "read 0 1", *more])
 
 
+def longest_rows(runs):
+    """A comment of as many bytes as a text may have, and one of a byte more."""
+    yield Row("refused_longest_comment", runs, b"#" * 1048576, refused(2, "line 2: no version"))
+    yield Row("refused_too_long", runs, b"#" * 1048577, refused(2, "line 1: too long"))
+
+
+def rows_of_races():
+    return longest_rows([RACES])
+
+
 def rows():
-    """All of them."""
-    longest, longer = b"#" * 1048576, b"#" * 1048577
-    every = [BLKQ, REPLAY, RACES]
-    yield Row("refused_longest_comment", every, longest, refused(2, "line 2: no version"))
-    yield Row("refused_too_long", every, longer, refused(2, "line 1: too long"))
+    """All of them but those of races."""
+    yield from longest_rows([BLKQ, REPLAY])
     yield Row("two_hundred_writes", [SMALL, LARGE], *two_hundred_writes())
     yield Row("depth_full", [BLKQ, SMALL, LARGE], *depth_full())
     yield Row("a_long_answer", [["blkq", "run", "2", "2", "2"]], *a_long_answer())
