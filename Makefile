@@ -31,7 +31,9 @@ OVER_LIBRARIES = tests/nbd/run c/tests/run 'COMPILER=clang c/tests/run' tests/pa
 OVER_BOTH = tools/sizes tools/sweep_devices tests/switches/run tests/examples tests/rows/run tests/rows/calls
 OVER_PROGRAMS = $(OVER_BOTH) tests/install
 OVER_TREE = tests/packages tests/tap tests/contracts tests/pictures/run 'tools/erase --check' 'tools/version --check'
-OVER_GATE_RACES = $(addprefix tests/races/,random_races large program watched beside replayed longest_on_linux most_asked asked_lines)
+RACES_OVER_BOTH = 'tests/rows/run races' 'tests/examples races'
+OVER_GATE_RACES = $(addprefix tests/races/,random_races large program watched beside replayed longest_on_linux most_asked asked_lines) \
+	$(RACES_OVER_BOTH)
 OF_RACES = $(OVER_GATE_RACES) tests/races/run tests/races/lanes 'tests/rust/run races'
 
 PLAIN = 'tests/rust/run tests' $(if $(shell command -v $(CARGO)),$(OVER_LIBRARIES) $(OVER_PROGRAMS)) $(OVER_TREE)
