@@ -65,7 +65,7 @@ def steps(page, counts, name, schedules):
 
 
 def whole(page, counts, name, url):
-    text, answer = ((ROOT / f"examples/{name}.{it}").read_text(encoding="utf-8") for it in ("races", "answer"))
+    text, answer = ((ROOT / f"examples/races/{name}.{it}").read_text(encoding="utf-8") for it in ("races", "answer"))
     page.open(url)
     counts.equal(f"{name}: the table", page.js(f"{ROWS}.map((row) => row.slice(0, -1))"), [it[:-1] for it in outcomes_in(answer)])
     counts.equal(f"{name}: its text", page.js("find('race').textContent"), text)

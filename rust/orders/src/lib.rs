@@ -31,7 +31,7 @@
 //!   away, deadlines pass at any moment, futures are dropped, a waker panics. Each wait ends. A guarded value is never lent twice.
 //! - `whole_gate`: percpu-gate's own files. References lend a guarded value beside kills, changes, revivals and the removal.
 //!
-//! `tests/rust/orders_wrong` plants mistakes in a copy, each of which they find.
+//! `tests/planted/run orders` plants mistakes in a copy, each of which they find.
 //!
 //! Two things aren't tried: a memory order weaker than sequentially consistent, which no step asks for, and a thread that wakes
 //! with no call. A waiter tries once before it announces its wait, and not eleven times.

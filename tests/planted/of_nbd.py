@@ -1,0 +1,70 @@
+"""Mistakes in the filter and the plugin, each of which a try of tests/nbd has to find.
+
+A mistake has a line 'try: NAME' of the tries that its file of mistakes names, and a line 'of: plugin' if it is tried in the plugin. It is built
+over the queue's library that is installed in the folder QUEUE.
+"""
+
+import contextlib
+import os
+import pathlib
+import shutil
+import signal
+import subprocess
+
+from mistakes import Bad
+
+ROOT = pathlib.Path(__file__).resolve().parents[2]
+SERVICE, TRIES = ROOT / "services/nbd", ROOT / "tests/nbd"
+TIMES = 3
+
+
+def fails(served, file, name):
+    """Whether a try fails, by what it looks for, and by which."""
+    given = {**os.environ, "PYTHONDONTWRITEBYTECODE": "1", "WITHIN": "20"}
+    # The bindings of libnbd are those of Debian's Python.
+    command = ["/usr/bin/python3", TRIES / f"{file}.py", served, name]
+    with subprocess.Popen(command, env=given, stderr=subprocess.PIPE, start_new_session=True) as run:
+        try:
+            said = run.communicate(timeout=600)[1].decode()
+        except subprocess.TimeoutExpired:
+            return True, "it hangs"
+        finally:
+            with contextlib.suppress(ProcessLookupError):
+                os.killpg(run.pid, signal.SIGKILL)  # what it left behind
+    found = [line for line in said.splitlines() if line.startswith(("AssertionError", "nbd.Error"))]
+    if run.returncode and not found:
+        return False, f"it ends otherwise: {said[-150:]}"
+    return run.returncode != 0, found[-1] if found else ""
+
+
+class Kind:
+    MOST_JOBS = 2
+
+    def __init__(self, work):
+        self.work, self.queue = work, os.environ["QUEUE"]
+
+    def as_it_is(self, chosen):
+        """tests/nbd/run tries what is right."""
+        return []
+
+    def built(self, mistake):
+        """Builds the wrong filter or plugin, and gives its path."""
+        is_plugin = mistake.words.get("of") == "plugin"
+        source, built = f"{self.work}/{mistake.name}", "plugin.so" if is_plugin else "nbdkit-blkq-filter.so"
+        shutil.copytree(SERVICE, source, ignore=shutil.ignore_patterns("*.so"))
+        target, library = "PLUGIN" if is_plugin else "FILTER", f"{self.queue}/lib/libfreeze_queue.a"
+        words = [f"{target}={source}/{built}", f"{source}/{built}", f"HEADERS={self.queue}/include", f"ARCHIVE={library}", "MORE=-O0 -Wno-error"]
+        with mistake.planted(source):
+            run = subprocess.run(["make", "-s", "-C", source, *words], stderr=subprocess.PIPE, check=False)
+        if run.returncode:
+            raise Bad(run.stderr.decode())
+        return f"{source}/{built}"
+
+    def found_by(self, mistake):
+        """How its try fails, of so many times once: on a slow machine the mistake may come too late to be seen."""
+        served, why = self.built(mistake), ""
+        for _ in range(TIMES):
+            found, why = fails(served, mistake.kind, mistake.words["try"])
+            if found:
+                return why[:200]
+        raise Bad(why or "nothing finds it")
