@@ -2,7 +2,7 @@
 
 rt has no command that builds a library of its statements alone, or that checks a copy of a crate over libraries elsewhere. So the
 prover `rattle` is called here, with flags that its help describes, on the files of the kit in PLACES. A kit that lacks one of them
-is named in a message, and then rt's own commands do the work, in more time.
+is named in a message; `rt ci` needs none of these tools.
 """
 
 import fcntl
@@ -12,9 +12,6 @@ import re
 import shutil
 import subprocess
 import sys
-import tempfile
-
-from proving.crates import PARTS
 
 # What is read of the kit, below its folder.
 PLACES = {
@@ -39,7 +36,9 @@ def kit():
     """The kit whose rt is on the PATH."""
     if not shutil.which("rt"):
         sys.exit("the command rt of the Rattle kit is not on the PATH")
-    return Kit()
+    found = Kit()
+    found.require()
+    return found
 
 
 def asked(*words):
@@ -64,17 +63,14 @@ class Kit:
     def at(self, place):
         return f"{self.folder}/{PLACES[place]}"
 
-    @functools.lru_cache(maxsize=None)
-    def lacks(self):
-        """The files and the flags that this kit lacks: with any of them rt's commands alone are used. Says so once."""
+    def require(self):
+        """Ends this program, by a message, if the kit lacks a file or a flag that is used here."""
         lacking = [it for place, it in PLACES.items() if not os.path.exists(self.at(place))]
         if not lacking:
             helps = {verb: asked(self.prover, verb, "--help") for verb in FLAGS}
             lacking = [f"rattle {verb} {flag}" for verb, flags in FLAGS.items() for flag in flags if flag not in helps[verb]]
         if lacking:
-            says = f"{self.name or 'this kit'} has no {', no '.join(lacking)}: rt lib and rt check are used instead, which take longer"
-            print(f"tools/proving/kit.py: {says} (docs/DECISIONS.md)", file=sys.stderr, flush=True)
-        return lacking
+            sys.exit(f"tools/proving/kit.py: {self.name or 'this kit'} has no {', no '.join(lacking)}")
 
     def identity(self):
         """The kit's name, and its logic's sum."""
@@ -117,43 +113,14 @@ class Kit:
 
     def check(self, crate, folder, jobs, flags):
         """Checks the copy of a crate that is in a folder, over the repository's libraries below it. The process that ran."""
-        if self.lacks():
-            return self.check_by_rt(crate, folder, jobs, flags)
-        return self.ran([self.prover, "check", *self.words(crate, jobs), *flags], folder)
-
-    def ran(self, words, folder):
+        words = [self.prover, "check", *self.words(crate, jobs), *flags]
         how = {"stdout": subprocess.PIPE, "stderr": subprocess.STDOUT, "encoding": "utf-8", "errors": "replace"}
         with self.started(words, folder, **how) as process:
             said = process.communicate()[0]
         return subprocess.CompletedProcess(words, process.returncode, said)
 
-    def check_by_rt(self, crate, folder, jobs, flags):
-        """The same by rt check, in a repository of the copy and of the libraries below it, as rt lib has built them."""
-        with tempfile.TemporaryDirectory(prefix="wrong-bodies-repository-") as root:
-            top = os.path.dirname(os.path.dirname(crate.folder))
-            shutil.copy(f"{top}/crates.txt", root)
-            for it in crate.below():
-                kept = shutil.ignore_patterns("incremental")
-                shutil.copytree(it.folder, f"{root}/crates/{it.name}", ignore=kept, copy_function=link_or_copy)
-            for part in PARTS:
-                if os.path.isdir(f"{folder}/{part}"):
-                    shutil.copytree(f"{folder}/{part}", f"{root}/crates/{crate.name}/{part}")
-            words = ["rt", "check", "--jobs", str(jobs), *without(flags, "--incremental")]
-            ran = self.ran(words, f"{root}/crates/{crate.name}")
-        # The prover's last line is to be the last one: rt adds advice.
-        said = "".join(it for it in ran.stdout.splitlines(True) if not it.startswith("rt: "))
-        return subprocess.CompletedProcess(words, ran.returncode, said)
-
     def build(self, crate, made, jobs, out):
         """Proves a crate and builds it: a library of its statements, an archive, or a program. The status; it says all on out."""
-        if self.lacks():
-            # rt run builds a program, and its status is the program's, for which there is no input.
-            if crate.target:
-                out.write(f"{self.name} builds nothing for {crate.target} here\n")
-                return 1
-            verb = "run" if crate.is_program else "lib"
-            status = self.said(["rt", verb, "--jobs", str(jobs)], crate, out)
-            return 0 if crate.is_program and os.path.isfile(made) else status
         words = [self.prover, "build", *self.words(crate, jobs)]
         if crate.makes_rlib():
             return self.said([*words, "--statements", "-o", crate.rlib], crate, out)
@@ -178,19 +145,6 @@ def group(leader):
     if sys.version_info >= (3, 11):
         return {"process_group": leader}
     return {"preexec_fn": functools.partial(os.setpgid, 0, leader)}
-
-
-def without(flags, name):
-    """The flags without one of them and its value."""
-    at = flags.index(name) if name in flags else len(flags)
-    return [*flags[:at], *flags[at + 2 :]]
-
-
-def link_or_copy(old, new):
-    try:
-        os.link(old, new)
-    except OSError:
-        shutil.copy2(old, new)
 
 
 def hold(crates, how=fcntl.LOCK_SH):

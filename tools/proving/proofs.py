@@ -60,10 +60,6 @@ class Proofs:
     def prove(self, crate, jobs):
         """Proves and builds a crate from nothing (an archive over the proofs that are kept) and over the libraries below it. The
         prover's output goes to crate.out."""
-        if self.kit.lacks():
-            status = self.kit.build(crate, made_of(crate), jobs, crate.out)
-            self.by_rt |= {it for it in [crate] if status == 0}
-            return status
         if crate.makes_rlib():
             shutil.rmtree(os.path.dirname(crate.rlib), ignore_errors=True)
             os.makedirs(os.path.dirname(crate.rlib))
