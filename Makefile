@@ -11,6 +11,7 @@
 #   make deb                           builds packages for Debian by cargo, in out/deb; DEB is another folder
 #   make dist                          makes a release of the last commit in out/release, with the proved libraries for C if the kit is
 #                                    here; RELEASE is another folder
+#   make measure                       measures the times of docs/MEASURED.md again; WHAT is some of its parts, which tools/measure names
 #   make install-nbd PREFIX=/usr/local   builds the queue's library, and puts there nbdkit-blkq-filter and blkqctl
 #   make uninstall-nbd PREFIX=/usr/local removes them
 PREFIX ?= /usr/local
@@ -90,4 +91,7 @@ deb:
 dist:
 	tools/dist $(RELEASE)
 
-.PHONY: all check check-races builds prove plain install install-plain install-programs install-c install-nbd uninstall-nbd deb dist
+measure:
+	tools/measure $(WHAT)
+
+.PHONY: all check check-races builds prove plain install install-plain install-programs install-c install-nbd uninstall-nbd deb dist measure

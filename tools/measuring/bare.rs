@@ -1,15 +1,17 @@
 //! Times a round of the gate and of the queue by the erased modules and by the public crates, beside their bare steps: what the steps
-//! on shared memory take alone. `bare THREADS ROUNDS` prints the nanoseconds of a round by the clock: `WHAT,FORM,THREADS,NANOSECONDS`.
+//! on shared memory take alone. Then a request in each of its forms. `bare THREADS ROUNDS` prints the nanoseconds of a round by the
+//! clock: `WHAT,FORM,THREADS,NANOSECONDS`.
 
 mod timing;
 
 use freeze_queue::erased::percpu_gate as gate;
 use freeze_queue::erased::queue_core as queue;
+use freeze_queue::{Limits, Queue, Tag};
 use std::env;
 use std::error::Error;
 use std::process::ExitCode;
-use std::sync::Arc;
 use std::sync::atomic::{AtomicU64, Ordering::SeqCst};
+use std::sync::{Arc, Mutex};
 use timing::{at_once, go_round};
 
 const HARDWARE: u32 = 64;
@@ -82,23 +84,56 @@ fn time_queue(threads: u32, count: u32) -> Result<(), Box<dyn Error>> {
         let last = u32::from(erased.leave(tag, *slot) == queue::Put::Last);
         limits.max() + limits.chunk() + limits.physical() + last
     });
-    let public = freeze_queue::Queue::new(freeze_queue::Limits::of_hardware(HARDWARE), threads, threads)?;
-    let tags: Vec<_> = (0..threads).map(|slot| public.next_tag(slot)).collect::<Result<_, _>>()?;
-    rounds.time("public crate", tags, |tag| {
-        let request = public.enter(tag).expect("the queue is there");
-        let limits = request.limits();
-        limits.max + limits.chunk + limits.physical
+    let public = Queue::new(Limits::of_hardware(HARDWARE), threads, threads)?;
+    rounds.time("public crate", tags_of(&public, threads)?, |tag| {
+        sum_of(public.enter(tag).expect("it is live").limits())
+    });
+    Ok(())
+}
+
+fn sum_of(limits: &Limits) -> u32 {
+    limits.max + limits.chunk + limits.physical
+}
+
+/// A tag for each thread.
+fn tags_of(queue: &Queue, threads: u32) -> Result<Vec<Tag>, Box<dyn Error>> {
+    Ok((0..threads).map(|slot| queue.next_tag(slot)).collect::<Result<_, _>>()?)
+}
+
+/// Requests whose tag is borrowed, goes along with the request and comes back, is any free one, or is one of a mutex.
+fn time_requests(threads: u32, count: u32) -> Result<(), Box<dyn Error>> {
+    let rounds = Rounds { what: "request", threads, count };
+    let queue = Queue::new(Limits::of_hardware(HARDWARE), threads, 4 * threads)?;
+    rounds.time("enter and drop", tags_of(&queue, threads)?, |tag| {
+        sum_of(queue.enter(tag).expect("it is live").limits())
+    });
+    let along = tags_of(&queue, threads)?.into_iter().map(Some);
+    rounds.time("enter_owned and leave", along, |tag: &mut Option<Tag>| {
+        let request = queue.enter_owned(tag.take().expect("it came back")).expect("it is live");
+        let sum = sum_of(request.limits());
+        *tag = Some(request.leave());
+        sum
+    });
+    rounds.time("enter_any and drop", 0..threads, |_| sum_of(queue.enter_any().expect("it is live").limits()));
+    let shelf = Mutex::new(tags_of(&queue, threads)?);
+    rounds.time("enter_owned with a tag of a mutex", 0..threads, |_| {
+        let tag = shelf.lock().expect("nobody panics").pop().expect("there is one for each thread");
+        let request = queue.enter_owned(tag).expect("it is live");
+        let sum = sum_of(request.limits());
+        shelf.lock().expect("nobody panics").push(request.leave());
+        sum
     });
     Ok(())
 }
 
 fn main() -> Result<ExitCode, Box<dyn Error>> {
     let words: Option<Vec<u32>> = env::args().skip(1).map(|word| word.parse().ok()).collect();
-    let Some(&[threads @ 1..=63, count @ 1..=1_000_000_000]) = words.as_deref() else {
-        eprintln!("usage: bare THREADS ROUNDS, up to 63 threads");
+    let Some(&[threads @ 1..=15, count @ 1..=1_000_000_000]) = words.as_deref() else {
+        eprintln!("usage: bare THREADS ROUNDS, up to 15 threads");
         return Ok(ExitCode::FAILURE);
     };
     time_gate(threads, count)?;
     time_queue(threads, count)?;
+    time_requests(threads, count)?;
     Ok(ExitCode::SUCCESS)
 }

@@ -1,12 +1,10 @@
-//! A script run line by line on one thread, without a queue: the yardstick of `tools/script_speed`. It reads a script of
-//! version 1 from standard input, as docs/FORMATS.md has it, and writes what `blkq run` writes. It is plain Rust, as one would
-//! write it who needs no proof: it takes a right script, and stops at any other with a panic, or with status 3 where two
-//! requests overlap.
+//! A script run line by line on one thread, without a queue: the yardstick of `make measure WHAT=scripts`. It reads a script of
+//! version 1 from standard input, with the lines that scripts.py writes, and writes what `blkq run` writes. It is plain Rust as
+//! one would write it without a proof: any other script makes it panic, and two requests that overlap end it with status 3.
 
 use std::io::{Read, Write};
 
 const SECTOR: usize = 512;
-const DEEPEST: u32 = 1000;
 
 /// The pieces of a range end by these limits, in sectors.
 #[derive(Clone, Copy)]
@@ -63,9 +61,7 @@ enum Line {
     Thaw,
     MaxSectors(u32),
     ChunkSectors(u32),
-    Mode(&'static str),
     Stat,
-    Remove,
 }
 
 fn pattern(digits: &str) -> Vec<u8> {
@@ -84,9 +80,7 @@ fn line(words: &[&str]) -> Line {
         "thaw" => Line::Thaw,
         "set" if words[1] == "max_sectors" => Line::MaxSectors(number(2)),
         "set" => Line::ChunkSectors(number(2)),
-        "mode" => Line::Mode(if words[1] == "atomic" { "atomic" } else { "slots" }),
         "stat" => Line::Stat,
-        "remove" => Line::Remove,
         word => panic!("{}", word),
     }
 }
@@ -104,8 +98,6 @@ struct Queue {
     span: u64,
     limits: Limits,
     depth: u32,
-    mode: &'static str,
-    removed: bool,
     reads: u64,
     writes: u64,
     again: u64,
@@ -120,8 +112,6 @@ impl Queue {
             span: 1,
             limits: Limits { hardware, max: hardware, chunk: 0 },
             depth: 0,
-            mode: "slots",
-            removed: false,
             reads: 0,
             writes: 0,
             again: 0,
@@ -189,37 +179,28 @@ impl Queue {
     }
 
     fn freeze(&mut self, out: &mut Vec<u8>) {
-        if self.depth == DEEPEST {
-            out.extend(b"depth full");
-            return;
-        }
         self.depth += 1;
         self.span += 1;
         write!(out, "depth {}", self.depth).unwrap();
     }
 
     fn thaw(&mut self, out: &mut Vec<u8>) {
-        if self.depth == 0 {
-            out.extend(b"not frozen");
-            return;
-        }
         self.depth -= 1;
         write!(out, "depth {}", self.depth).unwrap();
     }
 
     fn stat(&mut self, out: &mut Vec<u8>) {
         self.span += 1;
-        let Queue { reads, writes, again, past_end, depth, mode, .. } = self;
+        let Queue { reads, writes, again, past_end, depth, .. } = self;
         let Limits { max, chunk, .. } = self.limits;
         write!(out, "stat reads {reads} writes {writes} again {again} eio {past_end} ").unwrap();
-        write!(out, "depth {depth} max {max} chunk {chunk} mode {mode}").unwrap();
+        write!(out, "depth {depth} max {max} chunk {chunk} mode slots").unwrap();
     }
 
     /// Appends what a line is answered.
     fn take(&mut self, line: &Line, out: &mut Vec<u8>) {
         let hardware = self.limits.hardware;
         match line {
-            _ if self.removed => out.extend(b"ENODEV"),
             Line::Read(range) => self.read(*range, out),
             Line::Write(range, pattern) => self.write(*range, pattern, out),
             Line::Freeze => self.freeze(out),
@@ -227,15 +208,7 @@ impl Queue {
             Line::MaxSectors(0) => self.change(true, |limits| limits.max = hardware, out),
             Line::MaxSectors(max) => self.change(*max <= hardware, |limits| limits.max = *max, out),
             Line::ChunkSectors(chunk) => self.change(*chunk <= 65_535, |limits| limits.chunk = *chunk, out),
-            Line::Mode(mode) => {
-                self.mode = mode;
-                out.extend(b"ok");
-            }
             Line::Stat => self.stat(out),
-            Line::Remove => {
-                self.removed = true;
-                out.extend(b"removed");
-            }
         }
     }
 }

@@ -1,4 +1,4 @@
-"""The scripts that `tools/script_speed` runs: their kinds, and the text of one. Each has a disk of 4,096 sectors, and ends its
+"""The scripts that `make measure WHAT=scripts` runs: their kinds, and the text of one. Each has a disk of 4,096 sectors, and ends its
 spans by `stat`, so that no two of its requests overlap."""
 
 import random

@@ -1,0 +1,71 @@
+"""Builds the programs that tools/measure times."""
+
+import glob
+import pathlib
+import subprocess
+import sys
+
+ROOT = pathlib.Path(__file__).resolve().parents[2]
+# The program that times the calls from Rattle, if it is proved and built.
+BENCH = ROOT / "crates/bench/out/bench"
+REGISTRY = "/usr/share/cargo/registry"
+PACKAGE = """[workspace]
+[package]
+name = "measuring"
+edition = "2024"
+[[bin]]
+name = "rust-speed"
+path = "{root}/tools/measuring/speed.rs"
+[[bin]]
+name = "bare-speed"
+path = "{root}/tools/measuring/bare.rs"
+[features]
+{features}
+[dependencies]
+freeze-queue = {{ path = "{root}/rust/freeze-queue" }}
+percpu-gate = {{ path = "{root}/rust/percpu-gate" }}
+{crossbeam}
+"""
+
+
+def run(*words, **more):
+    return subprocess.run([str(word) for word in words], check=True, cwd=more.pop("cwd", ROOT), **more)
+
+
+def cc(output, source, library, *more):
+    """Compiles a C program with one of the libraries. Its own functions begin at a line of the cache, as the libraries' do."""
+    run("make", "-s", "-C", "c", stdout=sys.stderr)
+    out = run("make", "-s", "-C", "c", "folder", stdout=subprocess.PIPE, text=True).stdout.strip()
+    flags = ("-std=c11", "-O2", "-falign-functions=64", "-pthread", "-Ic/include")
+    run("cc", *flags, source, *(f"{out}/lib{it}.a" for it in library), *more, "-o", output)
+
+
+def sizes(folder):
+    wrapped = ",".join(f"--wrap={it}" for it in ("malloc", "calloc", "realloc", "posix_memalign", "free"))
+    cc(f"{folder}/sizes", "c/tests/queue/sizes.c", ("freeze_queue", "percpu_gate"), f"-Wl,{wrapped}")
+    return f"{folder}/sizes"
+
+
+def loops(folder):
+    """gate-speed and queue-speed from C, rust-speed and bare-speed from Rust, in a folder. The Rust programs have a package of their own
+    over the crates of rust/, which stay without dependencies: crossbeam comes from Debian's folder."""
+    has_urcu = not subprocess.run(["cc", "-E", "-xc", "-"], input=b"#include <urcu/urcu-memb.h>", capture_output=True, check=False).returncode
+    has_crossbeam = bool(glob.glob(f"{REGISTRY}/crossbeam-utils-*"))
+    for has, what in (
+        (has_urcu, "liburcu (apt-get install liburcu-dev)"),
+        (has_crossbeam, "ShardedLock (apt-get install librust-crossbeam-utils-dev)"),
+        (BENCH.exists(), "rounds from Rattle (tools/prove_below --with bench)"),
+    ):
+        if not has:
+            print(f"skipped: {what}", file=sys.stderr)
+    cc(f"{folder}/gate-speed", "c/tests/speed.c", ["percpu_gate"])
+    cc(f"{folder}/queue-speed", "c/tests/queue/speed.c", ["freeze_queue"], *(["-DWITH_URCU", "-lurcu-memb"] if has_urcu else []))
+    package = pathlib.Path(folder, "package")
+    (package / ".cargo").mkdir(parents=True, exist_ok=True)
+    (package / ".cargo/config.toml").write_text(f'[source.crates-io]\nreplace-with = "debian"\n[source.debian]\ndirectory = "{REGISTRY}"\n')
+    features = 'default = ["crossbeam"]\ncrossbeam = ["dep:crossbeam-utils"]' if has_crossbeam else "crossbeam = []"
+    crossbeam = 'crossbeam-utils = { version = "0.8", optional = true }' if has_crossbeam else ""
+    (package / "Cargo.toml").write_text(PACKAGE.format(root=ROOT, features=features, crossbeam=crossbeam))
+    run("cargo", "build", "-q", "--offline", "--release", "--target-dir", package / "target", cwd=package)
+    for name in ("rust-speed", "bare-speed"):
+        (package / "target/release" / name).rename(pathlib.Path(folder, name))
