@@ -37,7 +37,8 @@ OVER_GATE_RACES = $(addprefix tests/races/,random_races large program watched be
 	$(RACES_OVER_BOTH)
 OF_RACES = $(OVER_GATE_RACES) tests/races/run tests/races/lanes 'tests/rust/run races'
 
-PLAIN = 'tests/rust/run tests' $(if $(shell command -v $(CARGO)),$(OVER_LIBRARIES) $(OVER_PROGRAMS)) $(OVER_TREE)
+HAS_CARGO = $(and $(shell command -v $(CARGO)),$(shell command -v cc))
+PLAIN = 'tests/rust/run tests' $(if $(HAS_CARGO),$(OVER_LIBRARIES) $(OVER_PROGRAMS)) $(OVER_TREE)
 
 check: builds
 	tests/prove $(PLAIN)
@@ -47,9 +48,9 @@ check-races: builds
 
 # What cargo and a C compiler build for the tests.
 builds:
-	@$(if $(shell command -v $(CARGO)),cd rust && $(CARGO) build -q --offline --locked --release --target-dir target --bins, \
-		echo 'skipped: the tests over what cargo builds (https://rustup.rs, or apt-get install cargo)')
-	@$(if $(and $(shell command -v $(CARGO)),$(shell command -v cc),$(shell command -v objcopy)), \
+	@$(if $(HAS_CARGO),cd rust && $(CARGO) build -q --offline --locked --release --target-dir target --bins, \
+		echo 'skipped: the tests over what cargo builds (https://rustup.rs, or apt-get install cargo gcc)')
+	@$(if $(and $(HAS_CARGO),$(shell command -v objcopy)), \
 		$(MAKE) -s -C c BUILD=erased, \
 		echo 'skipped: the libraries for C (apt-get install gcc libc6-dev binutils)')
 
