@@ -29,7 +29,7 @@ all:
 # Each test prints TAP, and tests/prove runs them side by side, the longest first. The programs and libraries that they run over are
 # named by BLKQ, GATE_RACES, PLAY_CALLS and BUILD, or are what cargo builds.
 OVER_LIBRARIES = tests/nbd/run c/tests/run 'COMPILER=clang c/tests/run' tests/pages/run
-OVER_BOTH = tools/sizes tools/sweep_devices tests/switches/run tests/examples tests/rows/run tests/rows/calls
+OVER_BOTH = tests/sizes/run tests/sweeps/devices tests/switches/run tests/examples tests/rows/run tests/rows/calls
 OVER_PROGRAMS = $(OVER_BOTH) tests/install
 OVER_TREE = tests/packages tests/tap tests/contracts tests/pictures/run 'tools/erase --check' 'tools/version --check'
 RACES_OVER_BOTH = 'tests/rows/run races' 'tests/examples races'

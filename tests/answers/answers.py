@@ -7,7 +7,7 @@ import tempfile
 from typing import NamedTuple
 
 from counts import Counts
-from same_answers_parts.inputs import ROOT, input_of
+from random_inputs import ROOT, input_of
 
 LIBRARIES = ("percpu_gate", "freeze_queue")
 PROGRAMS = ("blkq", "gate_races")

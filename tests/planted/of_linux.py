@@ -1,16 +1,19 @@
-"""Mistakes in the kernel's percpu_ref, freeze and splitter. tools/against_linux has to find each within 100,000 calls, cut down to ten lines, or
+"""Mistakes in the kernel's percpu_ref, freeze and splitter. tests/linux/against has to find each within 100,000 calls, cut down to ten lines, or
 those of the file `races` in a race of up to four calls that begins on slots. The source is the first of Debian's that is installed."""
 
 import os
 import pathlib
 import shutil
+import sys
 
-from against_linux_parts.building import Builder
-from against_linux_parts.comparing import compare, kinds_of
-from against_linux_parts.orders import Orders
-from against_linux_parts.races import races
-from against_linux_parts.source import FILES, Source, archives, source_of
+sys.path.insert(0, str(pathlib.Path(__file__).resolve().parents[1] / "linux"))
+
 from counts import program_of
+from kernel.building import Builder
+from kernel.comparing import compare, kinds_of
+from kernel.orders import Orders
+from kernel.races import races
+from kernel.source import FILES, Source, archives, source_of
 from mistakes import Bad
 
 CALLS, MOST_LINES = 100_000, 10

@@ -1,4 +1,4 @@
-# The races of tools/sizes on Linux's percpu_ref, those on both gates, and the replays, by tools/sizes, which reads this file behind races.bash.
+# The races of tests/sizes/run on Linux's percpu_ref, those on both gates, and the replays, by tests/sizes/run, which reads this file behind races.bash.
 
 # The race of one pass that makes so many calls of one step each on Linux's percpu_ref: its one outcome.
 on_linux() {

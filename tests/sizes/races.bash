@@ -1,4 +1,4 @@
-# The races of tools/sizes on this gate, which reads this file.
+# The races of tests/sizes/run on this gate, which reads this file.
 
 # So many times this, as the calls of one line.
 in_one_line() {

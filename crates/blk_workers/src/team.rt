@@ -54,7 +54,7 @@ fn push_end_marks<J: Run, C: QueueName, L: QueueNames, R: Wait, S>(
 }
 
 // Waits for workers that were ended. `_source` is for the contract alone: an end mark was pushed by it for each of them. What a
-// thread hands back is let go only where it is joined: the scope would wait too, but leak it, which `tools/sweep_refusals` would see.
+// thread hands back is let go only where it is joined: the scope would wait too, but leak it, which `tests/sweeps/refusals` would see.
 fn dismiss<J: Run, C: QueueName, L: QueueNames, R: Threads>(
     rt: &R,
     _source: &Source<Job<J, C>>,

@@ -1,4 +1,4 @@
-//! Short rounds, again and again: in each a thread falls asleep about when another one wakes it. tools/wakes runs these tests
+//! Short rounds, again and again: in each a thread falls asleep about when another one wakes it. tests/wakes runs these tests
 //! with all threads on one processor, and on two.
 
 use blkq::erased::freeze_queue::{BlockQueue, Enter, Freezer, Limits, Put, Tag};

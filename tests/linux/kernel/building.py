@@ -4,7 +4,7 @@ import os
 import subprocess
 
 HERE = os.path.dirname(os.path.realpath(__file__))
-ROOT = os.path.dirname(os.path.dirname(HERE))
+ROOT = os.path.dirname(os.path.dirname(os.path.dirname(HERE)))
 C = os.path.join(HERE, "c")
 # The kernel's own files aren't ours to warn of; a name that the shims lack is a fault.
 OF_KERNEL = ("-std=gnu11", "-O2", "-g", "-fwrapv", "-fno-strict-aliasing", "-w", "-Werror=implicit-function-declaration")

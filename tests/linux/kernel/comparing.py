@@ -5,7 +5,7 @@ import random
 import subprocess
 import time
 
-from against_linux_parts import gate_lines, queue_lines
+from kernel import gate_lines, queue_lines
 from against_parts.cutting import Cutter
 
 BATCH = 20_000

@@ -8,7 +8,7 @@ import re
 import subprocess
 import time
 
-from against_linux_parts.races import Race, races
+from kernel.races import Race, races
 
 # The same words for what both have: of ours a refused try that is last is refused, and a revival says what it found.
 WORDS = {"refused last": "refused", "at zero": "ok", "held": "ok", "last": "put", "not last": "put"}
