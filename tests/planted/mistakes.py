@@ -1,8 +1,9 @@
 """Planted mistakes: the form of their files, and their one reader.
 
-A file of mistakes begins with a line on what they are mistakes in. A mistake begins with a line '## NAME'. Lines 'WORD: TEXT' follow; 'file: FILE'
-is the file of its pairs. A pair is a line '--- old', the text that is there, a line '--- new', and the text in its place. A line '--- in FILE'
-before a pair names another file for it. With a line 'function: NAME' the old text is a pattern, which this function of C has once.
+A file of mistakes begins with a line on what they are mistakes in. A mistake begins with a line '## NAME'. Lines 'WORD: TEXT' follow. 'file:
+FILE' is the file of its pairs; without it that is the file of the mistake before. A pair is a line '--- old', the text that is there, a line
+'--- new', and the text in its place. A line '--- in FILE' before a pair names another file for it. With a line 'function: NAME' the old text
+is a pattern, which this function of C has once.
 """
 
 import contextlib
@@ -73,12 +74,12 @@ class Mistake(NamedTuple):
                 path.write_text(text, encoding="utf-8", errors="surrogateescape")
 
 
-def mistake_of(kind, part):
-    """The mistake that a part of a file says."""
+def mistake_of(kind, part, file):
+    """The mistake that a part of a file says, behind one in this file."""
     head, *texts = part.split("\n--- ")
     name, *lines = head.splitlines()
-    words = dict(line.split(": ", 1) for line in lines if line)
-    file, old, pairs = words.get("file"), None, []
+    words = {"file": file} | dict(line.split(": ", 1) for line in lines if line)
+    file, old, pairs = words["file"], None, []
     for mark, _, text in (text.partition("\n") for text in texts):
         if mark == "old":
             old = text
@@ -92,7 +93,9 @@ def mistake_of(kind, part):
 def mistakes_in(folder, names=()):
     """The mistakes of a folder's files, or those that are named, or whose file is."""
     for path in sorted(pathlib.Path(folder).iterdir()):
+        file = None
         for part in path.read_text(encoding="utf-8").split("\n## ")[1:]:
-            mistake = mistake_of(path.stem, part)
+            mistake = mistake_of(path.stem, part, file)
+            file = mistake.file
             if not names or {mistake.name, mistake.kind} & {*names}:
                 yield mistake
