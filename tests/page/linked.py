@@ -102,8 +102,8 @@ def chosen_links(page, counts):
 def links_of_documents(page, counts, url):
     """Each link of a document to an input on the page is answered, with the outcome that it names."""
     found = 0
-    for path in [ROOT / "README.md", *sorted((ROOT / "docs").glob("*.md"))]:
-        for fragment in re.findall(r"\]\((?:docs/)?try\.html(#[^)\s]+)\)", path.read_text(encoding="utf-8")):
+    for path in [ROOT / "README.md", *sorted((ROOT / "docs").rglob("*.md"))]:
+        for fragment in re.findall(r"\]\([./\w]*\btry\.html(#[^)\s]+)\)", path.read_text(encoding="utf-8")):
             page.open(url + fragment)
             page.until("!find('status').textContent.startsWith('running') && find('status').textContent")
             is_answered = page.js("find('status').textContent.startsWith('answered')")
