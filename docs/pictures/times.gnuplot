@@ -13,7 +13,8 @@ set key outside right top samplen 2.5 spacing 1.15 font ",11" Left reverse
 set lmargin 9
 # The lines of one form, and the names of all forms.
 lines_of(table, match) = sprintf("<awk -F, '%s' %s.csv", match, table)
-names(table, match, name, time) = system(sprintf("awk -F, '%s {print $%d \",\" $%d}' %s.csv | sort -rg | sed 's/.*,\\(.*\\)/\"\\1\"/'", match, time, name, table))
+names(table, match, name, time) = \
+    system(sprintf("awk -F, '%s {print $%d \",\" $%d}' %s.csv | sort -rg | sed 's/.*,\\(.*\\)/\"\\1\"/'", match, time, name, table))
 is_ours(name) = name[1:4] eq "gate" || name[1:5] eq "queue"
 colour(at) = word("#0550ae #bc4c00 #116329 #8250df #a40e26 #00727a #7d4e00 #6e7781 #1f2328 #c2477f #2f81f7 #57ab5a #b08800 #986ee2 #e5534b", at)
 do for [i = 1:15] {
