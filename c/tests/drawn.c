@@ -1,14 +1,12 @@
-/* Gates that several threads make, use and end at once, more than a million in all: no number is drawn twice, and each is
- * what the pass of its gate tells. Where there is memory no call is refused, so never by ERR_NO_MEMORY or ERR_IN_USE. Words: gates
- * of each thread. */
+/* Gates, or queues, that several threads make, use and end at once, more than a million in all: no number is drawn twice, and each is
+ * what the seat tells. Where there is memory no call is refused, so never by ERR_NO_MEMORY or ERR_IN_USE. Words: gates of each thread. */
 #define _POSIX_C_SOURCE 200809L
+#include "alike.h"
 #include "drawing.h"
 #include "moment.h"
-#include "percpu_gate.h"
 
 #include <stdatomic.h>
 
-static const uint64_t words[8] = {0};
 static atomic_long arrived;
 
 enum { MEETINGS = 1000 };
@@ -23,27 +21,28 @@ static void meet(void)
             moment();
 }
 
-static void *make(void *of)
+static void *make_each(void *of)
 {
     uint64_t *mine = of;
     for (long i = 0; i < turns; i++) {
         if (i % 8 == 0 && i / 8 < MEETINGS)
             meet();
-        percpu_gate_control control = {0};
-        percpu_gate_pass pass = {0};
-        percpu_gate_final last;
-        uint32_t start = (uint32_t)(i % 3), held = start == PERCPU_GATE_START_DEAD ? PERCPU_GATE_NOT_GIVEN : PERCPU_GATE_OK;
-        need(percpu_gate_new(&control, 1, 1, start, words) == PERCPU_GATE_OK, "no gate");
-        need(percpu_gate_next_pass(&control, &pass) == PERCPU_GATE_OK, "no pass");
-        mine[i] = percpu_gate_control_number(&control);
-        need(percpu_gate_pass_number(&pass) == mine[i], "the pass tells another number");
+        owner one = {0};
+        seat its = {0};
+        final last;
+        uint32_t start = (uint32_t)(i % STARTS); /* the third is dead */
+        need(make(&one, 1, 1, start) == OK, "none is made");
+        need(next_seat(&one, &its) == OK, "no seat");
+        mine[i] = owner_number(&one);
+        need(seat_number(&its) == mine[i], "the seat tells another number");
         need(i == 0 || mine[i] > mine[i - 1], "a number isn't above the last");
-        need(percpu_gate_try_get(&pass, 0) == held, "a live gate refuses, or a dead one gives");
-        need(held || percpu_gate_put(&pass, 0, 1) == PERCPU_GATE_OK, "no put");
-        need(percpu_gate_retire(&control, &pass) == PERCPU_GATE_OK, "the pass isn't retired");
-        need(percpu_gate_exit(&control, &last) == PERCPU_GATE_OK, "no end");
+        bool is_counted = count_on(&its, 0) == OK;
+        need(is_counted == (start < 2), "a live one refuses, or a dead one counts");
+        need(!is_counted || count_off(&its, 0) == OK, "it isn't taken off");
+        need(take_back(&one, &its) == OK, "the seat isn't taken back");
+        need(end(&one, &last) == OK, "no end");
     }
     return NULL;
 }
 
-int main(int argc, char **argv) { return draws_each_once(argc, argv, make); }
+int main(int argc, char **argv) { return draws_each_once(argc, argv, make_each); }

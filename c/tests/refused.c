@@ -1,93 +1,17 @@
-/* Each allocation of a whole life is refused in turn: a number is answered, nothing is lost and nothing leaks. Then
- * the misuses that take two gates; and gates of every size, to which none is refused. No call but new and next_pass allocates at
- * all, and free_pass and free_control give back every block, wherever the gate stands. (Linked with --wrap=malloc and free, so
- * that this malloc refuses and both count.) */
-#include "percpu_gate.h"
-#include "refusing.h"
-
-#include <stdio.h>
-#include <stdlib.h>
+/* Each allocation of a whole life of a gate is refused in turn: a number is answered, nothing is lost and nothing leaks (refused.h).
+ * Then the misuses that take two gates. No call but new and next_pass allocates at all, and free_pass and free_control give back
+ * every block, wherever the gate stands. */
+#include "refused.h"
 
 static const uint64_t words[8] = {3};
 
-/* How many allocations a life takes before one is refused, or -1 where none was. */
-static long life(long allow)
+static uint32_t uses(owner *of, seat *seats)
 {
-    percpu_gate_control control = {0};
-    percpu_gate_pass pass[2] = {{0}, {0}};
-    percpu_gate_final last;
-    allowed = allow;
-    uint32_t answer = percpu_gate_new(&control, 512, 2, PERCPU_GATE_START_SLOTS, words);
-    if (answer == PERCPU_GATE_ERR_NO_MEMORY) {
-        allowed = -1;
-        return control.is_open ? -2 : allow;
-    }
-    long refused = -1;
-    for (int i = 0; i < 2; i++)
-        if (percpu_gate_next_pass(&control, &pass[i]) == PERCPU_GATE_ERR_NO_MEMORY) {
-            refused = allow;
-            if (i == 1 && percpu_gate_exit(&control, &last) != PERCPU_GATE_ERR_PASSES_OUT)
-                return -2;
-            allowed = -1; /* the pass waits still */
-            if (percpu_gate_next_pass(&control, &pass[i]))
-                return -2;
-        }
-    allowed = -1;
-    if (percpu_gate_next_pass(&control, &(percpu_gate_pass){0}) != PERCPU_GATE_ERR_NO_PASS)
-        return -2;
-    for (int i = 0; i < 2; i++)
-        if (percpu_gate_retire(&control, &pass[i]))
-            return -2;
-    return percpu_gate_exit(&control, &last) || last.words[0] != 3 ? -2 : refused;
+    (void)of;
+    return percpu_gate_try_get(&seats[0], 0) || percpu_gate_put(&seats[0], 1, 1);
 }
 
-/* A gate of a size gives all its passes, takes them back and ends, where no allocation is refused: each call has memory. */
-static int one_size(uint32_t slots, uint32_t most, uint32_t start)
-{
-    static percpu_gate_pass passes[PERCPU_GATE_MOST_PASSES];
-    percpu_gate_control control = {0};
-    percpu_gate_final last;
-    uint32_t refused = percpu_gate_new(&control, slots, most, start, words);
-    for (uint32_t i = 0; i < most && !refused; i++)
-        refused = percpu_gate_next_pass(&control, &passes[i]);
-    if (refused || percpu_gate_next_pass(&control, &(percpu_gate_pass){0}) != PERCPU_GATE_ERR_NO_PASS)
-        return 1;
-    for (uint32_t i = 0; i < most && !refused; i++)
-        refused = percpu_gate_retire(&control, &passes[i]);
-    return refused || percpu_gate_exit(&control, &last);
-}
-
-/* Gates of every size and start are made and end: none is too large. */
-static int every_size(uint32_t start)
-{
-    for (uint32_t slots = 1; slots <= PERCPU_GATE_MOST_SLOTS; slots++)
-        if (one_size(slots, 2, start))
-            return 1;
-    for (uint32_t most = 1; most <= PERCPU_GATE_MOST_PASSES; most++)
-        if (one_size(1, most, start) || (most <= 16 && one_size(most, 17 - most, start)))
-            return 1;
-    return one_size(PERCPU_GATE_MOST_SLOTS, PERCPU_GATE_MOST_PASSES, start);
-}
-
-/* Each of a gate's passes in turn gets no memory once, and then it does: ERR_NO_MEMORY comes where an allocation was refused, and
- * nowhere else. */
-static int each_pass_refused(void)
-{
-    percpu_gate_control control = {0};
-    percpu_gate_pass passes[PERCPU_GATE_MOST_PASSES] = {{0}};
-    if (percpu_gate_new(&control, 1, PERCPU_GATE_MOST_PASSES, PERCPU_GATE_START_SLOTS, words))
-        return 1;
-    for (int i = 0; i < PERCPU_GATE_MOST_PASSES; i++) {
-        refusals = allowed = 0;
-        uint32_t first = percpu_gate_next_pass(&control, &passes[i]);
-        allowed = -1;
-        if (first != PERCPU_GATE_ERR_NO_MEMORY || refusals == 0 || percpu_gate_next_pass(&control, &passes[i]))
-            return 1;
-        percpu_gate_free_pass(&passes[i]);
-    }
-    percpu_gate_free_control(&control);
-    return 0;
-}
+static bool is_as_made(const final *last) { return last->words[0] == 3; }
 
 /* A pass is given at each step of a kill and behind it, in each of three lives: it has memory there. */
 static int at_each_step(void)
@@ -114,20 +38,6 @@ static int at_each_step(void)
         if (percpu_gate_retire(&control, &passes[--given]))
             return 1;
     return percpu_gate_exit(&control, &last) || last.kills != 3;
-}
-
-/* A gate ends with no memory at all: with a pass that is back from a refused next_pass, and with one never asked for. */
-static int ends_without_memory(void)
-{
-    percpu_gate_control control = {0};
-    percpu_gate_pass pass = {0};
-    percpu_gate_final last;
-    if (percpu_gate_new(&control, 2, 2, PERCPU_GATE_START_SLOTS, words))
-        return 1;
-    allowed = 0;
-    uint32_t given = percpu_gate_next_pass(&control, &pass), ended = percpu_gate_exit(&control, &last);
-    allowed = -1;
-    return given != PERCPU_GATE_ERR_NO_MEMORY || ended || control.is_open || pass.is_open;
 }
 
 /* A whole life with no memory left: malloc isn't even called, and each call is answered as ever. */
@@ -211,49 +121,7 @@ static int two_gates(void)
     return percpu_gate_exit(&b, &last) != PERCPU_GATE_ERR_CLOSED;
 }
 
-/* A handle that is freed and used again leads to another gate, though it lies where it lay. */
-static int one_place_twice(void)
-{
-    percpu_gate_control control = {0};
-    percpu_gate_pass old = {0}, pass = {0};
-    percpu_gate_final last;
-    if (percpu_gate_new(&control, 1, 1, PERCPU_GATE_START_SLOTS, words) || percpu_gate_next_pass(&control, &old))
-        return 1;
-    percpu_gate_free_control(&control);
-    if (percpu_gate_new(&control, 1, 1, PERCPU_GATE_START_SLOTS, words) || percpu_gate_next_pass(&control, &pass))
-        return 2;
-    if (percpu_gate_retire(&control, &old) != PERCPU_GATE_ERR_OTHER_GATE || percpu_gate_try_get(&old, 0))
-        return 3;
-    percpu_gate_free_pass(&old);
-    return percpu_gate_retire(&control, &pass) || percpu_gate_exit(&control, &last);
-}
-
-/* Two gates that are made alike. */
-static int two_alike(void)
-{
-    percpu_gate_control here = {0}, there = {0};
-    percpu_gate_pass pass = {0};
-    percpu_gate_final last;
-    if (percpu_gate_new(&here, 1, 1, PERCPU_GATE_START_SLOTS, words) || percpu_gate_new(&there, 1, 1, PERCPU_GATE_START_SLOTS, words))
-        return 1;
-    if (percpu_gate_next_pass(&there, &pass) || percpu_gate_retire(&here, &pass) != PERCPU_GATE_ERR_OTHER_GATE)
-        return 2;
-    return percpu_gate_exit(&here, &last) || percpu_gate_retire(&there, &pass) || percpu_gate_exit(&there, &last);
-}
-
 int main(void)
 {
-    if (two_alike())
-        return 3;
-    long refused = 0, at;
-    for (long allow = 0; (at = life(allow)) != -1; allow++, refused++)
-        if (at != allow)
-            return 1;
-    if (refused < 3)
-        return 2;
-    for (uint32_t start = 0; start < 3; start++)
-        if (every_size(start))
-            return 4;
-    return no_call_allocates() || freed_in_each_phase() || each_pass_refused() || at_each_step() || ends_without_memory() || two_gates() ||
-        one_place_twice() || blocks != 0;
+    return refused_as_it_is() || no_call_allocates() || freed_in_each_phase() || at_each_step() || two_gates() || blocks != 0;
 }
