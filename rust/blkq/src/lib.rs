@@ -23,8 +23,8 @@
 //! The functions are in `src/erased`: Rust that a program cut out of sources with contracts, all of which are proved. The proof
 //! is of those sources: for every input, and every number of workers, slots and tags, a run that succeeds writes the answer
 //! of one thread, and a refused input is refused for the fault that the format names. The program that cuts, its stand-ins
-//! for threads, locks and memory, the Rust compiler and this file aren't proved. One file has `unsafe`,
-//! `src/erased/pointers.rs`, which says why.
+//! for threads, locks and memory, the Rust compiler and this file aren't proved. Two files have `unsafe`,
+//! `src/erased/pointers.rs` and `src/erased/crossbeam_queue.rs`. Each says why.
 //!
 //! The module `erased` is public for the programs and the crates above, and no part of what versions promise: its functions trust
 //! their preconditions, so no user calls them.

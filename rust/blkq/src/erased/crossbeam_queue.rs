@@ -3,13 +3,20 @@
 //!
 //! In the sources a queue has a rule by which threads hand on, and a thread steps on it by a [`Pass`] that knows its part.
 //! Here the rule is gone, and a pass has no bytes.
+//!
+//! A place is written and read with no lock, which takes `unsafe`. Its argument is the one for any bounded queue with tickets. *One at a
+//! time*: an exchange of the tail or the head gives a ticket to one thread alone, and that thread alone may touch the ticket's place until it
+//! stores the next turn. *Order*: it got the ticket after an acquiring load of the turn, and stores the next turn by a releasing store. So what
+//! the thread before it did to the place came before.
+#![allow(unsafe_code)]
 
 use crate::erased::crossbeam_utils::{Backoff, CachePadded};
 use crate::erased::fallible::{AllocError, TryVec};
+use std::cell::UnsafeCell;
+use std::fmt;
 use std::marker::PhantomData;
 use std::sync::atomic::Ordering::{Acquire, Relaxed, Release, SeqCst};
 use std::sync::atomic::{AtomicUsize, fence};
-use std::sync::{Mutex, PoisonError};
 
 /// The right to step on a queue.
 #[derive(Debug)]
@@ -24,24 +31,43 @@ impl<T> Pass<T> {
 }
 
 /// A place for one item. Its turn says which push or pop may use it next: `2 t` the push with ticket `t`, and `2 t + 1` the pop.
-/// Only the thread whose turn it is takes the lock, so no thread waits for it.
-#[derive(Debug)]
 struct Place<T> {
     turn: AtomicUsize,
-    item: Mutex<Option<T>>,
+    item: UnsafeCell<Option<T>>,
+}
+
+// SAFETY: an item goes from one thread to another, which `T: Send` allows. No two threads touch a place at once: see `put` and `take`.
+unsafe impl<T: Send> Sync for Place<T> {}
+
+impl<T> fmt::Debug for Place<T> {
+    fn fmt(&self, f: &mut fmt::Formatter<'_>) -> fmt::Result {
+        f.debug_struct("Place").field("turn", &self.turn).finish_non_exhaustive()
+    }
 }
 
 impl<T> Place<T> {
     fn new(turn: usize) -> Place<T> {
-        Place { turn: AtomicUsize::new(turn), item: Mutex::new(None) }
+        Place { turn: AtomicUsize::new(turn), item: UnsafeCell::new(None) }
     }
 
-    fn put(&self, item: T) {
-        *self.item.lock().unwrap_or_else(PoisonError::into_inner) = Some(item);
+    /// Puts an item into an empty place.
+    ///
+    /// # Safety
+    ///
+    /// It is the turn of a push, and this thread has that push's ticket.
+    unsafe fn put(&self, item: T) {
+        // SAFETY: whoever has the ticket is alone here until it stores the next turn.
+        unsafe { *self.item.get() = Some(item) };
     }
 
-    fn take(&self) -> Option<T> {
-        self.item.lock().unwrap_or_else(PoisonError::into_inner).take()
+    /// Takes the item out.
+    ///
+    /// # Safety
+    ///
+    /// It is the turn of a pop, and this thread has that pop's ticket.
+    unsafe fn take(&self) -> Option<T> {
+        // SAFETY: whoever has the ticket is alone here until it stores the next turn.
+        unsafe { (*self.item.get()).take() }
     }
 }
 
@@ -87,7 +113,8 @@ impl<T> RuledArrayQueue<T> {
             if turn == 2 * ticket {
                 match self.tail.compare_exchange_weak(ticket, ticket + 1, SeqCst, Relaxed) {
                     Ok(_) => {
-                        place.put(item);
+                        // SAFETY: the turn was this ticket's, and the exchange gave the ticket to this thread.
+                        unsafe { place.put(item) };
                         place.turn.store(2 * ticket + 1, Release);
                         return Ok(());
                     }
@@ -120,7 +147,8 @@ impl<T> RuledArrayQueue<T> {
             if turn == 2 * ticket + 1 {
                 match self.head.compare_exchange_weak(ticket, ticket + 1, SeqCst, Relaxed) {
                     Ok(_) => {
-                        let item = place.take();
+                        // SAFETY: the turn was this ticket's, and the exchange gave the ticket to this thread.
+                        let item = unsafe { place.take() };
                         place.turn.store(2 * (ticket + self.places.len()), Release);
                         return item;
                     }

@@ -1,6 +1,6 @@
 // A stand-in for the kit's pointers, written by hand: tools/erase leaves it alone.
 //! Pointers whose making may be refused, and the standard streams as files. Rust has both, but not in safe and stable calls, so
-//! this is the one stand-in with `unsafe`.
+//! this stand-in has `unsafe`.
 //!
 //! Its argument is the one for std's `Box`, `Rc` and `Arc`, in three parts. *Room*: [`made`] asks the global allocator for room of
 //! a value's own layout and writes the value, which is what `Box::from_raw` asks for. *Life*: a [`Counted`] points at room that
