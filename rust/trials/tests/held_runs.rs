@@ -12,24 +12,31 @@ mod both_texts;
 mod meeting;
 
 use both_texts::both_texts;
-use meeting::{ended, hold_for, is_met};
+use meeting::{ended, hold_for, is_met_within};
 
 /// Two writes, a drain, and a read of both.
 const WRITTEN_THEN_READ: &[u8] = b"blkq 1\ndisk 4 hw 4\nwrite 0 1 01\nwrite 1 1 02\nfreeze\nthaw\nread 0 2\n";
 
-/// Two requests that overlap in nothing, and a drain.
-const TWO: &[u8] = b"blkq 1\ndisk 8 hw 8\nwrite 0 2 01\nwrite 4 2 02\nstat\nread 0 8\n";
+/// Two requests that overlap in nothing.
+const TWO: &str = "blkq 1\ndisk 2 hw 1\nwrite 0 1 61\nwrite 1 1 62\n";
+const OF_TWO: &str = "3 ok 1\n4 ok 1\ndisk 61*512,62*512\n";
+
+/// The turns for which a request waits for another.
+const MEETING: u32 = 100_000_000;
+
+/// The turns for which a request is held before a drain.
+const HELD: u32 = 1_000_000;
 
 /// The last request overlaps the one before it, and waits for a drain.
 const ORDERED: &[u8] = b"blkq 2\ndisk 8 hw 8\nread 0 4\nread 2 4\nwrite 6 1 ff\nread 6 2\n";
 
 // Runs a script on two workers. Whether its text is the one of a single thread.
 fn agrees(text: &[u8], tags: u32, stall: &impl Stall) -> bool {
-    let [out, wanted] = both_texts(text, [2, 3, tags], stall);
+    let [out, wanted] = both_texts(text, [2, 2, tags], stall);
     out == wanted
 }
 
-/// Holds each of the first two requests, once drawn, until both are, and notes one that was held for minutes.
+/// Holds each request, once drawn, until the other is, and notes one that met none in all its turns.
 struct Meets {
     drawn: AtomicU32,
     alone: AtomicBool,
@@ -41,21 +48,23 @@ impl Stall for Meets {
             return;
         }
         self.drawn.fetch_add(1, SeqCst);
-        if !is_met(|| self.drawn.load(SeqCst) == 2) {
+        if !is_met_within(MEETING, || self.drawn.load(SeqCst) == 2) {
             self.alone.store(true, SeqCst);
         }
     }
 }
 
-// Where one worker alone draws, it is held for all that time.
+// If one worker alone draws, it is held for all these turns.
 #[test]
 fn two_at_once() {
     let meets = Meets { drawn: AtomicU32::new(0), alone: AtomicBool::new(false) };
-    assert!(agrees(TWO, 2, &meets));
+    let [out, wanted] = both_texts(TWO.as_bytes(), [2, 2, 2], &meets);
+    assert_eq!(String::from_utf8_lossy(&out), OF_TWO);
+    assert_eq!(out, wanted);
     assert!(!meets.alone.load(SeqCst));
 }
 
-/// Holds a request at a point for a while, and notes a drain that comes before.
+/// Holds a request at a point for so many turns, and notes a drain that comes before.
 struct Holds {
     number: u32,
     point: Point,
@@ -66,7 +75,7 @@ struct Holds {
 impl Stall for Holds {
     fn at(&self, number: u32, point: Point) {
         if point == self.point && number == self.number {
-            hold_for(10_000);
+            is_met_within(HELD, || false);
             self.passed.store(true, SeqCst);
         }
         if point == Point::Drained && !self.passed.load(SeqCst) {
@@ -83,7 +92,8 @@ fn drains_after(text: &[u8], number: u32, point: Point) -> bool {
 
 #[test]
 fn freeze_waits() {
-    assert!(drains_after(TWO, 0, Point::Drawn));
+    let text = format!("{TWO}freeze\n");
+    assert!(drains_after(text.as_bytes(), 0, Point::Drawn));
 }
 
 // Each drain, the end's too, goes through the queue: a completion that is queued isn't enough.
@@ -98,7 +108,7 @@ fn every_drain_waits_for_the_tag() {
         (1, "remove\n"),
         (1, ""),
     ] {
-        let text = format!("blkq {version}\ndisk 8 hw 8\nwrite 0 2 01\nwrite 4 2 02\n{last}");
+        let text = format!("{}{last}", TWO.replace("blkq 1", &format!("blkq {version}")));
         assert!(drains_after(text.as_bytes(), 0, Point::Answered), "{last}");
     }
 }

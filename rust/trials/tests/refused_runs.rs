@@ -227,8 +227,7 @@ fn main() {
     examples.sort();
     for example in &examples {
         let kind = kind_of(example);
-        let is_short = read(example).is_ok_and(|text| text.len() < 1_500);
-        if matches!(kind, "blkq" | "gate") && is_short {
+        if matches!(kind, "blkq" | "gate") {
             for helps in if kind == "blkq" { &[false, true][..] } else { &[false] } {
                 let aborts = each_refused(example, *helps);
                 // For a thread std allocates up to 4 blocks (a handle, a packet, a closure and its box), for all of them a scope.

@@ -60,6 +60,36 @@ fn max_only_rises(slots: u32, switches: bool) {
     assert_eq!(left, Ok(Final { dead: true, kills: 1_000, releases: 1_000, words: [1_000, 1_000, 2] }));
 }
 
+/// Three threads enter, read the limits twice and leave, each on its own tag, while max is set to 2, 3 and so on to 50.
+#[test]
+fn max_only_rises_to_fifty() {
+    let limits = |max| Limits::new(64, max, 0).expect("limits");
+    let (queue, mut freezer, mut tags) = BlockQueue::new(limits(1), 2, 3).expect("memory");
+    let rounds = |tag: &mut Tag, slot| {
+        let mut last = 0;
+        for _ in 0..1_000 {
+            queue.enter(tag, slot);
+            let (first, second) = (queue.limits(tag), queue.limits(tag));
+            queue.leave(tag, slot);
+            assert_eq!(first, second);
+            assert!(last <= first.max(), "{last} and then {}", first.max());
+            last = first.max();
+        }
+    };
+    thread::scope(|scope| {
+        for (number, tag) in tags.iter_mut().enumerate() {
+            let slot = number as u32 % 2;
+            scope.spawn(move || rounds(tag, slot));
+        }
+        for max in 2..=50 {
+            assert_eq!(freezer.freeze(&queue), Ok(1));
+            assert_eq!(freezer.set(&queue, limits(max)), Ok(()));
+            assert_eq!(freezer.thaw(&queue), Ok(0));
+        }
+    });
+    assert_eq!(freezer.limits(), limits(50));
+}
+
 #[test]
 fn max_only_rises_on_one_slot() {
     max_only_rises(1, false);

@@ -1,7 +1,7 @@
 //! A run drains as often as its script asks, which no contract says. It writes the text that one thread does, whatever overlaps and
 //! however its threads are scheduled. held_runs.rs has the tests of runs that are held at their points.
 
-use blkq::erased::blk_script::{Checked, parse};
+use blkq::erased::blk_script::{Checked, parse, render_disk};
 use blkq::erased::blk_workers::{Config, NoStall, Point, Stall, run_checked};
 use std::fmt::Write;
 use std::hint;
@@ -27,6 +27,29 @@ fn agrees(text: &str, workers: u32, tags: u32, stall: &impl Stall) {
         String::from_utf8_lossy(&wanted),
         "{workers} workers, {tags} tags:\n{text}"
     );
+}
+
+/// 200 writes, each at its place and of its own byte. Each is cut into three pieces and drawn once, and each worker's list increases.
+#[test]
+fn two_hundred_writes() {
+    let lines = (0..200).map(|i| format!("write {} 20 {i:02x}\n", 20 * i));
+    let text = format!("blkq 1\ndisk 4096 hw 7\n{}", lines.collect::<String>());
+    let replies = (0..200).map(|i| format!("{} ok 7+7+6\n", i + 3)).collect::<String>();
+    let disk = (0..200).map(|i| format!("{i:02x}*10240,")).collect::<String>();
+    for (workers, slots, tags) in [(1, 1, 1), (32, 64, 63)] {
+        let script = parse(text.as_bytes()).expect("a script");
+        let checked = Checked::of(&script).expect("no overlap");
+        let config = Config::new(workers, slots, tags).expect("within the limits");
+        let ran = run_checked(&checked, config, &NoStall).expect("memory and threads");
+        assert_eq!(String::from_utf8_lossy(&ran.replies), replies);
+        let told = render_disk(&ran.disk).expect("memory");
+        assert_eq!(String::from_utf8_lossy(&told), format!("disk {disk}00*49152\n"));
+        assert_eq!(ran.drawn.len(), workers as usize);
+        assert!(ran.drawn.iter().all(|list| list.is_sorted()));
+        let mut drawn = ran.drawn.concat();
+        drawn.sort_unstable();
+        assert!(drawn.into_iter().eq(0..200));
+    }
 }
 
 #[test]

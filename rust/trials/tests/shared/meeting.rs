@@ -1,6 +1,7 @@
 //! Threads that are held at a point of a run, and runs that may hang.
 #![allow(dead_code, reason = "each file uses a part")]
 
+use std::hint::spin_loop;
 use std::sync::mpsc::channel;
 use std::thread;
 use std::time::{Duration, Instant};
@@ -44,4 +45,12 @@ pub fn hold_for(turns: u32) {
         }
         pause();
     }
+}
+
+/// Holds this thread until it is so, for at most so many turns of a bare loop. Returns `false` if it isn't in all of them.
+pub fn is_met_within(turns: u32, mut is_so: impl FnMut() -> bool) -> bool {
+    (0..turns).any(|_| {
+        spin_loop();
+        is_so()
+    })
 }
