@@ -26,7 +26,7 @@ all:
 	./blkq run <examples/first.blkq >/dev/null
 	./gate_races <examples/races/removal.races >/dev/null
 
-# Each test prints TAP, and tests/prove runs them side by side, the longest first. The programs and libraries that they run over are
+# Each test prints TAP, and tests/run runs them side by side, the longest first. The programs and libraries that they run over are
 # named by BLKQ, GATE_RACES, PLAY_CALLS and BUILD, or are what cargo builds.
 OVER_LIBRARIES = tests/nbd/run c/tests/run 'COMPILER=clang c/tests/run' tests/pages/run
 OVER_BOTH = tests/sizes/run tests/sweeps/devices tests/switches/run tests/examples tests/rows/run tests/rows/calls
@@ -41,10 +41,10 @@ HAS_CARGO = $(and $(shell command -v $(CARGO)),$(shell command -v cc))
 PLAIN = 'tests/rust/run tests' $(if $(HAS_CARGO),$(OVER_LIBRARIES) $(OVER_PROGRAMS)) $(OVER_TREE)
 
 check: builds
-	tests/prove $(PLAIN)
+	tests/run $(PLAIN)
 
 check-races: builds
-	tests/prove $(OF_RACES)
+	tests/run $(OF_RACES)
 
 # What cargo and a C compiler build for the tests.
 builds:

@@ -1,5 +1,5 @@
 """Prints each check of a test as a line of TAP, with the reasons of a failure in comments behind, and at the end the plan.
-tests/counted.bash has the same for bash, and tests/prove runs such tests."""
+tests/counted.bash has the same for bash, and tests/run runs such tests."""
 
 import os
 import pathlib
