@@ -9,7 +9,7 @@ GHOST_TRAITS = RULE_TRAITS | {"Model"}
 RULE_PARAMETERS = {"Box": {1}, "Table": {0, 1, 2, 3, 4}, "Seat": {0, 1}, "Shared": {0, 1, 2, 3, 4}, "Pass": {1}, "RuledArrayQueue": {1, 2}}
 KIT_CRATES = {"atomic_table", "crossbeam_queue", "crossbeam_utils", "hex", "itoa", "memchr"}
 # Of the handle of the runtime: in Rust, waiting, threads and streams need none.
-HANDLE_TRAITS = {"Threads", "Wait", "Abort", "AllocGlobal", "Env", "Files", "Clock", "CpuClock", "Print", "Eprint"}
+HANDLE_TRAITS = {"Threads", "Wait", "Abort", "AllocGlobal", "Env", "Clock", "Print"}
 HANDLE_TYPE = "HostRuntime"
 ALLOCATOR_TYPE = "Global"
 ALLOCATOR_TRAIT = "Allocator"
@@ -21,7 +21,6 @@ REFUSABLE = {
     ("push", 1): "try_push",
     ("resize", 2): "try_resize",
     ("extend_from_slice", 1): "try_extend_from_slice",
-    ("push_str", 1): "try_push_str",
     ("insert", 2): "try_put",
     ("reserve", 1): "try_make_room",
     ("reserve_exact", 1): "try_make_exact_room",
@@ -32,7 +31,6 @@ REFUSABLE_WITH_ALLOCATOR = {
     ("", "collect"): "try_collected",
     ("Vec", "with_capacity"): "try_with_room",
     ("Vec", "from_slice"): "try_from_slice",
-    ("String", "from_str"): "try_from_text",
     ("Box", "new"): "try_from_value",
     ("Rc", "new"): "try_new",
     ("Arc", "new"): "try_new",
@@ -52,8 +50,6 @@ TRAIT_OF = {
     "try_make_exact_room": ("fallible", "TryRoom"),
     "try_to_vec": ("fallible", "TryToVec"),
     "try_clone": ("fallible", "TryClone"),
-    "try_push_str": ("fallible", "TryText"),
-    "try_from_text": ("fallible", "TryText"),
     "try_collected": ("fallible", "TryCollect"),
     "try_put": ("maps", "TryMap"),
     "try_from_value": ("pointers", "TryBox"),
@@ -80,7 +76,7 @@ STAND_INS = {
 }
 # Traits that a file imports for their methods alone.
 FOR_METHODS = {"Hash", "Hasher", "Read", "Write"}
-ALLOC_MODULES = {"alloc", "boxed", "collections", "string", "vec"}
+ALLOC_MODULES = {"alloc", "collections", "vec"}
 # What Rust's prelude has in std alone, and where else it is.
 OF_ALLOC = {
     "Box": ("alloc", "boxed", "Box"),

@@ -4,7 +4,7 @@
 
 use blkq::erased::atomic_table::Table;
 use blkq::erased::crossbeam_queue::RuledArrayQueue;
-use blkq::erased::fallible::{AllocError, TryClone, TryCollect, TryRoom, TryText, TryToVec, TryVec};
+use blkq::erased::fallible::{AllocError, TryClone, TryCollect, TryRoom, TryToVec, TryVec};
 use blkq::erased::hex;
 use blkq::erased::pointers::{Arc, Rc, TryBox};
 use std::cell::Cell;
@@ -42,7 +42,6 @@ fn each_call_is_refused() {
     assert_eq!(each_refused(|| Vec::try_from_slice(&[1, 2, 3])), 1);
     assert_eq!(each_refused(|| [1, 2, 3].try_to_vec()), 1);
     assert_eq!(each_refused(|| (0..3).try_collected()), 1);
-    assert_eq!(each_refused(|| String::try_from_text("text")), 1);
     assert_eq!(each_refused(|| Box::try_from_value([1u64; 9])), 1);
     assert_eq!(each_refused(|| Box::try_from_value(())), 0);
     assert_eq!(each_refused(|| Rc::try_new(1)), 1);
@@ -57,7 +56,6 @@ fn each_call_is_refused() {
 fn a_refused_growth_changes_nothing() {
     let mut list = Vec::try_from_array([1, 2]).unwrap();
     let mut queue = VecDeque::from([1, 2]);
-    let mut text = String::try_from_text("ab").unwrap();
     ALLOWED.set(Some(0));
     let refusals = [
         list.try_push(3),
@@ -65,12 +63,11 @@ fn a_refused_growth_changes_nothing() {
         list.try_extend_from_slice(&[3; 9]),
         list.try_make_room(9),
         queue.try_make_room(9),
-        text.try_push_str("and so on, and so on"),
     ];
-    let is_kept = (list == [1, 2], queue == [1, 2], text == "ab");
+    let is_kept = (list == [1, 2], queue == [1, 2]);
     ALLOWED.set(None);
-    assert_eq!(refusals, [Err(AllocError); 6]);
-    assert_eq!(is_kept, (true, true, true));
+    assert_eq!(refusals, [Err(AllocError); 5]);
+    assert_eq!(is_kept, (true, true));
 }
 
 #[test]
@@ -89,9 +86,7 @@ fn calls_by_hand() {
     assert_eq!(Vec::try_from_elem('x', 0).unwrap(), []);
     assert_eq!((1..4).filter(|k| *k != 2).try_collected().unwrap(), [1, 3]);
     assert_eq!([1, 2].try_to_vec().unwrap(), [1, 2]);
-    let mut text = String::try_from_text("a").unwrap();
-    text.try_push_str("bc").unwrap();
-    assert_eq!(text.try_clone().unwrap(), "abc");
+    assert_eq!(String::from("abc").try_clone().unwrap(), "abc");
 }
 
 struct Dropped<'a>(&'a Cell<u32>);

@@ -222,28 +222,5 @@ pub trait TryCollect: Iterator + Sized {
 
 impl<I: Iterator> TryCollect for I {}
 
-/// The calls of a string that may ask for memory. If it is refused, the string stays as it was.
-pub trait TryText: Sized {
-    /// A string of this text.
-    fn try_from_text(text: &str) -> Result<Self, AllocError>;
-
-    /// Puts a text behind.
-    fn try_push_str(&mut self, text: &str) -> Result<(), AllocError>;
-}
-
-impl TryText for String {
-    fn try_from_text(text: &str) -> Result<String, AllocError> {
-        let mut made = String::new();
-        made.try_push_str(text)?;
-        Ok(made)
-    }
-
-    fn try_push_str(&mut self, text: &str) -> Result<(), AllocError> {
-        self.try_reserve(text.len())?;
-        self.push_str(text);
-        Ok(())
-    }
-}
-
 /// Why a test fails.
 pub type Fail = Box<dyn Error>;
