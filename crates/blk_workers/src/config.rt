@@ -4,8 +4,8 @@ ghost use Rattle.blk_workers.specs.Sizes.{AreWithin};
 
 use std::marker::Model;
 
-/// The most workers of a run: a choice, that `AreDrawers`, `team`, `sizes_in_numbers` (blkq_run/src/laws.rt), docs/FORMATS.md,
-/// docs/blkq.1 and docs/TOUR.md write out too.
+/// The most workers of a run: a choice, that `AreDrawers`, `team`, `sizes_in_numbers` (blkq_run/src/laws.rt), docs/FORMATS.md
+/// and docs/blkq.1 write out too.
 pub const MOST_WORKERS: u32 = 32;
 
 /// The most slots of a run's gate: a choice of the program `blkq`, fewer than a gate takes (`percpu_core::SLOT_LIMIT`).
@@ -84,7 +84,7 @@ impl Default for Config {
     ghost is_default = { λ c. c ≡ record { workers = 4; slots = 8; tags = 16 } };
 
     /// 4 workers, 8 slots and 16 tags, as `blkq run` has where no numbers are given: `usual` (blkq_run/specs/Requests.antt),
-    /// docs/FORMATS.md, docs/blkq.1 and docs/TOUR.md say the same.
+    /// docs/FORMATS.md and docs/blkq.1 say the same.
     fn default() -> Self {
         Config {
             workers: 4,

@@ -6,7 +6,6 @@ extern crate std;
 
 use alloc::boxed::Box;
 use alloc::collections::{TryReserveError, VecDeque};
-use alloc::string::String;
 use alloc::vec::Vec;
 use core::error::Error;
 use core::fmt;
