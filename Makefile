@@ -2,7 +2,7 @@
 # apart from them the libraries for C, by c/Makefile.
 #
 #   make                               builds the programs by cargo, if there is no proved build of this tree: some 15 s
-#   make check                         everything but the proofs and the races, without the Rattle kit
+#   make check                         tests what cargo builds, without the Rattle kit; .ci/Makefile has all tests, the longer ones too
 #   make check-races                   the explorer of races, without the kit
 #   make prove                         proves the crates, and builds the programs from them: needs the kit, and some minutes
 #   make install PREFIX=/usr/local     puts the programs and the pages there; DESTDIR goes before it
