@@ -97,13 +97,13 @@ fn sum_of(limits: &Limits) -> u32 {
 
 /// A tag for each thread.
 fn tags_of(queue: &Queue, threads: u32) -> Result<Vec<Tag>, Box<dyn Error>> {
-    Ok((0..threads).map(|slot| queue.next_tag(slot)).collect::<Result<_, _>>()?)
+    Ok((0..threads).map(|_| queue.tag()).collect::<Result<_, _>>()?)
 }
 
 /// Requests whose tag is borrowed, goes along with the request and comes back, is any free one, or is one of a mutex.
 fn time_requests(threads: u32, count: u32) -> Result<(), Box<dyn Error>> {
     let rounds = Rounds { what: "request", threads, count };
-    let queue = Queue::new(Limits::of_hardware(HARDWARE), threads, 4 * threads)?;
+    let queue = Queue::builder(Limits::of_hardware(HARDWARE)).slots(threads).tags(4 * threads).build()?;
     rounds.time("enter and drop", tags_of(&queue, threads)?, |tag| {
         sum_of(queue.enter(tag).expect("it is live").limits())
     });

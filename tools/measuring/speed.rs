@@ -111,8 +111,8 @@ fn time_gate(words: Words) -> Result<(), Box<dyn Error>> {
 }
 
 fn time_queue(words: Words) -> Result<(), Box<dyn Error>> {
-    let queue = Queue::new(LIMITS, words.threads, words.threads)?;
-    let mut tags: Vec<Tag> = (0..words.threads).map(|slot| queue.next_tag(slot)).collect::<Result<_, _>>()?;
+    let queue = Queue::builder(LIMITS).slots(words.threads).tags(words.threads).build()?;
+    let mut tags: Vec<Tag> = (0..words.threads).map(|_| queue.tag()).collect::<Result<_, _>>()?;
     let change = |limits| queue.freeze().expect("the queue is there").set(limits).expect("these limits are allowed");
     let enters = |tag: &mut Tag| sum_of(queue.enter(tag).expect("the queue is there").limits());
     time_changes("queue from Rust", words, &mut tags, each(enters), change);

@@ -63,8 +63,8 @@ fn run<'f>(tasks: impl Iterator<Item = Pin<Box<dyn Future<Output = Result<u64, E
 }
 
 fn main() -> Result<(), Box<dyn Error>> {
-    let queue = Queue::new(Limits::of_hardware(64), 1, 60)?;
-    let mut tags = (0..TASKS).map(|_| queue.next_tag(0)).collect::<Result<Vec<Tag>, _>>()?;
+    let queue = Queue::builder(Limits::of_hardware(64)).slots(1).tags(60).build()?;
+    let mut tags = (0..TASKS).map(|_| queue.tag()).collect::<Result<Vec<Tag>, _>>()?;
     let sent = thread::scope(|threads| {
         threads.spawn(|| {
             for change in 0..CHANGES {
@@ -76,7 +76,7 @@ fn main() -> Result<(), Box<dyn Error>> {
     });
     println!("{TASKS} tasks sent {sent} sectors");
     for tag in tags {
-        queue.give_back(tag)?;
+        drop(tag);
     }
     let last = queue.remove()?; // which freezes it once more
     println!("frozen {} times, at most {} sectors", last.kills, last.limits.max);

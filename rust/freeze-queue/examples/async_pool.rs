@@ -91,7 +91,7 @@ async fn change(queue: &Queue, counts: &Counts) {
 }
 
 fn main() -> Result<(), Box<dyn Error>> {
-    let queue = Queue::new(Limits::of_hardware(64), 1, TAGS)?;
+    let queue = Queue::builder(Limits::of_hardware(64)).slots(1).tags(TAGS).build()?;
     let counts = Counts::default();
     let mut tasks: Vec<Task<'_>> = vec![Box::pin(change(&queue, &counts))];
     tasks.extend((0..TASKS as u64).map(|task| Box::pin(submit(&queue, &counts, task * 100)) as Task<'_>));

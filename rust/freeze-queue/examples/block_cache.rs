@@ -2,7 +2,7 @@
 //! completers ends, while another thread changes the limits. At last the device is removed, while twenty threads wait for a tag. No
 //! read is wrong, each thread that waited is sent away, and no tag is lost. `BLOCK_CACHE_READS` is how many reads each of the
 //! readers makes.
-use freeze_queue::{EnterAnyError, Limits, OwnedEntered, Queue};
+use freeze_queue::{EnterError, Limits, OwnedRequest, Queue};
 use std::collections::HashMap;
 use std::env;
 use std::error::Error;
@@ -57,7 +57,7 @@ impl Answer {
 
 /// A read that is in flight: it leaves where it is dropped, by a completer.
 struct Read {
-    request: OwnedEntered,
+    request: OwnedRequest,
     block: u64,
     answer: Arc<Answer>,
 }
@@ -75,7 +75,7 @@ impl Cache {
     }
 
     /// Sends a miss on its way.
-    fn send(&self, request: OwnedEntered, block: u64) -> Arc<Answer> {
+    fn send(&self, request: OwnedRequest, block: u64) -> Arc<Answer> {
         let answer = Arc::<Answer>::default();
         let read = Read { request, block, answer: Arc::clone(&answer) };
         self.reads.send(read).expect("the completers are there");
@@ -92,7 +92,7 @@ impl Cache {
     }
 
     /// A block, by a task; a thread blocks on it.
-    async fn read(&self, block: u64) -> Result<(), EnterAnyError> {
+    async fn read(&self, block: u64) -> Result<(), EnterError> {
         if let Some(sum) = self.hit(block) {
             self.check(block, sum);
             return Ok(());
@@ -105,7 +105,7 @@ impl Cache {
     }
 
     /// A block, by a thread, which waits for its tag in the queue itself.
-    fn read_here(&self, block: u64) -> Result<(), EnterAnyError> {
+    fn read_here(&self, block: u64) -> Result<(), EnterError> {
         let sum = if let Some(sum) = self.hit(block) {
             sum
         } else {
@@ -159,7 +159,7 @@ fn block_on<T>(future: impl Future<Output = T>) -> T {
 }
 
 /// Polls all of these on this thread, whenever one of them is woken.
-async fn join_all<F: Future<Output = Result<(), EnterAnyError>>>(tasks: Vec<F>) {
+async fn join_all<F: Future<Output = Result<(), EnterError>>>(tasks: Vec<F>) {
     let mut tasks: Vec<_> = tasks.into_iter().map(|task| Some(Box::pin(task))).collect();
     std::future::poll_fn(|context| {
         for task in &mut tasks {
@@ -216,20 +216,20 @@ fn read_under_changes(cache: &Cache, reads: u64) -> u64 {
 
 /// Removes the device, while all tags are in flight and threads wait for one: how many were sent away.
 fn remove_device(queue: &Queue) -> usize {
-    let in_flight: Vec<OwnedEntered> = std::iter::from_fn(|| queue.try_enter_any().ok()).collect();
+    let in_flight: Vec<OwnedRequest> = std::iter::from_fn(|| queue.try_enter_any().ok()).collect();
     thread::scope(|threads| {
         let waiters: Vec<_> = (0..WAITERS).map(|_| threads.spawn(|| queue.enter_any().map(drop))).collect();
         let freezing = queue.begin_freeze().expect("few freezes are there");
         drop(in_flight);
         freezing.wait().mark_dying();
         let ended = waiters.into_iter().map(|waiter| waiter.join().expect("it is let go"));
-        ended.filter(|ended| *ended == Err(EnterAnyError::Dying)).count()
+        ended.filter(|ended| *ended == Err(EnterError::Dying)).count()
     })
 }
 
 fn main() -> Result<(), Box<dyn Error>> {
     let reads = env::var("BLOCK_CACHE_READS").ok().and_then(|text| text.parse().ok()).unwrap_or(500);
-    let queue = Arc::new(Queue::new(Limits::of_hardware(64), 4, 6)?);
+    let queue = Arc::new(Queue::builder(Limits::of_hardware(64)).slots(4).tags(6).build()?);
     let (sent, received) = mpsc::channel();
     let received = Arc::new(Mutex::new(received));
     let completers: Vec<_> = (0..COMPLETERS)

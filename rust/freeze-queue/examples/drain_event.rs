@@ -21,7 +21,7 @@ impl Wake for Event {
 }
 
 fn main() -> Result<(), Box<dyn Error>> {
-    let queue = Queue::new(Limits::of_hardware(64), 1, 3)?;
+    let queue = Queue::builder(Limits::of_hardware(64)).slots(1).tags(3).build()?;
     let requests = [queue.enter_any()?, queue.enter_any()?, queue.enter_any()?];
     let (mut events, signals) = UnixStream::pair()?;
     signals.set_nonblocking(true)?;

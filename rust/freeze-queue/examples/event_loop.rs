@@ -17,7 +17,7 @@ type Commands = Vec<u32>;
 
 /// Serves all reads that are ready, sleeps, and so on, until nobody asks any more.
 fn serve_all(queue: &Queue, reads: &Receiver<Read>, replies: &Sender<Commands>) -> Result<(), EnterError> {
-    let mut tag = queue.next_tag(0).expect("the queue has a tag for its loop");
+    let mut tag = queue.tag().expect("the queue has a tag for its loop");
     // The tag is out while the thread sleeps in `recv`, so no freeze waits for the next read.
     while let Ok(first) = reads.recv() {
         let mut next = Some(first);
@@ -45,7 +45,7 @@ fn ask(asked: &Sender<Read>, replies: &Receiver<Commands>, count: u64) -> Result
 }
 
 fn main() -> Result<(), Box<dyn Error>> {
-    let queue = &Queue::new(Limits::of_hardware(64), 1, 1)?;
+    let queue = &Queue::builder(Limits::of_hardware(64)).slots(1).tags(1).build()?;
     let (asked, reads) = mpsc::channel();
     let (tells, replies) = mpsc::channel();
     thread::scope(|threads| -> Result<(), Box<dyn Error>> {

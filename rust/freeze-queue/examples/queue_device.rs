@@ -35,8 +35,8 @@ fn submit(queue: &Queue, tag: &mut Tag, device: &Device, thousand: &mpsc::Sender
 }
 
 fn main() -> Result<(), Box<dyn Error>> {
-    let queue = Queue::new(Limits::of_hardware(64).with_max(32), 4, 4)?;
-    let mut tags = (0..4).map(|slot| queue.next_tag(slot)).collect::<Result<Vec<Tag>, _>>()?;
+    let queue = Queue::builder(Limits::of_hardware(64).with_max(32)).slots(4).tags(4).build()?;
+    let mut tags = (0..4).map(|_| queue.tag()).collect::<Result<Vec<Tag>, _>>()?;
     let device = Device::default();
     let (thousand, thousands) = mpsc::channel();
     let sent: u64 = thread::scope(|threads| {
@@ -53,7 +53,7 @@ fn main() -> Result<(), Box<dyn Error>> {
     });
     println!("each sector was sent: {}", device.sectors.load(Ordering::Relaxed) == 100 * sent);
     for tag in tags {
-        queue.give_back(tag)?;
+        drop(tag);
     }
     let last = queue.remove()?;
     println!("frozen {} time(s), drained {}, at most {} sectors", last.kills, last.releases, last.limits.max);

@@ -1,6 +1,6 @@
 //! A small service on the queue. Threads that come and go take any free tag for each request. A change of the limits has a deadline, and
 //! gives up. The end lets each thread go, and gives everything back.
-use freeze_queue::{EnterAnyError, Limits, Queue, UpdateError};
+use freeze_queue::{EnterError, Limits, Queue, UpdateError};
 use std::error::Error;
 use std::sync::Arc;
 use std::thread;
@@ -10,7 +10,7 @@ const WORKERS: usize = 4;
 const VISITORS: usize = 100;
 
 /// A request of 20 sectors, on any thread: how many were sent.
-fn serve(queue: &Queue) -> Result<u64, EnterAnyError> {
+fn serve(queue: &Queue) -> Result<u64, EnterError> {
     let request = queue.enter_any()?; // waits for a tag, and while the queue is frozen
     let pieces = request.pieces(0, 20).expect("they are few");
     Ok(pieces.map(|piece| u64::from(piece.sectors)).sum()) // here each piece goes to the device
@@ -31,7 +31,7 @@ fn change(queue: &Queue, max: u32, patience: Duration) -> Result<Limits, UpdateE
 }
 
 fn main() -> Result<(), Box<dyn Error>> {
-    let queue = Arc::new(Queue::new(Limits::of_hardware(64), 4, 8)?);
+    let queue = Arc::new(Queue::builder(Limits::of_hardware(64)).slots(4).tags(8).build()?);
     let hanging = queue.enter_any()?; // its device doesn't answer for a while
     if let Err(why) = change(&queue, 8, Duration::from_millis(50)) {
         println!("at most 8: {why}");

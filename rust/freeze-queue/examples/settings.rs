@@ -33,8 +33,8 @@ fn submit(queue: &Queue, tag: &mut Tag) -> (u64, u64) {
 }
 
 fn main() -> Result<(), Box<dyn Error>> {
-    let queue = Queue::new(setting(63), 4, 4)?;
-    let mut tags = (0..4).map(|slot| queue.next_tag(slot)).collect::<Result<Vec<Tag>, _>>()?;
+    let queue = Queue::builder(setting(63)).slots(4).tags(4).build()?;
+    let mut tags = (0..4).map(|_| queue.tag()).collect::<Result<Vec<Tag>, _>>()?;
     thread::scope(|threads| {
         let submitters: Vec<_> = tags.iter_mut().map(|tag| threads.spawn(|| submit(&queue, tag))).collect();
         for change in 0..CHANGES {
@@ -46,7 +46,7 @@ fn main() -> Result<(), Box<dyn Error>> {
         }
     });
     for tag in tags {
-        queue.give_back(tag)?;
+        drop(tag);
     }
     let last = queue.remove()?; // which freezes it once more
     println!("frozen {} times, drained {} times", last.kills, last.releases);

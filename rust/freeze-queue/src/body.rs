@@ -19,25 +19,25 @@ pub(crate) struct TagState {
 }
 
 /// A tag with a share of the queue that it is of.
-pub(crate) struct Parts {
+pub(crate) struct Parts<T> {
     pub(crate) state: TagState,
-    pub(crate) shared: Arc<Shared>,
+    pub(crate) shared: Arc<Shared<T>>,
 }
 
 /// A tag that is out of its place, by which its holder reaches the parts. It is brought home, or it ends.
 #[must_use = "a tag is brought home or ends"]
-pub(crate) struct Body(Lent<'static, Option<Parts>>);
+pub(crate) struct Body<T>(Lent<Option<Parts<T>>>);
 
-impl Body {
+impl<T> Body<T> {
     /// The body of a place that has a tag.
     #[inline]
-    pub(crate) fn of(lent: Lent<'static, Option<Parts>>) -> Body {
+    pub(crate) fn of(lent: Lent<Option<Parts<T>>>) -> Body<T> {
         Body(lent)
     }
 
     /// Brings the tag home, unless it is asked for: then it comes back.
     #[inline]
-    pub(crate) fn bring_unless_asked(self) -> Option<Body> {
+    pub(crate) fn bring_unless_asked(self) -> Option<Body<T>> {
         self.0.bring_unless_asked().map(Body)
     }
 
@@ -62,18 +62,18 @@ impl Body {
 
 const THERE: &str = "a tag is there until it ends";
 
-impl Deref for Body {
-    type Target = Parts;
+impl<T> Deref for Body<T> {
+    type Target = Parts<T>;
 
     #[inline]
-    fn deref(&self) -> &Parts {
+    fn deref(&self) -> &Parts<T> {
         self.0.as_ref().expect(THERE)
     }
 }
 
-impl DerefMut for Body {
+impl<T> DerefMut for Body<T> {
     #[inline]
-    fn deref_mut(&mut self) -> &mut Parts {
+    fn deref_mut(&mut self) -> &mut Parts<T> {
         self.0.as_mut().expect(THERE)
     }
 }
@@ -105,19 +105,20 @@ mod tests {
 
     #[test]
     fn what_is_lent_crosses_threads_if_it_may() {
-        crosses_threads::<Lent<'_, u32>>();
+        crosses_threads::<Lent<u32>>();
         crosses_threads::<Home<Cell<u32>>>(); // one holder at a time
     }
 
     #[test]
     fn what_may_not_cross_threads_is_lent_on_one() {
-        <Lent<'_, Cell<u32>> as NotShared<_>>::is_not_shared();
-        <Lent<'_, Rc<u32>> as NotSent<_>>::is_not_sent();
+        <Lent<Cell<u32>> as NotShared<_>>::is_not_shared();
+        <Lent<Rc<u32>> as NotSent<_>>::is_not_sent();
         <Home<Rc<u32>> as NotShared<_>>::is_not_shared();
     }
 
     #[test]
     fn a_place_is_no_larger_than_the_page_says() {
-        assert!(size_of::<Place>() <= 256);
+        assert!(size_of::<Place<()>>() <= 256);
+        assert_eq!(size_of::<Place<[u8; 999]>>(), size_of::<Place<()>>());
     }
 }

@@ -19,8 +19,8 @@ use std::task::{Context, Poll, Waker};
 /// use std::pin::pin;
 /// use std::task::{Context, Poll, Waker};
 ///
-/// let queue = Queue::new(Limits::of_hardware(64), 1, 1)?;
-/// let mut tag = queue.next_tag(0)?;
+/// let queue = Queue::builder(Limits::of_hardware(64)).slots(1).tags(1).build()?;
+/// let mut tag = queue.tag()?;
 /// let request = queue.enter(&mut tag)?;
 /// let mut drained = pin!(queue.begin_freeze()?.drained());
 /// let mut context = Context::from_waker(Waker::noop());
@@ -31,15 +31,15 @@ use std::task::{Context, Poll, Waker};
 /// # Ok::<(), Box<dyn std::error::Error>>(())
 /// ```
 #[must_use = "a future does nothing unless it is polled"]
-pub struct Drained<'q> {
+pub struct Drained<'q, T = ()> {
     /// None once it is done.
-    freeze: Option<Freeze<'q>>,
+    freeze: Option<Freeze<'q, T>>,
     /// Under which number its waker was noted.
     noted: Option<u64>,
 }
 
 /// Whether the queue is drained. If it isn't the context's waker is noted, under this number or a new one.
-fn is_drained_or_noted(queue: &Shared, noted: &mut Option<u64>, context: &Context<'_>) -> bool {
+fn is_drained_or_noted<T>(queue: &Shared<T>, noted: &mut Option<u64>, context: &Context<'_>) -> bool {
     let mut waker = Some(context.waker().clone()); // before the lock, since it is somebody's code
     let mut held = queue.waits.lock();
     let is_drained = held.freezer.poll_drained(&queue.erased);
@@ -54,13 +54,13 @@ fn is_drained_or_noted(queue: &Shared, noted: &mut Option<u64>, context: &Contex
 }
 
 /// A wait by a future for the drain of a queue that the future didn't freeze.
-pub(crate) struct Drain<'q> {
-    queue: &'q Shared,
+pub(crate) struct Drain<'q, T> {
+    queue: &'q Shared<T>,
     noted: Option<u64>,
 }
 
-impl<'q> Drain<'q> {
-    pub(crate) fn of(queue: &'q Shared) -> Drain<'q> {
+impl<'q, T> Drain<'q, T> {
+    pub(crate) fn of(queue: &'q Shared<T>) -> Drain<'q, T> {
         Drain { queue, noted: None }
     }
 
@@ -69,15 +69,15 @@ impl<'q> Drain<'q> {
     }
 }
 
-impl Drop for Drain<'_> {
+impl<T> Drop for Drain<'_, T> {
     fn drop(&mut self) {
         let noted = self.noted.and_then(|number| self.queue.waits.lock().drains.forget(number));
         drop(noted);
     }
 }
 
-impl<'q> Drained<'q> {
-    pub(crate) fn of(freeze: Freeze<'q>) -> Drained<'q> {
+impl<'q, T> Drained<'q, T> {
+    pub(crate) fn of(freeze: Freeze<'q, T>) -> Drained<'q, T> {
         Drained { freeze: Some(freeze), noted: None }
     }
 
@@ -93,8 +93,8 @@ impl<'q> Drained<'q> {
     }
 }
 
-impl<'q> Future for Drained<'q> {
-    type Output = Frozen<'q>;
+impl<'q, T> Future for Drained<'q, T> {
+    type Output = Frozen<'q, T>;
 
     fn poll(self: Pin<&mut Self>, context: &mut Context<'_>) -> Poll<Self::Output> {
         let this = self.get_mut();
@@ -108,14 +108,14 @@ impl<'q> Future for Drained<'q> {
     }
 }
 
-impl Drop for Drained<'_> {
+impl<T> Drop for Drained<'_, T> {
     fn drop(&mut self) {
         let noted = self.forget();
         drop(noted);
     }
 }
 
-impl fmt::Debug for Drained<'_> {
+impl<T> fmt::Debug for Drained<'_, T> {
     fn fmt(&self, f: &mut fmt::Formatter<'_>) -> fmt::Result {
         f.debug_struct("Drained").field("is_done", &self.freeze.is_none()).finish_non_exhaustive()
     }
@@ -126,7 +126,7 @@ impl fmt::Debug for Drained<'_> {
 /// ```
 /// # use freeze_queue::{Limits, Queue};
 /// # use std::{future::Future, pin::pin, task::{Context, Poll, Waker}};
-/// let queue = Queue::new(Limits::of_hardware(64), 1, 1)?;
+/// let queue = Queue::builder(Limits::of_hardware(64)).slots(1).tags(1).build()?;
 /// let freezes = pin!(queue.freeze_async());
 /// assert_eq!(queue.depth(), 0);
 /// let Poll::Ready(frozen) = freezes.poll(&mut Context::from_waker(Waker::noop())) else { panic!("none is in flight") };
@@ -136,19 +136,19 @@ impl fmt::Debug for Drained<'_> {
 /// ```
 #[must_use = "a future does nothing unless it is polled"]
 #[derive(Debug)]
-pub struct FreezeAsync<'q> {
-    queue: &'q Queue,
-    begun: Option<Drained<'q>>,
+pub struct FreezeAsync<'q, T = ()> {
+    queue: &'q Queue<T>,
+    begun: Option<Drained<'q, T>>,
 }
 
-impl<'q> FreezeAsync<'q> {
-    pub(crate) fn of(queue: &'q Queue) -> FreezeAsync<'q> {
+impl<'q, T> FreezeAsync<'q, T> {
+    pub(crate) fn of(queue: &'q Queue<T>) -> FreezeAsync<'q, T> {
         FreezeAsync { queue, begun: None }
     }
 }
 
-impl<'q> Future for FreezeAsync<'q> {
-    type Output = Result<Frozen<'q>, FreezeError>;
+impl<'q, T> Future for FreezeAsync<'q, T> {
+    type Output = Result<Frozen<'q, T>, FreezeError>;
 
     fn poll(self: Pin<&mut Self>, context: &mut Context<'_>) -> Poll<Self::Output> {
         let this = self.get_mut();

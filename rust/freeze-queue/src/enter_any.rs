@@ -1,10 +1,10 @@
 //! Waiting for a tag, in line.
 use crate::body::Body;
 use crate::enter_owned_async::EnterOwnedAsync;
-use crate::errors::{EnterAnyError, EnterAnyTimeoutError};
+use crate::errors::EnterError;
 use crate::line::{self, Notify, Turn, Waited};
-use crate::owned::OwnedEntered;
-use crate::shared::{Shared, bring_home};
+use crate::owned::OwnedRequest;
+use crate::shared::{Share, Shared, bring_home};
 use crate::sync;
 use crate::tag::Tag;
 use crate::threads;
@@ -16,17 +16,17 @@ use std::task::{Context, Poll};
 use std::time::Instant;
 
 /// How an entering that found no tag gets one.
-enum Joined {
+enum Joined<T> {
     /// One came home meanwhile. The other comes back, since a waker isn't dropped under the lock.
-    Has(Body, Notify),
+    Has(Body<T>, Notify),
     /// It is in line, by this number.
     Waits(u64),
 }
 
 /// Joins the line, unless a tag is home: then nobody is in line.
-fn join(queue: &Shared, held: &mut Held, notify: Notify) -> Result<Joined, (EnterAnyError, Notify)> {
-    if held.is_dying {
-        return Err((EnterAnyError::Dying, notify));
+fn join<T>(queue: &Shared<T>, held: &mut Held<T>, notify: Notify) -> Result<Joined<T>, (EnterError, Notify)> {
+    if held.is_dying || held.is_closed {
+        return Err((EnterError::Dying, notify));
     }
     if held.line.is_empty() {
         if let Some(tag) = queue.places.take_or_ask() {
@@ -34,18 +34,18 @@ fn join(queue: &Shared, held: &mut Held, notify: Notify) -> Result<Joined, (Ente
         }
     }
     held.counts.waited += 1;
-    held.line.join(notify).map(Joined::Waits).map_err(|notify| (EnterAnyError::NoMemory, notify))
+    held.line.join(notify).map(Joined::Waits).map_err(|notify| (EnterError::NoMemory, notify))
 }
 
 /// The tag on the slot of this thread.
-fn on_slot_of_thread(queue: &Shared, mut tag: Body) -> Tag {
+fn on_slot_of_thread<T>(queue: &Shared<T>, mut tag: Body<T>) -> Tag<T> {
     tag.state.slot = queue.slot_of(threads::hint().0);
     Tag::of(tag)
 }
 
 /// A tag that is home, on the slot of this thread. None only if at one moment of the call no tag was home.
 #[inline]
-pub(crate) fn tag_at_once(queue: &Shared) -> Option<Tag> {
+pub(crate) fn tag_at_once<T>(queue: &Shared<T>) -> Option<Tag<T>> {
     match queue.try_any() {
         Some(tag) => Some(Tag::of(tag)),
         None => queue.under_lock().map(|tag| on_slot_of_thread(queue, tag)),
@@ -54,19 +54,19 @@ pub(crate) fn tag_at_once(queue: &Shared) -> Option<Tag> {
 
 /// The thread waits in line until it has a tag, or until the deadline.
 #[cold]
-pub(crate) fn wait_for_tag(queue: &Shared, deadline: Option<Instant>) -> Result<Tag, EnterAnyTimeoutError> {
+pub(crate) fn wait_for_tag<T>(queue: &Shared<T>, deadline: Option<Instant>) -> Result<Tag<T>, EnterError> {
     let notify = Notify::Thread(sync::current());
     let lock = || queue.waits.lock();
     let mut held = lock();
     let number = match join(queue, &mut held, notify) {
         Ok(Joined::Has(tag, _)) => return Ok(on_slot_of_thread(queue, tag)),
         Ok(Joined::Waits(number)) => number,
-        Err((why, _)) => return Err(why.into()),
+        Err((why, _)) => return Err(why),
     };
     match line::wait(held, lock, |held| &mut held.line, number, deadline) {
         Waited::Has(tag) => Ok(on_slot_of_thread(queue, tag)),
-        Waited::SentAway => Err(EnterAnyError::Dying.into()),
-        Waited::TimedOut => Err(EnterAnyTimeoutError::TimedOut),
+        Waited::SentAway => Err(EnterError::Dying),
+        Waited::TimedOut => Err(EnterError::TimedOut),
     }
 }
 
@@ -78,7 +78,7 @@ pub(crate) fn wait_for_tag(queue: &Shared, deadline: Option<Instant>) -> Result<
 /// use std::pin::pin;
 /// use std::task::{Context, Poll, Waker};
 ///
-/// let queue = Queue::new(Limits::of_hardware(64), 1, 1)?;
+/// let queue = Queue::builder(Limits::of_hardware(64)).slots(1).tags(1).build()?;
 /// let request = queue.enter_any()?;
 /// let mut entering = pin!(queue.enter_any_async());
 /// let mut context = Context::from_waker(Waker::noop());
@@ -88,31 +88,31 @@ pub(crate) fn wait_for_tag(queue: &Shared, deadline: Option<Instant>) -> Result<
 /// # Ok::<(), Box<dyn std::error::Error>>(())
 /// ```
 #[must_use = "a future does nothing unless it is polled"]
-pub struct EnterAny<'q> {
-    queue: &'q Shared,
-    at: At,
+pub struct EnterAny<'q, T = ()> {
+    queue: Share<'q, T>,
+    at: At<T>,
 }
 
 /// How far a future has come.
-enum At {
+enum At<T> {
     Begin,
     /// In line, by this number.
     Line(u64),
     /// With a tag, it waits for the thaw.
-    Entering(EnterOwnedAsync),
+    Entering(EnterOwnedAsync<T>),
     End,
 }
 
 /// A tag, if there is one; and a waker that isn't needed any more.
-type Looked = (Poll<Result<Tag, EnterAnyError>>, Option<Notify>);
+type Looked<T> = (Poll<Result<Tag<T>, EnterError>>, Option<Notify>);
 
-impl<'q> EnterAny<'q> {
-    pub(crate) fn of(queue: &'q Shared) -> EnterAny<'q> {
+impl<'q, T> EnterAny<'q, T> {
+    pub(crate) fn of(queue: Share<'q, T>) -> EnterAny<'q, T> {
         EnterAny { queue, at: At::Begin }
     }
 
     /// The future of the tag, once there is one.
-    fn tag(&mut self, context: &Context<'_>) -> Poll<Result<&mut EnterOwnedAsync, EnterAnyError>> {
+    fn tag(&mut self, context: &Context<'_>) -> Poll<Result<&mut EnterOwnedAsync<T>, EnterError>> {
         let (tag, unneeded) = match self.at {
             At::Begin => self.join_line(context),
             At::Line(number) => self.look(number, context),
@@ -131,14 +131,14 @@ impl<'q> EnterAny<'q> {
         }
     }
 
-    fn join_line(&mut self, context: &Context<'_>) -> Looked {
+    fn join_line(&mut self, context: &Context<'_>) -> Looked<T> {
         if let Some(tag) = self.queue.try_any() {
             return (Poll::Ready(Ok(Tag::of(tag))), None);
         }
         let notify = Notify::Task(context.waker().clone()); // before the lock, since it is somebody's code
-        let joined = join(self.queue, &mut self.queue.waits.lock(), notify);
+        let joined = join(&self.queue, &mut self.queue.waits.lock(), notify);
         match joined {
-            Ok(Joined::Has(tag, notify)) => (Poll::Ready(Ok(on_slot_of_thread(self.queue, tag))), Some(notify)),
+            Ok(Joined::Has(tag, notify)) => (Poll::Ready(Ok(on_slot_of_thread(&self.queue, tag))), Some(notify)),
             Ok(Joined::Waits(number)) => {
                 self.at = At::Line(number);
                 (Poll::Pending, None)
@@ -147,27 +147,25 @@ impl<'q> EnterAny<'q> {
         }
     }
 
-    fn look(&mut self, number: u64, context: &Context<'_>) -> Looked {
+    fn look(&mut self, number: u64, context: &Context<'_>) -> Looked<T> {
         let mut waker = Some(context.waker().clone());
         let turn = self.queue.waits.lock().line.look(number, &mut waker);
         let tag = match turn {
-            Turn::Has(tag) => Poll::Ready(Ok(on_slot_of_thread(self.queue, tag))),
+            Turn::Has(tag) => Poll::Ready(Ok(on_slot_of_thread(&self.queue, tag))),
             Turn::Waits => Poll::Pending,
-            Turn::SentAway => Poll::Ready(Err(EnterAnyError::Dying)),
+            Turn::SentAway => Poll::Ready(Err(EnterError::Dying)),
         };
         (tag, waker.map(Notify::Task))
     }
 }
 
-impl Future for EnterAny<'_> {
-    type Output = Result<OwnedEntered, EnterAnyError>;
+impl<T> Future for EnterAny<'_, T> {
+    type Output = Result<OwnedRequest<T>, EnterError>;
 
     fn poll(self: Pin<&mut Self>, context: &mut Context<'_>) -> Poll<Self::Output> {
         let this = self.get_mut();
         let done = match this.tag(context) {
-            Poll::Ready(Ok(entering)) => {
-                Pin::new(entering).poll(context).map_err(|refused| EnterAnyError::of_free(refused.reason))
-            }
+            Poll::Ready(Ok(entering)) => Pin::new(entering).poll(context).map_err(|refused| refused.reason),
             Poll::Ready(Err(why)) => Poll::Ready(Err(why)),
             Poll::Pending => Poll::Pending,
         };
@@ -178,7 +176,7 @@ impl Future for EnterAny<'_> {
     }
 }
 
-impl Drop for EnterAny<'_> {
+impl<T> Drop for EnterAny<'_, T> {
     fn drop(&mut self) {
         let At::Line(number) = mem::replace(&mut self.at, At::End) else { return };
         let (tag, notify) = self.queue.waits.lock().line.go(number);
@@ -189,7 +187,7 @@ impl Drop for EnterAny<'_> {
     }
 }
 
-impl fmt::Debug for EnterAny<'_> {
+impl<T> fmt::Debug for EnterAny<'_, T> {
     fn fmt(&self, f: &mut fmt::Formatter<'_>) -> fmt::Result {
         f.debug_struct("EnterAny").field("is_done", &matches!(self.at, At::End)).finish_non_exhaustive()
     }

@@ -1,7 +1,7 @@
 //! Entering by a future.
 use crate::body::TagState;
-use crate::entered::Entered;
 use crate::errors::EnterError;
+use crate::request::Request;
 use crate::shared::Shared;
 use crate::tag::Tag;
 use std::fmt;
@@ -19,8 +19,8 @@ use std::task::{Context, Poll};
 /// use std::pin::pin;
 /// use std::task::{Context, Poll, Waker};
 ///
-/// let queue = Queue::new(Limits::of_hardware(64), 1, 1)?;
-/// let mut tag = queue.next_tag(0)?;
+/// let queue = Queue::builder(Limits::of_hardware(64)).slots(1).tags(1).build()?;
+/// let mut tag = queue.tag()?;
 /// let frozen = queue.freeze()?;
 /// let mut entering = pin!(queue.enter_async(&mut tag));
 /// let mut context = Context::from_waker(Waker::noop());
@@ -30,20 +30,20 @@ use std::task::{Context, Poll};
 /// # Ok::<(), Box<dyn std::error::Error>>(())
 /// ```
 #[must_use = "a future does nothing unless it is polled"]
-pub struct EnterAsync<'e> {
-    queue: &'e Shared,
+pub struct EnterAsync<'e, T = ()> {
+    queue: &'e Shared<T>,
     /// None once it is done. It is an error if the tag is of another queue.
     tag: Option<Result<&'e mut TagState, EnterError>>,
 }
 
-impl<'e> EnterAsync<'e> {
-    pub(crate) fn of(queue: &'e Shared, tag: &'e mut Tag) -> EnterAsync<'e> {
+impl<'e, T> EnterAsync<'e, T> {
+    pub(crate) fn of(queue: &'e Shared<T>, tag: &'e mut Tag<T>) -> EnterAsync<'e, T> {
         EnterAsync { queue, tag: Some(tag.state_of(queue).ok_or(EnterError::OtherQueue)) }
     }
 }
 
-impl<'e> Future for EnterAsync<'e> {
-    type Output = Result<Entered<'e>, EnterError>;
+impl<'e, T> Future for EnterAsync<'e, T> {
+    type Output = Result<Request<'e, T>, EnterError>;
 
     fn poll(self: Pin<&mut Self>, context: &mut Context<'_>) -> Poll<Self::Output> {
         let this = self.get_mut();
@@ -53,11 +53,11 @@ impl<'e> Future for EnterAsync<'e> {
         };
         let Some(done) = done else { return Poll::Pending };
         let tag = this.tag.take().expect("it was there for the poll");
-        Poll::Ready(tag.and_then(|tag| done.map(|()| Entered::of(this.queue, tag))))
+        Poll::Ready(tag.and_then(|tag| done.map(|()| Request::of(this.queue, tag))))
     }
 }
 
-impl Drop for EnterAsync<'_> {
+impl<T> Drop for EnterAsync<'_, T> {
     fn drop(&mut self) {
         if let Some(Ok(tag)) = &mut self.tag {
             let noted = self.queue.forget_waker(tag);
@@ -66,7 +66,7 @@ impl Drop for EnterAsync<'_> {
     }
 }
 
-impl fmt::Debug for EnterAsync<'_> {
+impl<T> fmt::Debug for EnterAsync<'_, T> {
     fn fmt(&self, f: &mut fmt::Formatter<'_>) -> fmt::Result {
         f.debug_struct("EnterAsync").field("is_done", &self.tag.is_none()).finish_non_exhaustive()
     }

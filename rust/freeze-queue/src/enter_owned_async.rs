@@ -1,7 +1,7 @@
 //! Entering by a future that has its tag.
 use crate::errors::EnterError;
 use crate::handed_back::HandedBack;
-use crate::owned::OwnedEntered;
+use crate::owned::OwnedRequest;
 use crate::tag::Tag;
 use std::pin::Pin;
 use std::task::{Context, Poll};
@@ -15,30 +15,30 @@ use std::task::{Context, Poll};
 /// use std::pin::Pin;
 /// use std::task::{Context, Waker};
 ///
-/// let queue = Queue::new(Limits::of_hardware(64), 1, 1)?;
+/// let queue = Queue::builder(Limits::of_hardware(64)).slots(1).tags(1).build()?;
 /// let frozen = queue.freeze()?;
-/// let mut entering = queue.enter_owned_async(queue.next_tag(0)?);
+/// let mut entering = queue.enter_owned_async(queue.tag()?);
 /// assert!(Pin::new(&mut entering).poll(&mut Context::from_waker(Waker::noop())).is_pending());
 /// drop(entering); // gives its tag back
-/// assert!(queue.next_tag(0).is_ok());
+/// assert!(queue.tag().is_ok());
 /// # Ok::<(), Box<dyn std::error::Error + Send + Sync>>(())
 /// ```
 #[derive(Debug)]
 #[must_use = "a future does nothing unless it is polled"]
-pub struct EnterOwnedAsync {
+pub struct EnterOwnedAsync<T = ()> {
     /// None once it is done. Its drop forgets the waker that was noted.
-    tag: Option<Tag>,
+    tag: Option<Tag<T>>,
     is_of_queue: bool,
 }
 
-impl EnterOwnedAsync {
-    pub(crate) fn of(tag: Tag, is_of_queue: bool) -> EnterOwnedAsync {
+impl<T> EnterOwnedAsync<T> {
+    pub(crate) fn of(tag: Tag<T>, is_of_queue: bool) -> EnterOwnedAsync<T> {
         EnterOwnedAsync { tag: Some(tag), is_of_queue }
     }
 }
 
-impl Future for EnterOwnedAsync {
-    type Output = Result<OwnedEntered, HandedBack<Tag, EnterError>>;
+impl<T> Future for EnterOwnedAsync<T> {
+    type Output = Result<OwnedRequest<T>, HandedBack<Tag<T>, EnterError>>;
 
     fn poll(self: Pin<&mut Self>, context: &mut Context<'_>) -> Poll<Self::Output> {
         let this = self.get_mut();
@@ -46,6 +46,6 @@ impl Future for EnterOwnedAsync {
         let done = if this.is_of_queue { queue.in_or_noted(state, context) } else { Some(Err(EnterError::OtherQueue)) };
         let Some(done) = done else { return Poll::Pending };
         let tag = this.tag.take().expect("it was there for the poll");
-        Poll::Ready(OwnedEntered::or_handed_back(tag, done))
+        Poll::Ready(OwnedRequest::or_handed_back(tag, done))
     }
 }

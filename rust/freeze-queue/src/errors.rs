@@ -1,54 +1,17 @@
-//! The refusals of calls. A refusal leaves everything as it was.
+//! The errors of this crate: why a call was refused. A refusal leaves everything as it was.
+use crate::erased::queue_limits::LimitFault;
+use crate::turns::NoTurn;
 use std::error::Error;
 use std::fmt;
 
-/// Writes out the texts of errors, and that each is an `Error`.
-macro_rules! texts {
-    ($($error:ident { $($kind:ident => $text:literal,)+ })+) => {$(
-        impl fmt::Display for $error {
-            fn fmt(&self, f: &mut fmt::Formatter<'_>) -> fmt::Result {
-                f.write_str(match self { $($error::$kind => $text,)+ })
-            }
-        }
-
-        impl Error for $error {}
-    )+};
-}
-
-/// Writes out the texts of errors that may be a refusal of limits.
-macro_rules! texts_or_limits {
-    ($($error:ident { $($kind:ident => $text:literal,)+ })+) => {$(
-        impl fmt::Display for $error {
-            fn fmt(&self, f: &mut fmt::Formatter<'_>) -> fmt::Result {
-                match self { $error::Limits(why) => why.fmt(f), $($error::$kind => f.write_str($text),)+ }
-            }
-        }
-
-        impl Error for $error {}
-
-        impl From<LimitsError> for $error {
-            fn from(why: LimitsError) -> $error {
-                $error::Limits(why)
-            }
-        }
-    )+};
-}
-
-mod entering;
-mod entering_any;
-mod freezing;
-
-pub use entering::{EnterError, EnterFrozenError, EnterTimeoutError, StayError, TryEnterError};
-pub use entering_any::{EnterAnyError, EnterAnyTimeoutError, TryEnterAnyError};
-pub use freezing::{FreezeError, FreezeTimeoutError, TryFreezeError, UpdateError};
-
-/// Why no queue has such limits.
+/// Invalid limits, or a range that limits can't cut.
 ///
 /// ```
 /// use freeze_queue::{Limits, LimitsError};
 ///
 /// assert_eq!(Limits::of_hardware(0).check(), Err(LimitsError::HardwareRange));
 /// assert_eq!(Limits::of_hardware(64).with_physical(3).check(), Err(LimitsError::BadPhysical));
+/// assert_eq!(Limits::of_hardware(64).pieces(1 << 33, 1).unwrap_err(), LimitsError::TooFar);
 /// ```
 #[derive(Clone, Copy, Debug, PartialEq, Eq, Hash)]
 #[non_exhaustive]
@@ -61,158 +24,151 @@ pub enum LimitsError {
     ChunkTooLarge,
     /// `physical` isn't a power of two from 1 to 32,768.
     BadPhysical,
+    /// A sector of the range would be 2^33 or above.
+    TooFar,
 }
 
-/// Why [`Queue::new`](crate::Queue::new) makes no queue.
+/// Why [`Queue::new`](crate::Queue::new) or [`Builder::build`](crate::Builder::build) makes no queue.
 ///
 /// ```
 /// use freeze_queue::{Limits, LimitsError, NewError, Queue};
 ///
-/// assert_eq!(Queue::new(Limits::of_hardware(64), 1, 1024).unwrap_err(), NewError::Size);
-/// let refused = Queue::new(Limits::of_hardware(64).with_max(65), 1, 1024);
+/// let refused = Queue::builder(Limits::of_hardware(64)).tags(1024).build();
+/// assert_eq!(refused.unwrap_err().reason, NewError::Size);
+/// let refused = Queue::new(Limits::of_hardware(64).with_max(65));
 /// assert_eq!(refused.unwrap_err(), NewError::Limits(LimitsError::AboveHardware));
 /// ```
 #[derive(Clone, Copy, Debug, PartialEq, Eq, Hash)]
 #[non_exhaustive]
 pub enum NewError {
-    /// The limits are refused.
+    /// The limits are invalid.
     Limits(LimitsError),
-    /// A queue has 1 to 512 slots and 1 to 1,023 tags.
+    /// A queue has 1 to 512 slots, 1 to 1,023 tags, and fewer reserved tags than tags.
     Size,
     /// There is no memory for it.
     NoMemory,
 }
 
-/// Why [`Queue::next_tag`](crate::Queue::next_tag) gives no tag.
+/// Why a request doesn't enter, or a tag isn't given.
 ///
 /// ```
-/// # use freeze_queue::{Limits, NextTagError, Queue};
-/// let queue = Queue::new(Limits::of_hardware(64), 2, 1)?;
-/// assert_eq!(queue.next_tag(2).unwrap_err(), NextTagError::NoSlot);
-/// let tag = queue.next_tag(1)?;
-/// assert_eq!(queue.next_tag(1).unwrap_err(), NextTagError::NoTag);
+/// # use freeze_queue::{EnterError, Limits, Queue};
+/// let queue = Queue::builder(Limits::of_hardware(64)).tags(1).build()?;
+/// let mut tag = queue.tag()?;
+/// assert_eq!(queue.tag().unwrap_err(), EnterError::NoTag);
+/// let frozen = queue.freeze()?;
+/// assert_eq!(queue.try_enter(&mut tag).unwrap_err(), EnterError::Frozen);
+/// queue.mark_dying();
+/// assert_eq!(queue.enter(&mut tag).unwrap_err(), EnterError::Dying);
+/// # drop(frozen);
 /// # Ok::<(), Box<dyn std::error::Error>>(())
 /// ```
 #[derive(Clone, Copy, Debug, PartialEq, Eq, Hash)]
 #[non_exhaustive]
-pub enum NextTagError {
-    /// The queue has no such slot.
-    NoSlot,
-    /// Every tag is out.
-    NoTag,
-}
-
-/// Why a tag doesn't change its slot.
-///
-/// ```
-/// # use freeze_queue::{Limits, Queue, SlotError};
-/// let queue = Queue::new(Limits::of_hardware(64), 2, 1)?;
-/// assert_eq!(queue.next_tag(0)?.use_slot(2), Err(SlotError::NoSlot));
-/// # Ok::<(), Box<dyn std::error::Error>>(())
-/// ```
-#[derive(Clone, Copy, Debug, PartialEq, Eq, Hash)]
-#[non_exhaustive]
-pub enum SlotError {
-    /// The queue has no such slot.
-    NoSlot,
-}
-
-/// Why [`Queue::give_back`](crate::Queue::give_back) hands a tag back.
-///
-/// ```
-/// # use freeze_queue::{GiveBackError, Limits, Queue};
-/// let queue = Queue::new(Limits::of_hardware(64), 1, 1)?;
-/// let mut tag = queue.next_tag(0)?;
-/// std::mem::forget(queue.enter(&mut tag)?);
-/// assert_eq!(queue.give_back(tag).unwrap_err().reason, GiveBackError::StillEntered);
-/// # Ok::<(), Box<dyn std::error::Error>>(())
-/// ```
-#[derive(Clone, Copy, Debug, PartialEq, Eq, Hash)]
-#[non_exhaustive]
-pub enum GiveBackError {
+pub enum EnterError {
     /// The tag is of another queue.
     OtherQueue,
-    /// The tag's request was forgotten (`mem::forget`), and has entered for ever.
+    /// The tag's last request was forgotten (`mem::forget`), and is in flight forever.
     StillEntered,
+    /// The queue is frozen, and the call doesn't wait. (The failed try held a reference briefly: wait for the thaw rather than trying again.)
+    Frozen,
+    /// The queue is frozen and drained: nothing enters before the thaw.
+    Drained,
+    /// The device is gone ([`Queue::mark_dying`](crate::Queue::mark_dying)).
+    Dying,
+    /// At one moment of the call no tag was free.
+    NoTag,
+    /// The deadline has passed.
+    TimedOut,
+    /// No tag is free, and there is no memory to wait in line.
+    NoMemory,
+}
+
+/// Why the queue isn't frozen. If a freeze had begun, it is thawed.
+///
+/// ```
+/// # use freeze_queue::{FreezeError, Limits, Queue};
+/// # use std::time::Duration;
+/// let queue = Queue::new(Limits::of_hardware(64))?;
+/// let request = queue.enter_any()?;
+/// assert_eq!(queue.try_freeze().unwrap_err(), FreezeError::NotDrained);
+/// assert_eq!(queue.freeze_timeout(Duration::ZERO).unwrap_err(), FreezeError::TimedOut);
+/// # Ok::<(), Box<dyn std::error::Error>>(())
+/// ```
+#[derive(Clone, Copy, Debug, PartialEq, Eq, Hash)]
+#[non_exhaustive]
+pub enum FreezeError {
+    /// 1,000 freezes aren't thawed yet.
+    DepthFull,
+    /// The queue was frozen 2^40 times.
+    WornOut,
+    /// A request is in flight, or a refused one holds a reference briefly.
+    NotDrained,
+    /// Requests were in flight until the deadline.
+    TimedOut,
+}
+
+/// Why [`Queue::update`](crate::Queue::update) or [`Frozen::set`](crate::Frozen::set) sets nothing.
+///
+/// ```
+/// # use freeze_queue::{Limits, Queue, UpdateError};
+/// let queue = Queue::new(Limits::of_hardware(64))?;
+/// let refused = queue.update(|_| Limits::of_hardware(32));
+/// assert_eq!(refused, Err(UpdateError::OtherHardware));
+/// # Ok::<(), Box<dyn std::error::Error>>(())
+/// ```
+#[derive(Clone, Copy, Debug, PartialEq, Eq, Hash)]
+#[non_exhaustive]
+pub enum UpdateError {
+    /// The limits are invalid.
+    Limits(LimitsError),
+    /// `hardware` isn't the queue's.
+    OtherHardware,
+    /// The queue isn't frozen.
+    Freeze(FreezeError),
+    /// Another update ran until the deadline.
+    TimedOut,
+    /// The closure of an update updates the same queue.
+    Nested,
+    /// There is no memory to wait for another update.
+    NoMemory,
 }
 
 /// Why [`Queue::remove`](crate::Queue::remove) hands the queue back.
 ///
 /// ```
 /// # use freeze_queue::{Limits, Queue, RemoveError};
-/// let queue = Queue::new(Limits::of_hardware(64), 1, 1)?;
-/// let tag = queue.next_tag(0)?;
+/// let queue = Queue::new(Limits::of_hardware(64))?;
+/// let tag = queue.tag()?;
 /// assert_eq!(queue.remove().unwrap_err().reason, RemoveError::TagsOut);
 /// # Ok::<(), Box<dyn std::error::Error>>(())
 /// ```
 #[derive(Clone, Copy, Debug, PartialEq, Eq, Hash)]
 #[non_exhaustive]
 pub enum RemoveError {
-    /// A tag is out, or a request that was forgotten (`mem::forget`) has it for ever: then drop the queue.
+    /// A tag is out. If a forgotten request (`mem::forget`) has it, it is out forever: drop the queue.
     TagsOut,
     /// A freeze with a share of the queue is there ([`OwnedFrozen`](crate::OwnedFrozen)), or was forgotten, or its thaw still wakes tasks.
     FreezeOut,
-    /// The queue was frozen 2^40 times.
-    WornOut,
 }
 
-/// Why [`Frozen::set`](crate::Frozen::set) sets nothing.
-///
-/// ```
-/// # use freeze_queue::{Limits, LimitsError, Queue, SetError};
-/// let queue = Queue::new(Limits::of_hardware(64), 1, 1)?;
-/// let frozen = queue.freeze()?;
-/// assert_eq!(frozen.set(Limits::of_hardware(0)), Err(SetError::Limits(LimitsError::HardwareRange)));
-/// # Ok::<(), Box<dyn std::error::Error>>(())
-/// ```
-#[derive(Clone, Copy, Debug, PartialEq, Eq, Hash)]
-#[non_exhaustive]
-pub enum SetError {
-    /// The limits are refused.
-    Limits(LimitsError),
-    /// `hardware` isn't the queue's.
-    OtherHardware,
-}
+/// Writes out the texts of errors, and which error is their source.
+macro_rules! texts {
+    ($($error:ident { $($kind:ident $(($source:ident))? => $text:literal,)+ })+) => {$(
+        impl fmt::Display for $error {
+            fn fmt(&self, f: &mut fmt::Formatter<'_>) -> fmt::Result {
+                f.write_str(match self { $($error::$kind { .. } => $text,)+ })
+            }
+        }
 
-/// Why a range under limits in force has no pieces.
-///
-/// ```
-/// # use freeze_queue::{Limits, Queue, RangeError};
-/// let queue = Queue::new(Limits::of_hardware(64), 1, 1)?;
-/// let mut tag = queue.next_tag(0)?;
-/// let request = queue.enter(&mut tag)?;
-/// assert!(request.pieces((1 << 33) - 1, 1).is_ok());
-/// assert_eq!(request.pieces((1 << 33) - 1, 2).unwrap_err(), RangeError::TooFar);
-/// # Ok::<(), Box<dyn std::error::Error>>(())
-/// ```
-#[derive(Clone, Copy, Debug, PartialEq, Eq, Hash)]
-#[non_exhaustive]
-pub enum RangeError {
-    /// A sector of it would be 2^33 or above.
-    TooFar,
-}
-
-/// Why [`Limits::pieces`](crate::Limits::pieces) gives none.
-///
-/// ```
-/// # use freeze_queue::{Limits, LimitsError, PiecesError, RangeError};
-/// let none = Limits::of_hardware(0);
-/// assert_eq!(none.pieces(1 << 33, 1).unwrap_err(), PiecesError::Limits(LimitsError::HardwareRange));
-/// assert_eq!(Limits::of_hardware(64).pieces(1 << 33, 1).unwrap_err(), PiecesError::TooFar);
-/// ```
-#[derive(Clone, Copy, Debug, PartialEq, Eq, Hash)]
-#[non_exhaustive]
-pub enum PiecesError {
-    /// The limits are refused.
-    Limits(LimitsError),
-    /// A sector of the range would be 2^33 or above.
-    TooFar,
-}
-
-impl From<RangeError> for PiecesError {
-    fn from(_: RangeError) -> PiecesError {
-        PiecesError::TooFar
-    }
+        impl Error for $error {
+            fn source(&self) -> Option<&(dyn Error + 'static)> {
+                match self { $($error::$kind $(($source))? => texts!(@source $($source)?),)+ }
+            }
+        }
+    )+};
+    (@source) => { None };
+    (@source $source:ident) => { Some($source) };
 }
 
 texts! {
@@ -221,23 +177,116 @@ texts! {
         AboveHardware => "more sectors than the hardware takes",
         ChunkTooLarge => "a chunk of more than 65535 sectors",
         BadPhysical => "a physical block that isn't a power of two from 1 to 32768 sectors",
+        TooFar => "a sector from 2^33 on",
     }
-    NextTagError { NoSlot => "no such slot", NoTag => "every tag was given out", }
-    SlotError { NoSlot => "no such slot", }
-    GiveBackError { OtherQueue => "the tag is of another queue", StillEntered => "the tag has entered", }
-    RemoveError {
-        TagsOut => "tags aren't given back",
-        FreezeOut => "a freeze has a share of the queue",
+    NewError {
+        Limits(why) => "invalid limits",
+        Size => "no queue has so many slots or tags",
+        NoMemory => "no memory",
+    }
+    EnterError {
+        OtherQueue => "the tag is of another queue",
+        StillEntered => "the tag has entered",
+        Frozen => "the queue is frozen",
+        Drained => "the queue is drained",
+        Dying => "the queue's device is gone",
+        NoTag => "no tag is free",
+        TimedOut => "the deadline has passed",
+        NoMemory => "no memory to wait for a tag",
+    }
+    FreezeError {
+        DepthFull => "1000 freezes aren't thawed yet",
         WornOut => "the queue was frozen 2^40 times",
+        NotDrained => "the queue isn't drained",
+        TimedOut => "the deadline has passed",
     }
-    RangeError { TooFar => "a sector from 2^33 on", }
+    UpdateError {
+        Limits(why) => "invalid limits",
+        OtherHardware => "a hardware limit that isn't the queue's",
+        Freeze(why) => "the queue isn't frozen",
+        TimedOut => "the deadline has passed",
+        Nested => "an update within an update of the same queue",
+        NoMemory => "no memory to wait for another update",
+    }
+    RemoveError {
+        TagsOut => "tags are out",
+        FreezeOut => "a freeze has a share of the queue",
+    }
 }
 
-texts_or_limits! {
-    NewError { Size => "no queue has so many slots or tags", NoMemory => "no memory", }
-    SetError { OtherHardware => "a hardware limit that isn't the queue's", }
-    PiecesError { TooFar => "a sector from 2^33 on", }
+impl From<LimitFault> for LimitsError {
+    fn from(fault: LimitFault) -> LimitsError {
+        match fault {
+            LimitFault::HardwareRange => LimitsError::HardwareRange,
+            LimitFault::AboveHardware => LimitsError::AboveHardware,
+            LimitFault::ChunkTooLarge => LimitsError::ChunkTooLarge,
+            LimitFault::BadPhysical => LimitsError::BadPhysical,
+        }
+    }
+}
+
+impl From<LimitsError> for NewError {
+    fn from(why: LimitsError) -> NewError {
+        NewError::Limits(why)
+    }
+}
+
+impl From<LimitsError> for UpdateError {
+    fn from(why: LimitsError) -> UpdateError {
+        UpdateError::Limits(why)
+    }
+}
+
+impl From<FreezeError> for UpdateError {
+    fn from(why: FreezeError) -> UpdateError {
+        match why {
+            FreezeError::TimedOut => UpdateError::TimedOut,
+            why => UpdateError::Freeze(why),
+        }
+    }
+}
+
+impl From<NoTurn> for UpdateError {
+    fn from(why: NoTurn) -> UpdateError {
+        match why {
+            NoTurn::Nested => UpdateError::Nested,
+            NoTurn::TimedOut => UpdateError::TimedOut,
+            NoTurn::NoMemory => UpdateError::NoMemory,
+        }
+    }
 }
 
 #[cfg(test)]
-mod tests;
+mod tests {
+    use super::*;
+
+    /// Invalid limits have the words of the erased sources.
+    #[test]
+    fn texts_of_limits() {
+        let faults =
+            [LimitFault::HardwareRange, LimitFault::AboveHardware, LimitFault::ChunkTooLarge, LimitFault::BadPhysical];
+        for fault in faults {
+            assert_eq!(LimitsError::from(fault).to_string(), fault.to_string());
+            let refused = NewError::from(LimitsError::from(fault));
+            assert_eq!(refused.source().map(ToString::to_string), Some(fault.to_string()));
+        }
+    }
+
+    /// An error of a call is one that crosses threads, and has its cause as a source.
+    #[test]
+    fn sources() {
+        fn is_an_error<E: Error + Send + Sync + 'static>(why: E) -> Option<String> {
+            why.source().map(ToString::to_string)
+        }
+        assert_eq!(is_an_error(LimitsError::TooFar), None);
+        assert_eq!(is_an_error(NewError::Size), None);
+        assert_eq!(is_an_error(EnterError::NoTag), None);
+        assert_eq!(is_an_error(FreezeError::NotDrained), None);
+        assert_eq!(is_an_error(RemoveError::TagsOut), None);
+        assert_eq!(
+            is_an_error(UpdateError::Freeze(FreezeError::DepthFull)).unwrap(),
+            FreezeError::DepthFull.to_string()
+        );
+        assert_eq!(UpdateError::from(FreezeError::TimedOut), UpdateError::TimedOut);
+    }
+}

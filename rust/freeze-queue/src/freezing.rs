@@ -7,13 +7,13 @@ use std::fmt;
 use std::time::{Duration, Instant};
 
 /// A freeze that is thawed where this is dropped.
-pub(crate) struct Freeze<'q> {
+pub(crate) struct Freeze<'q, T> {
     /// None once it is thawed, or is for ever.
-    queue: Option<Share<'q>>,
+    queue: Option<Share<'q, T>>,
 }
 
-impl Freeze<'_> {
-    pub(crate) fn queue(&self) -> &Shared {
+impl<T> Freeze<'_, T> {
+    pub(crate) fn queue(&self) -> &Shared<T> {
         self.queue.as_deref().expect("it is there until the freeze ends")
     }
 
@@ -34,7 +34,7 @@ impl Freeze<'_> {
     }
 }
 
-impl Drop for Freeze<'_> {
+impl<T> Drop for Freeze<'_, T> {
     fn drop(&mut self) {
         if let Some(queue) = self.queue.take() {
             queue.thaw();
@@ -47,28 +47,28 @@ impl Drop for Freeze<'_> {
 /// Dropping it thaws this freeze. [`OwnedFreezing`] has a share of its queue, and goes wherever its holder does.
 ///
 /// ```
-/// use freeze_queue::{Limits, Queue, TryEnterError};
+/// use freeze_queue::{Limits, Queue, EnterError};
 ///
-/// let queue = Queue::new(Limits::of_hardware(64), 1, 2)?;
-/// let (mut tag, mut other) = (queue.next_tag(0)?, queue.next_tag(0)?);
+/// let queue = Queue::builder(Limits::of_hardware(64)).slots(1).tags(2).build()?;
+/// let (mut tag, mut other) = (queue.tag()?, queue.tag()?);
 /// let request = queue.enter(&mut tag)?;
 /// let freezing = queue.begin_freeze()?;
-/// assert_eq!(queue.try_enter(&mut other).unwrap_err(), TryEnterError::Frozen);
+/// assert_eq!(queue.try_enter(&mut other).unwrap_err(), EnterError::Frozen);
 /// assert!(!freezing.is_drained());
 /// drop(request);
 /// freezing.wait().set(queue.limits().with_max(8))?;
 /// # Ok::<(), Box<dyn std::error::Error>>(())
 /// ```
 #[must_use = "a freeze is thawed where it is dropped"]
-pub struct Freezing<'q> {
-    freeze: Freeze<'q>,
+pub struct Freezing<'q, T = ()> {
+    freeze: Freeze<'q, T>,
 }
 
 /// A freeze that was begun, with a share of its queue ([`Queue::begin_freeze_owned`](crate::Queue::begin_freeze_owned)).
-pub type OwnedFreezing = Freezing<'static>;
+pub type OwnedFreezing<T = ()> = Freezing<'static, T>;
 
-impl<'q> Freezing<'q> {
-    pub(crate) fn begin(queue: Share<'q>) -> Result<Freezing<'q>, FreezeError> {
+impl<'q, T> Freezing<'q, T> {
+    pub(crate) fn begin(queue: Share<'q, T>) -> Result<Freezing<'q, T>, FreezeError> {
         queue.waits.begin_freeze(&queue.erased, queue.shares())?;
         Ok(Freezing { freeze: Freeze { queue: Some(queue) } })
     }
@@ -78,7 +78,7 @@ impl<'q> Freezing<'q> {
     ///
     /// ```
     /// # use freeze_queue::{Limits, Queue};
-    /// # let queue = Queue::new(Limits::of_hardware(64), 1, 1)?;
+    /// # let queue = Queue::builder(Limits::of_hardware(64)).slots(1).tags(1).build()?;
     /// assert!(queue.begin_freeze()?.is_drained());
     /// # Ok::<(), Box<dyn std::error::Error>>(())
     /// ```
@@ -91,12 +91,12 @@ impl<'q> Freezing<'q> {
     ///
     /// ```
     /// # use freeze_queue::{Limits, Queue};
-    /// # let queue = Queue::new(Limits::of_hardware(64), 1, 1)?;
+    /// # let queue = Queue::builder(Limits::of_hardware(64)).slots(1).tags(1).build()?;
     /// let frozen = queue.begin_freeze()?.wait();
     /// assert!(queue.is_drained());
     /// # Ok::<(), Box<dyn std::error::Error>>(())
     /// ```
-    pub fn wait(self) -> Frozen<'q> {
+    pub fn wait(self) -> Frozen<'q, T> {
         self.freeze.until_drained(None);
         Frozen::of(self.freeze)
     }
@@ -112,15 +112,15 @@ impl<'q> Freezing<'q> {
     /// ```
     /// # use freeze_queue::{Limits, Queue};
     /// # use std::time::Duration;
-    /// # let queue = Queue::new(Limits::of_hardware(64), 1, 1)?;
-    /// # let mut tag = queue.next_tag(0)?;
+    /// # let queue = Queue::builder(Limits::of_hardware(64)).slots(1).tags(1).build()?;
+    /// # let mut tag = queue.tag()?;
     /// let request = queue.enter(&mut tag)?;
     /// let freezing = queue.begin_freeze()?.wait_timeout(Duration::ZERO).unwrap_err();
     /// drop(request);
     /// assert!(freezing.wait_timeout(Duration::ZERO).is_ok());
     /// # Ok::<(), Box<dyn std::error::Error>>(())
     /// ```
-    pub fn wait_timeout(self, patience: Duration) -> Result<Frozen<'q>, Freezing<'q>> {
+    pub fn wait_timeout(self, patience: Duration) -> Result<Frozen<'q, T>, Freezing<'q, T>> {
         let deadline = Instant::now().checked_add(patience);
         if self.freeze.until_drained(deadline) { Ok(Frozen::of(self.freeze)) } else { Err(self) }
     }
@@ -137,24 +137,24 @@ impl<'q> Freezing<'q> {
     ///     frozen.set(limits.with_max(limits.max / 2)).expect("they are limits");
     ///     Ok(())
     /// }
-    /// # let queue = Queue::new(Limits::of_hardware(64), 1, 1)?;
+    /// # let queue = Queue::builder(Limits::of_hardware(64)).slots(1).tags(1).build()?;
     /// # let done = pin!(halve(&queue)).poll(&mut Context::from_waker(Waker::noop()));
     /// # assert_eq!((done, queue.limits().max, queue.depth()), (Poll::Ready(Ok(())), 32, 0));
     /// # Ok::<(), Box<dyn std::error::Error>>(())
     /// ```
-    pub fn drained(self) -> Drained<'q> {
+    pub fn drained(self) -> Drained<'q, T> {
         Drained::of(self.freeze)
     }
 
     /// Marks the queue dying, as [`Queue::mark_dying`](crate::Queue::mark_dying), and ends this freeze: no request enters between. Linux: `blk_queue_start_drain` with `QUEUE_FLAG_DYING`.
     ///
     /// ```
-    /// # use freeze_queue::{Limits, Queue, TryEnterError};
-    /// # let queue = Queue::new(Limits::of_hardware(64), 1, 2)?;
-    /// let (mut tag, mut other) = (queue.next_tag(0)?, queue.next_tag(0)?);
+    /// # use freeze_queue::{Limits, Queue, EnterError};
+    /// # let queue = Queue::builder(Limits::of_hardware(64)).slots(1).tags(2).build()?;
+    /// let (mut tag, mut other) = (queue.tag()?, queue.tag()?);
     /// let request = queue.enter(&mut tag)?; // its device may never answer
     /// queue.begin_freeze()?.mark_dying();
-    /// assert_eq!(queue.try_enter(&mut other).unwrap_err(), TryEnterError::Dying);
+    /// assert_eq!(queue.try_enter(&mut other).unwrap_err(), EnterError::Dying);
     /// assert!(!queue.is_drained());
     /// drop(request);
     /// assert!(queue.is_drained());
@@ -165,8 +165,8 @@ impl<'q> Freezing<'q> {
     }
 }
 
-impl fmt::Debug for Freezing<'_> {
+impl<T> fmt::Debug for Freezing<'_, T> {
     fn fmt(&self, f: &mut fmt::Formatter<'_>) -> fmt::Result {
-        f.debug_struct("Freezing").field("queue", &self.freeze.queue().number).finish_non_exhaustive()
+        f.debug_struct("Freezing").field("queue", &self.freeze.queue().id).finish_non_exhaustive()
     }
 }

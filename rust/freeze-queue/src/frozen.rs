@@ -1,8 +1,9 @@
 //! A frozen queue.
-use crate::errors::SetError;
+use crate::errors::UpdateError;
 use crate::freezing::Freeze;
 use crate::limits::Limits;
 use crate::queue::Update;
+use crate::shared::Shared;
 use std::fmt;
 
 /// A freeze of a queue, which is drained: no request is under way, and none enters while it is there.
@@ -14,7 +15,7 @@ use std::fmt;
 /// ```
 /// use freeze_queue::{Limits, Queue};
 ///
-/// let queue = Queue::new(Limits::of_hardware(64), 1, 1)?;
+/// let queue = Queue::builder(Limits::of_hardware(64)).slots(1).tags(1).build()?;
 /// let frozen = queue.freeze()?;
 /// let nested = queue.freeze()?;
 /// drop(frozen);
@@ -23,46 +24,45 @@ use std::fmt;
 /// # Ok::<(), Box<dyn std::error::Error>>(())
 /// ```
 #[must_use = "a freeze is thawed where it is dropped"]
-pub struct Frozen<'q> {
+pub struct Frozen<'q, T = ()> {
     /// A freeze of a drained queue.
-    freeze: Freeze<'q>,
+    freeze: Freeze<'q, T>,
 }
 
 /// A freeze with a share of its queue ([`Queue::freeze_owned`](crate::Queue::freeze_owned)): it borrows nothing, so it may be kept
 /// from one message to another, and be thawed on any thread.
-pub type OwnedFrozen = Frozen<'static>;
+pub type OwnedFrozen<T = ()> = Frozen<'static, T>;
 
-impl<'q> Frozen<'q> {
+impl<'q, T> Frozen<'q, T> {
     /// The freeze of a queue that is drained.
-    pub(crate) fn of(freeze: Freeze<'q>) -> Frozen<'q> {
+    pub(crate) fn of(freeze: Freeze<'q, T>) -> Frozen<'q, T> {
         Frozen { freeze }
     }
 
-    /// The number of its queue.
-    pub(crate) fn queue_number(&self) -> u64 {
-        self.freeze.queue().number.get()
+    pub(crate) fn queue(&self) -> &Shared<T> {
+        self.freeze.queue()
     }
 
     /// Sets the limits, for the requests that enter after the thaw. Linux: `queue_limits_commit_update`, under a freeze.
     ///
     /// # Errors
     ///
-    /// [`SetError::Limits`], or else [`SetError::OtherHardware`].
+    /// [`UpdateError::Limits`], or else [`UpdateError::OtherHardware`].
     ///
     /// # Examples
     ///
     /// ```
-    /// # use freeze_queue::{Limits, Queue, SetError};
-    /// # let queue = Queue::new(Limits::of_hardware(64), 1, 1)?;
-    /// # let mut tag = queue.next_tag(0)?;
+    /// # use freeze_queue::{Limits, Queue, UpdateError};
+    /// # let queue = Queue::builder(Limits::of_hardware(64)).slots(1).tags(1).build()?;
+    /// # let mut tag = queue.tag()?;
     /// let frozen = queue.freeze()?;
     /// frozen.set(Limits::of_hardware(64).with_max(8))?;
-    /// assert_eq!(frozen.set(Limits::of_hardware(32)), Err(SetError::OtherHardware));
+    /// assert_eq!(frozen.set(Limits::of_hardware(32)), Err(UpdateError::OtherHardware));
     /// drop(frozen);
     /// assert_eq!(queue.enter(&mut tag)?.limits().max, 8);
     /// # Ok::<(), Box<dyn std::error::Error>>(())
     /// ```
-    pub fn set(&self, limits: Limits) -> Result<(), SetError> {
+    pub fn set(&self, limits: Limits) -> Result<(), UpdateError> {
         self.freeze.queue().store_limits(limits.checked()?)
     }
 
@@ -75,7 +75,7 @@ impl<'q> Frozen<'q> {
     ///
     /// ```
     /// # use freeze_queue::{Limits, Queue};
-    /// # let queue = Queue::new(Limits::of_hardware(64), 1, 1)?;
+    /// # let queue = Queue::builder(Limits::of_hardware(64)).slots(1).tags(1).build()?;
     /// let frozen = queue.freeze()?;
     /// frozen.set(frozen.limits().with_max(8))?;
     /// assert_eq!(frozen.limits().max, 8);
@@ -91,15 +91,15 @@ impl<'q> Frozen<'q> {
     /// ```
     /// # use freeze_queue::{EnterError, Limits, Queue};
     /// # use std::thread;
-    /// # let queue = Queue::new(Limits::of_hardware(64), 1, 1)?;
-    /// # let mut tag = queue.next_tag(0)?;
+    /// # let queue = Queue::builder(Limits::of_hardware(64)).slots(1).tags(1).build()?;
+    /// # let mut tag = queue.tag()?;
     /// let frozen = queue.freeze()?;
     /// thread::scope(|threads| {
     ///     let waits = threads.spawn(|| queue.enter(&mut tag).map(drop));
     ///     frozen.mark_dying();
     ///     assert_eq!(waits.join().unwrap(), Err(EnterError::Dying));
     /// });
-    /// queue.give_back(tag)?;
+    /// drop(tag);
     /// queue.remove()?;
     /// # Ok::<(), Box<dyn std::error::Error>>(())
     /// ```
@@ -108,8 +108,8 @@ impl<'q> Frozen<'q> {
     }
 }
 
-impl fmt::Debug for Frozen<'_> {
+impl<T> fmt::Debug for Frozen<'_, T> {
     fn fmt(&self, f: &mut fmt::Formatter<'_>) -> fmt::Result {
-        f.debug_struct("Frozen").field("queue", &self.freeze.queue().number).finish_non_exhaustive()
+        f.debug_struct("Frozen").field("queue", &self.freeze.queue().id).finish_non_exhaustive()
     }
 }

@@ -1,18 +1,16 @@
 //! A refusal that hands back what the call was given.
-use crate::errors::{EnterError, EnterFrozenError, EnterTimeoutError, GiveBackError, RemoveError, TryEnterError};
-use crate::queue::Queue;
-use crate::tag::Tag;
+use crate::errors::{EnterError, NewError, RemoveError};
 use std::error::Error;
 use std::fmt;
 
 /// A refusal of a call that takes a value: it hands the value back.
 ///
-/// `?` into the reason's type drops the value; into a boxed error it keeps the value in the box.
+/// `?` into the reason's type, or into a boxed error, drops the value: so it demands nothing of it.
 ///
 /// ```
 /// # use freeze_queue::{HandedBack, Limits, Queue, RemoveError};
-/// # let queue = Queue::new(Limits::of_hardware(64), 1, 1)?;
-/// # let tag = queue.next_tag(0)?;
+/// # let queue = Queue::builder(Limits::of_hardware(64)).slots(1).tags(1).build()?;
+/// # let tag = queue.tag()?;
 /// let HandedBack { value: queue, reason } = queue.remove().unwrap_err();
 /// assert_eq!(reason, RemoveError::TagsOut);
 /// assert_eq!(queue.depth(), 0);
@@ -38,27 +36,30 @@ impl<T, E: fmt::Debug> fmt::Debug for HandedBack<T, E> {
     }
 }
 
-impl<T, E: Error> Error for HandedBack<T, E> {}
+impl<T, E: Error + 'static> From<HandedBack<T, E>> for Box<dyn Error> {
+    fn from(refused: HandedBack<T, E>) -> Box<dyn Error> {
+        refused.reason.into()
+    }
+}
+
+impl<T, E: Error + Send + Sync + 'static> From<HandedBack<T, E>> for Box<dyn Error + Send + Sync> {
+    fn from(refused: HandedBack<T, E>) -> Box<dyn Error + Send + Sync> {
+        refused.reason.into()
+    }
+}
 
 /// That `?` in a function with these errors drops what was handed back.
 macro_rules! reasons {
-    ($($value:ty, $error:ident;)+) => {$(
-        impl From<HandedBack<$value, $error>> for $error {
-            fn from(refused: HandedBack<$value, $error>) -> $error {
+    ($($error:ident)+) => {$(
+        impl<T> From<HandedBack<T, $error>> for $error {
+            fn from(refused: HandedBack<T, $error>) -> $error {
                 refused.reason
             }
         }
     )+};
 }
 
-reasons! {
-    Tag, GiveBackError;
-    Tag, EnterError;
-    Tag, TryEnterError;
-    Tag, EnterTimeoutError;
-    Tag, EnterFrozenError;
-    Queue, RemoveError;
-}
+reasons! { NewError EnterError RemoveError }
 
 #[cfg(test)]
 mod tests {
@@ -67,7 +68,7 @@ mod tests {
     #[test]
     fn a_refusal_that_hands_back_says_why() {
         let refused = HandedBack { value: 7, reason: RemoveError::TagsOut };
-        assert_eq!(refused.to_string(), "tags aren't given back");
+        assert_eq!(refused.to_string(), "tags are out");
         assert_eq!(refused.value, 7);
     }
 }

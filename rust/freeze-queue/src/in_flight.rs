@@ -9,12 +9,12 @@ use std::time::Instant;
 /// use freeze_queue::{Limits, Queue};
 /// use std::thread;
 ///
-/// let queue = Queue::new(Limits::of_hardware(64), 2, 2)?;
+/// let queue = Queue::builder(Limits::of_hardware(64)).slots(2).tags(2).build()?;
 /// queue.watch(true);
-/// let mut tag = queue.next_tag(1)?;
+/// let mut tag = queue.tag()?;
 /// let request = queue.enter(&mut tag)?;
 /// let in_flight: Vec<_> = queue.in_flight().collect();
-/// assert_eq!((in_flight.len(), in_flight[0].slot, in_flight[0].thread), (1, 1, thread::current().id()));
+/// assert_eq!((in_flight.len(), in_flight[0].thread), (1, thread::current().id()));
 /// drop(request);
 /// assert_eq!(queue.in_flight().count(), 0);
 /// # Ok::<(), Box<dyn std::error::Error>>(())
@@ -24,8 +24,6 @@ use std::time::Instant;
 pub struct InFlight {
     /// The number of its tag ([`Tag::number`](crate::Tag::number)).
     pub tag: usize,
-    /// The slot that it entered on.
-    pub slot: u32,
     /// When it entered. One that stays keeps it.
     pub since: Instant,
     /// The thread by which it entered.
@@ -34,8 +32,8 @@ pub struct InFlight {
 
 impl InFlight {
     /// By this thread, as of now.
-    pub(crate) fn now(tag: usize, slot: u32) -> InFlight {
-        InFlight { tag, slot, since: Instant::now(), thread: thread::current().id() }
+    pub(crate) fn now(tag: usize) -> InFlight {
+        InFlight { tag, since: Instant::now(), thread: thread::current().id() }
     }
 }
 

@@ -1,6 +1,6 @@
 //! Limits, and how a range of sectors is cut by them.
-use crate::erased::queue_limits::{self as erased, LimitFault};
-use crate::errors::{LimitsError, PiecesError};
+use crate::erased::queue_limits as erased;
+use crate::errors::LimitsError;
 use crate::pieces::Pieces;
 
 /// Limits of a device, in sectors of 512 bytes. Linux: `struct queue_limits` (include/linux/blkdev.h).
@@ -106,12 +106,12 @@ impl Limits {
     }
 
     /// The pieces of the `count` sectors from `start` on, in order: each within these limits. A request that has entered a
-    /// queue has them by its limits in force ([`Entered::pieces`](crate::Entered::pieces)). Linux: `get_max_io_size`
+    /// queue has them by its limits in force ([`Request::pieces`](crate::Request::pieces)). Linux: `get_max_io_size`
     /// (block/blk-merge.c).
     ///
     /// # Errors
     ///
-    /// [`PiecesError::Limits`], or else [`PiecesError::TooFar`].
+    /// Returns [`LimitsError`] if the limits are invalid, or else [`LimitsError::TooFar`].
     ///
     /// # Examples
     ///
@@ -122,8 +122,8 @@ impl Limits {
     /// assert_eq!(pieces, [Piece { start: 6, sectors: 2 }, Piece { start: 8, sectors: 4 }]);
     /// # Ok::<(), Box<dyn std::error::Error>>(())
     /// ```
-    pub fn pieces(&self, start: u64, count: u32) -> Result<Pieces<'_>, PiecesError> {
-        Ok(Pieces::of(self.checked()?, start, count)?)
+    pub fn pieces(&self, start: u64, count: u32) -> Result<Pieces<'_>, LimitsError> {
+        Pieces::of(self.checked()?, start, count)
     }
 
     /// The same limits, where a queue takes them.
@@ -145,16 +145,5 @@ impl From<erased::Limits> for Limits {
     #[inline]
     fn from(limits: erased::Limits) -> Limits {
         Limits { hardware: limits.hw(), max: limits.max(), chunk: limits.chunk(), physical: limits.physical() }
-    }
-}
-
-impl From<LimitFault> for LimitsError {
-    fn from(fault: LimitFault) -> LimitsError {
-        match fault {
-            LimitFault::HardwareRange => LimitsError::HardwareRange,
-            LimitFault::AboveHardware => LimitsError::AboveHardware,
-            LimitFault::ChunkTooLarge => LimitsError::ChunkTooLarge,
-            LimitFault::BadPhysical => LimitsError::BadPhysical,
-        }
     }
 }

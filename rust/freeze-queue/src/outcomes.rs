@@ -6,7 +6,7 @@ use crate::limits::Limits;
 /// ```
 /// use freeze_queue::{Limits, Queue};
 ///
-/// let queue = Queue::new(Limits::of_hardware(64), 1, 1)?;
+/// let queue = Queue::builder(Limits::of_hardware(64)).slots(1).tags(1).build()?;
 /// drop(queue.freeze()?);
 /// let last = queue.remove()?;
 /// assert_eq!((last.kills, last.releases), (2, 2)); // the removal freezes a live queue once more
@@ -14,11 +14,13 @@ use crate::limits::Limits;
 /// # Ok::<(), Box<dyn std::error::Error>>(())
 /// ```
 #[derive(Clone, Copy, Debug, PartialEq, Eq, Hash)]
-pub struct Final {
+pub struct Final<T = ()> {
     /// How often it was frozen from live.
     pub kills: u64,
     /// How often a call found it drained.
     pub releases: u64,
     /// Its limits.
     pub limits: Limits,
+    /// Its value.
+    pub value: T,
 }

@@ -1,14 +1,15 @@
 //! A request that takes its tag along.
-use crate::errors::{RangeError, SlotError};
+use crate::errors::LimitsError;
 use crate::handed_back::HandedBack;
 use crate::limits::Limits;
 use crate::pieces::Pieces;
+use crate::shared::Shared;
 use crate::tag::Tag;
 use std::fmt;
 
 /// A request that has entered with a tag of its own, which has a share of the queue: it may end on any thread.
 ///
-/// Dropping it leaves, and gives its tag back to the queue; [`leave`](OwnedEntered::leave) gives the tag to the caller. It is
+/// Dropping it leaves, and gives its tag back to the queue; [`leave`](OwnedRequest::leave) gives the tag to the caller. It is
 /// `Sync`: if the pieces of a request end on several threads, each has a clone of an `Arc` of it, and the last one leaves.
 ///
 /// ```
@@ -16,10 +17,10 @@ use std::fmt;
 /// use std::sync::{Arc, mpsc};
 /// use std::thread;
 ///
-/// let queue = Queue::new(Limits::of_hardware(64), 1, 1)?;
+/// let queue = Queue::builder(Limits::of_hardware(64)).slots(1).tags(1).build()?;
 /// let (sent, requests) = mpsc::channel();
 /// let completes = thread::spawn(move || requests.into_iter().for_each(drop));
-/// let request = Arc::new(queue.enter_owned(queue.next_tag(0)?)?);
+/// let request = Arc::new(queue.enter_owned(queue.tag()?)?);
 /// for piece in request.pieces(0, 1000)? {
 ///     sent.send((piece, Arc::clone(&request)))?; // the last piece that ends leaves
 /// }
@@ -29,32 +30,31 @@ use std::fmt;
 /// # Ok::<(), Box<dyn std::error::Error>>(())
 /// ```
 #[must_use = "a request leaves where it is dropped"]
-pub struct OwnedEntered {
-    /// Entered, until it was taken.
-    tag: Tag,
+pub struct OwnedRequest<T = ()> {
+    /// Request, until it was taken.
+    tag: Tag<T>,
     limits: Limits,
 }
 
-impl OwnedEntered {
+impl<T> OwnedRequest<T> {
     /// The request of a tag that has entered its queue.
     #[inline]
-    pub(crate) fn of(mut tag: Tag) -> OwnedEntered {
+    pub(crate) fn of(mut tag: Tag<T>) -> OwnedRequest<T> {
         let (queue, state) = tag.parts_mut();
         let limits = queue.limits_under(state);
-        OwnedEntered { tag, limits }
+        OwnedRequest { tag, limits }
     }
 
-    /// The number of its queue.
     #[inline]
-    pub(crate) fn queue_number(&self) -> u64 {
-        self.tag.queue_number()
+    pub(crate) fn queue(&self) -> &Shared<T> {
+        &self.tag.parts().shared
     }
 
     /// The number of its tag ([`Tag::number`]), by which [`Queue::in_flight`](crate::Queue::in_flight) lists it.
     ///
     /// ```
     /// # use freeze_queue::{Limits, Queue};
-    /// # let queue = Queue::new(Limits::of_hardware(64), 1, 1)?;
+    /// # let queue = Queue::builder(Limits::of_hardware(64)).slots(1).tags(1).build()?;
     /// queue.watch(true);
     /// let request = queue.enter_any()?;
     /// assert!(queue.in_flight().any(|it| it.tag == request.tag_number()));
@@ -68,9 +68,12 @@ impl OwnedEntered {
 
     /// The request of a tag that entered; or why it didn't, with the tag.
     #[inline]
-    pub(crate) fn or_handed_back<E>(tag: Tag, entered: Result<(), E>) -> Result<OwnedEntered, HandedBack<Tag, E>> {
+    pub(crate) fn or_handed_back<E>(
+        tag: Tag<T>,
+        entered: Result<(), E>,
+    ) -> Result<OwnedRequest<T>, HandedBack<Tag<T>, E>> {
         match entered {
-            Ok(()) => Ok(OwnedEntered::of(tag)),
+            Ok(()) => Ok(OwnedRequest::of(tag)),
             Err(reason) => Err(HandedBack { value: tag, reason }),
         }
     }
@@ -79,15 +82,15 @@ impl OwnedEntered {
     ///
     /// ```
     /// # use freeze_queue::{Limits, Queue};
-    /// # let queue = Queue::new(Limits::of_hardware(64), 1, 1)?;
-    /// let request = queue.enter_owned(queue.next_tag(0)?)?;
+    /// # let queue = Queue::builder(Limits::of_hardware(64)).slots(1).tags(1).build()?;
+    /// let request = queue.enter_owned(queue.tag()?)?;
     /// let mut tag = request.leave();
     /// assert!(queue.enter(&mut tag).is_ok());
     /// # Ok::<(), Box<dyn std::error::Error>>(())
     /// ```
     #[inline]
     #[must_use = "the drop of a request gives its tag back"]
-    pub fn leave(mut self) -> Tag {
+    pub fn leave(mut self) -> Tag<T> {
         let mut tag = self.tag.take(); // before a waker is called, which may panic: it leaves once
         let (queue, state) = tag.parts_mut();
         queue.leave(state);
@@ -98,8 +101,8 @@ impl OwnedEntered {
     ///
     /// ```
     /// # use freeze_queue::{Limits, Queue};
-    /// # let queue = Queue::new(Limits::of_hardware(64), 1, 1)?;
-    /// let request = queue.enter_owned(queue.next_tag(0)?)?;
+    /// # let queue = Queue::builder(Limits::of_hardware(64)).slots(1).tags(1).build()?;
+    /// let request = queue.enter_owned(queue.tag()?)?;
     /// assert_eq!(request.limits().max, 64);
     /// # Ok::<(), Box<dyn std::error::Error>>(())
     /// ```
@@ -114,43 +117,23 @@ impl OwnedEntered {
     ///
     /// # Errors
     ///
-    /// [`RangeError::TooFar`].
+    /// [`LimitsError::TooFar`].
     ///
     /// # Examples
     ///
     /// ```
     /// # use freeze_queue::{Limits, Queue};
-    /// # let queue = Queue::new(Limits::of_hardware(64), 1, 1)?;
-    /// let request = queue.enter_owned(queue.next_tag(0)?)?;
+    /// # let queue = Queue::builder(Limits::of_hardware(64)).slots(1).tags(1).build()?;
+    /// let request = queue.enter_owned(queue.tag()?)?;
     /// assert_eq!(request.pieces(0, 65)?.count(), 2);
     /// # Ok::<(), Box<dyn std::error::Error>>(())
     /// ```
-    pub fn pieces(&self, start: u64, count: u32) -> Result<Pieces<'_>, RangeError> {
+    pub fn pieces(&self, start: u64, count: u32) -> Result<Pieces<'_>, LimitsError> {
         Pieces::of(self.limits.in_force(), start, count)
-    }
-
-    /// Leaves on this slot, and its tag counts there from now on: for one, on the slot of the thread that ends it.
-    ///
-    /// # Errors
-    ///
-    /// [`SlotError::NoSlot`].
-    ///
-    /// # Examples
-    ///
-    /// ```
-    /// # use freeze_queue::{Limits, Queue};
-    /// # let queue = Queue::new(Limits::of_hardware(64), 2, 1)?;
-    /// let mut request = queue.enter_owned(queue.next_tag(0)?)?;
-    /// request.use_slot(1)?;
-    /// assert_eq!(request.leave().slot(), 1);
-    /// # Ok::<(), Box<dyn std::error::Error>>(())
-    /// ```
-    pub fn use_slot(&mut self, slot: u32) -> Result<(), SlotError> {
-        self.tag.use_slot(slot)
     }
 }
 
-impl Drop for OwnedEntered {
+impl<T> Drop for OwnedRequest<T> {
     #[inline]
     fn drop(&mut self) {
         let tag = self.tag.take();
@@ -160,14 +143,14 @@ impl Drop for OwnedEntered {
     }
 }
 
-/// A request leaves that is dropped, and its tag goes home. (Out of line, so that [`OwnedEntered::leave`] inlines.)
+/// A request leaves that is dropped, and its tag goes home. (Out of line, so that [`OwnedRequest::leave`] inlines.)
 #[inline(never)]
-fn end(tag: Tag) {
+fn end<T>(tag: Tag<T>) {
     tag.leave_and_go_home();
 }
 
-impl fmt::Debug for OwnedEntered {
+impl<T> fmt::Debug for OwnedRequest<T> {
     fn fmt(&self, f: &mut fmt::Formatter<'_>) -> fmt::Result {
-        f.debug_tuple("OwnedEntered").field(&self.tag).finish()
+        f.debug_tuple("OwnedRequest").field(&self.tag).finish()
     }
 }

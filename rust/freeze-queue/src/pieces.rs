@@ -1,6 +1,6 @@
 //! The pieces of a range.
 use crate::erased::queue_limits as erased;
-use crate::errors::RangeError;
+use crate::errors::LimitsError;
 use crate::limits::Limits;
 use std::iter::FusedIterator;
 use std::marker::PhantomData;
@@ -50,10 +50,10 @@ pub struct Pieces<'l> {
 
 impl<'l> Pieces<'l> {
     /// The pieces of a range below 2^33.
-    pub(crate) fn of(limits: erased::Limits, start: u64, count: u32) -> Result<Pieces<'l>, RangeError> {
+    pub(crate) fn of(limits: erased::Limits, start: u64, count: u32) -> Result<Pieces<'l>, LimitsError> {
         match start.checked_add(u64::from(count)) {
             Some(end) if end <= SECTORS => Ok(Pieces { limits, start, left: count, of: PhantomData }),
-            _ => Err(RangeError::TooFar),
+            _ => Err(LimitsError::TooFar),
         }
     }
 }

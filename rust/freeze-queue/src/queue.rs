@@ -1,9 +1,10 @@
 //! A queue: made and ended, its tags, and what it is asked.
 use crate::body::{Parts, TagState};
+use crate::builder::Builder;
 use crate::counts::Stats;
 use crate::erased::percpu_core::SLOT_LIMIT;
 use crate::erased::queue_core::{self as erased, BlockQueue, Mode};
-use crate::errors::{GiveBackError, NewError, NextTagError, RemoveError};
+use crate::errors::{EnterError, NewError, RemoveError};
 use crate::handed_back::HandedBack;
 use crate::in_flight::{InFlight, Watch};
 use crate::limits::Limits;
@@ -15,9 +16,11 @@ use crate::shared::{Share, Shared};
 use crate::sync::{MOST_PATIENCE, sleep};
 use crate::tag::Tag;
 use crate::turns::Turns;
+use crate::value::Value;
 use crate::waits::{Held, Waits};
 use std::fmt;
 use std::num::NonZeroU64;
+use std::panic::{RefUnwindSafe, UnwindSafe};
 use std::sync::Arc;
 use std::sync::atomic::{AtomicU64, Ordering::Relaxed};
 
@@ -31,163 +34,125 @@ mod updates;
 
 pub(crate) use updates::Update;
 
-/// A queue that requests enter and leave on many threads, and that a freeze changes the limits of.
+/// A queue that requests enter and leave on many threads, and whose limits change under a freeze.
 ///
 /// Threads share it by `&`, or by an `Arc`. With a tag at hand, on a live queue that isn't [watched](Queue::watch), entering and leaving
 /// take no lock, and wait for no thread. Tags, owned requests and owned freezes have shares of the queue of their own, and may
-/// outlive this handle. A queue that is dropped ends with the last of them; [removing](Queue::remove) it returns its last state.
+/// outlive this handle. A dropped queue ends with the last of them; [`remove`](Queue::remove) ends it at once, and returns its value.
 ///
 /// ```
 /// use freeze_queue::{Limits, Queue};
 /// use std::thread;
 ///
-/// let queue = Queue::new(Limits::of_hardware(64), 2, 2)?;
-/// let mut tags = [queue.next_tag(0)?, queue.next_tag(1)?]; // each on a slot of its own
+/// let queue = Queue::new(Limits::of_hardware(64))?;
 /// thread::scope(|threads| {
-///     for tag in &mut tags {
+///     for _ in 0..2 {
 ///         threads.spawn(|| {
-///             let request = queue.enter(tag).unwrap();
+///             let mut tag = queue.tag().unwrap();
+///             let request = queue.enter(&mut tag).unwrap();
 ///             request.pieces(0, 100).unwrap().for_each(|piece| assert!(piece.sectors <= 64));
 ///         });
 ///     }
-///     let frozen = queue.freeze().unwrap(); // no request is under way
+///     let frozen = queue.freeze().unwrap(); // no request is in flight
 ///     frozen.set(Limits::of_hardware(64).with_max(8)).unwrap();
 /// });
 /// # Ok::<(), Box<dyn std::error::Error>>(())
 /// ```
-pub struct Queue {
-    shared: Arc<Shared>,
+pub struct Queue<T = ()> {
+    shared: Arc<Shared<T>>,
 }
 
+/// A panic leaves the queue as it is: a request that unwinds leaves, and a freeze thaws.
+impl<T: RefUnwindSafe> UnwindSafe for Queue<T> {}
+impl<T: RefUnwindSafe> RefUnwindSafe for Queue<T> {}
+
 impl Queue {
-    /// Slots of a queue at most.
-    ///
-    /// ```
-    /// assert_eq!(freeze_queue::Queue::MOST_SLOTS, 512);
-    /// ```
-    pub const MOST_SLOTS: u32 = SLOT_LIMIT;
+    /// Maximum number of slots.
+    pub const MAX_SLOTS: u32 = SLOT_LIMIT;
 
-    /// Tags of a queue at most.
-    ///
-    /// ```
-    /// assert_eq!(freeze_queue::Queue::MOST_TAGS, 1_023);
-    /// ```
-    pub const MOST_TAGS: u32 = erased::MOST_TAGS;
+    /// Maximum number of tags.
+    pub const MAX_TAGS: u32 = erased::MOST_TAGS;
 
-    /// Freezes at most that aren't thawed yet.
-    ///
-    /// ```
-    /// assert_eq!(freeze_queue::Queue::MOST_DEPTH, 1000);
-    /// ```
-    pub const MOST_DEPTH: u32 = erased::MOST_DEPTH;
+    /// Maximum number of freezes that aren't thawed yet.
+    pub const MAX_DEPTH: u32 = erased::MOST_DEPTH;
 
-    /// Makes a live queue of these limits that counts on 1 to 512 slots, with 1 to 1,023 tags. Linux: `blk_mq_alloc_queue`.
+    /// Makes a live queue with 256 tags and a slot for each processor.
     ///
     /// # Errors
     ///
-    /// [`NewError::Limits`], [`NewError::Size`] or [`NewError::NoMemory`].
+    /// Returns [`NewError::Limits`] or [`NewError::NoMemory`].
     ///
     /// # Examples
     ///
     /// ```
-    /// use freeze_queue::{Limits, NewError, Queue};
+    /// use freeze_queue::{Limits, Queue};
     ///
-    /// let queue = Queue::new(Limits::of_hardware(64), 4, 4)?;
-    /// assert_eq!(queue.limits().max, 64);
-    /// assert_eq!(Queue::new(Limits::of_hardware(64), 513, 4).unwrap_err(), NewError::Size);
+    /// let queue = Queue::new(Limits::of_hardware(64))?;
+    /// assert_eq!((queue.limits().max, queue.tags()), (64, 256));
     /// # Ok::<(), Box<dyn std::error::Error>>(())
     /// ```
-    pub fn new(limits: Limits, slots: u32, tags: u32) -> Result<Queue, NewError> {
-        let limits = limits.checked()?;
-        if slots == 0 || slots > Queue::MOST_SLOTS || tags == 0 || tags > Queue::MOST_TAGS {
-            return Err(NewError::Size);
-        }
-        Queue::make(limits, slots, tags).ok_or(NewError::NoMemory)
+    pub fn new(limits: Limits) -> Result<Queue, NewError> {
+        Ok(Queue::builder(limits).build()?)
     }
 
-    /// The queue and its tags, each in its place. None if memory is refused.
-    fn make(limits: erased::Limits, slots: u32, tags: u32) -> Option<Queue> {
-        static NUMBERS: AtomicU64 = AtomicU64::new(0);
-        let (erased, freezer, mut tags) = BlockQueue::new(limits, slots, tags).ok()?;
-        let count = tags.len();
-        let (seats, places, line, turns) = (Seats::new(count)?, Places::new(count)?, Line::new(count)?, Turns::new()?);
-        let mut kept = Vec::new();
-        kept.try_reserve_exact(count).ok()?;
-        let number = NonZeroU64::MIN.saturating_add(NUMBERS.fetch_add(1, Relaxed));
-        let waits = Waits::of(Held::new(freezer, seats, line, kept));
-        let shared = Arc::new(Shared { number, watch: Watch::new(), erased, places, waits, turns });
-        for (number, (erased, place)) in tags.drain(..).zip(shared.places.all()).enumerate() {
-            let state = TagState { erased, slot: 0, number, is_noted: false, is_watched: false };
-            place.fill(Parts { state, shared: Arc::clone(&shared) });
+    /// Returns a [`Builder`], which sets the number of tags and slots, and the value.
+    pub fn builder(limits: Limits) -> Builder {
+        Builder::new(limits)
+    }
+}
+
+impl<T> Queue<T> {
+    /// The parts of a queue, before it has its value.
+    pub(crate) fn parts(limits: Limits, slots: u32, tags: u32, reserved: u32) -> Result<Unmade<T>, NewError> {
+        let limits = limits.checked()?;
+        let sizes = [(slots, 1, Queue::MAX_SLOTS), (tags, 1, Queue::MAX_TAGS), (reserved, 0, tags.saturating_sub(1))];
+        if sizes.iter().any(|(size, least, most)| size < least || size > most) {
+            return Err(NewError::Size);
         }
-        Some(Queue { shared })
+        Unmade::of(limits, slots, tags, reserved as usize).ok_or(NewError::NoMemory)
     }
 
     #[inline]
-    pub(crate) fn shared(&self) -> &Shared {
+    pub(crate) fn shared(&self) -> &Shared<T> {
         &self.shared
     }
 
     /// For a freeze with a share of the queue.
-    pub(crate) fn share(&self) -> Share<'static> {
+    pub(crate) fn share(&self) -> Share<'static, T> {
         Share::Own(Arc::clone(&self.shared))
     }
 
-    /// Gives a tag that is out of use, new or given back, which counts on this slot, from 0 on. The queue may be frozen.
+    /// Returns a free tag, for a thread that keeps one. A reserved tag comes first. The queue may be frozen. Dropping the tag gives it back.
     ///
     /// # Errors
     ///
-    /// [`NextTagError::NoSlot`]; or [`NextTagError::NoTag`], if at one moment of the call no tag was free.
+    /// Returns [`EnterError::NoTag`] if at one moment of the call no tag was free.
     ///
     /// # Examples
     ///
     /// ```
-    /// # use freeze_queue::{Limits, NextTagError, Queue};
-    /// # let queue = Queue::new(Limits::of_hardware(64), 1, 1)?;
-    /// let tag = queue.next_tag(0)?;
-    /// assert_eq!(queue.next_tag(0).unwrap_err(), NextTagError::NoTag);
-    /// queue.give_back(tag)?;
-    /// assert!(queue.next_tag(0).is_ok());
+    /// # use freeze_queue::{EnterError, Limits, Queue};
+    /// # let queue = Queue::builder(Limits::of_hardware(64)).tags(1).build()?;
+    /// let tag = queue.tag()?;
+    /// assert_eq!(queue.tag().unwrap_err(), EnterError::NoTag);
+    /// drop(tag);
+    /// assert!(queue.tag().is_ok());
     /// # Ok::<(), Box<dyn std::error::Error>>(())
     /// ```
-    pub fn next_tag(&self, slot: u32) -> Result<Tag, NextTagError> {
-        if slot >= self.shared.erased.slots() {
-            return Err(NextTagError::NoSlot);
-        }
-        let mut tag = self.shared.try_tag().ok_or(NextTagError::NoTag)?;
-        tag.state.slot = slot;
-        Ok(Tag::of(tag))
+    pub fn tag(&self) -> Result<Tag<T>, EnterError> {
+        self.shared.try_tag().map(Tag::of).ok_or(EnterError::NoTag)
     }
 
-    /// Takes a tag back, for [`next_tag`](Queue::next_tag) to give again, as the drop of the tag does. The queue may be frozen.
-    ///
-    /// # Errors
-    ///
-    /// [`GiveBackError::OtherQueue`] or [`GiveBackError::StillEntered`]. They hand the tag back. (`StillEntered` is of a
-    /// request that was forgotten: one that is there borrows its tag.)
-    ///
-    /// # Examples
-    ///
-    /// ```
-    /// # use freeze_queue::{GiveBackError, Limits, Queue};
-    /// # let queue = Queue::new(Limits::of_hardware(64), 1, 1)?;
-    /// let other = Queue::new(Limits::of_hardware(64), 1, 1)?;
-    /// let tag = queue.next_tag(0)?;
-    /// let refused = other.give_back(tag).unwrap_err();
-    /// assert_eq!(refused.reason, GiveBackError::OtherQueue);
-    /// queue.give_back(refused.value)?;
-    /// # Ok::<(), Box<dyn std::error::Error>>(())
-    /// ```
-    pub fn give_back(&self, mut tag: Tag) -> Result<(), HandedBack<Tag, GiveBackError>> {
-        let reason = match tag.state_of(&self.shared) {
-            None => GiveBackError::OtherQueue,
-            Some(state) if state.erased.entered() => GiveBackError::StillEntered,
-            Some(_) => {
-                drop(tag);
-                return Ok(());
-            }
-        };
-        Err(HandedBack { value: tag, reason })
+    /// Returns the number of tags, reserved ones included.
+    #[must_use]
+    pub fn tags(&self) -> u32 {
+        u32::try_from(self.shared.places.all().len()).unwrap_or(u32::MAX)
+    }
+
+    /// Returns the number of slots.
+    #[must_use]
+    pub fn slots(&self) -> u32 {
+        self.shared.erased.slots()
     }
 
     /// Ends a queue, live or frozen, whose tags were all given back or dropped. Needs no memory. Linux: `blk_mq_destroy_queue`.
@@ -197,22 +162,22 @@ impl Queue {
     ///
     /// # Errors
     ///
-    /// [`RemoveError`] has each. They hand the queue back.
+    /// Returns [`RemoveError`], and hands the queue back.
     ///
     /// # Examples
     ///
     /// ```
     /// # use freeze_queue::{Limits, Queue, RemoveError};
-    /// let queue = Queue::new(Limits::of_hardware(64), 1, 1)?;
-    /// let tag = queue.next_tag(0)?;
+    /// let queue = Queue::builder(Limits::of_hardware(64)).slots(1).tags(1).build()?;
+    /// let tag = queue.tag()?;
     /// let refused = queue.remove().unwrap_err();
     /// assert_eq!(refused.reason, RemoveError::TagsOut);
     /// let queue = refused.value;
-    /// queue.give_back(tag)?;
+    /// drop(tag);
     /// assert_eq!(queue.remove()?.limits, Limits::of_hardware(64));
     /// # Ok::<(), Box<dyn std::error::Error>>(())
     /// ```
-    pub fn remove(self) -> Result<Final, HandedBack<Queue, RemoveError>> {
+    pub fn remove(self) -> Result<Final<T>, HandedBack<Queue<T>, RemoveError>> {
         match self.take_all_back() {
             Ok(()) => {}
             Err(reason) => return Err(HandedBack { value: self, reason }),
@@ -221,7 +186,7 @@ impl Queue {
         drop(self);
         // Another thread that gave a tag back, or ended a freeze, may have its share for some steps more, in which it calls no waker. A
         // sleep in place of a yield lets a thread of a lower real-time priority take them.
-        let Shared { erased, waits, .. } = loop {
+        let Shared { erased, waits, value, .. } = loop {
             match Arc::try_unwrap(shared) {
                 Ok(alone) => break alone,
                 Err(again) => shared = again,
@@ -231,7 +196,7 @@ impl Queue {
         let held = waits.into_held();
         let limits = held.freezer.limits().into();
         let left = held.remove(erased);
-        Ok(Final { kills: left.kills, releases: left.releases, limits })
+        Ok(Final { kills: left.kills, releases: left.releases, limits, value: value.into_inner() })
     }
 
     /// Takes all tags back, of a queue that is to end; or none, and why.
@@ -257,7 +222,7 @@ impl Queue {
     ///
     /// ```
     /// # use freeze_queue::{Limits, Queue};
-    /// # let queue = Queue::new(Limits::of_hardware(64), 4, 4)?;
+    /// # let queue = Queue::builder(Limits::of_hardware(64)).slots(4).tags(4).build()?;
     /// queue.switch_to_atomic();
     /// # Ok::<(), Box<dyn std::error::Error>>(())
     /// ```
@@ -270,7 +235,7 @@ impl Queue {
     ///
     /// ```
     /// # use freeze_queue::{Limits, Queue};
-    /// # let queue = Queue::new(Limits::of_hardware(64), 4, 4)?;
+    /// # let queue = Queue::builder(Limits::of_hardware(64)).slots(4).tags(4).build()?;
     /// queue.switch_to_slots();
     /// # Ok::<(), Box<dyn std::error::Error>>(())
     /// ```
@@ -282,7 +247,7 @@ impl Queue {
     ///
     /// ```
     /// # use freeze_queue::{Limits, Queue};
-    /// let queue = Queue::new(Limits::of_hardware(64).with_max(0), 1, 1)?;
+    /// let queue = Queue::builder(Limits::of_hardware(64).with_max(0)).slots(1).tags(1).build()?;
     /// assert_eq!(queue.limits(), Limits::of_hardware(64));
     /// # Ok::<(), Box<dyn std::error::Error>>(())
     /// ```
@@ -295,7 +260,7 @@ impl Queue {
     ///
     /// ```
     /// # use freeze_queue::{Limits, Queue};
-    /// # let queue = Queue::new(Limits::of_hardware(64), 1, 1)?;
+    /// # let queue = Queue::builder(Limits::of_hardware(64)).slots(1).tags(1).build()?;
     /// let frozen = queue.freeze()?;
     /// assert_eq!(queue.depth(), 1);
     /// drop(frozen);
@@ -312,7 +277,7 @@ impl Queue {
     ///
     /// ```
     /// # use freeze_queue::{Limits, Queue};
-    /// # let queue = Queue::new(Limits::of_hardware(64), 1, 1)?;
+    /// # let queue = Queue::builder(Limits::of_hardware(64)).slots(1).tags(1).build()?;
     /// assert!(!queue.is_drained());
     /// let _frozen = queue.freeze()?;
     /// assert!(queue.is_drained());
@@ -327,7 +292,7 @@ impl Queue {
     ///
     /// ```
     /// # use freeze_queue::{Limits, Queue};
-    /// # let queue = Queue::new(Limits::of_hardware(64), 1, 1)?;
+    /// # let queue = Queue::builder(Limits::of_hardware(64)).slots(1).tags(1).build()?;
     /// queue.update(|limits| limits.with_max(8))?;
     /// let stats = queue.stats();
     /// assert_eq!((stats.freezes, stats.updates, stats.waited), (1, 1, 0));
@@ -342,7 +307,7 @@ impl Queue {
     ///
     /// ```
     /// # use freeze_queue::{Limits, Queue};
-    /// # let queue = Queue::new(Limits::of_hardware(64), 1, 1)?;
+    /// # let queue = Queue::builder(Limits::of_hardware(64)).slots(1).tags(1).build()?;
     /// queue.mark_dying();
     /// assert!(queue.is_dying());
     /// # Ok::<(), Box<dyn std::error::Error>>(())
@@ -356,12 +321,12 @@ impl Queue {
     /// some 100 nanoseconds more, and a lock of its own tag; else it takes one look at a flag.
     ///
     /// ```
-    /// # use freeze_queue::{FreezeTimeoutError, Limits, Queue};
+    /// # use freeze_queue::{FreezeError, Limits, Queue};
     /// # use std::time::Duration;
-    /// # let queue = Queue::new(Limits::of_hardware(64), 1, 1)?;
+    /// # let queue = Queue::builder(Limits::of_hardware(64)).slots(1).tags(1).build()?;
     /// queue.watch(true);
     /// # let _request = queue.enter_any()?;
-    /// if let Err(FreezeTimeoutError::TimedOut) = queue.freeze_timeout(Duration::from_millis(1)) {
+    /// if let Err(FreezeError::TimedOut) = queue.freeze_timeout(Duration::from_millis(1)) {
     ///     for request in queue.in_flight() {
     ///         println!("tag {} by {:?}: {:?}", request.tag, request.thread, request.since.elapsed());
     ///     }
@@ -379,7 +344,7 @@ impl Queue {
     ///
     /// ```
     /// # use freeze_queue::{Limits, Queue};
-    /// # let queue = Queue::new(Limits::of_hardware(64), 1, 2)?;
+    /// # let queue = Queue::builder(Limits::of_hardware(64)).slots(1).tags(2).build()?;
     /// let unseen = queue.enter_any()?;
     /// queue.watch(true);
     /// let seen = queue.enter_any()?;
@@ -390,31 +355,65 @@ impl Queue {
         self.shared.places.all().iter().filter_map(Place::in_flight)
     }
 
-    /// Its number, from 1 on, which no other queue has.
+    /// Returns a unique id, starting at 1.
     ///
     /// ```
     /// # use freeze_queue::{Limits, Queue};
-    /// let here = Queue::new(Limits::of_hardware(64), 1, 1)?;
-    /// let there = Queue::new(Limits::of_hardware(64), 1, 1)?;
-    /// assert_ne!(here.number(), there.number());
+    /// let here = Queue::builder(Limits::of_hardware(64)).slots(1).tags(1).build()?;
+    /// let there = Queue::builder(Limits::of_hardware(64)).slots(1).tags(1).build()?;
+    /// assert_ne!(here.id(), there.id());
     /// # Ok::<(), Box<dyn std::error::Error>>(())
     /// ```
     #[inline]
     #[must_use]
-    pub fn number(&self) -> u64 {
-        self.shared.number.get()
+    pub fn id(&self) -> u64 {
+        self.shared.id.get()
     }
 }
 
-impl Drop for Queue {
+/// The parts of a queue, before it has its value.
+pub(crate) struct Unmade<T> {
+    erased: BlockQueue,
+    tags: Vec<erased::Tag>,
+    places: Places<T>,
+    held: Held<T>,
+    turns: Turns,
+}
+
+impl<T> Unmade<T> {
+    /// None if memory is refused.
+    fn of(limits: erased::Limits, slots: u32, tags: u32, reserved: usize) -> Option<Unmade<T>> {
+        let (erased, freezer, tags) = BlockQueue::new(limits, slots, tags).ok()?;
+        let (count, mut room) = (tags.len(), Vec::new());
+        room.try_reserve_exact(count).ok()?;
+        let (seats, places, line) = (Seats::new(count)?, Places::new(count, reserved)?, Line::new(count)?);
+        Some(Unmade { erased, tags, places, held: Held::new(freezer, seats, line, room), turns: Turns::new()? })
+    }
+
+    /// The queue around a value, with its tags, each in its place.
+    pub(crate) fn with(self, value: T) -> Queue<T> {
+        static IDS: AtomicU64 = AtomicU64::new(0);
+        let Unmade { erased, tags, places, held, turns } = self;
+        let id = NonZeroU64::MIN.saturating_add(IDS.fetch_add(1, Relaxed));
+        let (waits, watch, value) = (Waits::of(held), Watch::new(), Value::of(value));
+        let shared = Arc::new(Shared { id, watch, erased, places, waits, turns, value });
+        for (number, (erased, place)) in tags.into_iter().zip(shared.places.all()).enumerate() {
+            let state = TagState { erased, slot: 0, number, is_noted: false, is_watched: false };
+            place.fill(Parts { state, shared: Arc::clone(&shared) });
+        }
+        Queue { shared }
+    }
+}
+
+impl<T> Drop for Queue<T> {
     fn drop(&mut self) {
         self.shared.waits.close(self.shared.places.all());
     }
 }
 
-impl fmt::Debug for Queue {
+impl<T> fmt::Debug for Queue<T> {
     /// Its number alone, since the rest is under its lock.
     fn fmt(&self, f: &mut fmt::Formatter<'_>) -> fmt::Result {
-        f.debug_struct("Queue").field("number", &self.shared.number).finish_non_exhaustive()
+        f.debug_struct("Queue").field("id", &self.shared.id).finish_non_exhaustive()
     }
 }

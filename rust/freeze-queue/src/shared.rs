@@ -1,7 +1,7 @@
 //! The part of a queue that it shares with its tags and its freezes.
 use crate::body::{Body, TagState};
 use crate::erased::queue_core::{self, BlockQueue, Entry, Put, Stay};
-use crate::errors::{EnterError, EnterFrozenError, EnterTimeoutError, SetError, TryEnterError};
+use crate::errors::{EnterError, UpdateError};
 use crate::excluded::excluded;
 use crate::in_flight::{InFlight, Watch};
 use crate::limits::Limits;
@@ -11,6 +11,7 @@ use crate::queue::Update;
 use crate::seats::{Wakers, wake_each};
 use crate::threads;
 use crate::turns::Turns;
+use crate::value::Value;
 use crate::waits::{Held, Seen, Waits};
 use std::iter;
 use std::mem;
@@ -21,23 +22,24 @@ use std::task::{Context, Waker};
 use std::time::{Duration, Instant};
 
 /// A queue: what each request reads, and nobody writes, and the lock for the rest.
-pub(crate) struct Shared {
+pub(crate) struct Shared<T> {
     /// No other queue has it.
-    pub(crate) number: NonZeroU64,
+    pub(crate) id: NonZeroU64,
     pub(crate) watch: Watch,
     pub(crate) erased: BlockQueue,
     /// One for each tag.
-    pub(crate) places: Places,
-    pub(crate) waits: Waits,
+    pub(crate) places: Places<T>,
+    pub(crate) waits: Waits<T>,
     pub(crate) turns: Turns,
+    pub(crate) value: Value<T>,
 }
 
-impl Shared {
+impl<T> Shared<T> {
     /// The tag enters, or why it doesn't.
     #[inline]
-    pub(crate) fn in_at_once(&self, tag: &mut TagState) -> Result<(), TryEnterError> {
+    pub(crate) fn in_at_once(&self, tag: &mut TagState) -> Result<(), EnterError> {
         if tag.erased.entered() {
-            return Err(TryEnterError::StillEntered);
+            return Err(EnterError::StillEntered);
         }
         match self.erased.try_enter(&mut tag.erased, tag.slot) {
             Entry::Entered => {
@@ -48,17 +50,17 @@ impl Shared {
         }
     }
 
-    /// Why a try was refused, whose count was dropped again and that answered so.
+    /// Why a try was refused, which dropped its reference again by this put.
     #[cold]
-    fn not_in(&self, put: Put) -> TryEnterError {
+    fn not_in(&self, put: Put) -> EnterError {
         self.dropped(put);
-        if self.waits.is_dying() { TryEnterError::Dying } else { TryEnterError::Frozen }
+        if self.waits.is_dying() { EnterError::Dying } else { EnterError::Frozen }
     }
 
     /// The tag enters a queue that may be frozen, or why it doesn't.
-    pub(crate) fn in_to_look(&self, tag: &mut TagState) -> Result<(), EnterFrozenError> {
+    pub(crate) fn in_to_look(&self, tag: &mut TagState) -> Result<(), EnterError> {
         if tag.erased.entered() {
-            return Err(EnterFrozenError::StillEntered);
+            return Err(EnterError::StillEntered);
         }
         match self.erased.try_enter_frozen(&mut tag.erased, tag.slot) {
             Entry::Entered => {
@@ -67,7 +69,7 @@ impl Shared {
             }
             Entry::Refused(put) => {
                 self.dropped(put);
-                Err(EnterFrozenError::Drained)
+                Err(EnterError::Drained)
             }
         }
     }
@@ -75,17 +77,17 @@ impl Shared {
     #[inline]
     pub(crate) fn in_or_waits(&self, tag: &mut TagState) -> Result<(), EnterError> {
         match self.in_at_once(tag) {
-            Ok(()) => Ok(()),
-            Err(why) => self.waits_until(tag, why, None).map_err(EnterError::without_end),
+            Err(EnterError::Frozen) => self.waits_until(tag, None),
+            done => done,
         }
     }
 
     /// The tag enters within this time.
     #[inline]
-    pub(crate) fn in_by_then(&self, tag: &mut TagState, patience: Duration) -> Result<(), EnterTimeoutError> {
+    pub(crate) fn in_by_then(&self, tag: &mut TagState, timeout: Duration) -> Result<(), EnterError> {
         match self.in_at_once(tag) {
-            Ok(()) => Ok(()),
-            Err(why) => self.waits_until(tag, why, Instant::now().checked_add(patience)),
+            Err(EnterError::Frozen) => self.waits_until(tag, Instant::now().checked_add(timeout)),
+            done => done,
         }
     }
 
@@ -94,11 +96,8 @@ impl Shared {
     pub(crate) fn in_or_noted(&self, tag: &mut TagState, context: &Context<'_>) -> Option<Result<(), EnterError>> {
         loop {
             match self.in_at_once(tag) {
-                Ok(()) => return Some(Ok(())),
-                Err(TryEnterError::OtherQueue) => return Some(Err(EnterError::OtherQueue)),
-                Err(TryEnterError::StillEntered) => return Some(Err(EnterError::StillEntered)),
-                Err(TryEnterError::Dying) => return Some(Err(EnterError::Dying)),
-                Err(TryEnterError::Frozen) => {}
+                Err(EnterError::Frozen) => {}
+                done => return Some(done),
             }
             let mut waker = Some(context.waker().clone()); // before the lock, since it is somebody's code
             let mut held = self.waits.lock();
@@ -120,31 +119,19 @@ impl Shared {
         if mem::take(&mut tag.is_noted) { self.waits.lock().seats.forget(tag.number) } else { None }
     }
 
-    /// The tag enters by the deadline, which it couldn't at once.
+    /// The tag enters by the deadline. At its last try the queue was frozen.
     #[cold]
-    pub(crate) fn waits_until(
-        &self,
-        tag: &mut TagState,
-        why: TryEnterError,
-        deadline: Option<Instant>,
-    ) -> Result<(), EnterTimeoutError> {
-        let mut why = why;
+    pub(crate) fn waits_until(&self, tag: &mut TagState, deadline: Option<Instant>) -> Result<(), EnterError> {
         let _waits = self.waits.begin_to_wait();
         loop {
-            match why {
-                TryEnterError::OtherQueue => return Err(EnterTimeoutError::OtherQueue),
-                TryEnterError::StillEntered => return Err(EnterTimeoutError::StillEntered),
-                TryEnterError::Dying => return Err(EnterTimeoutError::Dying),
-                TryEnterError::Frozen => {}
-            }
             match self.waits.until_live(deadline) {
                 Some(Seen::Live) => {}
-                Some(Seen::Dying) => return Err(EnterTimeoutError::Dying),
-                None => return Err(EnterTimeoutError::TimedOut),
+                Some(Seen::Dying) => return Err(EnterError::Dying),
+                None => return Err(EnterError::TimedOut),
             }
             match self.in_at_once(tag) {
-                Ok(()) => return Ok(()),
-                Err(again) => why = again,
+                Err(EnterError::Frozen) => {}
+                done => return done,
             }
         }
     }
@@ -156,10 +143,10 @@ impl Shared {
     }
 
     /// Sets limits that were checked, under a freeze that has drained the queue.
-    pub(crate) fn store_limits(&self, limits: queue_core::Limits) -> Result<(), SetError> {
+    pub(crate) fn store_limits(&self, limits: queue_core::Limits) -> Result<(), UpdateError> {
         let mut held = self.waits.lock();
         if limits.hw() != held.freezer.limits().hw() {
-            return Err(SetError::OtherHardware);
+            return Err(UpdateError::OtherHardware);
         }
         self.set(&mut held, limits);
         Ok(())
@@ -176,7 +163,7 @@ impl Shared {
         is_so_still
     }
 
-    fn set(&self, held: &mut Held, limits: queue_core::Limits) {
+    fn set(&self, held: &mut Held<T>, limits: queue_core::Limits) {
         held.freezer.set(&self.erased, limits).unwrap_or_else(|fault| excluded("set", fault));
     }
 
@@ -199,7 +186,7 @@ impl Shared {
     #[cold]
     fn note(&self, tag: &mut TagState) {
         tag.is_watched = true;
-        self.places.all()[tag.number].note(Some(InFlight::now(tag.number, tag.slot)));
+        self.places.all()[tag.number].note(Some(InFlight::now(tag.number)));
     }
 
     /// A tag leaves.
@@ -234,9 +221,9 @@ impl Shared {
         }
     }
 
-    /// A tag that is home, for a request on the slot of this thread.
+    /// A tag that is home and not reserved, for a request on the slot of this thread.
     #[inline]
-    pub(crate) fn try_any(&self) -> Option<Body> {
+    pub(crate) fn try_any(&self) -> Option<Body<T>> {
         let (thread, from) = threads::hint();
         let (number, mut tag) = self.places.try_take(from)?;
         let slot = self.slot_of(thread);
@@ -250,16 +237,23 @@ impl Shared {
         Some(tag)
     }
 
-    /// A tag that is home, for a caller that keeps it. None only if at one moment of the call no tag was home.
-    pub(crate) fn try_tag(&self) -> Option<Body> {
-        self.places.try_take(0).map(|(_, tag)| tag).or_else(|| self.under_lock())
-    }
-
-    /// A tag that is home, looked for under the lock. None only if at one moment of the call no tag was home.
+    /// A tag that is home and not reserved, looked for under the lock. None only if at one moment of the call none was home.
     #[cold]
-    pub(crate) fn under_lock(&self) -> Option<Body> {
+    pub(crate) fn under_lock(&self) -> Option<Body<T>> {
         let _held = self.waits.lock(); // so none comes home behind the look
         self.places.take_or_ask()
+    }
+
+    /// A tag that is home, for a caller that keeps it: a reserved one, if there is one. It counts on a slot by its number. None only if at one
+    /// moment of the call no tag was home.
+    pub(crate) fn try_tag(&self) -> Option<Body<T>> {
+        let mut tag =
+            self.places.try_reserved().or_else(|| self.places.try_take(0).map(|(_, tag)| tag)).or_else(|| {
+                let _held = self.waits.lock();
+                self.places.take_or_ask_all()
+            })?;
+        tag.state.slot = u32::try_from(tag.state.number).unwrap_or(0) % self.erased.slots();
+        Some(tag)
     }
 
     /// The slot of a thread, by its number.
@@ -272,7 +266,7 @@ impl Shared {
 
 /// A tag comes home: into its place, or to the first in line.
 #[inline]
-pub(crate) fn bring_home(tag: Body) {
+pub(crate) fn bring_home<T>(tag: Body<T>) {
     if let Some(tag) = tag.bring_unless_asked() {
         hand_over(tag);
     }
@@ -280,7 +274,7 @@ pub(crate) fn bring_home(tag: Body) {
 
 /// A tag comes home that is asked for, or whose queue was dropped.
 #[cold]
-pub(crate) fn hand_over(tag: Body) {
+pub(crate) fn hand_over<T>(tag: Body<T>) {
     let shared = Arc::clone(&tag.shared);
     let first = shared.waits.hand_over(tag);
     drop(shared); // before a waker is called, which may remove the queue
@@ -288,12 +282,12 @@ pub(crate) fn hand_over(tag: Body) {
 }
 
 /// A queue that is borrowed, or that a freeze has a share of.
-pub(crate) enum Share<'q> {
-    Borrowed(&'q Shared),
-    Own(Arc<Shared>),
+pub(crate) enum Share<'q, T> {
+    Borrowed(&'q Shared<T>),
+    Own(Arc<Shared<T>>),
 }
 
-impl Share<'_> {
+impl<T> Share<'_, T> {
     /// How many shares it counts for, of those that a queue knows of.
     pub(crate) fn shares(&self) -> u32 {
         u32::from(matches!(self, Share::Own(_)))
@@ -324,10 +318,10 @@ impl Share<'_> {
     }
 }
 
-impl Deref for Share<'_> {
-    type Target = Shared;
+impl<T> Deref for Share<'_, T> {
+    type Target = Shared<T>;
 
-    fn deref(&self) -> &Shared {
+    fn deref(&self) -> &Shared<T> {
         match self {
             Share::Borrowed(shared) => shared,
             Share::Own(shared) => shared,

@@ -22,10 +22,10 @@ use std::task::Waker;
 use std::time::Instant;
 
 /// The state that the lock guards.
-pub(crate) struct Held {
+pub(crate) struct Held<T> {
     pub(crate) freezer: Freezer,
     pub(crate) seats: Seats,
-    pub(crate) line: Line<Body>,
+    pub(crate) line: Line<Body<T>>,
     pub(crate) drains: Drains,
     /// Room for the tags of a queue that ends.
     room: Vec<Tag>,
@@ -60,9 +60,9 @@ pub(crate) enum Seen {
     Dying,
 }
 
-impl Held {
+impl<T> Held<T> {
     /// For a queue at which no thread waits, with room for all its tags.
-    pub(crate) fn new(freezer: Freezer, seats: Seats, line: Line<Body>, room: Vec<Tag>) -> Held {
+    pub(crate) fn new(freezer: Freezer, seats: Seats, line: Line<Body<T>>, room: Vec<Tag>) -> Held<T> {
         let (drains, counts, waiting) = (Drains::default(), Counts::default(), Waiting::default());
         let (is_dying, is_shut, is_closed) = (false, false, false);
         let (entering, draining) = (0, 0);
@@ -178,8 +178,8 @@ impl Held {
 
 /// On lines of its own, apart from what each request reads of its queue.
 #[repr(align(128))]
-pub(crate) struct Waits {
-    held: Lock<Held>,
+pub(crate) struct Waits<T> {
+    held: Lock<Held<T>>,
     /// Where threads sleep that wait to enter, and threads that wait for the drain.
     live: Condvar,
     drained: Condvar,
@@ -191,13 +191,13 @@ pub(crate) struct Waits {
 }
 
 /// A thread that waits to enter, until this is dropped.
-pub(crate) struct WaitsToEnter<'q> {
-    waits: &'q Waits,
+pub(crate) struct WaitsToEnter<'q, T> {
+    waits: &'q Waits<T>,
     /// How many thaws there were when it began to wait.
     thaws: u64,
 }
 
-impl Drop for WaitsToEnter<'_> {
+impl<T> Drop for WaitsToEnter<'_, T> {
     fn drop(&mut self) {
         let mut held = self.waits.lock();
         held.waiting.now -= 1;
@@ -214,8 +214,8 @@ impl Drop for WaitsToEnter<'_> {
 #[repr(align(128))]
 struct Shut(AtomicBool);
 
-impl Waits {
-    pub(crate) fn of(held: Held) -> Waits {
+impl<T> Waits<T> {
+    pub(crate) fn of(held: Held<T>) -> Waits<T> {
         Waits {
             held: Lock::new(held),
             live: Condvar::new(),
@@ -228,12 +228,12 @@ impl Waits {
     }
 
     /// Under the lock. (What is under it is whole at each moment at which this crate's bugs panic.)
-    pub(crate) fn lock(&self) -> Locked<'_, Held> {
+    pub(crate) fn lock(&self) -> Locked<'_, Held<T>> {
         self.held.lock()
     }
 
     /// The state that the lock guards, of a queue that no other thread has.
-    pub(crate) fn into_held(self) -> Held {
+    pub(crate) fn into_held(self) -> Held<T> {
         self.held.into_inner()
     }
 
@@ -301,7 +301,7 @@ impl Waits {
         &self,
         queue: &BlockQueue,
         freeze: Option<u32>,
-    ) -> (impl Iterator<Item = Notify> + use<>, Wakers) {
+    ) -> (impl Iterator<Item = Notify> + use<T>, Wakers) {
         let mut held = self.lock();
         held.is_dying = true;
         if freeze.is_some() {
@@ -314,7 +314,7 @@ impl Waits {
     }
 
     /// Notes a thread that waits to enter.
-    pub(crate) fn begin_to_wait(&self) -> WaitsToEnter<'_> {
+    pub(crate) fn begin_to_wait(&self) -> WaitsToEnter<'_, T> {
         let mut held = self.lock();
         held.waiting.now += 1;
         held.counts.waited += 1;
@@ -345,7 +345,7 @@ impl Waits {
     }
 
     /// Wakes the threads that wait to enter. The wakers of the futures are to be called without the lock.
-    fn all_who_enter(&self, held: &mut Held, shares: u32) -> Wakers {
+    fn all_who_enter(&self, held: &mut Held<T>, shares: u32) -> Wakers {
         self.shut.0.store(false, Relaxed);
         if held.entering > 0 {
             self.live.notify_all();
@@ -369,17 +369,21 @@ impl Waits {
     /// A tag comes home that is asked for: the first in line has it, which the caller wakes, or its place. It ends if the queue was
     /// dropped.
     #[must_use = "the first in line is to be woken"]
-    pub(crate) fn hand_over(&self, tag: Body) -> Option<Notify> {
+    pub(crate) fn hand_over(&self, tag: Body<T>) -> Option<Notify> {
         let mut held = self.lock();
         if held.is_closed {
             tag.end();
+            return None;
+        }
+        if tag.shared.places.is_reserved(tag.state.number) {
+            tag.bring();
             return None;
         }
         held.line.hand(tag).map_err(Body::bring).ok()
     }
 
     /// The queue was dropped: each tag that is home ends, and any other as it comes home.
-    pub(crate) fn close(&self, places: &'static [Place]) {
+    pub(crate) fn close(&self, places: &[Place<T>]) {
         let mut held = self.lock();
         if mem::replace(&mut held.is_closed, true) {
             return;
@@ -390,6 +394,6 @@ impl Waits {
         for tag in homes.chain(handed.into_iter().map(|(_, tag)| tag)) {
             tag.end();
         }
-        drop(sent_away); // of futures that were forgotten
+        wake_each(sent_away); // futures with a share of the queue
     }
 }

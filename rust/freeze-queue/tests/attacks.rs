@@ -1,9 +1,6 @@
 //! Misuses that compile: each is refused by an error, or does what its documentation says. (src/misuse.rs
 //! has the ones that don't compile.) An answer that the types exclude would panic as a bug of the crate, and fail the test.
-use freeze_queue::{
-    EnterError, EnterFrozenError, FreezeTimeoutError, GiveBackError, Limits, OwnedEntered, Queue, RemoveError, Tag,
-    TryEnterError, TryFreezeError,
-};
+use freeze_queue::{EnterError, FreezeError, Limits, OwnedRequest, Queue, RemoveError, Tag};
 use std::cell::RefCell;
 use std::mem::{self, ManuallyDrop};
 use std::panic::{AssertUnwindSafe, catch_unwind};
@@ -18,8 +15,8 @@ use std::time::Duration;
 const LIMITS: Limits = Limits::of_hardware(64).with_max(32).with_chunk(128).with_physical(8);
 
 fn with_tags() -> (Queue, Tag, Tag) {
-    let queue = Queue::new(LIMITS, 2, 2).unwrap();
-    let (tag, other) = (queue.next_tag(0).unwrap(), queue.next_tag(1).unwrap());
+    let queue = Queue::builder(LIMITS).slots(2).tags(2).build().unwrap();
+    let (tag, other) = (queue.tag().unwrap(), queue.tag().unwrap());
     (queue, tag, other)
 }
 
@@ -33,15 +30,13 @@ fn a_request_is_forgotten() {
     let (queue, mut tag, mut other) = with_tags();
     mem::forget(queue.enter(&mut tag).unwrap());
     assert_eq!(queue.enter(&mut tag).unwrap_err(), EnterError::StillEntered);
-    assert_eq!(queue.try_enter(&mut tag).unwrap_err(), TryEnterError::StillEntered);
-    assert_eq!(queue.try_enter_frozen(&mut tag).unwrap_err(), EnterFrozenError::StillEntered);
+    assert_eq!(queue.try_enter(&mut tag).unwrap_err(), EnterError::StillEntered);
+    assert_eq!(queue.try_enter_frozen(&mut tag).unwrap_err(), EnterError::StillEntered);
     assert!(queue.enter(&mut other).is_ok());
-    assert_eq!(queue.try_freeze().unwrap_err(), TryFreezeError::NotDrained);
-    assert_eq!(queue.freeze_timeout(Duration::from_millis(5)).unwrap_err(), FreezeTimeoutError::TimedOut);
-    let refused = queue.give_back(tag).unwrap_err();
-    assert_eq!(refused.reason, GiveBackError::StillEntered);
-    drop(refused);
-    queue.give_back(other).unwrap();
+    assert_eq!(queue.try_freeze().unwrap_err(), FreezeError::NotDrained);
+    assert_eq!(queue.freeze_timeout(Duration::from_millis(5)).unwrap_err(), FreezeError::TimedOut);
+    drop(tag);
+    drop(other);
     assert_eq!(queue.remove().unwrap_err().reason, RemoveError::TagsOut);
 }
 
@@ -50,7 +45,7 @@ fn a_request_is_forgotten() {
 fn an_owned_request_is_forgotten() {
     let (queue, tag, _other) = with_tags();
     mem::forget(queue.enter_owned(tag).unwrap());
-    assert_eq!(queue.try_freeze().unwrap_err(), TryFreezeError::NotDrained);
+    assert_eq!(queue.try_freeze().unwrap_err(), FreezeError::NotDrained);
     assert_eq!(queue.remove().unwrap_err().reason, RemoveError::TagsOut);
 }
 
@@ -61,9 +56,9 @@ fn a_freeze_is_forgotten() {
     mem::forget(queue.freeze().unwrap());
     drop(queue.freeze().unwrap());
     assert_eq!((queue.depth(), queue.is_drained(), queue.is_dying()), (1, true, false));
-    assert_eq!(queue.try_enter(&mut tag).unwrap_err(), TryEnterError::Frozen);
-    queue.give_back(tag).unwrap();
-    queue.give_back(other).unwrap();
+    assert_eq!(queue.try_enter(&mut tag).unwrap_err(), EnterError::Frozen);
+    drop(tag);
+    drop(other);
     assert_eq!(queue.remove().unwrap().kills, 1);
 }
 
@@ -72,13 +67,12 @@ fn a_freeze_is_forgotten() {
 fn tags_of_two_queues_are_swapped() {
     let ((here, mut one, _one), (there, mut other, _other)) = (with_tags(), with_tags());
     mem::swap(&mut one, &mut other);
-    assert_eq!((one.queue_number(), other.queue_number()), (there.number(), here.number()));
+    assert_eq!((one.queue_id(), other.queue_id()), (there.id(), here.id()));
     assert_eq!(here.enter(&mut one).unwrap_err(), EnterError::OtherQueue);
     let request = there.enter(&mut one).unwrap();
     assert!(here.try_freeze().is_ok());
-    assert_eq!(there.try_freeze().unwrap_err(), TryFreezeError::NotDrained);
+    assert_eq!(there.try_freeze().unwrap_err(), FreezeError::NotDrained);
     drop(request);
-    there.give_back(here.give_back(one).unwrap_err().value).unwrap();
 }
 
 /// Queues are swapped while none is borrowed: a tag goes with the one that it is of.
@@ -95,9 +89,9 @@ fn queues_are_swapped() {
 fn the_queue_is_dropped_first() {
     let (queue, mut tag, other) = with_tags();
     drop(queue);
-    let stranger = Queue::new(LIMITS, 2, 2).unwrap();
+    let stranger = Queue::builder(LIMITS).slots(2).tags(2).build().unwrap();
     assert_eq!(stranger.enter(&mut tag).unwrap_err(), EnterError::OtherQueue);
-    assert_eq!(stranger.give_back(other).unwrap_err().reason, GiveBackError::OtherQueue);
+    assert_eq!(stranger.enter_owned(other).unwrap_err().reason, EnterError::OtherQueue);
 }
 
 /// A tag that is dropped goes home, on whichever thread; one under a forgotten request is out for ever.
@@ -105,13 +99,13 @@ fn the_queue_is_dropped_first() {
 fn a_tag_is_dropped() {
     let (queue, tag, mut other) = with_tags();
     thread::spawn(move || drop(tag)).join().unwrap();
-    let again = queue.next_tag(0).unwrap();
-    assert!(queue.next_tag(0).is_err());
+    let again = queue.tag().unwrap();
+    assert!(queue.tag().is_err());
     mem::forget(queue.enter(&mut other).unwrap());
     drop((again, other));
-    let last = queue.next_tag(0).unwrap();
-    assert!(queue.next_tag(0).is_err());
-    queue.give_back(last).unwrap();
+    let last = queue.tag().unwrap();
+    assert!(queue.tag().is_err());
+    drop(last);
     assert_eq!(queue.remove().unwrap_err().reason, RemoveError::TagsOut);
 }
 
@@ -161,7 +155,7 @@ fn requests_travel() {
         send.send(queue.enter_owned(tag).unwrap()).unwrap();
     }
     drop((queue, send));
-    let ends = |request: OwnedEntered| thread::spawn(move || request.leave().slot()).join().unwrap();
+    let ends = |request: OwnedRequest| thread::spawn(move || request.leave().number()).join().unwrap();
     assert_eq!(receive.into_iter().map(ends).collect::<Vec<_>>(), [0, 1]);
 }
 
@@ -185,13 +179,13 @@ fn guards_are_dropped_in_any_order() {
 /// A request leaks through a cycle: entered for ever, as one that is forgotten.
 #[test]
 fn a_request_leaks_in_a_cycle() {
-    struct Node(RefCell<Option<Rc<Node>>>, #[expect(dead_code, reason = "it is held")] OwnedEntered);
+    struct Node(RefCell<Option<Rc<Node>>>, #[expect(dead_code, reason = "it is held")] OwnedRequest);
     let (queue, tag, _other) = with_tags();
     let queue = Arc::new(queue);
     let node = Rc::new(Node(RefCell::new(None), queue.enter_owned(tag).unwrap()));
     *node.0.borrow_mut() = Some(Rc::clone(&node));
     drop(node);
-    assert_eq!(queue.try_freeze().unwrap_err(), TryFreezeError::NotDrained);
+    assert_eq!(queue.try_freeze().unwrap_err(), FreezeError::NotDrained);
 }
 
 /// A waker that comes back to the queue, on the thread that thaws it: no lock is held then.
@@ -207,7 +201,7 @@ impl Wake for ComesBack {
         assert!(self.queue.depth() == 0);
         let mut tag = self.tags.lock().unwrap().pop().unwrap();
         drop(self.queue.enter(&mut tag).unwrap());
-        self.queue.give_back(tag).unwrap();
+        drop(tag);
         drop(self.queue.freeze().unwrap());
     }
 }
@@ -238,20 +232,20 @@ impl Wake for GivesBack {
 impl Drop for GivesBack {
     fn drop(&mut self) {
         assert!(self.0.depth() <= 1, "a call that takes the lock");
-        self.0.give_back(self.1.lock().unwrap().take().unwrap()).unwrap();
+        drop(self.1.lock().unwrap().take().unwrap());
         self.2.fetch_add(1, Ordering::SeqCst);
     }
 }
 
 #[test]
 fn a_waker_gives_a_tag_back_where_it_is_dropped() {
-    let queue = Arc::new(Queue::new(LIMITS, 1, 8).unwrap());
+    let queue = Arc::new(Queue::builder(LIMITS).slots(1).tags(8).build().unwrap());
     let dropped = Arc::new(AtomicU64::new(0));
     let waker = || {
-        let tag = queue.next_tag(0).unwrap();
+        let tag = queue.tag().unwrap();
         Waker::from(Arc::new(GivesBack(Arc::clone(&queue), Mutex::new(Some(tag)), Arc::clone(&dropped))))
     };
-    let mut tag = queue.next_tag(0).unwrap();
+    let mut tag = queue.tag().unwrap();
     let frozen = queue.freeze().unwrap();
     let mut entering = queue.enter_async(&mut tag);
     assert!(Pin::new(&mut entering).poll(&mut Context::from_waker(&waker())).is_pending());
@@ -262,7 +256,7 @@ fn a_waker_gives_a_tag_back_where_it_is_dropped() {
     let mut entering = queue.enter_async(&mut tag);
     assert!(Pin::new(&mut entering).poll(&mut Context::from_waker(&waker())).is_pending());
     mem::forget(entering);
-    queue.give_back(tag).unwrap();
+    drop(tag);
     assert_eq!(dropped.load(Ordering::SeqCst), 3);
     drop(frozen);
     let queue = Arc::into_inner(queue).unwrap();
@@ -288,8 +282,8 @@ impl Wake for Counts {
 
 #[test]
 fn a_waker_panics() {
-    let queue = Queue::new(LIMITS, 1, 3).unwrap();
-    let mut tags: Vec<Tag> = (0..3).map(|_| queue.next_tag(0).unwrap()).collect();
+    let queue = Queue::builder(LIMITS).slots(1).tags(3).build().unwrap();
+    let mut tags: Vec<Tag> = (0..3).map(|_| queue.tag().unwrap()).collect();
     let counts = Arc::new(Counts(AtomicU64::new(0)));
     let wakers = [Arc::clone(&counts).into(), Arc::new(Panics).into(), Arc::clone(&counts).into()];
     let frozen = queue.freeze().unwrap();
@@ -307,8 +301,8 @@ fn a_waker_panics() {
 /// A waker that panics as the device goes: the others are woken, and the queue stays frozen for ever.
 #[test]
 fn a_waker_panics_as_the_device_goes() {
-    let queue = Queue::new(LIMITS, 1, 3).unwrap();
-    let mut tags: Vec<Tag> = (0..3).map(|_| queue.next_tag(0).unwrap()).collect();
+    let queue = Queue::builder(LIMITS).slots(1).tags(3).build().unwrap();
+    let mut tags: Vec<Tag> = (0..3).map(|_| queue.tag().unwrap()).collect();
     let mut other = tags.pop().unwrap();
     let counts = Arc::new(Counts(AtomicU64::new(0)));
     let wakers = [Arc::new(Panics).into(), Arc::clone(&counts).into()];
@@ -319,7 +313,7 @@ fn a_waker_panics_as_the_device_goes() {
     }
     assert!(panics(|| frozen.mark_dying()));
     assert_eq!((counts.0.load(Ordering::SeqCst), queue.depth(), queue.is_dying()), (1, 0, true));
-    assert_eq!(queue.try_enter(&mut other).unwrap_err(), TryEnterError::Dying);
+    assert_eq!(queue.try_enter(&mut other).unwrap_err(), EnterError::Dying);
     for mut future in entering {
         let polled = Pin::new(&mut future).poll(&mut Context::from_waker(Waker::noop()));
         assert!(matches!(polled, Poll::Ready(Err(EnterError::Dying))));

@@ -1,5 +1,5 @@
 //! Freezes that are begun first and waited for later, by threads and by futures, and freezes with a share of the queue.
-use freeze_queue::{Drained, FreezeError, Frozen, OwnedFrozen, Queue, RemoveError, Tag, TryEnterError};
+use freeze_queue::{Drained, EnterError, FreezeError, Frozen, OwnedFrozen, Queue, RemoveError, Tag};
 use std::future::Future;
 use std::mem;
 use std::pin::{Pin, pin};
@@ -13,8 +13,8 @@ mod shared;
 use shared::{LIMITS, Woken, block_on, ends, number_of};
 
 fn with_tags() -> (Queue, Tag, Tag) {
-    let queue = Queue::new(LIMITS, 1, 2).unwrap();
-    let (tag, other) = (queue.next_tag(0).unwrap(), queue.next_tag(0).unwrap());
+    let queue = Queue::builder(LIMITS).slots(1).tags(2).build().unwrap();
+    let (tag, other) = (queue.tag().unwrap(), queue.tag().unwrap());
     (queue, tag, other)
 }
 
@@ -30,7 +30,7 @@ fn a_freeze_that_was_begun() {
         let request = queue.enter(&mut tag).unwrap();
         let freezing = queue.begin_freeze().unwrap();
         assert_eq!((queue.depth(), freezing.is_drained()), (1, false));
-        assert_eq!(queue.try_enter(&mut other).unwrap_err(), TryEnterError::Frozen);
+        assert_eq!(queue.try_enter(&mut other).unwrap_err(), EnterError::Frozen);
         let freezing = freezing.wait_timeout(Duration::from_millis(1)).unwrap_err();
         drop(request);
         assert!(freezing.is_drained());
@@ -98,7 +98,7 @@ fn a_freeze_by_a_future() {
     drop(request);
     let frozen = block_on(queue.freeze_async()).unwrap();
     frozen.set(LIMITS.with_max(1)).unwrap();
-    let all: Vec<_> = (1..Queue::MOST_DEPTH).map(|_| queue.begin_freeze_owned().unwrap()).collect();
+    let all: Vec<_> = (1..Queue::MAX_DEPTH).map(|_| queue.begin_freeze_owned().unwrap()).collect();
     assert_eq!(queue.begin_freeze().unwrap_err(), FreezeError::DepthFull);
     assert_eq!(queue.freeze_owned().unwrap_err(), FreezeError::DepthFull);
     assert_eq!(block_on(queue.freeze_async()).unwrap_err(), FreezeError::DepthFull);
@@ -138,7 +138,7 @@ fn a_freeze_is_kept_between_messages() {
 /// A queue isn't removed while a freeze has a share of it; a device that is gone keeps no share.
 #[test]
 fn shares_of_freezes() {
-    let queue = Queue::new(LIMITS, 1, 1).unwrap();
+    let queue = Queue::builder(LIMITS).slots(1).tags(1).build().unwrap();
     let frozen = queue.freeze_owned().unwrap();
     let refused = queue.remove().unwrap_err();
     assert_eq!(refused.reason, RemoveError::FreezeOut);
@@ -149,7 +149,7 @@ fn shares_of_freezes() {
     drop(drained);
     refused.value.freeze_owned().unwrap().mark_dying();
     assert_eq!(refused.value.remove().unwrap().kills, 3);
-    let queue = Queue::new(LIMITS, 1, 1).unwrap();
+    let queue = Queue::builder(LIMITS).slots(1).tags(1).build().unwrap();
     mem::forget(queue.freeze_owned().unwrap());
     assert_eq!(queue.remove().unwrap_err().reason, RemoveError::FreezeOut);
 }
@@ -158,7 +158,7 @@ fn shares_of_freezes() {
 #[test]
 fn tasks_freeze_under_load() {
     ends(|| {
-        let (queue, over) = (Queue::new(LIMITS, 2, 4).unwrap(), AtomicBool::new(false));
+        let (queue, over) = (Queue::builder(LIMITS).slots(2).tags(4).build().unwrap(), AtomicBool::new(false));
         let rounds = number_of("FREEZE_QUEUE_ROUNDS", 100_000) / 50;
         thread::scope(|threads| {
             for _ in 0..3 {

@@ -1,5 +1,5 @@
 //! Entering by futures: which is woken, when, and that a future which is cancelled takes nothing along.
-use freeze_queue::{EnterAsync, EnterError, Entered, OwnedFrozen, Queue, Tag};
+use freeze_queue::{EnterAsync, EnterError, OwnedFrozen, Queue, Request, Tag};
 use std::pin::Pin;
 use std::sync::{Arc, Mutex};
 use std::task::{Context, Poll, Wake, Waker};
@@ -9,12 +9,12 @@ mod shared;
 use shared::{Chance, LIMITS, Woken, block_on, number_of};
 
 fn queue(tags: u32) -> (Queue, Vec<Tag>) {
-    let queue = Queue::new(LIMITS, 1, tags).unwrap();
-    let all = (0..tags).map(|_| queue.next_tag(0).unwrap()).collect();
+    let queue = Queue::builder(LIMITS).slots(1).tags(tags).build().unwrap();
+    let all = (0..tags).map(|_| queue.tag().unwrap()).collect();
     (queue, all)
 }
 
-fn polled<'e>(future: &mut EnterAsync<'e>, woken: &Arc<Woken>) -> Poll<Result<Entered<'e>, EnterError>> {
+fn polled<'e>(future: &mut EnterAsync<'e>, woken: &Arc<Woken>) -> Poll<Result<Request<'e>, EnterError>> {
     Pin::new(future).poll(&mut Context::from_waker(&Waker::from(Arc::clone(woken))))
 }
 
@@ -153,9 +153,9 @@ fn as_many_futures_as_there_are_tags() {
     for _ in 0..50 {
         for _ in 0..20 {
             let which = chance.below(u32::try_from(tags.len()).unwrap()) as usize;
-            queue.give_back(tags.swap_remove(which)).unwrap();
+            drop(tags.swap_remove(which));
         }
-        (0..20).for_each(|_| tags.push(queue.next_tag(0).unwrap()));
+        (0..20).for_each(|_| tags.push(queue.tag().unwrap()));
         let frozen = queue.freeze().unwrap();
         let all: Vec<Arc<Woken>> = (0..1_023).map(|_| never_woken()).collect();
         let mut entering: Vec<_> = tags.iter_mut().map(|tag| queue.enter_async(tag)).collect();

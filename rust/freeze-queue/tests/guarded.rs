@@ -59,7 +59,7 @@ impl Drop for Device {
 
 /// Serves until the end, and returns how often. All but `over` is relaxed: it orders nothing.
 fn serve(queue: &Queue, tag: &mut Tag, device: &Device, over: &AtomicBool, requests: &AtomicU64) -> u64 {
-    let (thread, mut served) = (tag.slot(), 0);
+    let (thread, mut served) = (u32::try_from(tag.number()).unwrap(), 0);
     while !over.load(Ordering::Relaxed) {
         let entered = if thread % 2 == 0 { queue.enter(tag).ok() } else { queue.try_enter_frozen(tag).ok() };
         let Some(request) = entered else { continue };
@@ -98,8 +98,8 @@ fn change(queue: &Queue, device: &Device, requests: &AtomicU64, lives: u64) -> u
 #[test]
 fn memory_that_the_queue_guards() {
     let lives = number_of("FREEZE_QUEUE_LIVES", 300);
-    let queue = Queue::new(LIMITS, THREADS, THREADS).unwrap();
-    let mut tags: Vec<Tag> = (0..THREADS).map(|slot| queue.next_tag(slot).unwrap()).collect();
+    let queue = Queue::builder(LIMITS).slots(THREADS).tags(THREADS).build().unwrap();
+    let mut tags: Vec<Tag> = (0..THREADS).map(|_| queue.tag().unwrap()).collect();
     let device = Device(UnsafeCell::new(Device::of(Counts::default(), LIMITS.max)));
     let (over, requests) = (AtomicBool::new(false), AtomicU64::new(0));
     thread::scope(|threads| {

@@ -1,8 +1,6 @@
 //! Four threads enter while two freeze, 100,000 times in all, and change the setting: a request sees one setting, each
 //! thread that waits comes in, and the releases are the drains. `FREEZE_QUEUE_ROUNDS` changes how many freezes.
-use freeze_queue::{
-    EnterTimeoutError, Entered, FreezeTimeoutError, Limits, OwnedEntered, Queue, Tag, TryEnterError, TryFreezeError,
-};
+use freeze_queue::{EnterError, FreezeError, Limits, OwnedRequest, Queue, Request, Tag};
 use std::sync::atomic::{AtomicBool, AtomicU64, Ordering};
 use std::sync::{Arc, Mutex, mpsc};
 use std::thread;
@@ -28,17 +26,17 @@ fn freezes() -> u64 {
 }
 
 /// One of the ways in; none where it isn't let in, as it may be.
-fn one_way<'e>(queue: &'e Queue, tag: &'e mut Tag, chance: &mut Chance) -> Option<Entered<'e>> {
+fn one_way<'e>(queue: &'e Queue, tag: &'e mut Tag, chance: &mut Chance) -> Option<Request<'e>> {
     match chance.below(8) {
         0 => block_on(queue.enter_async(tag)).ok(),
         1 => {
             let entered = queue.enter_timeout(tag, Duration::from_micros(20));
-            assert!(!entered.as_ref().is_err_and(|why| *why != EnterTimeoutError::TimedOut));
+            assert!(!entered.as_ref().is_err_and(|why| *why != EnterError::TimedOut));
             entered.ok()
         }
         2 => {
             let entered = queue.try_enter(tag);
-            assert!(!entered.as_ref().is_err_and(|why| *why != TryEnterError::Frozen));
+            assert!(!entered.as_ref().is_err_and(|why| *why != EnterError::Frozen));
             entered.ok()
         }
         3 => queue.try_enter_frozen(tag).ok(),
@@ -48,17 +46,13 @@ fn one_way<'e>(queue: &'e Queue, tag: &'e mut Tag, chance: &mut Chance) -> Optio
 
 /// Requests until it is over: how many.
 fn submit(queue: &Queue, tag: &mut Tag, over: &AtomicBool, drained: &AtomicU64) -> u64 {
-    let (mut chance, mut requests) = (Chance(u64::from(tag.slot()) + 1), 0);
+    let (mut chance, mut requests) = (Chance(tag.number() as u64 + 1), 0);
     while !over.load(Ordering::Relaxed) {
-        let slot = chance.below(THREADS);
-        let Some(mut request) = one_way(queue, tag, &mut chance) else { continue };
+        let Some(request) = one_way(queue, tag, &mut chance) else { continue };
         let seen = drained.load(Ordering::SeqCst);
         assert!(is_one_setting(request.limits()));
         let cut: u64 = request.pieces(1000, 10).unwrap().map(|piece| u64::from(piece.sectors)).sum();
         assert_eq!(cut, 10);
-        if requests % 8 == 0 {
-            request.use_slot(slot).unwrap();
-        }
         assert_eq!(drained.load(Ordering::SeqCst), seen, "it was drained while a request was under way");
         requests += 1;
     }
@@ -72,14 +66,14 @@ fn change(queue: &Queue, number: u64, times: u64, drained: &AtomicU64) -> u64 {
         let frozen = match (time + number) % 4 {
             0 => match queue.freeze_timeout(Duration::from_micros(2)) {
                 Err(why) => {
-                    assert_eq!(why, FreezeTimeoutError::TimedOut);
+                    assert_eq!(why, FreezeError::TimedOut);
                     continue;
                 }
                 Ok(frozen) => frozen,
             },
             1 => match queue.try_freeze() {
                 Err(why) => {
-                    assert_eq!(why, TryFreezeError::NotDrained);
+                    assert_eq!(why, FreezeError::NotDrained);
                     continue;
                 }
                 Ok(frozen) => frozen,
@@ -100,8 +94,8 @@ fn change(queue: &Queue, number: u64, times: u64, drained: &AtomicU64) -> u64 {
 
 #[test]
 fn requests_under_freezes() {
-    let queue = Queue::new(setting(0), THREADS, THREADS).unwrap();
-    let mut tags: Vec<Tag> = (0..THREADS).map(|slot| queue.next_tag(slot).unwrap()).collect();
+    let queue = Queue::builder(setting(0)).slots(THREADS).tags(THREADS).build().unwrap();
+    let mut tags: Vec<Tag> = (0..THREADS).map(|_| queue.tag().unwrap()).collect();
     let (over, drained) = (AtomicBool::new(false), AtomicU64::new(0));
     let (requests, done): (u64, u64) = thread::scope(|threads| {
         let (queue, over, drained) = (&queue, &over, &drained);
@@ -115,44 +109,44 @@ fn requests_under_freezes() {
     assert!(requests > 0 && done >= freezes() / 2);
     assert_eq!(drained.into_inner(), done);
     for tag in tags {
-        queue.give_back(tag).unwrap();
+        drop(tag);
     }
     let last = queue.remove().unwrap();
     assert!(last.kills >= last.releases && last.kills <= freezes() + 1 && is_one_setting(&last.limits));
 }
 
 /// Ends requests that another thread began, and gives their tags back.
-fn complete(queue: &Queue, begun: &Mutex<mpsc::Receiver<OwnedEntered>>) -> u64 {
-    for completed in 0.. {
+fn complete(begun: &Mutex<mpsc::Receiver<OwnedRequest>>) -> u64 {
+    for completed in 0_u64.. {
         let next = begun.lock().unwrap().recv();
         let Ok(request) = next else { return completed };
         assert!(is_one_setting(request.limits()));
-        queue.give_back(request.leave()).unwrap();
+        drop(request.leave());
     }
     unreachable!()
 }
 
 /// Takes tags that are free, and hands them on with a request.
-fn begin(queue: &Arc<Queue>, sent: &mpsc::Sender<OwnedEntered>, over: &AtomicBool) -> u64 {
+fn begin(queue: &Arc<Queue>, sent: &mpsc::Sender<OwnedRequest>, over: &AtomicBool) -> u64 {
     let mut began = 0;
     while !over.load(Ordering::SeqCst) {
-        let Ok(tag) = queue.next_tag(began % 2) else {
+        let Ok(tag) = queue.tag() else {
             thread::yield_now();
             continue;
         };
         sent.send(queue.enter_owned(tag).unwrap()).unwrap();
         began += 1;
     }
-    u64::from(began)
+    began
 }
 
 #[test]
 fn requests_end_on_other_threads() {
-    let queue = Arc::new(Queue::new(setting(0), 2, 8).unwrap());
+    let queue = Arc::new(Queue::builder(setting(0)).slots(2).tags(8).build().unwrap());
     let ((sent, begun), over) = (mpsc::channel(), AtomicBool::new(false));
     let (begun, changes) = (Mutex::new(begun), freezes() / 20);
     thread::scope(|threads| {
-        let completers = [(); 2].map(|()| threads.spawn(|| complete(&queue, &begun)));
+        let completers = [(); 2].map(|()| threads.spawn(|| complete(&begun)));
         let beginners = [sent.clone(), sent].map(|sent| {
             let (queue, over) = (&queue, &over);
             threads.spawn(move || begin(queue, &sent, over))

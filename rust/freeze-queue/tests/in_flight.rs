@@ -1,5 +1,5 @@
 //! The requests in flight that a queue which is watched lists: each form of a request, until it leaves, and no other.
-use freeze_queue::{FreezeTimeoutError, InFlight, Limits, Queue, StayError};
+use freeze_queue::{EnterError, FreezeError, InFlight, Limits, Queue};
 use std::future::Future;
 use std::mem;
 use std::pin::pin;
@@ -12,7 +12,7 @@ mod shared;
 use shared::{LIMITS, ends, until};
 
 fn watched(tags: u32) -> Queue {
-    let queue = Queue::new(LIMITS, 4, tags).unwrap();
+    let queue = Queue::builder(LIMITS).slots(4).tags(tags).build().unwrap();
     queue.watch(true);
     queue
 }
@@ -31,13 +31,12 @@ fn only(queue: &Queue) -> InFlight {
 #[test]
 fn a_request_is_listed_from_entering_to_leaving() {
     let (queue, before) = (watched(2), Instant::now());
-    let (_idle, mut tag) = (queue.next_tag(0).unwrap(), queue.next_tag(3).unwrap());
+    let (_idle, mut tag) = (queue.tag().unwrap(), queue.tag().unwrap());
     assert_eq!(listed(&queue), [], "a tag that a caller keeps is not in flight");
     let mut request = queue.enter(&mut tag).unwrap();
     let noted = only(&queue);
-    assert_eq!((noted.tag, noted.slot, noted.thread), (request.tag_number(), 3, thread::current().id()));
+    assert_eq!((noted.tag, noted.thread), (request.tag_number(), thread::current().id()));
     assert!((before..=Instant::now()).contains(&noted.since));
-    request.use_slot(1).unwrap();
     request = request.stay().unwrap();
     assert_eq!(only(&queue), noted, "as it entered");
     drop(request);
@@ -47,7 +46,7 @@ fn a_request_is_listed_from_entering_to_leaving() {
 #[test]
 fn each_form_is_listed() {
     let queue = watched(1);
-    let mut tag = queue.next_tag(0).unwrap();
+    let mut tag = queue.tag().unwrap();
     let mut seen = 0;
     let mut is_listed = || {
         seen += 1;
@@ -77,21 +76,18 @@ fn each_form_is_listed() {
 #[test]
 fn a_tag_has_its_number() {
     let queue = watched(3);
-    let (mut kept, owned) = (queue.next_tag(1).unwrap(), queue.next_tag(2).unwrap());
+    let (mut kept, owned) = (queue.tag().unwrap(), queue.tag().unwrap());
     let numbers = [kept.number(), owned.number()];
     let (borrowing, owning, any) =
         (queue.enter(&mut kept).unwrap(), queue.enter_owned(owned).unwrap(), queue.enter_any().unwrap());
     assert_eq!([borrowing.tag_number(), owning.tag_number()], numbers);
-    let slot_of = |number| queue.in_flight().find(|it| it.tag == number).map(|it| it.slot);
-    assert_eq!(numbers.map(slot_of), [Some(1), Some(2)]);
     let mut all = [numbers[0], numbers[1], any.tag_number()];
-    assert!(slot_of(all[2]).is_some());
     all.sort_unstable();
     assert_eq!(all, [0, 1, 2]);
     drop((borrowing, any));
     assert_eq!((kept.number(), owning.leave().number()), (numbers[0], numbers[1]));
     drop(kept);
-    let again: Vec<_> = (0..3).map(|_| queue.next_tag(0).unwrap()).collect();
+    let again: Vec<_> = (0..3).map(|_| queue.tag().unwrap()).collect();
     assert!((0..3).all(|number| again.iter().any(|tag| tag.number() == number)));
 }
 
@@ -109,7 +105,7 @@ fn a_freeze_that_hangs_is_explained() {
             });
             until("it is in flight", || queue.in_flight().count() == 1);
             drop(queue.enter_any().unwrap());
-            assert_eq!(queue.freeze_timeout(Duration::from_millis(1)).unwrap_err(), FreezeTimeoutError::TimedOut);
+            assert_eq!(queue.freeze_timeout(Duration::from_millis(1)).unwrap_err(), FreezeError::TimedOut);
             let noted = only(queue);
             assert_eq!(noted.thread, slow.thread().id());
             assert!(noted.since.elapsed() >= Duration::from_millis(1));
@@ -125,11 +121,11 @@ fn a_freeze_that_hangs_is_explained() {
 fn a_request_that_left_by_a_stay_is_not_listed() {
     ends(|| {
         let queue = watched(1);
-        let mut tag = queue.next_tag(0).unwrap();
+        let mut tag = queue.tag().unwrap();
         let request = queue.enter(&mut tag).unwrap();
         let noted = only(&queue);
         let freezing = queue.begin_freeze().unwrap();
-        assert_eq!(request.stay().unwrap_err(), StayError::Frozen);
+        assert_eq!(request.stay().unwrap_err(), EnterError::Frozen);
         assert_eq!(listed(&queue), []);
         drop(freezing);
         until("the clock shows another time", || Instant::now() > noted.since);
@@ -149,7 +145,7 @@ fn a_request_that_left_by_a_stay_is_not_listed() {
 /// A request that entered before the watch began or after it ended is not listed; one that entered meanwhile is, until it leaves.
 #[test]
 fn a_watch_begins_and_ends() {
-    let queue = Queue::new(LIMITS, 1, 3).unwrap();
+    let queue = Queue::builder(LIMITS).slots(1).tags(3).build().unwrap();
     let before = queue.enter_any().unwrap();
     queue.watch(true);
     let meanwhile = queue.enter_any().unwrap();
@@ -178,7 +174,7 @@ fn a_forgotten_request_is_listed() {
 #[test]
 fn the_next_queue_lists_its_own() {
     for _ in 0..10 {
-        let queue = Queue::new(Limits::of_hardware(8), 1, 1_023).unwrap();
+        let queue = Queue::builder(Limits::of_hardware(8)).slots(1).tags(1_023).build().unwrap();
         assert_eq!(listed(&queue), []);
         queue.watch(true);
         let all: Vec<_> = (0..1_023).map(|_| queue.enter_any().unwrap()).collect();

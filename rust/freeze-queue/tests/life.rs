@@ -1,8 +1,7 @@
 //! Each call on one thread: its outcome, each refusal, and that a refusal leaves everything as it was.
 use freeze_queue::{
-    EnterError, EnterFrozenError, EnterTimeoutError, Final, FreezeError, FreezeTimeoutError, GiveBackError, HandedBack,
-    Limits, LimitsError, NewError, NextTagError, OwnedEntered, Piece, PiecesError, Queue, RangeError, RemoveError,
-    SetError, SlotError, Tag, TryEnterError, TryFreezeError, UpdateError,
+    EnterError, Final, FreezeError, HandedBack, Limits, LimitsError, NewError, OwnedRequest, Piece, Queue, RemoveError,
+    Tag, UpdateError,
 };
 use std::error::Error;
 use std::mem;
@@ -16,22 +15,21 @@ use shared::{LIMITS, queue, with_tag};
 #[test]
 fn sizes() {
     for (slots, tags) in [(0, 1), (513, 1), (1, 0), (1, 1024), (u32::MAX, u32::MAX)] {
-        assert_eq!(Queue::new(LIMITS, slots, tags).unwrap_err(), NewError::Size);
+        assert_eq!(Queue::builder(LIMITS).slots(slots).tags(tags).build().unwrap_err().reason, NewError::Size);
     }
     for (slots, tags) in [(1, 1), (512, 1023), (1, 1023), (512, 1), (64, 63)] {
         let queue = queue(slots, tags);
-        let mut all: Vec<Tag> = (0..tags).map(|i| queue.next_tag(i % slots).unwrap()).collect();
-        assert_eq!(queue.next_tag(slots).unwrap_err(), NextTagError::NoSlot);
-        assert_eq!(queue.next_tag(0).unwrap_err(), NextTagError::NoTag);
+        let mut all: Vec<Tag> = (0..tags).map(|_| queue.tag().unwrap()).collect();
+        assert_eq!(queue.tag().unwrap_err(), EnterError::NoTag);
         let requests: Vec<_> = all.iter_mut().map(|tag| queue.enter(tag).unwrap()).collect();
-        assert_eq!(queue.try_freeze().unwrap_err(), TryFreezeError::NotDrained);
+        assert_eq!(queue.try_freeze().unwrap_err(), FreezeError::NotDrained);
         drop(requests);
         assert!(queue.try_freeze().is_ok());
         for tag in all {
-            queue.give_back(tag).unwrap();
+            drop(tag);
         }
         let last = queue.remove().unwrap(); // the freeze that wasn't drained, the one that was, and its own
-        assert_eq!(last, Final { kills: 3, releases: 2, limits: LIMITS });
+        assert_eq!(last, Final { kills: 3, releases: 2, limits: LIMITS, value: () });
     }
 }
 
@@ -51,16 +49,16 @@ fn limits_that_are_refused() {
     let frozen = queue.freeze().unwrap();
     for (limits, why) in wanted {
         assert_eq!(limits.check(), Err(why));
-        assert_eq!(Queue::new(limits, 0, 0).unwrap_err(), NewError::Limits(why));
-        assert_eq!(limits.pieces(1 << 40, 1).unwrap_err(), PiecesError::Limits(why));
-        assert_eq!(frozen.set(limits), Err(SetError::Limits(why)));
+        assert_eq!(Queue::builder(limits).slots(0).tags(0).build().unwrap_err().reason, NewError::Limits(why));
+        assert_eq!(limits.pieces(1 << 40, 1).unwrap_err(), why);
+        assert_eq!(frozen.set(limits), Err(UpdateError::Limits(why)));
     }
-    assert_eq!(frozen.set(LIMITS.with_hardware(63)), Err(SetError::OtherHardware));
+    assert_eq!(frozen.set(LIMITS.with_hardware(63)), Err(UpdateError::OtherHardware));
     assert_eq!(queue.limits(), LIMITS);
     let most = Limits::of_hardware(65_535).with_max(65_535).with_chunk(65_535).with_physical(32_768);
-    assert_eq!(Queue::new(most, 1, 1).unwrap().limits(), most);
+    assert_eq!(Queue::builder(most).slots(1).tags(1).build().unwrap().limits(), most);
     let least = Limits::of_hardware(1).with_max(0).with_chunk(0).with_physical(1);
-    assert_eq!(Queue::new(least, 1, 1).unwrap().limits(), least.with_max(1));
+    assert_eq!(Queue::builder(least).slots(1).tags(1).build().unwrap().limits(), least.with_max(1));
     let plain = Limits::of_hardware(9);
     assert_eq!((plain.hardware, plain.max, plain.chunk, plain.physical), (9, 9, 0, 1));
 }
@@ -80,7 +78,7 @@ fn pieces() {
     let last: Vec<Piece> = LIMITS.pieces((1 << 33) - 3, 3).unwrap().collect();
     assert_eq!(last, [Piece { start: (1 << 33) - 3, sectors: 3 }]);
     for (start, count) in [((1 << 33) - 3, 4), (1 << 33, 1), (u64::MAX, 1), (u64::MAX, u32::MAX), ((1 << 33) + 1, 0)] {
-        assert_eq!(LIMITS.pieces(start, count).unwrap_err(), PiecesError::TooFar);
+        assert_eq!(LIMITS.pieces(start, count).unwrap_err(), LimitsError::TooFar);
     }
     assert_eq!(LIMITS.pieces(1 << 33, 0).unwrap().count(), 0);
     let mut pieces = LIMITS.pieces(0, 33).unwrap();
@@ -101,15 +99,15 @@ fn a_request() {
     assert_eq!((request.limits(), queue.depth()), (&LIMITS, 0));
     let pieces: Vec<Piece> = request.pieces(120, 20).unwrap().collect();
     assert_eq!(pieces, [Piece { start: 120, sectors: 8 }, Piece { start: 128, sectors: 12 }]);
-    assert_eq!(request.pieces(1 << 33, 1).unwrap_err(), RangeError::TooFar);
+    assert_eq!(request.pieces(1 << 33, 1).unwrap_err(), LimitsError::TooFar);
     assert!(!queue.is_drained());
     drop(request);
     assert!(queue.try_enter(&mut tag).is_ok());
     assert!(queue.try_enter_frozen(&mut tag).is_ok());
     assert!(queue.enter_timeout(&mut tag, Duration::ZERO).is_ok());
     assert!(queue.enter_timeout(&mut tag, Duration::MAX).is_ok());
-    queue.give_back(tag).unwrap();
-    assert_eq!(queue.remove().unwrap(), Final { kills: 1, releases: 1, limits: LIMITS });
+    drop(tag);
+    assert_eq!(queue.remove().unwrap(), Final { kills: 1, releases: 1, limits: LIMITS, value: () });
 }
 
 #[test]
@@ -118,15 +116,15 @@ fn a_freeze() {
     let other = LIMITS.with_max(8).with_chunk(0);
     let frozen = queue.freeze().unwrap();
     assert_eq!((queue.depth(), queue.is_drained()), (1, true));
-    assert_eq!(queue.try_enter(&mut tag).unwrap_err(), TryEnterError::Frozen);
-    assert_eq!(queue.enter_timeout(&mut tag, Duration::ZERO).unwrap_err(), EnterTimeoutError::TimedOut);
-    assert_eq!(queue.try_enter_frozen(&mut tag).unwrap_err(), EnterFrozenError::Drained);
+    assert_eq!(queue.try_enter(&mut tag).unwrap_err(), EnterError::Frozen);
+    assert_eq!(queue.enter_timeout(&mut tag, Duration::ZERO).unwrap_err(), EnterError::TimedOut);
+    assert_eq!(queue.try_enter_frozen(&mut tag).unwrap_err(), EnterError::Drained);
     frozen.set(other).unwrap();
     assert_eq!(queue.limits(), other);
     let nested = queue.try_freeze().unwrap();
     drop(frozen);
     assert_eq!((queue.depth(), queue.is_drained()), (1, true));
-    assert_eq!(queue.try_enter(&mut tag).unwrap_err(), TryEnterError::Frozen);
+    assert_eq!(queue.try_enter(&mut tag).unwrap_err(), EnterError::Frozen);
     nested.set(other.with_max(0)).unwrap();
     drop(nested);
     assert_eq!((queue.depth(), queue.is_drained()), (0, false));
@@ -136,12 +134,12 @@ fn a_freeze() {
 #[test]
 fn a_freeze_while_a_request_is_under_way() {
     let (queue, mut tag) = with_tag();
-    let mut other = queue.next_tag(1).unwrap();
+    let mut other = queue.tag().unwrap();
     let request = queue.enter(&mut tag).unwrap();
-    assert_eq!(queue.try_freeze().unwrap_err(), TryFreezeError::NotDrained);
-    assert_eq!(queue.freeze_timeout(Duration::ZERO).unwrap_err(), FreezeTimeoutError::TimedOut);
+    assert_eq!(queue.try_freeze().unwrap_err(), FreezeError::NotDrained);
+    assert_eq!(queue.freeze_timeout(Duration::ZERO).unwrap_err(), FreezeError::TimedOut);
     let began = Instant::now();
-    assert_eq!(queue.freeze_timeout(Duration::from_millis(30)).unwrap_err(), FreezeTimeoutError::TimedOut);
+    assert_eq!(queue.freeze_timeout(Duration::from_millis(30)).unwrap_err(), FreezeError::TimedOut);
     assert!(began.elapsed() >= Duration::from_millis(30));
     assert_eq!((queue.depth(), queue.is_drained()), (0, false));
     assert!(queue.enter(&mut other).is_ok());
@@ -150,7 +148,7 @@ fn a_freeze_while_a_request_is_under_way() {
     let frozen = queue.freeze_timeout(Duration::MAX).unwrap();
     let began = Instant::now();
     let late = queue.enter_timeout(&mut tag, Duration::from_millis(30));
-    assert_eq!(late.unwrap_err(), EnterTimeoutError::TimedOut);
+    assert_eq!(late.unwrap_err(), EnterError::TimedOut);
     assert!(began.elapsed() >= Duration::from_millis(30));
     drop(frozen);
 }
@@ -172,17 +170,17 @@ fn an_update() {
     assert_eq!(inside, Ok(set.with_max(64)));
     assert!(catch_unwind(AssertUnwindSafe(|| queue.update(|_| panic!("as the test wants")))).is_err());
     assert_eq!((queue.depth(), queue.limits()), (0, set.with_max(64)));
-    let _all: Vec<_> = (0..Queue::MOST_DEPTH).map(|_| queue.freeze().unwrap()).collect();
-    assert_eq!(queue.update(|limits| limits), Err(UpdateError::DepthFull));
+    let _all: Vec<_> = (0..Queue::MAX_DEPTH).map(|_| queue.freeze().unwrap()).collect();
+    assert_eq!(queue.update(|limits| limits), Err(UpdateError::Freeze(FreezeError::DepthFull)));
 }
 
 #[test]
 fn as_many_freezes_as_there_are() {
     let queue = queue(1, 1);
-    let all: Vec<_> = (0..Queue::MOST_DEPTH).map(|_| queue.freeze().unwrap()).collect();
+    let all: Vec<_> = (0..Queue::MAX_DEPTH).map(|_| queue.freeze().unwrap()).collect();
     assert_eq!(queue.freeze().unwrap_err(), FreezeError::DepthFull);
-    assert_eq!(queue.try_freeze().unwrap_err(), TryFreezeError::DepthFull);
-    assert_eq!(queue.freeze_timeout(Duration::ZERO).unwrap_err(), FreezeTimeoutError::DepthFull);
+    assert_eq!(queue.try_freeze().unwrap_err(), FreezeError::DepthFull);
+    assert_eq!(queue.freeze_timeout(Duration::ZERO).unwrap_err(), FreezeError::DepthFull);
     assert_eq!(queue.depth(), 1000);
     drop(all);
     assert_eq!((queue.depth(), queue.remove().unwrap().kills), (0, 2));
@@ -195,47 +193,45 @@ fn a_device_that_is_gone() {
     queue.freeze().unwrap().mark_dying();
     assert_eq!((queue.is_dying(), queue.depth(), queue.is_drained()), (true, 0, true));
     assert_eq!(queue.enter(&mut tag).unwrap_err(), EnterError::Dying);
-    assert_eq!(queue.try_enter(&mut tag).unwrap_err(), TryEnterError::Dying);
-    assert_eq!(queue.enter_timeout(&mut tag, Duration::MAX).unwrap_err(), EnterTimeoutError::Dying);
-    assert_eq!(queue.try_enter_frozen(&mut tag).unwrap_err(), EnterFrozenError::Drained);
+    assert_eq!(queue.try_enter(&mut tag).unwrap_err(), EnterError::Dying);
+    assert_eq!(queue.enter_timeout(&mut tag, Duration::MAX).unwrap_err(), EnterError::Dying);
+    assert_eq!(queue.try_enter_frozen(&mut tag).unwrap_err(), EnterError::Drained);
     let changed = Limits::of_hardware(64).with_max(9);
     assert_eq!((queue.update(|_| changed), queue.limits()), (Ok(changed), changed));
     queue.freeze().unwrap().set(Limits::of_hardware(64)).unwrap();
     assert_eq!((queue.is_dying(), queue.depth()), (true, 0));
-    let another = queue.next_tag(1).unwrap();
-    queue.give_back(another).unwrap();
-    queue.give_back(tag).unwrap();
-    assert_eq!(queue.remove().unwrap(), Final { kills: 1, releases: 1, limits: Limits::of_hardware(64) });
+    drop((queue.tag().unwrap(), tag));
+    assert_eq!(queue.remove().unwrap(), Final { kills: 1, releases: 1, limits: Limits::of_hardware(64), value: () });
 }
 
 /// A queue dies behind as many freezes as there can be, and each of them is thawed and begun again as before.
 #[test]
 fn a_device_goes_at_the_greatest_depth() {
     let (queue, mut tag) = with_tag();
-    let mut all: Vec<_> = (0..Queue::MOST_DEPTH).map(|_| queue.freeze().unwrap()).collect();
+    let mut all: Vec<_> = (0..Queue::MAX_DEPTH).map(|_| queue.freeze().unwrap()).collect();
     queue.mark_dying();
     queue.mark_dying();
-    assert_eq!((queue.freeze().unwrap_err(), queue.depth()), (FreezeError::DepthFull, Queue::MOST_DEPTH));
+    assert_eq!((queue.freeze().unwrap_err(), queue.depth()), (FreezeError::DepthFull, Queue::MAX_DEPTH));
     while let Some(frozen) = all.pop() {
         drop(frozen);
         assert_eq!((queue.depth() as usize, queue.is_drained()), (all.len(), true));
-        assert_eq!(queue.try_enter(&mut tag).unwrap_err(), TryEnterError::Dying);
+        assert_eq!(queue.try_enter(&mut tag).unwrap_err(), EnterError::Dying);
     }
-    let again: Vec<_> = (0..Queue::MOST_DEPTH).map(|_| queue.freeze().unwrap()).collect();
+    let again: Vec<_> = (0..Queue::MAX_DEPTH).map(|_| queue.freeze().unwrap()).collect();
     assert_eq!(queue.freeze().unwrap_err(), FreezeError::DepthFull);
     drop((all, again));
-    queue.give_back(tag).unwrap();
-    assert_eq!(queue.remove().unwrap(), Final { kills: 1, releases: 1, limits: LIMITS });
+    drop(tag);
+    assert_eq!(queue.remove().unwrap(), Final { kills: 1, releases: 1, limits: LIMITS, value: () });
 }
 
 /// A device that goes marks its queue, frozen or not, and the wait ends with the last request.
 #[test]
 fn a_device_that_goes_is_waited_for() {
     let (queue, mut tag) = with_tag();
-    let mut other = queue.next_tag(1).unwrap();
+    let mut other = queue.tag().unwrap();
     let hung = queue.enter(&mut tag).unwrap();
     assert!(!queue.shut_down_timeout(Duration::ZERO));
-    assert_eq!(queue.try_enter(&mut other).unwrap_err(), TryEnterError::Dying);
+    assert_eq!(queue.try_enter(&mut other).unwrap_err(), EnterError::Dying);
     thread::scope(|threads| {
         let waits = threads.spawn(|| queue.shut_down());
         drop(hung);
@@ -249,7 +245,7 @@ fn a_device_that_goes_is_waited_for() {
 #[test]
 fn a_device_that_is_gone_while_a_request_hangs() {
     let (queue, mut tag) = with_tag();
-    let mut waiting = queue.next_tag(1).unwrap();
+    let mut waiting = queue.tag().unwrap();
     let hung = queue.enter(&mut tag).unwrap();
     let freezing = queue.begin_freeze().unwrap();
     thread::scope(|threads| {
@@ -258,60 +254,82 @@ fn a_device_that_is_gone_while_a_request_hangs() {
         assert_eq!(sent_away.join().unwrap(), Err(EnterError::Dying));
     });
     assert_eq!((queue.is_dying(), queue.depth(), queue.is_drained()), (true, 0, false));
-    assert_eq!(queue.freeze_timeout(Duration::ZERO).unwrap_err(), FreezeTimeoutError::TimedOut);
+    assert_eq!(queue.freeze_timeout(Duration::ZERO).unwrap_err(), FreezeError::TimedOut);
     drop(hung);
     assert_eq!((queue.is_drained(), queue.freeze().unwrap().limits()), (true, LIMITS));
     assert_eq!(queue.enter(&mut tag).unwrap_err(), EnterError::Dying);
     drop((tag, waiting));
-    assert_eq!(queue.remove().unwrap(), Final { kills: 1, releases: 1, limits: LIMITS });
+    assert_eq!(queue.remove().unwrap(), Final { kills: 1, releases: 1, limits: LIMITS, value: () });
 }
 
 #[test]
 fn tags_of_another_queue() {
     let ((here, mut tag), there) = (with_tag(), queue(2, 2));
-    assert_eq!((tag.queue_number(), here.number() == there.number()), (here.number(), false));
+    assert_eq!((tag.queue_id(), here.id() == there.id()), (here.id(), false));
     assert_eq!(there.enter(&mut tag).unwrap_err(), EnterError::OtherQueue);
-    assert_eq!(there.try_enter(&mut tag).unwrap_err(), TryEnterError::OtherQueue);
-    assert_eq!(there.try_enter_frozen(&mut tag).unwrap_err(), EnterFrozenError::OtherQueue);
-    assert_eq!(there.enter_timeout(&mut tag, Duration::MAX).unwrap_err(), EnterTimeoutError::OtherQueue);
+    assert_eq!(there.try_enter(&mut tag).unwrap_err(), EnterError::OtherQueue);
+    assert_eq!(there.try_enter_frozen(&mut tag).unwrap_err(), EnterError::OtherQueue);
+    assert_eq!(there.enter_timeout(&mut tag, Duration::MAX).unwrap_err(), EnterError::OtherQueue);
     let refused = there.enter_owned(tag).unwrap_err();
     assert_eq!(refused.reason, EnterError::OtherQueue);
     let refused = there.try_enter_owned(refused.value).unwrap_err();
-    assert_eq!(refused.reason, TryEnterError::OtherQueue);
-    let refused = there.give_back(refused.value).unwrap_err();
-    assert_eq!(refused.reason, GiveBackError::OtherQueue);
-    here.give_back(refused.value).unwrap();
+    assert_eq!(refused.reason, EnterError::OtherQueue);
+    drop(refused.value);
     assert!(there.remove().is_ok());
 }
 
 #[test]
-fn slots() {
-    let (queue, mut tag) = with_tag();
-    assert_eq!(tag.slot(), 0);
-    assert_eq!(tag.use_slot(2), Err(SlotError::NoSlot));
-    let mut request = queue.enter(&mut tag).unwrap();
-    assert_eq!(request.use_slot(u32::MAX), Err(SlotError::NoSlot));
-    request.use_slot(1).unwrap();
-    drop(request);
-    assert_eq!(tag.slot(), 1);
-    let mut request = queue.enter_owned(tag).unwrap();
-    assert_eq!(request.use_slot(2), Err(SlotError::NoSlot));
-    request.use_slot(0).unwrap();
-    assert_eq!(request.leave().slot(), 0);
-    assert!(queue.try_freeze().is_ok());
+fn sizes_by_default_and_reserved_tags() {
+    let queue = Queue::new(LIMITS).unwrap();
+    assert_eq!((queue.tags(), queue.limits()), (256, LIMITS));
+    assert!((1..=Queue::MAX_SLOTS).contains(&queue.slots()));
+    let refused = Queue::builder(LIMITS).tags(3).reserved(3).value("kept").build().unwrap_err();
+    assert_eq!((refused.reason, refused.value), (NewError::Size, "kept"));
+    let queue = Queue::builder(LIMITS).slots(2).tags(3).reserved(2).build().unwrap();
+    assert_eq!((queue.tags(), queue.slots()), (3, 2));
+    let any = queue.enter_any().unwrap();
+    assert_eq!(queue.try_enter_any().unwrap_err(), EnterError::NoTag);
+    let (one, other) = (queue.tag().unwrap(), queue.tag().unwrap());
+    assert_eq!([one.number(), other.number(), any.tag_number()], [0, 1, 2]);
+    assert_eq!(queue.tag().unwrap_err(), EnterError::NoTag);
+    drop((one, other));
+    assert_eq!(queue.enter_any_timeout(Duration::from_millis(1)).unwrap_err(), EnterError::TimedOut);
+    drop(any);
+    let all = [0, 1, 2].map(|_| queue.tag().unwrap());
+    assert_eq!(queue.try_enter_any().unwrap_err(), EnterError::NoTag);
+    drop(all);
+    queue.remove().unwrap();
+}
+
+/// A reserved tag that comes home goes to nobody in line.
+#[test]
+fn a_reserved_tag_isnt_handed_over() {
+    let queue = Queue::builder(LIMITS).slots(1).tags(2).reserved(1).build().unwrap();
+    let (kept, any) = (queue.tag().unwrap(), queue.enter_any().unwrap());
+    assert_eq!(queue.tag().unwrap_err(), EnterError::NoTag);
+    thread::scope(|threads| {
+        let waits = threads.spawn(|| queue.enter_any().map(|request| request.tag_number()));
+        while queue.stats().waited == 0 {
+            thread::yield_now();
+        }
+        drop(kept);
+        assert_eq!(queue.tag().unwrap().number(), 0);
+        drop(any);
+        assert_eq!(waits.join().unwrap(), Ok(1));
+    });
 }
 
 #[test]
 fn a_request_that_takes_its_tag_along() {
     let queue = queue(1, 1);
-    let request = queue.enter_owned(queue.next_tag(0).unwrap()).unwrap();
+    let request = queue.enter_owned(queue.tag().unwrap()).unwrap();
     assert_eq!(request.limits(), &LIMITS);
     assert_eq!(request.pieces(0, 65).unwrap().map(|piece| piece.sectors).collect::<Vec<_>>(), [32, 32, 1]);
-    assert_eq!(queue.try_freeze().unwrap_err(), TryFreezeError::NotDrained);
+    assert_eq!(queue.try_freeze().unwrap_err(), FreezeError::NotDrained);
     let tag = request.leave();
     let frozen = queue.try_freeze().unwrap();
     let refused = queue.try_enter_owned(tag).unwrap_err();
-    assert_eq!(refused.reason, TryEnterError::Frozen);
+    assert_eq!(refused.reason, EnterError::Frozen);
     drop(frozen);
     drop(queue.try_enter_owned(refused.value).unwrap()); // it leaves, and its tag goes home
     assert!(queue.try_freeze().is_ok());
@@ -323,14 +341,14 @@ fn tags_come_and_go() {
     let queue = queue(1, 1);
     let frozen = queue.freeze().unwrap();
     for _ in 0..200 {
-        let tag = queue.next_tag(0).unwrap();
-        assert_eq!(queue.next_tag(0).unwrap_err(), NextTagError::NoTag);
-        queue.give_back(tag).unwrap();
+        let tag = queue.tag().unwrap();
+        assert_eq!(queue.tag().unwrap_err(), EnterError::NoTag);
+        drop(tag);
     }
     drop(frozen);
     for _ in 0..200 {
-        let request = queue.enter_owned(queue.next_tag(0).unwrap()).unwrap();
-        queue.give_back(request.leave()).unwrap();
+        let request = queue.enter_owned(queue.tag().unwrap()).unwrap();
+        drop(request.leave());
     }
 }
 
@@ -339,7 +357,7 @@ fn modes() {
     let (queue, mut tag) = with_tag();
     let request = queue.enter(&mut tag).unwrap();
     queue.switch_to_atomic();
-    assert_eq!(queue.try_freeze().unwrap_err(), TryFreezeError::NotDrained);
+    assert_eq!(queue.try_freeze().unwrap_err(), FreezeError::NotDrained);
     drop(request);
     drop(queue.freeze().unwrap());
     queue.switch_to_slots();
@@ -354,14 +372,14 @@ fn modes() {
 #[test]
 fn the_end() -> Result<(), Box<dyn Error>> {
     let (queue, tag) = with_tag();
-    let number = queue.number();
+    let id = queue.id();
     let refused = queue.remove().unwrap_err();
-    assert_eq!((refused.reason, refused.value.number()), (RemoveError::TagsOut, number));
+    assert_eq!((refused.reason, refused.value.id()), (RemoveError::TagsOut, id));
     let queue = refused.value;
     assert_eq!(queue.depth(), 0);
-    queue.give_back(tag)?;
+    drop(tag);
     mem::forget(queue.freeze()?); // stays frozen, and is drained
-    assert_eq!(queue.remove()?, Final { kills: 1, releases: 1, limits: LIMITS });
+    assert_eq!(queue.remove()?, Final { kills: 1, releases: 1, limits: LIMITS, value: () });
     Ok(())
 }
 
@@ -370,36 +388,32 @@ fn the_question_mark_drops_what_is_handed_back() {
     fn removes(queue: Queue, _out: Tag) -> Result<Final, RemoveError> {
         Ok(queue.remove()?)
     }
-    fn gives(queue: &Queue, tag: Tag) -> Result<(), GiveBackError> {
-        Ok(queue.give_back(tag)?)
-    }
     fn enters(queue: &Queue, tag: Tag) -> Result<(), EnterError> {
         drop(queue.enter_owned(tag)?);
         Ok(())
     }
     let (here, there) = (queue(1, 2), queue(1, 1));
-    assert_eq!(gives(&there, here.next_tag(0).unwrap()), Err(GiveBackError::OtherQueue));
-    assert_eq!(enters(&there, here.next_tag(0).unwrap()), Err(EnterError::OtherQueue));
-    let out = here.next_tag(0).unwrap();
+    assert_eq!(enters(&there, here.tag().unwrap()), Err(EnterError::OtherQueue));
+    let out = here.tag().unwrap();
     assert_eq!(removes(here, out), Err(RemoveError::TagsOut));
 }
 
 #[test]
 fn what_is_shown() {
     let (queue, mut tag) = with_tag();
-    let number = queue.number();
-    assert_eq!(format!("{queue:?}"), format!("Queue {{ number: {number}, .. }}"));
-    let shown = format!("Tag {{ queue: {number}, slot: 0, .. }}");
+    let id = queue.id();
+    assert_eq!(format!("{queue:?}"), format!("Queue {{ id: {id}, .. }}"));
+    let shown = format!("Tag {{ queue: {id}, number: 0, .. }}");
     assert_eq!(format!("{tag:?}"), shown);
-    let of_queue = format!("queue: {number}, ..");
-    assert_eq!(format!("{:?}", queue.enter(&mut tag).unwrap()), format!("Entered {{ queue: {number}, slot: 0, .. }}"));
+    let of_queue = format!("queue: {id}, ..");
+    assert_eq!(format!("{:?}", queue.enter(&mut tag).unwrap()), format!("Request {{ queue: {id}, tag: 0, .. }}"));
     assert_eq!(format!("{:?}", queue.freeze().unwrap()), format!("Frozen {{ {of_queue} }}"));
     assert_eq!(format!("{:?}", queue.begin_freeze().unwrap()), format!("Freezing {{ {of_queue} }}"));
     assert_eq!(format!("{:?}", queue.begin_freeze().unwrap().drained()), "Drained { is_done: false, .. }");
     assert_eq!(format!("{:?}", queue.enter_async(&mut tag)), "EnterAsync { is_done: false, .. }");
     assert_eq!(format!("{:?}", queue.enter_any_async()), "EnterAny { is_done: false, .. }");
     let request = queue.enter_owned(tag).unwrap();
-    assert_eq!(format!("{request:?}"), format!("OwnedEntered({shown})"));
+    assert_eq!(format!("{request:?}"), format!("OwnedRequest({shown})"));
     let entering = queue.enter_owned_async(request.leave());
     assert!(format!("{entering:?}").starts_with("EnterOwnedAsync { tag: Some(Tag {"));
 }
@@ -407,6 +421,6 @@ fn what_is_shown() {
 #[test]
 fn sizes_in_memory() {
     assert_eq!((mem::size_of::<Tag>(), mem::size_of::<Queue>()), (8, 8));
-    assert_eq!(mem::size_of::<OwnedEntered>(), 24);
-    assert!(mem::size_of::<Result<OwnedEntered, HandedBack<Tag, EnterError>>>() <= 32);
+    assert_eq!(mem::size_of::<OwnedRequest>(), 24);
+    assert!(mem::size_of::<Result<OwnedRequest, HandedBack<Tag, EnterError>>>() <= 32);
 }

@@ -1,7 +1,7 @@
 //! Random calls on one thread, on a few queues, beside a model of plain numbers: what requests, freezes and limits mean by
 //! the header of the library. Each answer is what the model says. `FREEZE_QUEUE_CALLS` and `FREEZE_QUEUE_SEED` change how
 //! many calls, and which.
-use freeze_queue::{Limits, LimitsError, NewError, Piece, PiecesError, Queue};
+use freeze_queue::{Limits, LimitsError, NewError, Piece, Queue};
 use std::sync::Arc;
 
 #[path = "model/life.rs"]
@@ -37,15 +37,15 @@ fn some_queue(chance: &mut Chance, made: &mut Vec<u64>) -> Option<(Queue, Plain)
     let tags = if chance.one_in(6) { chance.below(1_200) } else { 1 + chance.below(6) };
     let fits = (1..=512).contains(&slots) && (1..=1_023).contains(&tags);
     let want = plain::refusal(&limits).map_or(if fits { Ok(()) } else { Err(NewError::Size) }, |why| Err(why.into()));
-    match Queue::new(limits, slots, tags) {
+    match Queue::builder(limits).slots(slots).tags(tags).build() {
         Ok(queue) => {
             assert_eq!(want, Ok(()));
-            assert!(made.last().is_none_or(|last| *last < queue.number()), "no other queue has its number");
-            made.push(queue.number());
+            assert!(made.last().is_none_or(|last| *last < queue.id()), "no other queue has its number");
+            made.push(queue.id());
             Some((queue, Plain::new(slots, tags, limits)))
         }
         Err(why) => {
-            assert_eq!(want, Err(why));
+            assert_eq!(want, Err(why.reason));
             None
         }
     }
@@ -61,8 +61,8 @@ fn cut(chance: &mut Chance) {
     let near = (1 << 33) - u64::from(chance.below(600)) + u64::from(chance.below(2)) * 100;
     let start = if chance.one_in(3) { near } else { u64::from(chance.below(5000)) };
     let want = match plain::refusal(&limits) {
-        Some(why) => Err(PiecesError::Limits(why)),
-        None if start + u64::from(count) > 1 << 33 => Err(PiecesError::TooFar),
+        Some(why) => Err(why),
+        None if start + u64::from(count) > 1 << 33 => Err(LimitsError::TooFar),
         None => Ok(plain::pieces(&plain::kept(limits), start, count)),
     };
     assert_eq!(limits.check().err(), plain::refusal(&limits));

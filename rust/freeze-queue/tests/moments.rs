@@ -43,8 +43,8 @@ fn rounds() -> u64 {
 #[test]
 fn a_thaw_at_any_moment() {
     ends(|| {
-        let queue = Queue::new(LIMITS, 1, 1).unwrap();
-        let mut tag = queue.next_tag(0).unwrap();
+        let queue = Queue::builder(LIMITS).slots(1).tags(1).build().unwrap();
+        let mut tag = queue.tag().unwrap();
         let (frozen_in, entered_in, mut chance) = (Round::default(), Round::default(), Chance(1));
         thread::scope(|threads| {
             threads.spawn(|| {
@@ -73,8 +73,8 @@ fn a_thaw_at_any_moment() {
 #[test]
 fn a_leaving_at_any_moment() {
     ends(|| {
-        let queue = Queue::new(LIMITS, 1, 1).unwrap();
-        let mut tag = queue.next_tag(0).unwrap();
+        let queue = Queue::builder(LIMITS).slots(1).tags(1).build().unwrap();
+        let mut tag = queue.tag().unwrap();
         let (entered_in, drained_in, mut chance) = (Round::default(), Round::default(), Chance(2));
         thread::scope(|threads| {
             threads.spawn(|| {

@@ -1,7 +1,7 @@
 //! Requests with a tag of their own: what goes from thread to thread, each way to enter, and a refusal with its tag.
 use freeze_queue::{
-    Drained, EnterAny, EnterAsync, EnterError, EnterFrozenError, EnterOwnedAsync, EnterTimeoutError, Entered,
-    FreezeAsync, Freezing, Frozen, HandedBack, OwnedEntered, Queue, Tag, TryFreezeError,
+    Drained, EnterAny, EnterAsync, EnterError, EnterOwnedAsync, FreezeAsync, FreezeError, Freezing, Frozen, HandedBack,
+    OwnedRequest, Queue, Request, Tag,
 };
 use std::error::Error;
 use std::pin::Pin;
@@ -19,8 +19,8 @@ fn threads_share() {
     fn is_shared<T: Send + Sync>() {}
     is_shared::<Queue>();
     is_shared::<Tag>();
-    is_shared::<Entered<'_>>();
-    is_shared::<OwnedEntered>();
+    is_shared::<Request<'_>>();
+    is_shared::<OwnedRequest>();
     is_shared::<Frozen<'_>>();
     is_shared::<Freezing<'_>>();
     is_shared::<Drained<'_>>();
@@ -31,18 +31,18 @@ fn threads_share() {
     is_shared::<HandedBack<Tag, EnterError>>();
 }
 
-/// A refusal goes into a box of any error, with its tag, and comes out again.
+/// A refusal goes into a box of any error as its reason, and drops the tag.
 #[test]
-fn a_refusal_in_a_box_keeps_its_tag() {
-    fn enters(queue: &Queue, tag: Tag) -> Result<OwnedEntered, Box<dyn Error + Send + Sync>> {
+fn a_refusal_in_a_box_gives_its_tag_back() {
+    fn enters(queue: &Queue, tag: Tag) -> Result<OwnedRequest, Box<dyn Error + Send + Sync>> {
         Ok(queue.enter_owned(tag)?)
     }
     let ((here, tag), there) = (with_tag(), queue(1, 1));
-    let refused = enters(&there, tag).unwrap_err().downcast::<HandedBack<Tag, EnterError>>().unwrap();
-    assert_eq!((refused.reason, refused.to_string()), (EnterError::OtherQueue, "the tag is of another queue".into()));
-    drop(enters(&here, refused.value).unwrap());
-    assert!(here.next_tag(0).is_ok() && here.next_tag(0).is_ok());
-    let other = here.next_tag(0).unwrap();
+    let refused = enters(&there, tag).unwrap_err();
+    assert_eq!(refused.to_string(), "the tag is of another queue");
+    assert_eq!(refused.downcast_ref(), Some(&EnterError::OtherQueue));
+    assert!(here.tag().is_ok() && here.tag().is_ok());
+    let other = here.tag().unwrap();
     drop(enters(&there, other).unwrap_err()); // and its tag goes home
     here.remove().unwrap();
 }
@@ -56,7 +56,7 @@ fn the_last_piece_leaves() {
     assert_eq!(pieces.len(), 4);
     drop(request);
     for (piece, request) in pieces {
-        assert_eq!(queue.try_freeze().unwrap_err(), TryFreezeError::NotDrained);
+        assert_eq!(queue.try_freeze().unwrap_err(), FreezeError::NotDrained);
         thread::spawn(move || assert!(piece.sectors <= request.limits().max)).join().unwrap();
     }
     assert!(queue.try_freeze().is_ok());
@@ -67,24 +67,24 @@ fn the_last_piece_leaves() {
 #[test]
 fn the_owned_forms() {
     let queue = queue(1, 1);
-    let tag = queue.enter_owned_timeout(queue.next_tag(0).unwrap(), Duration::ZERO).unwrap().leave();
+    let tag = queue.enter_owned_timeout(queue.tag().unwrap(), Duration::ZERO).unwrap().leave();
     let request = queue.try_enter_frozen_owned(tag).unwrap();
     let freezing = queue.begin_freeze().unwrap();
     assert!(!freezing.is_drained());
     let refused = queue.enter_owned_timeout(request.leave(), Duration::from_millis(1)).unwrap_err();
-    assert_eq!(refused.reason, EnterTimeoutError::TimedOut);
+    assert_eq!(refused.reason, EnterError::TimedOut);
     let refused = queue.try_enter_frozen_owned(refused.value).unwrap_err();
-    assert_eq!(refused.reason, EnterFrozenError::Drained);
+    assert_eq!(refused.reason, EnterError::Drained);
     let mut entering = queue.enter_owned_async(refused.value);
     let mut context = Context::from_waker(Waker::noop());
     assert!(Pin::new(&mut entering).poll(&mut context).is_pending());
     drop(freezing);
     let Poll::Ready(Ok(request)) = Pin::new(&mut entering).poll(&mut context) else { panic!("it is live") };
-    let other = Queue::new(LIMITS, 1, 1).unwrap();
+    let other = Queue::builder(LIMITS).slots(1).tags(1).build().unwrap();
     let refused = other.enter_owned_timeout(request.leave(), Duration::MAX).unwrap_err();
-    assert_eq!(refused.reason, EnterTimeoutError::OtherQueue);
+    assert_eq!(refused.reason, EnterError::OtherQueue);
     let refused = other.try_enter_frozen_owned(refused.value).unwrap_err();
-    assert_eq!(refused.reason, EnterFrozenError::OtherQueue);
+    assert_eq!(refused.reason, EnterError::OtherQueue);
     let mut entering = other.enter_owned_async(refused.value);
     let Poll::Ready(Err(refused)) = Pin::new(&mut entering).poll(&mut context) else { panic!("it is another's") };
     assert_eq!(refused.reason, EnterError::OtherQueue);
@@ -93,7 +93,7 @@ fn the_owned_forms() {
     let Poll::Ready(Err(refused)) = Pin::new(&mut entering).poll(&mut context) else { panic!("it is gone") };
     assert_eq!(refused.reason, EnterError::Dying);
     let refused = queue.enter_owned_timeout(refused.value, Duration::MAX).unwrap_err();
-    assert_eq!(refused.reason, EnterTimeoutError::Dying);
-    queue.give_back(refused.value).unwrap();
+    assert_eq!(refused.reason, EnterError::Dying);
+    drop(refused.value);
     queue.remove().unwrap();
 }

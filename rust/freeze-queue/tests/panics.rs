@@ -2,7 +2,7 @@
 //! should be. (A waker that panics as it is cloned is one by hand, so this test has `unsafe`.)
 #![allow(unsafe_code)]
 
-use freeze_queue::{EnterAnyError, Entered, Queue, Tag};
+use freeze_queue::{EnterError, Queue, Request, Tag};
 use std::cell::Cell;
 use std::mem;
 use std::panic::{AssertUnwindSafe, catch_unwind, panic_any};
@@ -97,8 +97,8 @@ fn one_panics() -> (Arc<Woken>, [Waker; 2]) {
 }
 
 fn with_tags(tags: u32) -> (Queue, Vec<Tag>) {
-    let queue = Queue::new(LIMITS, 1, tags).unwrap();
-    let all = (0..tags).map(|_| queue.next_tag(0).unwrap()).collect();
+    let queue = Queue::builder(LIMITS).slots(1).tags(tags).build().unwrap();
+    let all = (0..tags).map(|_| queue.tag().unwrap()).collect();
     (queue, all)
 }
 
@@ -212,8 +212,8 @@ fn the_drop_of_a_waker_panics() {
     assert!(polled(&mut entering, &last).is_pending());
     drop(last);
     mem::forget(entering);
-    assert!(panics(|| queue.give_back(other).is_ok()));
-    assert!(queue.next_tag(0).is_ok(), "it was given back");
+    assert!(panics(|| drop(other)));
+    assert!(queue.tag().is_ok(), "it was given back");
     drop(frozen);
     assert!(queue.enter(&mut tag).is_ok());
 }
@@ -222,14 +222,14 @@ fn the_drop_of_a_waker_panics() {
 #[test]
 fn a_waker_of_the_drain_panics() {
     for way in 0..3 {
-        let queue = Queue::new(LIMITS, 1, 1).unwrap();
+        let queue = Queue::builder(LIMITS).slots(1).tags(1).build().unwrap();
         let request = queue.enter_any().unwrap();
         let (woken, wakers) = one_panics();
         let mut all: Vec<_> = (0..2).map(|_| queue.begin_freeze().unwrap().drained()).collect();
         all_wait(&mut all, &wakers);
         match way {
             0 => assert!(panics(|| drop(request))),
-            1 => assert!(panics(|| request.leave().slot())),
+            1 => assert!(panics(|| request.leave().number())),
             _ => assert!(panics(move || {
                 let _request = request;
                 panic!("as the test wants");
@@ -247,7 +247,7 @@ fn a_waker_of_the_drain_panics() {
 /// A waker panics of a future in line: the tag was handed over, and the next is served after it.
 #[test]
 fn a_waker_in_line_panics() {
-    let queue = Queue::new(LIMITS, 1, 1).unwrap();
+    let queue = Queue::builder(LIMITS).slots(1).tags(1).build().unwrap();
     let request = queue.enter_any().unwrap();
     let (woken, wakers) = one_panics();
     let mut line = [queue.enter_any_async(), queue.enter_any_async()];
@@ -267,8 +267,8 @@ fn a_waker_in_line_panics() {
 /// Wakers in line panic as the device goes: each other is woken, and the queue stays frozen.
 #[test]
 fn a_waker_in_line_panics_as_the_device_goes() {
-    let queue = Queue::new(LIMITS, 1, 1).unwrap();
-    let _held = queue.next_tag(0).unwrap();
+    let queue = Queue::builder(LIMITS).slots(1).tags(1).build().unwrap();
+    let _held = queue.tag().unwrap();
     let woken = Arc::<Woken>::default();
     let wakers = [Waker::from(Arc::new(Panics)), Waker::from(Arc::clone(&woken)), Waker::from(Arc::new(Panics))];
     let mut line = [queue.enter_any_async(), queue.enter_any_async(), queue.enter_any_async()];
@@ -277,14 +277,14 @@ fn a_waker_in_line_panics_as_the_device_goes() {
     assert!(panics(|| frozen.mark_dying()));
     assert_eq!((woken.times(), queue.depth(), queue.is_dying()), (1, 0, true));
     for mut future in line {
-        assert!(matches!(polled(&mut future, Waker::noop()), Poll::Ready(Err(EnterAnyError::Dying))));
+        assert!(matches!(polled(&mut future, Waker::noop()), Poll::Ready(Err(EnterError::Dying))));
     }
 }
 
 /// The clone of a waker panics in line and at the drain: the future stays where it was, and goes on.
 #[test]
 fn the_clone_of_a_waker_panics_in_line() {
-    let queue = Queue::new(LIMITS, 1, 1).unwrap();
+    let queue = Queue::builder(LIMITS).slots(1).tags(1).build().unwrap();
     let request = queue.enter_any().unwrap();
     let (bad, woken) = (clone_panics(), Arc::<Woken>::default());
     let good = Waker::from(Arc::clone(&woken));
@@ -305,10 +305,10 @@ fn the_clone_of_a_waker_panics_in_line() {
 /// A request that leaves in a stay, as the last of a freeze that a future waits for, leaves once if that future's waker panics.
 #[test]
 fn a_waker_of_the_drain_panics_in_a_stay() {
-    let stays: [fn(Entered<'_>); 2] = [|request| drop(request.stay()), |request| drop(request.stay_or_enter())];
+    let stays: [fn(Request<'_>); 2] = [|request| drop(request.stay()), |request| drop(request.stay_or_enter())];
     for stay in stays {
-        let queue = Queue::new(LIMITS, 1, 1).unwrap();
-        let mut tag = queue.next_tag(0).unwrap();
+        let queue = Queue::builder(LIMITS).slots(1).tags(1).build().unwrap();
+        let mut tag = queue.tag().unwrap();
         let request = queue.enter(&mut tag).unwrap();
         let mut freezing = Box::pin(queue.freeze_async());
         let waker = Waker::from(Arc::new(Panics));
@@ -318,7 +318,7 @@ fn a_waker_of_the_drain_panics_in_a_stay() {
         drop(freezing);
         drop(queue.enter(&mut tag).unwrap());
         drop(queue.try_freeze().unwrap());
-        queue.give_back(tag).unwrap();
+        drop(tag);
         assert_eq!(queue.remove().unwrap().kills, 3);
     }
 }
@@ -326,7 +326,7 @@ fn a_waker_of_the_drain_panics_in_a_stay() {
 /// A request that a panic drops hands its tag to a waker that panics too: the first panic goes on, and the tag is handed over.
 #[test]
 fn a_waker_panics_while_its_thread_unwinds() {
-    let queue = Queue::new(LIMITS, 1, 1).unwrap();
+    let queue = Queue::builder(LIMITS).slots(1).tags(1).build().unwrap();
     let (mut waits, panics) = (queue.enter_any_async(), Waker::from(Arc::new(Panics)));
     let first = catch_unwind(AssertUnwindSafe(|| {
         let _request = queue.enter_any().unwrap();

@@ -1,5 +1,5 @@
 //! Requests with any tag: the line, its order, its ends, and that no tag is lost.
-use freeze_queue::{EnterAny, EnterAnyError, EnterAnyTimeoutError, OwnedEntered, Queue, TryEnterAnyError};
+use freeze_queue::{EnterAny, EnterError, OwnedRequest, Queue};
 use std::future::Future;
 use std::pin::Pin;
 use std::sync::atomic::{AtomicBool, AtomicU32, AtomicU64, Ordering};
@@ -12,17 +12,17 @@ mod shared;
 use shared::{Chance, LIMITS, Woken, block_on, ends, number_of, until};
 
 fn queue(tags: u32) -> Arc<Queue> {
-    Arc::new(Queue::new(LIMITS, 2, tags).unwrap())
+    Arc::new(Queue::builder(LIMITS).slots(2).tags(tags).build().unwrap())
 }
 
 /// A queue whose one tag is out, with the request that has it.
-fn whose_tag_is_out() -> (Arc<Queue>, OwnedEntered) {
+fn whose_tag_is_out() -> (Arc<Queue>, OwnedRequest) {
     let queue = queue(1);
     let request = queue.enter_any().unwrap();
     (queue, request)
 }
 
-fn polled(future: &mut EnterAny<'_>, woken: &Arc<Woken>) -> Poll<Result<OwnedEntered, EnterAnyError>> {
+fn polled(future: &mut EnterAny<'_>, woken: &Arc<Woken>) -> Poll<Result<OwnedRequest, EnterError>> {
     Pin::new(future).poll(&mut Context::from_waker(&Waker::from(Arc::clone(woken))))
 }
 
@@ -48,9 +48,9 @@ fn in_order_of_arrival() {
         drop(request);
         let times: Vec<u64> = line.iter().map(|(_, woken)| woken.times()).collect();
         assert!(times[0] == 1 && times[1..].iter().all(|woken| *woken == 0), "{times:?}");
-        assert_eq!(queue.try_enter_any().unwrap_err(), TryEnterAnyError::NoTag);
-        assert!(queue.next_tag(0).is_err());
-        assert_eq!(queue.enter_any_timeout(Duration::ZERO).unwrap_err(), EnterAnyTimeoutError::TimedOut);
+        assert_eq!(queue.try_enter_any().unwrap_err(), EnterError::NoTag);
+        assert!(queue.tag().is_err());
+        assert_eq!(queue.enter_any_timeout(Duration::ZERO).unwrap_err(), EnterError::TimedOut);
         let (mut first, woken) = line.remove(0);
         let Poll::Ready(Ok(next)) = polled(&mut first, &woken) else { panic!("it is its turn") };
         request = next;
@@ -69,7 +69,7 @@ fn a_tag_that_is_home_is_found() {
             threads.spawn(|| {
                 for _ in 0..tries {
                     drop(queue.try_enter_any().expect("the other thread has one of three tags at most"));
-                    drop(queue.next_tag(0).expect("the same"));
+                    drop(queue.tag().expect("the same"));
                 }
             });
         }
@@ -83,7 +83,7 @@ fn a_wait_leaves_the_threads_token() {
     let (queue, request) = whose_tag_is_out();
     ends(move || {
         thread::current().unpark();
-        assert_eq!(queue.enter_any_timeout(Duration::from_millis(1)).unwrap_err(), EnterAnyTimeoutError::TimedOut);
+        assert_eq!(queue.enter_any_timeout(Duration::from_millis(1)).unwrap_err(), EnterError::TimedOut);
         thread::park(); // returns at once
         thread::current().unpark();
         thread::scope(|threads| {
@@ -132,14 +132,13 @@ fn a_future_in_line_changes_its_waker() {
 #[test]
 fn each_tag_goes_to_the_line() {
     let queue = queue(1);
-    for way in 0..4 {
-        let mut tag = queue.next_tag(1).unwrap();
+    for way in 0..3 {
+        let mut tag = queue.tag().unwrap();
         let mut line = in_line(&queue, 1);
         let (mut future, woken) = line.pop().unwrap();
         match way {
             0 => drop(tag),
-            1 => queue.give_back(tag).unwrap(),
-            2 => {
+            1 => {
                 drop(queue.enter(&mut tag).unwrap());
                 assert_eq!(woken.times(), 0);
                 drop(queue.enter_owned(tag).unwrap());
@@ -157,7 +156,7 @@ struct ComesBack(Arc<Queue>, AtomicU64);
 
 impl Wake for ComesBack {
     fn wake(self: Arc<Self>) {
-        assert!(self.0.depth() <= 1 && self.0.next_tag(0).is_err());
+        assert!(self.0.depth() <= 1 && self.0.tag().is_err());
         self.1.fetch_add(1, Ordering::SeqCst);
     }
 }
@@ -199,14 +198,14 @@ fn the_device_goes() {
     freezing.wait().mark_dying();
     for (future, woken) in &mut line {
         assert!(woken.times() >= 1 && Arc::strong_count(woken) == 1);
-        assert!(matches!(polled(future, woken), Poll::Ready(Err(EnterAnyError::Dying))));
+        assert!(matches!(polled(future, woken), Poll::Ready(Err(EnterError::Dying))));
     }
-    assert_eq!(queue.enter_any().unwrap_err(), EnterAnyError::Dying);
-    assert_eq!(queue.try_enter_any().unwrap_err(), TryEnterAnyError::Dying);
+    assert_eq!(queue.enter_any().unwrap_err(), EnterError::Dying);
+    assert_eq!(queue.try_enter_any().unwrap_err(), EnterError::Dying);
     let late = queue.enter_any_timeout(Duration::from_secs(3600));
-    assert_eq!(late.unwrap_err(), EnterAnyTimeoutError::Dying);
-    let held = queue.next_tag(0).unwrap();
-    assert_eq!(queue.enter_any().unwrap_err(), EnterAnyError::Dying, "nobody waits in line any more");
+    assert_eq!(late.unwrap_err(), EnterError::Dying);
+    let held = queue.tag().unwrap();
+    assert_eq!(queue.enter_any().unwrap_err(), EnterError::Dying, "nobody waits in line any more");
     drop((line, held));
     remove(queue);
 }
@@ -214,8 +213,8 @@ fn the_device_goes() {
 /// The handle goes while requests, tags and freezes are there: each goes on, and all ends with the last.
 #[test]
 fn the_handle_is_dropped() {
-    let queue = Queue::new(LIMITS, 2, 3).unwrap();
-    let (request, tag) = (queue.enter_any().unwrap(), queue.next_tag(0).unwrap());
+    let queue = Queue::builder(LIMITS).slots(2).tags(3).build().unwrap();
+    let (request, tag) = (queue.enter_any().unwrap(), queue.tag().unwrap());
     let freezing = queue.begin_freeze_owned().unwrap();
     drop(queue);
     assert!(!freezing.is_drained());
@@ -237,9 +236,9 @@ fn queues_come_and_go() {
                 let mut chance = Chance(seed);
                 for _ in 0..lives {
                     let tags = 1 + chance.below(20);
-                    let queue = Queue::new(LIMITS, 2, tags).unwrap();
+                    let queue = Queue::builder(LIMITS).slots(2).tags(tags).build().unwrap();
                     let mut all: Vec<_> = (0..tags).map(|_| queue.enter_any().unwrap()).collect();
-                    assert_eq!(queue.try_enter_any().unwrap_err(), TryEnterAnyError::NoTag);
+                    assert_eq!(queue.try_enter_any().unwrap_err(), EnterError::NoTag);
                     all.truncate(chance.below(tags) as usize);
                     if chance.one_in(2) {
                         drop(queue);
@@ -260,7 +259,7 @@ fn more_that_enter_than_tags() {
         let (queue, over) = (queue(3), AtomicBool::new(false));
         let rounds = number_of("FREEZE_QUEUE_ROUNDS", 100_000) / 200;
         let (most, now) = (AtomicU32::new(0), AtomicU32::new(0));
-        let serve = |request: OwnedEntered| {
+        let serve = |request: OwnedRequest| {
             most.fetch_max(now.fetch_add(1, Ordering::SeqCst) + 1, Ordering::SeqCst);
             assert!(queue.try_freeze().is_err(), "a request is in flight");
             now.fetch_sub(1, Ordering::SeqCst);
@@ -306,7 +305,7 @@ fn more_that_enter_than_tags() {
 fn completers_panic_under_load() {
     ends(|| {
         let (queue, served, alive) = (queue(4), Arc::new(AtomicU64::new(0)), Arc::new(AtomicU64::new(0)));
-        let (sent, requests) = mpsc::channel::<OwnedEntered>();
+        let (sent, requests) = mpsc::channel::<OwnedRequest>();
         let requests = Arc::new(Mutex::new(requests));
         let completers = || {
             let (requests, served, alive) = (Arc::clone(&requests), Arc::clone(&served), Arc::clone(&alive));

@@ -2,10 +2,7 @@
 //! (This program's allocator is its own, which refuses and counts on one thread, so it has `unsafe`.)
 #![allow(unsafe_code)]
 
-use freeze_queue::{
-    EnterAnyError, EnterAnyTimeoutError, EnterTimeoutError, FreezeTimeoutError, NewError, Queue, Tag, TryEnterError,
-    TryFreezeError,
-};
+use freeze_queue::{EnterError, FreezeError, NewError, Queue, Tag};
 use std::alloc::{GlobalAlloc, Layout, System};
 use std::cell::Cell;
 use std::future::Future;
@@ -69,7 +66,7 @@ fn after<T>(allowed: u64, call: impl FnOnce() -> T) -> T {
 }
 
 fn end(queue: Queue, tag: Tag) {
-    queue.give_back(tag).unwrap();
+    drop(tag);
     assert_eq!(queue.remove().unwrap().limits, LIMITS);
 }
 
@@ -78,7 +75,7 @@ fn end(queue: Queue, tag: Tag) {
 fn a_queue_has_the_bytes_of_the_page() {
     for (slots, tags) in [(1, 1), (512, 1), (1, 1_023), (512, 1_023)] {
         let before = BYTES.get();
-        let queue = Queue::new(LIMITS, slots, tags).unwrap();
+        let queue = Queue::builder(LIMITS).slots(slots).tags(tags).build().unwrap();
         let rest = BYTES.get() - before - 128 * i64::from(slots) - 448 * i64::from(tags);
         assert!((1_700..2_000).contains(&rest), "{rest} bytes beside {slots} slots and {tags} tags");
         queue.remove().unwrap();
@@ -88,18 +85,18 @@ fn a_queue_has_the_bytes_of_the_page() {
 /// Each allocation but the last, the `Arc` that the queue and its tags share: stable Rust can't refuse it.
 #[test]
 fn each_allocation_refused() {
-    let new = || Queue::new(LIMITS, 512, 2);
+    let new = || Queue::builder(LIMITS).slots(512).tags(2).build();
     let (asked, blocks) = (ASKED.get(), BLOCKS.get());
     let queue = new().unwrap();
     let asked = ASKED.get() - asked;
     assert!(asked > 6, "a queue takes more than six allocations");
     for allowed in 0..asked - 1 {
         let blocks = BLOCKS.get();
-        assert_eq!(after(allowed, new).unwrap_err(), NewError::NoMemory);
+        assert_eq!(after(allowed, new).unwrap_err().reason, NewError::NoMemory);
         assert_eq!(BLOCKS.get(), blocks);
     }
     assert!(after(asked, new).is_ok());
-    let mut tag = after(0, || queue.next_tag(0).unwrap());
+    let mut tag = after(0, || queue.tag().unwrap());
     assert_eq!(queue.try_enter(&mut tag).unwrap().limits(), &LIMITS);
     end(queue, tag);
     assert_eq!(BLOCKS.get(), blocks, "nothing leaks");
@@ -109,19 +106,19 @@ fn each_allocation_refused() {
 #[test]
 fn the_rest_needs_no_memory() {
     let blocks = BLOCKS.get();
-    let queue = Queue::new(LIMITS, 4, 3).unwrap();
-    let (mut tag, mut other) = (queue.next_tag(3).unwrap(), queue.next_tag(0).unwrap());
+    let queue = Queue::builder(LIMITS).slots(4).tags(3).build().unwrap();
+    let (mut tag, mut other) = (queue.tag().unwrap(), queue.tag().unwrap());
     after(0, || {
         let request = queue.enter(&mut tag).unwrap();
         assert_eq!(request.pieces(0, 64).unwrap().count(), 2);
-        assert_eq!(queue.try_freeze().unwrap_err(), TryFreezeError::NotDrained);
-        assert_eq!(queue.freeze_timeout(Duration::from_millis(1)).unwrap_err(), FreezeTimeoutError::TimedOut);
+        assert_eq!(queue.try_freeze().unwrap_err(), FreezeError::NotDrained);
+        assert_eq!(queue.freeze_timeout(Duration::from_millis(1)).unwrap_err(), FreezeError::TimedOut);
         drop(request);
         let frozen = queue.freeze().unwrap();
         frozen.set(LIMITS).unwrap();
-        assert_eq!(queue.try_enter(&mut other).unwrap_err(), TryEnterError::Frozen);
+        assert_eq!(queue.try_enter(&mut other).unwrap_err(), EnterError::Frozen);
         let late = queue.enter_timeout(&mut other, Duration::from_millis(1));
-        assert_eq!(late.unwrap_err(), EnterTimeoutError::TimedOut);
+        assert_eq!(late.unwrap_err(), EnterError::TimedOut);
         let mut context = Context::from_waker(Waker::noop());
         let mut entering = pin!(queue.enter_async(&mut tag));
         assert!(entering.as_mut().poll(&mut context).is_pending());
@@ -130,7 +127,7 @@ fn the_rest_needs_no_memory() {
     });
     after(0, || {
         queue.switch_to_atomic();
-        queue.give_back(other).unwrap();
+        drop(other);
         queue.freeze().unwrap().mark_dying();
         end(queue, tag);
     });
@@ -143,7 +140,7 @@ fn the_rest_needs_no_memory() {
 fn memory_grows_by_what_is_asked_for() {
     let taken = |slots, tags| {
         let before = BYTES.get();
-        let queue = Queue::new(LIMITS, slots, tags).unwrap();
+        let queue = Queue::builder(LIMITS).slots(slots).tags(tags).build().unwrap();
         let taken = BYTES.get() - before;
         queue.remove().unwrap();
         assert_eq!(BYTES.get(), before);
@@ -161,7 +158,7 @@ fn memory_grows_by_what_is_asked_for() {
 #[test]
 fn ended_queues_leave_nothing() {
     let (bytes, blocks) = (BYTES.get(), BLOCKS.get());
-    let all: Vec<Queue> = (0..100).map(|_| Queue::new(LIMITS, 4, 64).unwrap()).collect();
+    let all: Vec<Queue> = (0..100).map(|_| Queue::builder(LIMITS).slots(4).tags(64).build().unwrap()).collect();
     for (number, queue) in all.into_iter().enumerate() {
         if number % 2 == 0 {
             drop(queue);
@@ -177,15 +174,15 @@ fn ended_queues_leave_nothing() {
 #[test]
 fn memory_of_what_waits() {
     let blocks = BLOCKS.get();
-    let queue = Queue::new(LIMITS, 4, 2).unwrap();
+    let queue = Queue::builder(LIMITS).slots(4).tags(2).build().unwrap();
     let mut context = Context::from_waker(Waker::noop());
     after(0, || {
-        let request = queue.enter_owned(queue.next_tag(1).unwrap()).unwrap();
+        let request = queue.enter_owned(queue.tag().unwrap()).unwrap();
         let other = queue.enter_any().unwrap();
-        assert_eq!(queue.enter_any().unwrap_err(), EnterAnyError::NoMemory);
+        assert_eq!(queue.enter_any().unwrap_err(), EnterError::NoMemory);
         let late = queue.enter_any_timeout(Duration::ZERO);
-        assert_eq!(late.unwrap_err(), EnterAnyTimeoutError::NoMemory);
-        assert!(matches!(pin!(queue.enter_any_async()).poll(&mut context), Poll::Ready(Err(EnterAnyError::NoMemory))));
+        assert_eq!(late.unwrap_err(), EnterError::NoMemory);
+        assert!(matches!(pin!(queue.enter_any_async()).poll(&mut context), Poll::Ready(Err(EnterError::NoMemory))));
         drop(other);
         let mut drained = pin!(queue.begin_freeze_owned().unwrap().drained());
         assert!(drained.as_mut().poll(&mut context).is_pending());
@@ -204,7 +201,7 @@ fn memory_of_what_waits() {
 /// A future of the drain whose waker can't be noted wakes itself, and so looks again.
 #[test]
 fn a_drain_is_waited_for_without_memory() {
-    let queue = Queue::new(LIMITS, 1, 1).unwrap();
+    let queue = Queue::builder(LIMITS).slots(1).tags(1).build().unwrap();
     let request = queue.enter_any().unwrap();
     let woken = Arc::new(Woken::default());
     let waker = Waker::from(Arc::clone(&woken));
@@ -225,9 +222,9 @@ fn a_drain_is_waited_for_without_memory() {
 #[test]
 fn what_is_dropped_is_freed() {
     let blocks = BLOCKS.get();
-    let queue = Queue::new(LIMITS, 4, 4).unwrap();
-    let (mut tag, other) = (queue.next_tag(3).unwrap(), queue.next_tag(0).unwrap());
-    let taken = queue.next_tag(0).unwrap();
+    let queue = Queue::builder(LIMITS).slots(4).tags(4).build().unwrap();
+    let (mut tag, other) = (queue.tag().unwrap(), queue.tag().unwrap());
+    let taken = queue.tag().unwrap();
     mem::forget(queue.enter(&mut tag).unwrap());
     drop(queue.enter_owned(other).unwrap());
     let request = queue.enter_owned(taken).unwrap();
@@ -244,8 +241,8 @@ fn what_is_dropped_is_freed() {
 #[test]
 fn the_last_tag_frees_its_queue() {
     let blocks = BLOCKS.get();
-    let queue = Queue::new(LIMITS, 1, 1023).unwrap();
-    let tag = queue.next_tag(0).unwrap();
+    let queue = Queue::builder(LIMITS).slots(1).tags(1023).build().unwrap();
+    let tag = queue.tag().unwrap();
     drop(queue);
     assert_ne!(BLOCKS.get(), blocks);
     drop(tag);

@@ -39,7 +39,7 @@ fn removes_once_woken(queue: Queue, kept: Option<Tag>) -> Arc<Mutex<Option<Final
 }
 
 fn one_tag() -> Queue {
-    Queue::new(LIMITS, 1, 1).unwrap()
+    Queue::builder(LIMITS).slots(1).tags(1).build().unwrap()
 }
 
 /// The task that waits beside what the queue gave is woken as that is dropped.
@@ -72,7 +72,7 @@ fn the_end_of_a_device_wakes() {
         ends(move || {
             let queue = one_tag();
             let frozen = queue.freeze_owned().unwrap();
-            let kept = is_in_line.then(|| queue.next_tag(0).unwrap());
+            let kept = is_in_line.then(|| queue.tag().unwrap());
             let removed = removes_once_woken(queue, kept);
             frozen.mark_dying();
             assert!(removed.lock().unwrap().is_some());
@@ -85,9 +85,9 @@ fn the_end_of_a_device_wakes() {
 #[test]
 fn a_thaw_wakes_many() {
     ends(|| {
-        let queue = Queue::new(LIMITS, 1, 1_023).unwrap();
+        let queue = Queue::builder(LIMITS).slots(1).tags(1_023).build().unwrap();
         let frozen = queue.freeze_owned().unwrap();
-        let enters = |_| queue.enter_owned_async(queue.next_tag(0).unwrap());
+        let enters = |_| queue.enter_owned_async(queue.tag().unwrap());
         let entering: Vec<_> = (0..1_023).map(enters).collect();
         let (queue, answers) = (Arc::new(Mutex::new(Some(queue))), Arc::<Mutex<Vec<_>>>::default());
         for future in entering {

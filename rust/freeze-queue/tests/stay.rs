@@ -1,5 +1,5 @@
 //! Requests that stay entered: their answers beside freezes, and that a drain ends while threads stay without a pause.
-use freeze_queue::{EnterError, Limits, Queue, StayError, Tag};
+use freeze_queue::{EnterError, Limits, Queue, Tag};
 use std::ops::ControlFlow::{Break, Continue};
 use std::panic::{AssertUnwindSafe, catch_unwind};
 use std::sync::atomic::{AtomicBool, AtomicU32, AtomicU64, Ordering};
@@ -9,8 +9,8 @@ mod shared;
 use shared::{LIMITS, ends, until};
 
 fn queue(tags: u32) -> (Queue, Vec<Tag>) {
-    let queue = Queue::new(LIMITS, tags, tags).unwrap();
-    let all = (0..tags).map(|tag| queue.next_tag(tag).unwrap()).collect();
+    let queue = Queue::builder(LIMITS).slots(tags).tags(tags).build().unwrap();
+    let all = (0..tags).map(|_| queue.tag().unwrap()).collect();
     (queue, all)
 }
 
@@ -35,13 +35,13 @@ fn a_frozen_queue_lets_no_request_stay() {
         thread::scope(|threads| {
             let freezes = threads.spawn(|| queue.freeze().unwrap().set(LIMITS.with_max(3)).unwrap());
             until("it freezes", || queue.depth() == 1);
-            assert_eq!(request.stay().unwrap_err(), StayError::Frozen);
+            assert_eq!(request.stay().unwrap_err(), EnterError::Frozen);
             freezes.join().unwrap();
         });
         let request = queue.enter(&mut tags[0]).unwrap();
         assert_eq!(request.limits().max, 3);
         drop(request);
-        queue.give_back(tags.pop().unwrap()).unwrap();
+        drop(tags.pop().unwrap());
         let left = queue.remove().unwrap();
         assert_eq!((left.kills, left.releases, left.limits.max), (2, 2, 3), "one release for each kill");
     });
@@ -93,7 +93,7 @@ fn a_request_that_stays_or_enters_waits_for_the_thaw() {
             until("it freezes", || queue.depth() == 1);
             assert_eq!(request.stay_or_enter().unwrap_err(), EnterError::Dying);
         });
-        queue.give_back(tags.pop().unwrap()).unwrap();
+        drop(tags.pop().unwrap());
         assert!(queue.is_drained());
     });
 }
@@ -112,7 +112,7 @@ fn a_turn_that_panics_leaves() {
 fn serving_refuses_as_entering_does() {
     ends(|| {
         let (queue, mut tags) = queue(1);
-        let (other, turns) = (Queue::new(LIMITS, 1, 1).unwrap(), AtomicU64::new(0));
+        let (other, turns) = (Queue::builder(LIMITS).slots(1).tags(1).build().unwrap(), AtomicU64::new(0));
         assert_eq!(other.serve(&mut tags[0], |_| Break(())), Err(EnterError::OtherQueue));
         thread::scope(|threads| {
             let serves = threads.spawn(|| {
@@ -151,7 +151,7 @@ fn a_drain_ends_while_four_threads_never_idle() {
         assert!(turns > 4, "{turns} turns");
         assert_eq!((queue.depth(), queue.limits().max), (0, 1 + (CHANGES - 1) % 64));
         for tag in tags {
-            queue.give_back(tag).unwrap();
+            drop(tag);
         }
         let left = queue.remove().unwrap();
         assert_eq!(left.kills, u64::from(CHANGES) + 1);

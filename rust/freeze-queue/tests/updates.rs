@@ -17,7 +17,7 @@ const THREADS: u32 = 4;
 const LIMITS: Limits = Limits::of_hardware(60_000).with_max(1);
 
 fn queue() -> Queue {
-    Queue::new(LIMITS, 1, 1).unwrap()
+    Queue::builder(LIMITS).slots(1).tags(1).build().unwrap()
 }
 
 /// One more sector, by a closure that takes some time, so that others come in between.

@@ -1,9 +1,5 @@
 //! A queue that guards a value: `&T` under a request, `&mut T` under a freeze, and T back. Run under the thread sanitizer, and by Miri, too.
-use freeze_queue::guarded::{OwnedEntered, Queue};
-use freeze_queue::{
-    EnterAnyError, EnterAnyTimeoutError, EnterError, FreezeTimeoutError, Limits, NewError, RemoveError,
-    TryEnterAnyError, TryEnterError, TryFreezeError,
-};
+use freeze_queue::{EnterError, FreezeError, Limits, NewError, OwnedRequest, Queue, RemoveError};
 use std::env;
 use std::future::Future;
 use std::mem;
@@ -16,7 +12,7 @@ use std::thread;
 use std::time::Duration;
 
 fn queue<T>(value: T) -> Queue<T> {
-    Queue::new(value, Limits::of_hardware(64), 2, 4).unwrap()
+    Queue::builder(Limits::of_hardware(64)).slots(2).tags(4).value(value).build().unwrap()
 }
 
 fn rounds(usual: u64) -> u64 {
@@ -69,11 +65,11 @@ fn requests_beside_changes() {
     let queue = Arc::new(queue(Device { first: 0, settings: vec![0], served: AtomicU64::new(0) }));
     let (rounds, changes) = (rounds(20_000), rounds(2_000));
     let mut threads = Vec::new();
-    for slot in [0, 1, 0] {
-        let (queue, mut tag) = (Arc::clone(&queue), queue.next_tag(slot).unwrap());
+    for _ in 0..3 {
+        let (queue, mut tag) = (Arc::clone(&queue), queue.tag().unwrap());
         threads.push(thread::spawn(move || {
             (0..rounds).for_each(|_| queue.enter(&mut tag).unwrap().serve());
-            queue.give_back(tag).unwrap();
+            drop(tag);
         }));
     }
     for freezer in 0..2 {
@@ -85,8 +81,8 @@ fn requests_beside_changes() {
         }));
     }
     join(threads);
-    let (device, last) = Arc::into_inner(queue).unwrap().remove().unwrap();
-    assert_eq!(device.served.into_inner(), 3 * rounds);
+    let last = Arc::into_inner(queue).unwrap().remove().unwrap();
+    assert_eq!(last.value.served.into_inner(), 3 * rounds);
     assert!(last.kills <= 2 * changes + 1);
 }
 
@@ -101,42 +97,41 @@ fn nested_freezes_have_the_value_in_turn() {
     (0..rounds).for_each(|_| *outer.lock() += 1);
     join(threads);
     drop(outer);
-    assert_eq!(Arc::into_inner(queue).unwrap().into_inner(), 4 * rounds);
+    assert_eq!(Arc::into_inner(queue).unwrap().remove().unwrap().value, 4 * rounds);
 }
 
 #[test]
 fn each_call_lends_the_value() {
     let queue = queue(String::from("disk"));
-    let mut tag = queue.next_tag(0).unwrap();
+    let mut tag = queue.tag().unwrap();
     assert_eq!(*queue.enter(&mut tag).unwrap(), "disk");
     assert_eq!(*queue.try_enter(&mut tag).unwrap(), "disk");
     assert_eq!(*queue.try_enter_frozen(&mut tag).unwrap(), "disk");
     let request = queue.enter_timeout(&mut tag, Duration::ZERO).unwrap();
-    assert_eq!((request.len(), request.request().limits().max), (4, 64));
-    assert_eq!(queue.try_freeze().unwrap_err(), TryFreezeError::NotDrained);
-    assert_eq!(queue.freeze_timeout(Duration::ZERO).unwrap_err(), FreezeTimeoutError::TimedOut);
-    assert_eq!(format!("{request:?}"), "Entered(\"disk\")");
+    assert_eq!((request.len(), request.limits().max), (4, 64));
+    assert_eq!(queue.try_freeze().unwrap_err(), FreezeError::NotDrained);
+    assert_eq!(queue.freeze_timeout(Duration::ZERO).unwrap_err(), FreezeError::TimedOut);
     drop(request);
     let frozen = queue.try_freeze().unwrap();
-    assert_eq!(queue.try_enter(&mut tag).unwrap_err(), TryEnterError::Frozen);
+    assert_eq!(queue.try_enter(&mut tag).unwrap_err(), EnterError::Frozen);
     frozen.lock().push('s');
     frozen.set(Limits::of_hardware(64).with_max(8)).unwrap();
-    assert_eq!(format!("{:?}", frozen.lock()), "Locked(\"disks\")");
+    assert_eq!(format!("{:?}", frozen.lock()), "Alone(\"disks\")");
     drop(frozen);
     assert_eq!(*queue.enter(&mut tag).unwrap(), "disks");
     queue.freeze_timeout(Duration::ZERO).unwrap().mark_dying();
     assert_eq!(queue.enter(&mut tag).unwrap_err(), EnterError::Dying);
     let refused = queue.remove().unwrap_err();
     assert_eq!(refused.reason, RemoveError::TagsOut);
-    refused.value.give_back(tag).unwrap();
-    assert_eq!(refused.value.remove().unwrap().0, "disks");
+    drop(tag);
+    assert_eq!(refused.value.remove().unwrap().value, "disks");
 }
 
 /// A thread that panics under a freeze leaves the value as it is, and thaws; one that panics under a request leaves.
 #[test]
 fn panics_in_the_middle() {
     let queue = queue(vec![1]);
-    let mut tag = queue.next_tag(0).unwrap();
+    let mut tag = queue.tag().unwrap();
     let changes = catch_unwind(AssertUnwindSafe(|| {
         let frozen = queue.freeze().unwrap();
         let mut value = frozen.lock();
@@ -159,19 +154,19 @@ fn panics_in_the_middle() {
 fn what_is_forgotten_stays() {
     let dropped = Arc::new(AtomicU64::new(0));
     let kept = queue(Dropped(Arc::clone(&dropped)));
-    let mut tag = kept.next_tag(0).unwrap();
+    let mut tag = kept.tag().unwrap();
     mem::forget(kept.enter(&mut tag).unwrap());
-    assert_eq!(kept.try_freeze().unwrap_err(), TryFreezeError::NotDrained);
-    let value = kept.into_inner();
-    assert_eq!(dropped.load(Relaxed), 0);
-    let kept = queue(value);
-    let mut tag = kept.next_tag(0).unwrap();
+    assert_eq!(kept.try_freeze().unwrap_err(), FreezeError::NotDrained);
+    drop((tag, kept));
+    assert_eq!(dropped.load(Relaxed), 1, "a request that was forgotten borrows its tag, and the queue");
+    let kept = queue(Dropped(Arc::clone(&dropped)));
+    let mut tag = kept.tag().unwrap();
     mem::forget(kept.freeze().unwrap());
-    assert_eq!(kept.try_enter(&mut tag).unwrap_err(), TryEnterError::Frozen);
+    assert_eq!(kept.try_enter(&mut tag).unwrap_err(), EnterError::Frozen);
     drop(kept.freeze().unwrap().lock());
     let leaked: &Queue<Dropped> = Box::leak(Box::new(kept));
     mem::forget(leaked.freeze().unwrap().lock());
-    assert_eq!(dropped.load(Relaxed), 0);
+    assert_eq!(dropped.load(Relaxed), 1);
 }
 
 /// Each end of a queue drops its value once.
@@ -181,15 +176,15 @@ fn the_value_is_dropped_once() {
     let value = || Dropped(Arc::clone(&dropped));
     drop(queue(value()));
     assert_eq!(dropped.load(Relaxed), 1);
-    let refused = Queue::new(value(), Limits::of_hardware(64), 513, 1).unwrap_err();
+    let refused = Queue::builder(Limits::of_hardware(64)).slots(513).tags(1).value(value()).build().unwrap_err();
     assert_eq!(refused.reason, NewError::Size);
     drop(refused);
     assert_eq!(dropped.load(Relaxed), 2);
-    drop(queue(value()).into_inner());
+    drop(queue(value()).remove().unwrap().value);
     assert_eq!(dropped.load(Relaxed), 3);
     let refused = {
         let queue = queue(value());
-        let _out = queue.next_tag(0).unwrap();
+        let _out = queue.tag().unwrap();
         queue.remove().unwrap_err()
     };
     assert_eq!(dropped.load(Relaxed), 3);
@@ -204,7 +199,7 @@ fn the_value_is_dropped_once() {
 #[test]
 fn a_request_ends_on_another_thread() {
     let queue: &'static Queue<AtomicU64> = Box::leak(Box::new(queue(AtomicU64::new(7))));
-    let tag = Box::leak(Box::new(queue.next_tag(0).unwrap()));
+    let tag = Box::leak(Box::new(queue.tag().unwrap()));
     let request = queue.enter(tag).unwrap();
     join(vec![thread::spawn(move || assert_eq!(request.fetch_add(1, Relaxed), 7))]);
     assert_eq!(*queue.try_freeze().unwrap().lock().get_mut(), 8);
@@ -213,26 +208,20 @@ fn a_request_ends_on_another_thread() {
 /// Any tag, and a tag that goes along: each lends the value, and the tag is free again.
 #[test]
 fn requests_with_tags_of_their_own() {
-    let queue = Arc::new(Queue::new(vec![7, 8], Limits::of_hardware(64), 1, 1).unwrap());
+    let queue = Arc::new(Queue::builder(Limits::of_hardware(64)).slots(1).tags(1).value(vec![7, 8]).build().unwrap());
     let request = queue.enter_any().unwrap();
-    assert_eq!(
-        (request[0], request.request().limits().max, format!("{request:?}")),
-        (7, 64, "EnteredAny([7, 8])".into())
-    );
-    assert_eq!(queue.try_enter_any().unwrap_err(), TryEnterAnyError::NoTag);
-    assert_eq!(queue.try_freeze().unwrap_err(), TryFreezeError::NotDrained);
+    assert_eq!((request[0], request.limits().max), (7, 64));
+    assert_eq!(queue.try_enter_any().unwrap_err(), EnterError::NoTag);
+    assert_eq!(queue.try_freeze().unwrap_err(), FreezeError::NotDrained);
     drop(request);
-    let request = queue.enter_owned(queue.next_tag(0).unwrap()).unwrap();
-    assert_eq!(
-        (request.len(), request.request().limits().max, format!("{request:?}")),
-        (2, 64, "OwnedEntered([7, 8])".into())
-    );
+    let request = queue.enter_owned(queue.tag().unwrap()).unwrap();
+    assert_eq!((request.len(), request.limits().max), (2, 64));
     let ends = thread::spawn(move || (request[1], request.leave()));
     let (read, tag) = ends.join().unwrap();
     assert_eq!((read, Arc::strong_count(&queue)), (8, 1));
     let frozen = queue.freeze().unwrap();
     frozen.lock().push(9);
-    drop((frozen, queue.give_back(tag)));
+    drop((frozen, tag));
     assert_eq!(*queue.try_enter_any().unwrap(), [7, 8, 9]);
 }
 
@@ -240,7 +229,7 @@ fn requests_with_tags_of_their_own() {
 #[test]
 fn a_device_is_served() {
     let queue = queue(1);
-    let mut tag = queue.next_tag(0).unwrap();
+    let mut tag = queue.tag().unwrap();
     for value in 1..4 {
         let mut turns = 0;
         let served = queue.serve(&mut tag, |device| {
@@ -251,20 +240,20 @@ fn a_device_is_served() {
         *queue.freeze().unwrap().lock() += 1;
     }
     assert_eq!(queue.enter(&mut tag).unwrap().stay().map(|request| *request).unwrap(), 4);
-    queue.give_back(tag).unwrap();
-    assert_eq!(queue.remove().unwrap().0, 4);
+    drop(tag);
+    assert_eq!(queue.remove().unwrap().value, 4);
 }
 
 /// A request that stays reads the value as it is; one that had to enter again, as it was changed meanwhile.
 #[test]
 fn a_request_stays() {
     let queue = queue(vec![1]);
-    let mut tag = queue.next_tag(0).unwrap();
+    let mut tag = queue.tag().unwrap();
     let request = queue.enter(&mut tag).unwrap().stay_or_enter().unwrap();
     assert_eq!(*request, [1]);
     thread::scope(|threads| {
         let changes = threads.spawn(|| queue.freeze().unwrap().lock().push(2));
-        while queue.as_queue().depth() == 0 && !changes.is_finished() {
+        while queue.depth() == 0 && !changes.is_finished() {
             thread::yield_now();
         }
         assert_eq!(*request, [1]);
@@ -278,9 +267,9 @@ fn a_request_stays() {
 #[test]
 fn an_owned_request_keeps_the_value() {
     let dropped = Arc::new(AtomicU64::new(0));
-    let queue = Arc::new(queue(Dropped(Arc::clone(&dropped))));
-    let request = queue.enter_owned(queue.next_tag(0).unwrap()).unwrap();
-    assert!(Arc::into_inner(queue).is_none(), "the request has a share");
+    let queue = queue(Dropped(Arc::clone(&dropped)));
+    let request = queue.enter_owned(queue.tag().unwrap()).unwrap();
+    drop(queue);
     assert_eq!((dropped.load(Relaxed), Arc::strong_count(&request.0)), (0, 2));
     drop(request);
     assert_eq!(dropped.load(Relaxed), 1);
@@ -297,7 +286,7 @@ fn futures_lend_the_value() {
         }
     }
     let queue = queue(String::from("disk"));
-    let mut tag = queue.next_tag(0).unwrap();
+    let mut tag = queue.tag().unwrap();
     assert_eq!(*now(queue.enter_async(&mut tag)).unwrap(), "disk");
     now(queue.freeze_async()).unwrap().lock().push('s');
     assert_eq!(*now(queue.enter_any_async()).unwrap(), "disks");
@@ -309,10 +298,10 @@ fn requests_with_any_tag_that_other_threads_end() {
     let (queue, rounds) = (Arc::new(queue(AtomicU64::new(0))), rounds(2_000));
     let (mut threads, mut completers) = (Vec::new(), Vec::new());
     for _ in 0..2 {
-        let (sent, requests) = mpsc::channel::<OwnedEntered<AtomicU64>>();
+        let (sent, requests) = mpsc::channel::<OwnedRequest<AtomicU64>>();
         let entered = Arc::clone(&queue);
         threads.push(thread::spawn(move || {
-            (0..rounds).for_each(|_| sent.send(entered.enter_any_owned().unwrap()).unwrap());
+            (0..rounds).for_each(|_| sent.send(entered.enter_any().unwrap()).unwrap());
         }));
         completers.push(thread::spawn(move || {
             for served in requests {
@@ -325,18 +314,18 @@ fn requests_with_any_tag_that_other_threads_end() {
     }
     join(threads);
     join(completers);
-    let all: Vec<_> = (0..4).map(|_| queue.try_enter_any_owned().unwrap()).collect();
-    assert_eq!(queue.try_enter_any_owned().unwrap_err(), TryEnterAnyError::NoTag);
-    let late = queue.enter_any_owned_timeout(Duration::ZERO);
-    assert_eq!(late.unwrap_err(), EnterAnyTimeoutError::TimedOut);
+    let all: Vec<_> = (0..4).map(|_| queue.try_enter_any().unwrap()).collect();
+    assert_eq!(queue.try_enter_any().unwrap_err(), EnterError::NoTag);
+    let late = queue.enter_any_timeout(Duration::ZERO);
+    assert_eq!(late.unwrap_err(), EnterError::TimedOut);
     let mut waits = Box::pin(queue.enter_any_owned_async());
     let mut context = Context::from_waker(Waker::noop());
     assert!(waits.as_mut().poll(&mut context).is_pending());
     drop(all);
     let Poll::Ready(Ok(request)) = waits.as_mut().poll(&mut context) else { panic!("it was handed a tag") };
     drop((request, waits));
-    let (served, _) = Arc::into_inner(queue).unwrap().remove().unwrap();
-    assert_eq!(served.into_inner(), 2 * rounds);
+    let last = Arc::into_inner(queue).unwrap().remove().unwrap();
+    assert_eq!(last.value.into_inner(), 2 * rounds);
 }
 
 /// The calls that forward: limits, a freeze in two steps, a freeze with a share, and requests with a tag of their own.
@@ -344,13 +333,13 @@ fn requests_with_any_tag_that_other_threads_end() {
 fn freezes_with_a_share_and_in_steps() {
     let queue = Arc::new(queue(7));
     assert_eq!(queue.update(|limits| limits.with_max(8)).unwrap(), queue.limits());
-    let request = queue.try_enter_owned(queue.next_tag(0).unwrap()).unwrap();
+    let request = queue.try_enter_owned(queue.tag().unwrap()).unwrap();
     let freezing = queue.begin_freeze().unwrap().wait_timeout(Duration::ZERO).unwrap_err();
     assert!(!freezing.is_drained());
     let late = queue.enter_any_timeout(Duration::ZERO);
-    assert_eq!(late.unwrap_err(), EnterAnyTimeoutError::TimedOut);
+    assert_eq!(late.unwrap_err(), EnterError::TimedOut);
     let refused = queue.try_enter_owned(request.leave()).unwrap_err();
-    assert_eq!(refused.reason, TryEnterError::Frozen);
+    assert_eq!(refused.reason, EnterError::Frozen);
     *freezing.wait().lock() += 1;
     let owned = queue.freeze_owned().unwrap();
     *owned.lock() += 1;
@@ -360,9 +349,9 @@ fn freezes_with_a_share_and_in_steps() {
     owned.set(queue.limits().with_chunk(8)).unwrap();
     drop(owned);
     let Poll::Ready(Ok(request)) = waits.as_mut().poll(&mut context) else { panic!("it is live") };
-    assert_eq!((*request, request.request().limits().chunk), (9, 8));
+    assert_eq!((*request, request.limits().chunk), (9, 8));
     drop((request, waits));
     queue.freeze_owned().unwrap().mark_dying();
-    assert_eq!(queue.enter_any().unwrap_err(), EnterAnyError::Dying);
-    assert_eq!(Arc::into_inner(queue).unwrap().remove().unwrap().0, 9);
+    assert_eq!(queue.enter_any().unwrap_err(), EnterError::Dying);
+    assert_eq!(Arc::into_inner(queue).unwrap().remove().unwrap().value, 9);
 }

@@ -1,6 +1,6 @@
 //! A thread that waits is woken. The event comes some milliseconds later, on another thread. A lost wake is seen: the thread
 //! doesn't return in all the time that a test has.
-use freeze_queue::{EnterError, EnterTimeoutError, FreezeTimeoutError, Queue, Tag, TryEnterError};
+use freeze_queue::{EnterError, FreezeError, Queue, Tag};
 use std::sync::atomic::{AtomicBool, AtomicU32, Ordering};
 use std::thread;
 use std::time::{Duration, Instant};
@@ -12,8 +12,8 @@ const SOON: Duration = Duration::from_millis(20);
 const LONG: Duration = Duration::from_secs(3600);
 
 fn queue(tags: u32) -> (Queue, Vec<Tag>) {
-    let queue = Queue::new(LIMITS, 2, tags).unwrap();
-    let all = (0..tags).map(|tag| queue.next_tag(tag % 2).unwrap()).collect();
+    let queue = Queue::builder(LIMITS).slots(2).tags(tags).build().unwrap();
+    let all = (0..tags).map(|_| queue.tag().unwrap()).collect();
     (queue, all)
 }
 
@@ -55,7 +55,7 @@ fn the_end_of_a_device_wakes_all_who_enter() {
                 let queue = &queue;
                 threads.spawn(move || match number % 3 {
                     0 => assert_eq!(queue.enter(tag).unwrap_err(), EnterError::Dying),
-                    1 => assert_eq!(queue.enter_timeout(tag, LONG).unwrap_err(), EnterTimeoutError::Dying),
+                    1 => assert_eq!(queue.enter_timeout(tag, LONG).unwrap_err(), EnterError::Dying),
                     _ => assert_eq!(block_on(queue.enter_async(tag)).unwrap_err(), EnterError::Dying),
                 });
             }
@@ -112,7 +112,7 @@ fn a_late_freeze_wakes_those_who_enter() {
                     if seen.load(Ordering::SeqCst) {
                         break late;
                     }
-                    assert_eq!(late, Err(FreezeTimeoutError::TimedOut));
+                    assert_eq!(late, Err(FreezeError::TimedOut));
                 }
             });
             until("it freezes", || queue.depth() == 1);
@@ -125,7 +125,7 @@ fn a_late_freeze_wakes_those_who_enter() {
                     _ => drop(block_on(queue.enter_async(tag)).unwrap()),
                 });
             }
-            assert_eq!(late.join().unwrap(), Err(FreezeTimeoutError::TimedOut));
+            assert_eq!(late.join().unwrap(), Err(FreezeError::TimedOut));
         });
         drop(request);
         assert_eq!(queue.depth(), 0);
@@ -144,7 +144,7 @@ fn a_late_request_leaves_nothing() {
             until("it freezes", || queue.depth() == 1);
             let began = Instant::now();
             let late = queue.enter_timeout(&mut rest[0], SOON);
-            assert_eq!(late.unwrap_err(), EnterTimeoutError::TimedOut);
+            assert_eq!(late.unwrap_err(), EnterError::TimedOut);
             assert!(began.elapsed() >= SOON && !freezes.is_finished());
             drop(request);
             freezes.join().unwrap();
@@ -161,7 +161,7 @@ fn other_guards_wake_who_freezes() {
         let queue = std::sync::Arc::new(queue);
         let mut frozen_too = tags.pop().unwrap();
         for how in 0..3 {
-            let request = queue.enter_owned(tags.pop().unwrap_or_else(|| queue.next_tag(0).unwrap())).unwrap();
+            let request = queue.enter_owned(tags.pop().unwrap_or_else(|| queue.tag().unwrap())).unwrap();
             thread::scope(|threads| {
                 let freezes = threads.spawn(|| drop(queue.freeze().unwrap()));
                 until("it freezes", || queue.depth() == 1);
@@ -169,7 +169,7 @@ fn other_guards_wake_who_freezes() {
                 if how == 0 {
                     drop(request);
                 } else {
-                    queue.give_back(request.leave()).unwrap();
+                    drop(request.leave());
                 }
                 thread::sleep(SOON);
                 assert!(!freezes.is_finished());
@@ -216,7 +216,7 @@ fn refusals_that_no_thaw_ends_come_at_once() {
         let tag = &mut tags[0];
         assert_eq!(there.enter(tag).unwrap_err(), EnterError::OtherQueue);
         assert_eq!(block_on(there.enter_async(tag)).unwrap_err(), EnterError::OtherQueue);
-        assert_eq!(here.try_enter(tag).unwrap_err(), TryEnterError::Frozen);
+        assert_eq!(here.try_enter(tag).unwrap_err(), EnterError::Frozen);
     });
     ends(|| {
         let (queue, mut tags) = queue(1);

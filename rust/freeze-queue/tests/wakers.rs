@@ -2,7 +2,7 @@
 //! (A waker by hand is made by `unsafe`.)
 #![allow(unsafe_code)]
 
-use freeze_queue::{EnterAny, OwnedEntered, Queue};
+use freeze_queue::{EnterAny, OwnedRequest, Queue};
 use std::cell::{Cell, RefCell};
 use std::panic::{AssertUnwindSafe, catch_unwind};
 use std::pin::Pin;
@@ -17,7 +17,7 @@ thread_local! {
     /// The queue that the wakers of this thread come back to.
     static QUEUE: RefCell<Option<Arc<Queue>>> = const { RefCell::new(None) };
     /// Leaves as the next waker is cloned.
-    static LEAVES: Cell<Option<OwnedEntered>> = const { Cell::new(None) };
+    static LEAVES: Cell<Option<OwnedRequest>> = const { Cell::new(None) };
     /// The next waker that is dropped panics.
     static PANICS: Cell<bool> = const { Cell::new(false) };
     /// How often a function of a waker was called.
@@ -55,7 +55,7 @@ fn polled<F: Future + Unpin>(future: &mut F) -> Poll<F::Output> {
 /// Runs a test with a queue of one tag, to which the wakers come back.
 fn with_queue(test: impl FnOnce(&Queue) + Send + 'static) {
     ends(move || {
-        let queue = Arc::new(Queue::new(LIMITS, 1, 1).unwrap());
+        let queue = Arc::new(Queue::builder(LIMITS).slots(1).tags(1).build().unwrap());
         QUEUE.set(Some(Arc::clone(&queue)));
         test(&queue);
         assert!(CALLS.get() > 2, "a waker comes back");
@@ -68,7 +68,7 @@ fn with_queue(test: impl FnOnce(&Queue) + Send + 'static) {
 fn a_task_waits_for_the_thaw() {
     with_queue(|queue| {
         let frozen = queue.freeze().unwrap();
-        let mut tag = queue.next_tag(0).unwrap();
+        let mut tag = queue.tag().unwrap();
         let mut entering = queue.enter_async(&mut tag);
         assert!(polled(&mut entering).is_pending());
         assert!(polled(&mut entering).is_pending(), "another waker in place of the first");

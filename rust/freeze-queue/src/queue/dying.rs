@@ -5,7 +5,7 @@ use crate::shared::Share;
 use std::future;
 use std::time::{Duration, Instant};
 
-impl Queue {
+impl<T> Queue<T> {
     /// Marks the queue dying, since its device is gone: no request enters any more, and those that wait to enter, or for a tag, are refused
     /// ([`EnterError::Dying`](crate::EnterError::Dying)). Requests in flight run to their end. It can't fail, and takes no freeze; freezes and
     /// updates go on as before. Linux: `blk_mark_disk_dead`, which sets `QUEUE_FLAG_DYING`.
@@ -13,12 +13,12 @@ impl Queue {
     /// # Examples
     ///
     /// ```
-    /// # use freeze_queue::{Limits, Queue, TryEnterError};
-    /// # let queue = Queue::new(Limits::of_hardware(64), 1, 2)?;
-    /// let mut tag = queue.next_tag(0)?;
+    /// # use freeze_queue::{Limits, Queue, EnterError};
+    /// # let queue = Queue::builder(Limits::of_hardware(64)).slots(1).tags(2).build()?;
+    /// let mut tag = queue.tag()?;
     /// let request = queue.enter_any()?; // its device may never answer
     /// queue.mark_dying();
-    /// assert_eq!(queue.try_enter(&mut tag).unwrap_err(), TryEnterError::Dying);
+    /// assert_eq!(queue.try_enter(&mut tag).unwrap_err(), EnterError::Dying);
     /// assert!(!queue.is_drained());
     /// drop(request);
     /// assert!(queue.is_drained());
@@ -32,7 +32,7 @@ impl Queue {
     ///
     /// ```
     /// # use freeze_queue::{Limits, Queue};
-    /// # let queue = Queue::new(Limits::of_hardware(64), 1, 1)?;
+    /// # let queue = Queue::builder(Limits::of_hardware(64)).slots(1).tags(1).build()?;
     /// queue.shut_down();
     /// assert!(queue.is_drained());
     /// # Ok::<(), Box<dyn std::error::Error>>(())
@@ -47,7 +47,7 @@ impl Queue {
     /// ```
     /// # use freeze_queue::{Limits, Queue};
     /// # use std::time::Duration;
-    /// # let queue = Queue::new(Limits::of_hardware(64), 1, 1)?;
+    /// # let queue = Queue::builder(Limits::of_hardware(64)).slots(1).tags(1).build()?;
     /// let request = queue.enter_any()?;
     /// assert!(!queue.shut_down_timeout(Duration::from_millis(1)));
     /// drop(request);
@@ -65,7 +65,7 @@ impl Queue {
     /// ```
     /// # use freeze_queue::{Limits, Queue};
     /// # use std::{future::Future, pin::pin, task::{Context, Poll, Waker}};
-    /// # let queue = Queue::new(Limits::of_hardware(64), 1, 1)?;
+    /// # let queue = Queue::builder(Limits::of_hardware(64)).slots(1).tags(1).build()?;
     /// let request = queue.enter_any()?;
     /// let mut shut = pin!(queue.shut_down_async());
     /// let mut context = Context::from_waker(Waker::noop());

@@ -1,12 +1,12 @@
 //! Requests enter.
 use super::Queue;
 use crate::enter_async::EnterAsync;
-use crate::entered::Entered;
-use crate::errors::{EnterError, EnterFrozenError, EnterTimeoutError, TryEnterError};
+use crate::errors::EnterError;
+use crate::request::Request;
 use crate::tag::Tag;
 use std::time::Duration;
 
-impl Queue {
+impl<T> Queue<T> {
     /// Enters, and waits while the queue is frozen. A thread that has a [`Frozen`](crate::Frozen) drops it before: it would
     /// wait for its own thaw for ever. One that has a request in flight calls [`try_enter_frozen`](Queue::try_enter_frozen): a freeze
     /// waits for that request, and this call for the thaw. Linux: `blk_queue_enter`.
@@ -19,8 +19,8 @@ impl Queue {
     ///
     /// ```
     /// # use freeze_queue::{EnterError, Limits, Queue};
-    /// # let queue = Queue::new(Limits::of_hardware(64), 1, 1)?;
-    /// let mut tag = queue.next_tag(0)?;
+    /// # let queue = Queue::builder(Limits::of_hardware(64)).slots(1).tags(1).build()?;
+    /// let mut tag = queue.tag()?;
     /// let request = queue.enter(&mut tag)?;
     /// assert_eq!(request.limits().hardware, 64);
     /// drop(request);
@@ -29,34 +29,34 @@ impl Queue {
     /// # Ok::<(), Box<dyn std::error::Error>>(())
     /// ```
     #[inline]
-    pub fn enter<'e>(&'e self, tag: &'e mut Tag) -> Result<Entered<'e>, EnterError> {
+    pub fn enter<'e>(&'e self, tag: &'e mut Tag<T>) -> Result<Request<'e, T>, EnterError> {
         let (queue, tag) = (self.shared(), tag.state_of(self.shared()).ok_or(EnterError::OtherQueue)?);
         queue.in_or_waits(tag)?;
-        Ok(Entered::of(queue, tag))
+        Ok(Request::of(queue, tag))
     }
 
     /// Enters unless the queue is frozen. Linux: `blk_queue_enter` with `BLK_MQ_REQ_NOWAIT`.
     ///
     /// # Errors
     ///
-    /// [`TryEnterError`] has each.
+    /// Returns [`EnterError`].
     ///
     /// # Examples
     ///
     /// ```
-    /// # use freeze_queue::{Limits, Queue, TryEnterError};
-    /// # let queue = Queue::new(Limits::of_hardware(64), 1, 1)?;
-    /// let mut tag = queue.next_tag(0)?;
+    /// # use freeze_queue::{Limits, Queue, EnterError};
+    /// # let queue = Queue::builder(Limits::of_hardware(64)).slots(1).tags(1).build()?;
+    /// let mut tag = queue.tag()?;
     /// assert!(queue.try_enter(&mut tag).is_ok());
     /// let _frozen = queue.freeze()?;
-    /// assert_eq!(queue.try_enter(&mut tag).unwrap_err(), TryEnterError::Frozen);
+    /// assert_eq!(queue.try_enter(&mut tag).unwrap_err(), EnterError::Frozen);
     /// # Ok::<(), Box<dyn std::error::Error>>(())
     /// ```
     #[inline]
-    pub fn try_enter<'e>(&'e self, tag: &'e mut Tag) -> Result<Entered<'e>, TryEnterError> {
-        let (queue, tag) = (self.shared(), tag.state_of(self.shared()).ok_or(TryEnterError::OtherQueue)?);
+    pub fn try_enter<'e>(&'e self, tag: &'e mut Tag<T>) -> Result<Request<'e, T>, EnterError> {
+        let (queue, tag) = (self.shared(), tag.state_of(self.shared()).ok_or(EnterError::OtherQueue)?);
         queue.in_at_once(tag)?;
-        Ok(Entered::of(queue, tag))
+        Ok(Request::of(queue, tag))
     }
 
     /// Enters, and waits for that so long at most while the queue is frozen. It tries before it looks at the clock, so one
@@ -64,25 +64,25 @@ impl Queue {
     ///
     /// # Errors
     ///
-    /// [`EnterTimeoutError`] has each.
+    /// Returns [`EnterError`].
     ///
     /// # Examples
     ///
     /// ```
-    /// # use freeze_queue::{EnterTimeoutError, Limits, Queue};
+    /// # use freeze_queue::{EnterError, Limits, Queue};
     /// # use std::time::Duration;
-    /// # let queue = Queue::new(Limits::of_hardware(64), 1, 1)?;
-    /// let mut tag = queue.next_tag(0)?;
+    /// # let queue = Queue::builder(Limits::of_hardware(64)).slots(1).tags(1).build()?;
+    /// let mut tag = queue.tag()?;
     /// let _frozen = queue.freeze()?;
     /// let late = queue.enter_timeout(&mut tag, Duration::from_millis(1));
-    /// assert_eq!(late.unwrap_err(), EnterTimeoutError::TimedOut);
+    /// assert_eq!(late.unwrap_err(), EnterError::TimedOut);
     /// # Ok::<(), Box<dyn std::error::Error>>(())
     /// ```
     #[inline]
-    pub fn enter_timeout<'e>(&'e self, tag: &'e mut Tag, patience: Duration) -> Result<Entered<'e>, EnterTimeoutError> {
-        let (queue, tag) = (self.shared(), tag.state_of(self.shared()).ok_or(EnterTimeoutError::OtherQueue)?);
+    pub fn enter_timeout<'e>(&'e self, tag: &'e mut Tag<T>, patience: Duration) -> Result<Request<'e, T>, EnterError> {
+        let (queue, tag) = (self.shared(), tag.state_of(self.shared()).ok_or(EnterError::OtherQueue)?);
         queue.in_by_then(tag, patience)?;
-        Ok(Entered::of(queue, tag))
+        Ok(Request::of(queue, tag))
     }
 
     /// Enters a queue that may be frozen, to look at what is under way, unless it is drained. Until it leaves it holds the
@@ -90,23 +90,23 @@ impl Queue {
     ///
     /// # Errors
     ///
-    /// [`EnterFrozenError`] has each.
+    /// Returns [`EnterError`].
     ///
     /// # Examples
     ///
     /// ```
-    /// # use freeze_queue::{EnterFrozenError, Limits, Queue};
-    /// # let queue = Queue::new(Limits::of_hardware(64), 1, 1)?;
-    /// let mut tag = queue.next_tag(0)?;
+    /// # use freeze_queue::{EnterError, Limits, Queue};
+    /// # let queue = Queue::builder(Limits::of_hardware(64)).slots(1).tags(1).build()?;
+    /// let mut tag = queue.tag()?;
     /// assert!(queue.try_enter_frozen(&mut tag).is_ok());
     /// let _frozen = queue.freeze()?; // and drained
-    /// assert_eq!(queue.try_enter_frozen(&mut tag).unwrap_err(), EnterFrozenError::Drained);
+    /// assert_eq!(queue.try_enter_frozen(&mut tag).unwrap_err(), EnterError::Drained);
     /// # Ok::<(), Box<dyn std::error::Error>>(())
     /// ```
-    pub fn try_enter_frozen<'e>(&'e self, tag: &'e mut Tag) -> Result<Entered<'e>, EnterFrozenError> {
-        let (queue, tag) = (self.shared(), tag.state_of(self.shared()).ok_or(EnterFrozenError::OtherQueue)?);
+    pub fn try_enter_frozen<'e>(&'e self, tag: &'e mut Tag<T>) -> Result<Request<'e, T>, EnterError> {
+        let (queue, tag) = (self.shared(), tag.state_of(self.shared()).ok_or(EnterError::OtherQueue)?);
         queue.in_to_look(tag)?;
-        Ok(Entered::of(queue, tag))
+        Ok(Request::of(queue, tag))
     }
 
     /// Enters, by a future that waits while the queue is frozen, on any executor: a thaw wakes it. One that is dropped
@@ -121,13 +121,13 @@ impl Queue {
     ///     let request = queue.enter_async(tag).await.unwrap();
     ///     request.limits().max
     /// }
-    /// # let queue = Queue::new(Limits::of_hardware(64), 1, 1)?;
-    /// # let mut tag = queue.next_tag(0)?;
+    /// # let queue = Queue::builder(Limits::of_hardware(64)).slots(1).tags(1).build()?;
+    /// # let mut tag = queue.tag()?;
     /// # let done = pin!(request(&queue, &mut tag)).poll(&mut Context::from_waker(Waker::noop()));
     /// # assert_eq!(done, std::task::Poll::Ready(64));
     /// # Ok::<(), Box<dyn std::error::Error>>(())
     /// ```
-    pub fn enter_async<'e>(&'e self, tag: &'e mut Tag) -> EnterAsync<'e> {
+    pub fn enter_async<'e>(&'e self, tag: &'e mut Tag<T>) -> EnterAsync<'e, T> {
         EnterAsync::of(self.shared(), tag)
     }
 }

@@ -1,13 +1,13 @@
 //! Requests enter with any tag that is free.
 use super::Queue;
 use crate::enter_any::{self, EnterAny};
-use crate::errors::{EnterAnyError, EnterAnyTimeoutError, TryEnterAnyError, TryEnterError};
-use crate::owned::OwnedEntered;
-use crate::shared::Shared;
+use crate::errors::EnterError;
+use crate::owned::OwnedRequest;
+use crate::shared::{Share, Shared};
 use crate::tag::Tag;
 use std::time::{Duration, Instant};
 
-impl Queue {
+impl<T> Queue<T> {
     /// Enters with a tag that is free, which goes along with the request, and back to the queue where the request is dropped, on
     /// whichever thread. Waits for a tag while none is free, and while the queue is frozen. Those that wait for a tag are handed
     /// one in order of arrival. Linux: `blk_mq_alloc_request`.
@@ -16,14 +16,14 @@ impl Queue {
     ///
     /// # Errors
     ///
-    /// [`EnterAnyError::Dying`]; or [`EnterAnyError::NoMemory`], if there is no memory to wait in line.
+    /// [`EnterError::Dying`]; or [`EnterError::NoMemory`], if there is no memory to wait in line.
     ///
     /// # Examples
     ///
     /// ```
     /// # use freeze_queue::{Limits, Queue};
     /// # use std::thread;
-    /// let queue = Queue::new(Limits::of_hardware(64), 2, 2)?;
+    /// let queue = Queue::builder(Limits::of_hardware(64)).slots(2).tags(2).build()?;
     /// thread::scope(|threads| {
     ///     for thread in 0..8 {
     ///         let queue = &queue;
@@ -37,44 +37,45 @@ impl Queue {
     /// # Ok::<(), Box<dyn std::error::Error>>(())
     /// ```
     #[inline]
-    pub fn enter_any(&self) -> Result<OwnedEntered, EnterAnyError> {
+    pub fn enter_any(&self) -> Result<OwnedRequest<T>, EnterError> {
         let queue = self.shared();
         let tag = match queue.try_any() {
             Some(tag) => Tag::of(tag),
-            None => enter_any::wait_for_tag(queue, None).map_err(EnterAnyError::without_end)?,
+            None => enter_any::wait_for_tag(queue, None)?,
         };
-        self.enter_owned(tag).map_err(|refused| EnterAnyError::of_free(refused.reason))
+        self.enter_owned(tag).map_err(|refused| refused.reason)
     }
 
     /// Enters with any tag as [`enter_any`](Queue::enter_any) does, and waits this long at most.
     ///
     /// # Errors
     ///
-    /// [`EnterAnyTimeoutError`] has each.
+    /// Returns [`EnterError`].
     ///
     /// # Examples
     ///
     /// ```
-    /// # use freeze_queue::{EnterAnyTimeoutError, Limits, Queue};
+    /// # use freeze_queue::{EnterError, Limits, Queue};
     /// # use std::time::Duration;
-    /// # let queue = Queue::new(Limits::of_hardware(64), 1, 1)?;
+    /// # let queue = Queue::builder(Limits::of_hardware(64)).slots(1).tags(1).build()?;
     /// let _request = queue.enter_any()?;
     /// let late = queue.enter_any_timeout(Duration::from_millis(1));
-    /// assert_eq!(late.unwrap_err(), EnterAnyTimeoutError::TimedOut);
+    /// assert_eq!(late.unwrap_err(), EnterError::TimedOut);
     /// # Ok::<(), Box<dyn std::error::Error>>(())
     /// ```
-    pub fn enter_any_timeout(&self, patience: Duration) -> Result<OwnedEntered, EnterAnyTimeoutError> {
-        let queue: &Shared = self.shared();
+    pub fn enter_any_timeout(&self, patience: Duration) -> Result<OwnedRequest<T>, EnterError> {
+        let queue: &Shared<T> = self.shared();
         let deadline = Instant::now().checked_add(patience);
         let mut tag = match queue.try_any() {
             Some(tag) => Tag::of(tag),
             None => enter_any::wait_for_tag(queue, deadline)?,
         };
         let (_, state) = tag.parts_mut();
-        if let Err(why) = queue.in_at_once(state) {
-            queue.waits_until(state, why, deadline).map_err(EnterAnyTimeoutError::of_free)?;
+        match queue.in_at_once(state) {
+            Err(EnterError::Frozen) => queue.waits_until(state, deadline)?,
+            done => done?,
         }
-        Ok(OwnedEntered::of(tag))
+        Ok(OwnedRequest::of(tag))
     }
 
     /// Enters with any tag as [`enter_any`](Queue::enter_any) does, or refuses at once. Linux: `blk_mq_alloc_request` with
@@ -82,26 +83,23 @@ impl Queue {
     ///
     /// # Errors
     ///
-    /// [`TryEnterAnyError`] has each.
+    /// Returns [`EnterError`].
     ///
     /// # Examples
     ///
     /// ```
-    /// # use freeze_queue::{Limits, Queue, TryEnterAnyError};
-    /// # let queue = Queue::new(Limits::of_hardware(64), 1, 1)?;
+    /// # use freeze_queue::{Limits, Queue, EnterError};
+    /// # let queue = Queue::builder(Limits::of_hardware(64)).slots(1).tags(1).build()?;
     /// let request = queue.try_enter_any()?;
-    /// assert_eq!(queue.try_enter_any().unwrap_err(), TryEnterAnyError::NoTag);
+    /// assert_eq!(queue.try_enter_any().unwrap_err(), EnterError::NoTag);
     /// drop(request);
     /// let _frozen = queue.freeze()?;
-    /// assert_eq!(queue.try_enter_any().unwrap_err(), TryEnterAnyError::Frozen);
+    /// assert_eq!(queue.try_enter_any().unwrap_err(), EnterError::Frozen);
     /// # Ok::<(), Box<dyn std::error::Error>>(())
     /// ```
-    pub fn try_enter_any(&self) -> Result<OwnedEntered, TryEnterAnyError> {
-        let tag = enter_any::tag_at_once(self.shared()).ok_or(TryEnterAnyError::NoTag)?;
-        self.try_enter_owned(tag).map_err(|refused| match refused.reason {
-            TryEnterError::Dying => TryEnterAnyError::Dying,
-            _ => TryEnterAnyError::Frozen, // a free tag is this queue's, and hasn't entered
-        })
+    pub fn try_enter_any(&self) -> Result<OwnedRequest<T>, EnterError> {
+        let tag = enter_any::tag_at_once(self.shared()).ok_or(EnterError::NoTag)?;
+        self.try_enter_owned(tag).map_err(|refused| refused.reason)
     }
 
     /// Enters with any tag by a future: thousands of tasks may wait for the queue's tags, and are handed one in order of arrival.
@@ -114,18 +112,37 @@ impl Queue {
     /// It returns as [`enter_any`](Queue::enter_any) does.
     ///
     /// ```
-    /// # use freeze_queue::{EnterAnyError, Limits, Queue};
+    /// # use freeze_queue::{EnterError, Limits, Queue};
     /// # use std::{future::Future, pin::pin, sync::Arc, task::{Context, Poll, Waker}};
-    /// async fn read(queue: Arc<Queue>, start: u64) -> Result<usize, EnterAnyError> {
+    /// async fn read(queue: Arc<Queue>, start: u64) -> Result<usize, EnterError> {
     ///     let request = queue.enter_any_async().await?;
     ///     Ok(request.pieces(start, 100).expect("it is within the device").count())
     /// }
-    /// # let queue = Arc::new(Queue::new(Limits::of_hardware(64), 1, 1)?);
+    /// # let queue = Arc::new(Queue::builder(Limits::of_hardware(64)).slots(1).tags(1).build()?);
     /// # let done = pin!(read(queue, 0)).poll(&mut Context::from_waker(Waker::noop()));
     /// # assert_eq!(done, Poll::Ready(Ok(2)));
     /// # Ok::<(), Box<dyn std::error::Error>>(())
     /// ```
-    pub fn enter_any_async(&self) -> EnterAny<'_> {
-        EnterAny::of(self.shared())
+    pub fn enter_any_async(&self) -> EnterAny<'_, T> {
+        EnterAny::of(Share::Borrowed(self.shared()))
+    }
+
+    /// Enters with any tag as [`enter_any_async`](Queue::enter_any_async) does, by a future with a share of the queue, which borrows nothing. If
+    /// the queue is dropped meanwhile, it returns [`EnterError::Dying`].
+    ///
+    /// ```
+    /// # use freeze_queue::{EnterAny, Limits, Queue};
+    /// # use std::{future::Future, pin::pin, task::{Context, Poll, Waker}};
+    /// # let queue = Queue::new(Limits::of_hardware(64))?;
+    /// let entering: EnterAny<'static> = queue.enter_any_owned_async();
+    /// let entered = pin!(entering).poll(&mut Context::from_waker(Waker::noop()));
+    /// assert!(matches!(entered, Poll::Ready(Ok(_))));
+    /// # Ok::<(), Box<dyn std::error::Error>>(())
+    /// ```
+    pub fn enter_any_owned_async(&self) -> EnterAny<'static, T>
+    where
+        T: 'static,
+    {
+        EnterAny::of(self.share())
     }
 }

@@ -1,13 +1,13 @@
 //! Requests enter with a tag that goes along with them.
 use super::Queue;
 use crate::enter_owned_async::EnterOwnedAsync;
-use crate::errors::{EnterError, EnterFrozenError, EnterTimeoutError, TryEnterError};
+use crate::errors::EnterError;
 use crate::handed_back::HandedBack;
-use crate::owned::OwnedEntered;
+use crate::owned::OwnedRequest;
 use crate::tag::Tag;
 use std::time::Duration;
 
-impl Queue {
+impl<T> Queue<T> {
     /// Enters as [`enter`](Queue::enter) does, with a tag that goes along with its request: the request may end on any
     /// thread.
     ///
@@ -20,10 +20,10 @@ impl Queue {
     /// ```
     /// # use freeze_queue::{Limits, Queue};
     /// # use std::thread;
-    /// let queue = Queue::new(Limits::of_hardware(64), 1, 1)?;
-    /// let request = queue.enter_owned(queue.next_tag(0)?)?;
+    /// let queue = Queue::builder(Limits::of_hardware(64)).slots(1).tags(1).build()?;
+    /// let request = queue.enter_owned(queue.tag()?)?;
     /// let tag = thread::spawn(move || request.leave()).join().unwrap();
-    /// queue.give_back(tag)?;
+    /// drop(tag);
     /// # Ok::<(), Box<dyn std::error::Error + Send + Sync>>(())
     /// ```
     #[inline(always)]
@@ -31,10 +31,10 @@ impl Queue {
         clippy::inline_always,
         reason = "a call moves the request through memory, which the next exchange waits for"
     )]
-    pub fn enter_owned(&self, mut tag: Tag) -> Result<OwnedEntered, HandedBack<Tag, EnterError>> {
+    pub fn enter_owned(&self, mut tag: Tag<T>) -> Result<OwnedRequest<T>, HandedBack<Tag<T>, EnterError>> {
         let queue = self.shared();
         let entered = tag.state_of(queue).ok_or(EnterError::OtherQueue).and_then(|tag| queue.in_or_waits(tag));
-        OwnedEntered::or_handed_back(tag, entered)
+        OwnedRequest::or_handed_back(tag, entered)
     }
 
     /// Enters as [`try_enter`](Queue::try_enter) does, with a tag that goes along with its request.
@@ -46,11 +46,11 @@ impl Queue {
     /// # Examples
     ///
     /// ```
-    /// # use freeze_queue::{Limits, Queue, TryEnterError};
-    /// let queue = Queue::new(Limits::of_hardware(64), 1, 1)?;
+    /// # use freeze_queue::{Limits, Queue, EnterError};
+    /// let queue = Queue::builder(Limits::of_hardware(64)).slots(1).tags(1).build()?;
     /// let frozen = queue.freeze()?;
-    /// let refused = queue.try_enter_owned(queue.next_tag(0)?).unwrap_err();
-    /// assert_eq!(refused.reason, TryEnterError::Frozen);
+    /// let refused = queue.try_enter_owned(queue.tag()?).unwrap_err();
+    /// assert_eq!(refused.reason, EnterError::Frozen);
     /// drop(frozen);
     /// let request = queue.try_enter_owned(refused.value)?;
     /// assert_eq!(request.limits().max, 64);
@@ -58,10 +58,10 @@ impl Queue {
     /// ```
     #[inline(always)]
     #[expect(clippy::inline_always, reason = "as for enter_owned")]
-    pub fn try_enter_owned(&self, mut tag: Tag) -> Result<OwnedEntered, HandedBack<Tag, TryEnterError>> {
+    pub fn try_enter_owned(&self, mut tag: Tag<T>) -> Result<OwnedRequest<T>, HandedBack<Tag<T>, EnterError>> {
         let queue = self.shared();
-        let entered = tag.state_of(queue).ok_or(TryEnterError::OtherQueue).and_then(|tag| queue.in_at_once(tag));
-        OwnedEntered::or_handed_back(tag, entered)
+        let entered = tag.state_of(queue).ok_or(EnterError::OtherQueue).and_then(|tag| queue.in_at_once(tag));
+        OwnedRequest::or_handed_back(tag, entered)
     }
 
     /// Enters as [`enter_timeout`](Queue::enter_timeout) does, with a tag that goes along with its request.
@@ -73,24 +73,24 @@ impl Queue {
     /// # Examples
     ///
     /// ```
-    /// # use freeze_queue::{EnterTimeoutError, Limits, Queue};
+    /// # use freeze_queue::{EnterError, Limits, Queue};
     /// # use std::time::Duration;
-    /// let queue = Queue::new(Limits::of_hardware(64), 1, 1)?;
+    /// let queue = Queue::builder(Limits::of_hardware(64)).slots(1).tags(1).build()?;
     /// let frozen = queue.freeze()?;
-    /// let late = queue.enter_owned_timeout(queue.next_tag(0)?, Duration::from_millis(1));
-    /// assert_eq!(late.unwrap_err().reason, EnterTimeoutError::TimedOut);
+    /// let late = queue.enter_owned_timeout(queue.tag()?, Duration::from_millis(1));
+    /// assert_eq!(late.unwrap_err().reason, EnterError::TimedOut);
     /// # Ok::<(), Box<dyn std::error::Error + Send + Sync>>(())
     /// ```
     #[inline]
     pub fn enter_owned_timeout(
         &self,
-        mut tag: Tag,
+        mut tag: Tag<T>,
         patience: Duration,
-    ) -> Result<OwnedEntered, HandedBack<Tag, EnterTimeoutError>> {
+    ) -> Result<OwnedRequest<T>, HandedBack<Tag<T>, EnterError>> {
         let queue = self.shared();
-        let of_queue = tag.state_of(queue).ok_or(EnterTimeoutError::OtherQueue);
+        let of_queue = tag.state_of(queue).ok_or(EnterError::OtherQueue);
         let entered = of_queue.and_then(|tag| queue.in_by_then(tag, patience));
-        OwnedEntered::or_handed_back(tag, entered)
+        OwnedRequest::or_handed_back(tag, entered)
     }
 
     /// Enters as [`try_enter_frozen`](Queue::try_enter_frozen) does, with a tag that goes along with its request.
@@ -102,17 +102,17 @@ impl Queue {
     /// # Examples
     ///
     /// ```
-    /// # use freeze_queue::{EnterFrozenError, Limits, Queue};
-    /// let queue = Queue::new(Limits::of_hardware(64), 1, 1)?;
+    /// # use freeze_queue::{EnterError, Limits, Queue};
+    /// let queue = Queue::builder(Limits::of_hardware(64)).slots(1).tags(1).build()?;
     /// let frozen = queue.freeze()?; // and drained
-    /// let refused = queue.try_enter_frozen_owned(queue.next_tag(0)?).unwrap_err();
-    /// assert_eq!(refused.reason, EnterFrozenError::Drained);
+    /// let refused = queue.try_enter_frozen_owned(queue.tag()?).unwrap_err();
+    /// assert_eq!(refused.reason, EnterError::Drained);
     /// # Ok::<(), Box<dyn std::error::Error + Send + Sync>>(())
     /// ```
-    pub fn try_enter_frozen_owned(&self, mut tag: Tag) -> Result<OwnedEntered, HandedBack<Tag, EnterFrozenError>> {
+    pub fn try_enter_frozen_owned(&self, mut tag: Tag<T>) -> Result<OwnedRequest<T>, HandedBack<Tag<T>, EnterError>> {
         let queue = self.shared();
-        let entered = tag.state_of(queue).ok_or(EnterFrozenError::OtherQueue).and_then(|tag| queue.in_to_look(tag));
-        OwnedEntered::or_handed_back(tag, entered)
+        let entered = tag.state_of(queue).ok_or(EnterError::OtherQueue).and_then(|tag| queue.in_to_look(tag));
+        OwnedRequest::or_handed_back(tag, entered)
     }
 
     /// Enters as [`enter_async`](Queue::enter_async) does, with a tag that goes along with its request. The future borrows
@@ -123,13 +123,13 @@ impl Queue {
     /// ```
     /// # use freeze_queue::{Limits, Queue};
     /// # use std::{future::Future, pin::pin, task::{Context, Poll, Waker}};
-    /// let queue = Queue::new(Limits::of_hardware(64), 1, 1)?;
-    /// let entering = pin!(queue.enter_owned_async(queue.next_tag(0)?));
+    /// let queue = Queue::builder(Limits::of_hardware(64)).slots(1).tags(1).build()?;
+    /// let entering = pin!(queue.enter_owned_async(queue.tag()?));
     /// let Poll::Ready(request) = entering.poll(&mut Context::from_waker(Waker::noop())) else { panic!("it is live") };
     /// assert_eq!(request?.limits().max, 64);
     /// # Ok::<(), Box<dyn std::error::Error + Send + Sync>>(())
     /// ```
-    pub fn enter_owned_async(&self, mut tag: Tag) -> EnterOwnedAsync {
+    pub fn enter_owned_async(&self, mut tag: Tag<T>) -> EnterOwnedAsync<T> {
         let is_of_queue = tag.state_of(self.shared()).is_some();
         EnterOwnedAsync::of(tag, is_of_queue)
     }

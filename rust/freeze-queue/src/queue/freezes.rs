@@ -1,13 +1,13 @@
 //! The queue is frozen.
 use super::Queue;
 use crate::drained::FreezeAsync;
-use crate::errors::{FreezeError, FreezeTimeoutError, TryFreezeError};
+use crate::errors::FreezeError;
 use crate::freezing::{Freezing, OwnedFreezing};
 use crate::frozen::{Frozen, OwnedFrozen};
 use crate::shared::Share;
 use std::time::Duration;
 
-impl Queue {
+impl<T> Queue<T> {
     /// Freezes the queue, and waits until each request that is under way has left. Freezes nest: each is thawed where its
     /// [`Frozen`] is dropped, and requests enter again when all are. A thread whose own request is under way waits for
     /// ever: it leaves before. Linux: `blk_mq_freeze_queue`.
@@ -20,14 +20,14 @@ impl Queue {
     ///
     /// ```
     /// # use freeze_queue::{Limits, Queue};
-    /// # let queue = Queue::new(Limits::of_hardware(64), 1, 1)?;
+    /// # let queue = Queue::builder(Limits::of_hardware(64)).slots(1).tags(1).build()?;
     /// let frozen = queue.freeze()?;
     /// frozen.set(queue.limits().with_max(8))?;
     /// drop(frozen); // thaws
     /// # assert_eq!((queue.limits().max, queue.depth()), (8, 0));
     /// # Ok::<(), Box<dyn std::error::Error>>(())
     /// ```
-    pub fn freeze(&self) -> Result<Frozen<'_>, FreezeError> {
+    pub fn freeze(&self) -> Result<Frozen<'_, T>, FreezeError> {
         Ok(self.begin_freeze()?.wait())
     }
 
@@ -47,14 +47,17 @@ impl Queue {
     ///     frozen: Option<OwnedFrozen>,
     /// }
     ///
-    /// let mut service = Service { queue: Queue::new(Limits::of_hardware(64), 1, 1)?, frozen: None };
+    /// let mut service = Service { queue: Queue::builder(Limits::of_hardware(64)).slots(1).tags(1).build()?, frozen: None };
     /// service.frozen = Some(service.queue.freeze_owned()?);
     /// assert_eq!(service.queue.depth(), 1);
     /// service.frozen = None;
     /// assert_eq!(service.queue.depth(), 0);
     /// # Ok::<(), Box<dyn std::error::Error>>(())
     /// ```
-    pub fn freeze_owned(&self) -> Result<OwnedFrozen, FreezeError> {
+    pub fn freeze_owned(&self) -> Result<OwnedFrozen<T>, FreezeError>
+    where
+        T: 'static,
+    {
         Ok(self.begin_freeze_owned()?.wait())
     }
 
@@ -69,14 +72,14 @@ impl Queue {
     ///
     /// ```
     /// # use freeze_queue::{Limits, Queue};
-    /// # let (one, other) = (Queue::new(Limits::of_hardware(64), 1, 1)?, Queue::new(Limits::of_hardware(64), 1, 1)?);
+    /// # let (one, other) = (Queue::builder(Limits::of_hardware(64)).slots(1).tags(1).build()?, Queue::builder(Limits::of_hardware(64)).slots(1).tags(1).build()?);
     /// let begun = [one.begin_freeze()?, other.begin_freeze()?]; // both drain at once
     /// let frozen = begun.map(|freezing| freezing.wait());
     /// # assert!(one.is_drained() && other.is_drained());
     /// # drop(frozen);
     /// # Ok::<(), Box<dyn std::error::Error>>(())
     /// ```
-    pub fn begin_freeze(&self) -> Result<Freezing<'_>, FreezeError> {
+    pub fn begin_freeze(&self) -> Result<Freezing<'_, T>, FreezeError> {
         Freezing::begin(Share::Borrowed(self.shared()))
     }
 
@@ -91,13 +94,16 @@ impl Queue {
     /// ```
     /// # use freeze_queue::{Limits, Queue};
     /// # use std::thread;
-    /// # let queue = Queue::new(Limits::of_hardware(64), 1, 1)?;
+    /// # let queue = Queue::builder(Limits::of_hardware(64)).slots(1).tags(1).build()?;
     /// let freezing = queue.begin_freeze_owned()?;
     /// thread::spawn(move || drop(freezing.wait())).join().unwrap();
     /// assert_eq!(queue.depth(), 0);
     /// # Ok::<(), Box<dyn std::error::Error>>(())
     /// ```
-    pub fn begin_freeze_owned(&self) -> Result<OwnedFreezing, FreezeError> {
+    pub fn begin_freeze_owned(&self) -> Result<OwnedFreezing<T>, FreezeError>
+    where
+        T: 'static,
+    {
         Freezing::begin(self.share())
     }
 
@@ -115,12 +121,12 @@ impl Queue {
     ///     frozen.set(limits.with_max(limits.max / 2)).expect("they are limits");
     ///     Ok(())
     /// }
-    /// # let queue = Queue::new(Limits::of_hardware(64), 1, 1)?;
+    /// # let queue = Queue::builder(Limits::of_hardware(64)).slots(1).tags(1).build()?;
     /// # let done = pin!(halve(&queue)).poll(&mut Context::from_waker(Waker::noop()));
     /// # assert_eq!((done, queue.limits().max, queue.depth()), (Poll::Ready(Ok(())), 32, 0));
     /// # Ok::<(), Box<dyn std::error::Error>>(())
     /// ```
-    pub fn freeze_async(&self) -> FreezeAsync<'_> {
+    pub fn freeze_async(&self) -> FreezeAsync<'_, T> {
         FreezeAsync::of(self)
     }
 
@@ -129,23 +135,23 @@ impl Queue {
     ///
     /// # Errors
     ///
-    /// [`TryFreezeError`] has each.
+    /// Returns [`FreezeError`].
     ///
     /// # Examples
     ///
     /// ```
-    /// # use freeze_queue::{Limits, Queue, TryFreezeError};
-    /// # let queue = Queue::new(Limits::of_hardware(64), 1, 1)?;
-    /// let mut tag = queue.next_tag(0)?;
+    /// # use freeze_queue::{Limits, Queue, FreezeError};
+    /// # let queue = Queue::builder(Limits::of_hardware(64)).slots(1).tags(1).build()?;
+    /// let mut tag = queue.tag()?;
     /// let request = queue.enter(&mut tag)?;
-    /// assert_eq!(queue.try_freeze().unwrap_err(), TryFreezeError::NotDrained);
+    /// assert_eq!(queue.try_freeze().unwrap_err(), FreezeError::NotDrained);
     /// drop(request);
     /// assert!(queue.try_freeze().is_ok());
     /// # Ok::<(), Box<dyn std::error::Error>>(())
     /// ```
-    pub fn try_freeze(&self) -> Result<Frozen<'_>, TryFreezeError> {
+    pub fn try_freeze(&self) -> Result<Frozen<'_, T>, FreezeError> {
         let freezing = self.begin_freeze()?;
-        if freezing.is_drained() { Ok(freezing.wait()) } else { Err(TryFreezeError::NotDrained) }
+        if freezing.is_drained() { Ok(freezing.wait()) } else { Err(FreezeError::NotDrained) }
     }
 
     /// Freezes the queue, and waits so long at most until each request that is under way has left. Where they haven't, it
@@ -153,21 +159,21 @@ impl Queue {
     ///
     /// # Errors
     ///
-    /// [`FreezeTimeoutError`] has each.
+    /// Returns [`FreezeError`].
     ///
     /// # Examples
     ///
     /// ```
-    /// # use freeze_queue::{FreezeTimeoutError, Limits, Queue};
+    /// # use freeze_queue::{FreezeError, Limits, Queue};
     /// # use std::time::Duration;
-    /// # let queue = Queue::new(Limits::of_hardware(64), 1, 1)?;
-    /// let mut tag = queue.next_tag(0)?;
+    /// # let queue = Queue::builder(Limits::of_hardware(64)).slots(1).tags(1).build()?;
+    /// let mut tag = queue.tag()?;
     /// let request = queue.enter(&mut tag)?;
     /// let late = queue.freeze_timeout(Duration::from_millis(1));
-    /// assert_eq!(late.unwrap_err(), FreezeTimeoutError::TimedOut);
+    /// assert_eq!(late.unwrap_err(), FreezeError::TimedOut);
     /// # Ok::<(), Box<dyn std::error::Error>>(())
     /// ```
-    pub fn freeze_timeout(&self, patience: Duration) -> Result<Frozen<'_>, FreezeTimeoutError> {
-        self.begin_freeze()?.wait_timeout(patience).map_err(|_thawed| FreezeTimeoutError::TimedOut)
+    pub fn freeze_timeout(&self, patience: Duration) -> Result<Frozen<'_, T>, FreezeError> {
+        self.begin_freeze()?.wait_timeout(patience).map_err(|_thawed| FreezeError::TimedOut)
     }
 }

@@ -1,11 +1,11 @@
 //! Requests stay entered, one after another.
 use super::Queue;
-use crate::entered::Entered;
 use crate::errors::EnterError;
+use crate::request::Request;
 use crate::tag::Tag;
 use std::ops::ControlFlow;
 
-impl Queue {
+impl<T> Queue<T> {
     /// Serves one request after another with one tag: each call of `serve` is a request that has entered, and between two
     /// of them the tag stays entered. That costs one load, in place of a leave and an enter. If a freeze has begun, the tag
     /// leaves, waits for the thaw as [`enter`](Queue::enter) does, and enters again, so the limits may differ then. It
@@ -16,7 +16,7 @@ impl Queue {
     ///
     /// # Errors
     ///
-    /// [`EnterError`] has each, also after some requests were served. The tag has left.
+    /// Returns [`EnterError`], also after some requests were served; the tag has already left.
     ///
     /// # Examples
     ///
@@ -24,8 +24,8 @@ impl Queue {
     /// # use freeze_queue::{Limits, Queue};
     /// use std::ops::ControlFlow;
     ///
-    /// # let queue = Queue::new(Limits::of_hardware(64), 1, 1)?;
-    /// let mut tag = queue.next_tag(0)?;
+    /// # let queue = Queue::builder(Limits::of_hardware(64)).slots(1).tags(1).build()?;
+    /// let mut tag = queue.tag()?;
     /// let mut work = vec![10, 200].into_iter();
     /// let mut commands = 0;
     /// queue.serve(&mut tag, |request| {
@@ -38,8 +38,8 @@ impl Queue {
     /// ```
     pub fn serve<B>(
         &self,
-        tag: &mut Tag,
-        mut serve: impl FnMut(&Entered<'_>) -> ControlFlow<B>,
+        tag: &mut Tag<T>,
+        mut serve: impl FnMut(&Request<'_, T>) -> ControlFlow<B>,
     ) -> Result<B, EnterError> {
         let mut request = self.enter(tag)?;
         loop {

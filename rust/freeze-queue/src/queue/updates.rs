@@ -1,13 +1,13 @@
 //! The limits are updated.
 use super::Queue;
-use crate::errors::{FreezeTimeoutError, UpdateError};
+use crate::errors::{FreezeError, UpdateError};
 use crate::limits::Limits;
 use crate::turns::Taken;
 use std::task::Poll;
 use std::time::{Duration, Instant};
 use std::{future, mem};
 
-impl Queue {
+impl<T> Queue<T> {
     /// Sets the limits that `change` makes of those in force, under a freeze of its own, and returns them.
     ///
     /// One update runs at a time, in order of arrival, and none loses the change of another. Before its freeze it lets the threads enter
@@ -25,7 +25,7 @@ impl Queue {
     ///
     /// ```
     /// # use freeze_queue::{Limits, LimitsError, Queue, UpdateError};
-    /// # let queue = Queue::new(Limits::of_hardware(64), 1, 1)?;
+    /// # let queue = Queue::builder(Limits::of_hardware(64)).slots(1).tags(1).build()?;
     /// let halved = queue.update(|limits| limits.with_max(limits.max / 2))?;
     /// assert_eq!((halved.max, queue.limits().max), (32, 32));
     /// let refused = queue.update(|limits| limits.with_max(65));
@@ -47,7 +47,7 @@ impl Queue {
     /// ```
     /// # use freeze_queue::{Limits, Queue, UpdateError};
     /// # use std::time::Duration;
-    /// # let queue = Queue::new(Limits::of_hardware(64), 1, 1)?;
+    /// # let queue = Queue::builder(Limits::of_hardware(64)).slots(1).tags(1).build()?;
     /// let request = queue.enter_any()?;
     /// let late = queue.update_timeout(Duration::from_millis(1), |limits| limits.with_max(8));
     /// assert_eq!(late, Err(UpdateError::TimedOut));
@@ -78,7 +78,7 @@ impl Queue {
                 None => freezing.wait(),
                 Some(at) => freezing
                     .wait_timeout(at.saturating_duration_since(Instant::now()))
-                    .map_err(|_thawed| FreezeTimeoutError::TimedOut)?,
+                    .map_err(|_thawed| FreezeError::TimedOut)?,
             };
             if frozen.replace(update) {
                 return Ok(update.to.into());
@@ -101,7 +101,7 @@ impl Queue {
     /// async fn halve(queue: &Queue) -> Result<Limits, UpdateError> {
     ///     queue.update_async(|limits| limits.with_max(limits.max / 2)).await
     /// }
-    /// # let queue = Queue::new(Limits::of_hardware(64), 1, 1)?;
+    /// # let queue = Queue::builder(Limits::of_hardware(64)).slots(1).tags(1).build()?;
     /// # let done = pin!(halve(&queue)).poll(&mut Context::from_waker(Waker::noop()));
     /// # assert_eq!(done, Poll::Ready(Ok(Limits::of_hardware(64).with_max(32))));
     /// # Ok::<(), Box<dyn std::error::Error>>(())

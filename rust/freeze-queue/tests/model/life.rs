@@ -5,9 +5,8 @@ use super::refusals::{agrees, in_time, look, waiting};
 use super::shared::{Chance, Woken};
 use super::some_limits;
 use freeze_queue::{
-    EnterAny, EnterAsync, EnterError, EnterOwnedAsync, Entered, Final, FreezeError, FreezeTimeoutError, Frozen,
-    GiveBackError, HandedBack, Limits, NextTagError, OwnedEntered, Piece, Queue, RemoveError, SetError, SlotError, Tag,
-    TryEnterError, TryFreezeError,
+    EnterAny, EnterAsync, EnterError, EnterOwnedAsync, Final, FreezeError, Frozen, HandedBack, Limits, OwnedRequest,
+    Piece, Queue, RemoveError, Request, Tag, UpdateError,
 };
 use std::collections::VecDeque;
 use std::mem;
@@ -21,8 +20,8 @@ const SEATS: usize = 16;
 /// A tag, in the forms that the crate has. One that stays where it is for ever is used by what borrows it.
 pub enum Seated<'q> {
     Free(Tag),
-    Owned(OwnedEntered),
-    Borrowed(Entered<'q>),
+    Owned(OwnedRequest),
+    Borrowed(Request<'q>),
     Enters(EnterAsync<'q>, Arc<Woken>),
     OwnedEnters(EnterOwnedAsync, Arc<Woken>),
     Any(EnterAny<'q>, At, Arc<Woken>),
@@ -110,16 +109,13 @@ impl<'q, 'c> Life<'q, 'c> {
         if self.seats[s].is_some() {
             return;
         }
-        let far = self.chance.one_in(8);
-        let slot = self.chance.below(if far { 70 } else { self.plains[q].slots });
         let plain = &mut self.plains[q];
-        match self.queues[q].0.next_tag(slot) {
-            Err(NextTagError::NoSlot) => assert!(slot >= plain.slots),
-            Err(NextTagError::NoTag) => assert_eq!((slot < plain.slots, plain.waiting), (true, 0)),
+        match self.queues[q].0.tag() {
+            Err(EnterError::NoTag) => assert_eq!(plain.waiting, 0),
             Err(other) => panic!("{other}"),
             Ok(tag) => {
-                assert!(slot < plain.slots && plain.waiting > 0 && tag.slot() == slot);
-                assert_eq!(tag.queue_number(), self.queues[q].0.number());
+                assert!(plain.waiting > 0);
+                assert_eq!(tag.queue_id(), self.queues[q].0.id());
                 (plain.waiting, plain.out) = (plain.waiting - 1, plain.out + 1);
                 self.seats[s] = Some(Seat { queue: q, forgotten: false, seated: Seated::Free(tag) });
             }
@@ -127,35 +123,24 @@ impl<'q, 'c> Life<'q, 'c> {
     }
 
     fn give_back(&mut self, q: usize, s: usize) {
-        let Some(Seat { queue, forgotten, seated: Seated::Free(tag) }) = self.seats[s].take_if(is_free) else { return };
-        let want = match (queue == q, forgotten) {
-            (false, _) => Err(GiveBackError::OtherQueue),
-            (true, true) => Err(GiveBackError::StillEntered),
-            (true, false) => Ok(()),
+        let Some(seat) = self.seats[s].take_if(|seat| is_free(seat) && seat.queue == q && !seat.forgotten) else {
+            return;
         };
-        match self.queues[q].0.give_back(tag) {
-            Ok(()) => {
-                assert_eq!(want, Ok(()));
-                self.goes_home(q);
-            }
-            Err(HandedBack { value, reason }) => {
-                assert_eq!(want, Err(reason));
-                self.seats[s] = Some(Seat { queue, forgotten, seated: Seated::Free(value) });
-            }
-        }
+        drop(seat);
+        self.goes_home(q);
     }
 
     /// Why a tag doesn't enter at once.
-    pub fn refusal(&self, q: usize, seat: &Seat<'q>) -> Option<TryEnterError> {
+    pub fn refusal(&self, q: usize, seat: &Seat<'q>) -> Option<EnterError> {
         let plain = &self.plains[q];
         if seat.queue != q {
-            Some(TryEnterError::OtherQueue)
+            Some(EnterError::OtherQueue)
         } else if seat.forgotten {
-            Some(TryEnterError::StillEntered)
+            Some(EnterError::StillEntered)
         } else if plain.dying {
-            Some(TryEnterError::Dying)
+            Some(EnterError::Dying)
         } else {
-            (plain.depth > 0).then_some(TryEnterError::Frozen)
+            (plain.depth > 0).then_some(EnterError::Frozen)
         }
     }
 
@@ -171,7 +156,7 @@ impl<'q, 'c> Life<'q, 'c> {
             } else {
                 queue.try_enter(tag).unwrap()
             })
-        } else if self.chance.one_in(2) && why != Some(TryEnterError::Frozen) {
+        } else if self.chance.one_in(2) && why != Some(EnterError::Frozen) {
             match queue.enter_owned(tag) {
                 Ok(request) => Seated::Owned(request),
                 Err(HandedBack { value, reason }) => {
@@ -196,17 +181,16 @@ impl<'q, 'c> Life<'q, 'c> {
 
     /// A request looks at its limits, and leaves. A tag that is borrowed for ever goes with it.
     fn leave(&mut self, s: usize) {
-        let (slot, start) = (self.chance.below(70), u64::from(self.chance.below(5000)));
+        let start = u64::from(self.chance.below(5000));
         let Some(seat) = &mut self.seats[s] else { return };
         let plain = &mut self.plains[seat.queue];
-        let used = if slot < plain.slots { Ok(()) } else { Err(SlotError::NoSlot) };
-        let (limits, pieces, at) = match &mut seat.seated {
-            Seated::Owned(r) => (*r.limits(), r.pieces(start, 50).map(Iterator::collect), r.use_slot(slot)),
-            Seated::Borrowed(r) => (*r.limits(), r.pieces(start, 50).map(Iterator::collect), r.use_slot(slot)),
+        let (limits, pieces) = match &mut seat.seated {
+            Seated::Owned(r) => (*r.limits(), r.pieces(start, 50).map(Iterator::collect)),
+            Seated::Borrowed(r) => (*r.limits(), r.pieces(start, 50).map(Iterator::collect)),
             _ => return,
         };
         let pieces: Vec<Piece> = pieces.unwrap();
-        assert_eq!((limits, at), (plain.limits, used));
+        assert_eq!(limits, plain.limits);
         if limits.max < 1000 {
             assert_eq!(pieces, plain::pieces(&limits, start, 50));
         }
@@ -228,7 +212,7 @@ impl<'q, 'c> Life<'q, 'c> {
         let entered = match how {
             0 => agrees(queue.try_enter_frozen(tag), look(why, plain)),
             1 => agrees(queue.try_enter(tag), why),
-            2 if why != Some(TryEnterError::Frozen) => agrees(queue.enter(tag), why.map(waiting)),
+            2 if why != Some(EnterError::Frozen) => agrees(queue.enter(tag), why.map(waiting)),
             _ => agrees(queue.enter_timeout(tag, Duration::ZERO), why.map(in_time)),
         };
         seat.forgotten |= entered.is_some_and(|request| {
@@ -270,9 +254,9 @@ impl<'q, 'c> Life<'q, 'c> {
             *woken = Arc::default();
             let waker = Waker::from(Arc::clone(woken));
             match Pin::new(entering).poll(&mut Context::from_waker(&waker)) {
-                Poll::Pending => assert_eq!(why, Some(TryEnterError::Frozen)),
+                Poll::Pending => assert_eq!(why, Some(EnterError::Frozen)),
                 Poll::Ready(Err(reason)) => {
-                    assert_eq!((reason, why), (EnterError::Dying, Some(TryEnterError::Dying)));
+                    assert_eq!((reason, why), (EnterError::Dying, Some(EnterError::Dying)));
                     return; // and its tag is gone
                 }
                 Poll::Ready(Ok(request)) => {
@@ -289,7 +273,7 @@ impl<'q, 'c> Life<'q, 'c> {
     fn freeze(&mut self, q: usize) {
         let (how, forgets) = (self.chance.below(3), self.chance.one_in(200));
         let (plain, queue) = (&mut self.plains[q], &self.queues[q].0);
-        if plain.depth == Queue::MOST_DEPTH {
+        if plain.depth == Queue::MAX_DEPTH {
             assert_eq!(queue.freeze().unwrap_err(), FreezeError::DepthFull);
             return;
         }
@@ -297,8 +281,8 @@ impl<'q, 'c> Life<'q, 'c> {
         let drained = plain.freezes();
         let frozen = match how {
             0 if drained => agrees(queue.freeze(), None),
-            1 => agrees(queue.try_freeze(), (!drained).then_some(TryFreezeError::NotDrained)),
-            _ => agrees(queue.freeze_timeout(Duration::ZERO), (!drained).then_some(FreezeTimeoutError::TimedOut)),
+            1 => agrees(queue.try_freeze(), (!drained).then_some(FreezeError::NotDrained)),
+            _ => agrees(queue.freeze_timeout(Duration::ZERO), (!drained).then_some(FreezeError::TimedOut)),
         };
         match frozen {
             Some(frozen) if forgets => mem::forget(frozen),
@@ -357,8 +341,8 @@ impl<'q, 'c> Life<'q, 'c> {
         let plain = &mut self.plains[*q];
         limits.hardware = if same { plain.limits.hardware } else { limits.hardware };
         let want = match plain::refusal(&limits) {
-            Some(why) => Err(SetError::Limits(why)),
-            None if limits.hardware != plain.limits.hardware => Err(SetError::OtherHardware),
+            Some(why) => Err(UpdateError::Limits(why)),
+            None if limits.hardware != plain.limits.hardware => Err(UpdateError::OtherHardware),
             None => Ok(()),
         };
         assert_eq!(frozen.set(limits), want);
@@ -374,6 +358,7 @@ impl<'q, 'c> Life<'q, 'c> {
         let stats = queue.stats();
         assert_eq!((stats.freezes, stats.updates), (plain.begun, plain.updates));
         assert!(stats.longest_drain <= stats.draining);
+        assert_eq!((queue.slots(), queue.tags()), (plain.slots, plain.tags));
         if self.chance.one_in(2) { queue.switch_to_atomic() } else { queue.switch_to_slots() }
     }
 
@@ -408,7 +393,7 @@ pub fn end(queue: Arc<Queue>, plain: &Plain) {
     let limits: Limits = plain.limits;
     match queue.remove() {
         Ok(last) => {
-            let want = Final { kills: plain.kills + live, releases: plain.releases + live, limits };
+            let want = Final { kills: plain.kills + live, releases: plain.releases + live, limits, value: () };
             assert_eq!((last, plain.out), (want, 0));
         }
         Err(HandedBack { value, reason }) => {

@@ -3,7 +3,7 @@ use super::life::{Life, Seat, Seated, is_free};
 use super::plain;
 use super::shared::Woken;
 use super::some_limits;
-use freeze_queue::{Drained, EnterAnyError, EnterError, Freezing, TryEnterAnyError, TryEnterError, UpdateError};
+use freeze_queue::{Drained, EnterError, Freezing, UpdateError};
 use std::pin::Pin;
 use std::sync::Arc;
 use std::task::{Context, Poll, Waker};
@@ -72,13 +72,13 @@ impl<'q> Life<'q, '_> {
         let (plain, waits) = (&mut self.plains[q], self.chance.one_in(2));
         let queue = &self.queues[q].0;
         let entered = match (plain.waiting, plain.depth, plain.dying, waits) {
-            (0, _, _, false) => queue.try_enter_any().map_err(|why| assert_eq!(why, TryEnterAnyError::NoTag)),
+            (0, _, _, false) => queue.try_enter_any().map_err(|why| assert_eq!(why, EnterError::NoTag)),
             (0, _, _, true) => queue.enter_any_timeout(Duration::ZERO).map_err(|_| ()),
             (_, 0, false, false) => queue.try_enter_any().map_err(|why| panic!("{why}")),
             (_, 0, false, true) => queue.enter_any().map_err(|why| panic!("{why}")),
-            (_, _, true, true) => queue.enter_any().map_err(|why| assert_eq!(why, EnterAnyError::Dying)),
-            (_, _, true, false) => queue.try_enter_any().map_err(|why| assert_eq!(why, TryEnterAnyError::Dying)),
-            (..) => queue.try_enter_any().map_err(|why| assert_eq!(why, TryEnterAnyError::Frozen)),
+            (_, _, true, true) => queue.enter_any().map_err(|why| assert_eq!(why, EnterError::Dying)),
+            (_, _, true, false) => queue.try_enter_any().map_err(|why| assert_eq!(why, EnterError::Dying)),
+            (..) => queue.try_enter_any().map_err(|why| assert_eq!(why, EnterError::Frozen)),
         };
         assert_eq!(entered.is_ok(), plain.waiting > 0 && !plain.is_closed());
         if let Ok(request) = entered {
@@ -123,14 +123,14 @@ impl<'q> Life<'q, '_> {
                     self.seats[s] = Some(seat);
                     return;
                 }
-                polled.map_err(|why| (assert_eq!(why, EnterAnyError::Dying), EnterError::Dying).1)
+                polled.map_err(|why| (assert_eq!(why, EnterError::Dying), EnterError::Dying).1)
             }
             _ => unreachable!("it was asked for"),
         };
         let had_tag = !matches!(seat.seated, Seated::Any(_, At::Begin, _));
         match done {
             Poll::Pending => {
-                assert_eq!(why, Some(TryEnterError::Frozen));
+                assert_eq!(why, Some(EnterError::Frozen));
                 self.seats[s] = Some(seat);
             }
             Poll::Ready(Ok(request)) => {

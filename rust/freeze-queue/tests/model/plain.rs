@@ -5,6 +5,7 @@ use freeze_queue::{Limits, LimitsError, Piece};
 #[derive(Clone, Debug)]
 pub struct Plain {
     pub slots: u32,
+    pub tags: u32,
     /// Tags that wait to be given, and that are out.
     pub waiting: u32,
     pub out: u32,
@@ -26,6 +27,7 @@ impl Plain {
         let (begun, updates, kills, releases) = (0, 0, 0, 0);
         Plain {
             slots,
+            tags,
             waiting: tags,
             out: 0,
             entered: 0,

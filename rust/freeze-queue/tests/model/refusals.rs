@@ -1,6 +1,6 @@
 //! A refusal of the model, for each way in.
 use super::plain::Plain;
-use freeze_queue::{EnterError, EnterFrozenError, EnterTimeoutError, TryEnterError};
+use freeze_queue::EnterError;
 
 /// A call gives something, or refuses for this reason.
 pub fn agrees<T, E: PartialEq + std::fmt::Debug>(answer: Result<T, E>, why: Option<E>) -> Option<T> {
@@ -16,31 +16,31 @@ pub fn agrees<T, E: PartialEq + std::fmt::Debug>(answer: Result<T, E>, why: Opti
 }
 
 /// Why a tag doesn't enter that looks at a queue, of one that may be frozen.
-pub fn look(why: Option<TryEnterError>, plain: &Plain) -> Option<EnterFrozenError> {
+pub fn look(why: Option<EnterError>, plain: &Plain) -> Option<EnterError> {
     match why {
-        Some(TryEnterError::OtherQueue) => Some(EnterFrozenError::OtherQueue),
-        Some(TryEnterError::StillEntered) => Some(EnterFrozenError::StillEntered),
-        _ => plain.is_drained().then_some(EnterFrozenError::Drained),
+        Some(EnterError::OtherQueue) => Some(EnterError::OtherQueue),
+        Some(EnterError::StillEntered) => Some(EnterError::StillEntered),
+        _ => plain.is_drained().then_some(EnterError::Drained),
     }
 }
 
 /// The same refusal, for a call that would wait.
-pub fn waiting(why: TryEnterError) -> EnterError {
+pub fn waiting(why: EnterError) -> EnterError {
     match why {
-        TryEnterError::OtherQueue => EnterError::OtherQueue,
-        TryEnterError::StillEntered => EnterError::StillEntered,
-        TryEnterError::Dying => EnterError::Dying,
+        EnterError::OtherQueue => EnterError::OtherQueue,
+        EnterError::StillEntered => EnterError::StillEntered,
+        EnterError::Dying => EnterError::Dying,
         other => panic!("a thread that waits for a thaw of its own never enters: {other}"),
     }
 }
 
 /// The same refusal, for a call that waits no time.
-pub fn in_time(why: TryEnterError) -> EnterTimeoutError {
+pub fn in_time(why: EnterError) -> EnterError {
     match why {
-        TryEnterError::OtherQueue => EnterTimeoutError::OtherQueue,
-        TryEnterError::StillEntered => EnterTimeoutError::StillEntered,
-        TryEnterError::Dying => EnterTimeoutError::Dying,
-        TryEnterError::Frozen => EnterTimeoutError::TimedOut,
+        EnterError::OtherQueue => EnterError::OtherQueue,
+        EnterError::StillEntered => EnterError::StillEntered,
+        EnterError::Dying => EnterError::Dying,
+        EnterError::Frozen => EnterError::TimedOut,
         other => panic!("{other}"),
     }
 }

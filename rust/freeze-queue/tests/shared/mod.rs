@@ -16,13 +16,13 @@ pub const LIMITS: Limits = Limits::of_hardware(64).with_max(32).with_chunk(128).
 
 /// A queue with these limits.
 pub fn queue(slots: u32, tags: u32) -> Queue {
-    Queue::new(LIMITS, slots, tags).unwrap()
+    Queue::builder(LIMITS).slots(slots).tags(tags).build().unwrap()
 }
 
 /// A queue of two slots and two tags, with its first tag.
 pub fn with_tag() -> (Queue, Tag) {
     let queue = queue(2, 2);
-    let tag = queue.next_tag(0).unwrap();
+    let tag = queue.tag().unwrap();
     (queue, tag)
 }
 

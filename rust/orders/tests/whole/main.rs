@@ -34,18 +34,17 @@ mod erased_queue {
 #[path = "../../../freeze-queue/src"]
 mod files {
     pub(crate) mod body;
+    pub(crate) mod builder;
     pub(crate) mod counts;
     pub(crate) mod drained;
     pub(crate) mod drains;
     pub(crate) mod enter_any;
     pub(crate) mod enter_async;
     pub(crate) mod enter_owned_async;
-    pub(crate) mod entered;
     pub(crate) mod errors;
     pub(crate) mod excluded;
     pub(crate) mod freezing;
     pub(crate) mod frozen;
-    pub(crate) mod guarded;
     pub(crate) mod handed_back;
     pub(crate) mod in_flight;
     pub(crate) mod lent;
@@ -58,17 +57,19 @@ mod files {
     pub(crate) mod pieces;
     pub(crate) mod places;
     pub(crate) mod queue;
+    pub(crate) mod request;
     pub(crate) mod seats;
     pub(crate) mod shared;
     pub(crate) mod tag;
     pub(crate) mod turns;
+    pub(crate) mod value;
     pub(crate) mod waits;
 }
 
 use files::{
-    body, counts, drained, drains, enter_any, enter_async, enter_owned_async, entered, errors, excluded, freezing,
-    frozen, guarded, handed_back, in_flight, lent, limits, line, locked, outcomes, owned, patience, pieces, places,
-    queue, seats, shared, tag, turns, waits,
+    body, builder, counts, drained, drains, enter_any, enter_async, enter_owned_async, errors, excluded, freezing,
+    frozen, handed_back, in_flight, lent, limits, line, locked, outcomes, owned, patience, pieces, places, queue,
+    request, seats, shared, tag, turns, value, waits,
 };
 
 mod sync {
@@ -95,15 +96,14 @@ mod threads {
     pub(crate) fn note(_thread: u32, _from: usize) {}
 }
 
-mod races;
 #[path = "../shared/value.rs"]
-mod value;
+mod plain_value;
+mod races;
 
 use drained::{Drained, FreezeAsync};
 use enter_any::EnterAny;
 use enter_async::EnterAsync;
 use enter_owned_async::EnterOwnedAsync;
-use entered::Entered;
 use errors::*;
 use freezing::{Freezing, OwnedFreezing};
 use frozen::{Frozen, OwnedFrozen};
@@ -111,6 +111,7 @@ use handed_back::HandedBack;
 use in_flight::InFlight;
 use limits::Limits;
 use outcomes::Final;
-use owned::OwnedEntered;
+use owned::OwnedRequest;
 use queue::Queue;
+use request::Request;
 use tag::Tag;

@@ -1,6 +1,6 @@
 //! Futures and threads that wait for the drain, beside requests that leave.
 use super::race;
-use crate::{Limits, OwnedEntered, Queue};
+use crate::{Limits, OwnedRequest, Queue};
 use orders::turns::{block_on, waker};
 use std::pin::pin;
 use std::sync::Mutex;
@@ -9,11 +9,11 @@ use std::task::Context;
 /// A queue with two requests in flight.
 struct Parts {
     queue: Queue,
-    requests: [Mutex<Option<OwnedEntered>>; 2],
+    requests: [Mutex<Option<OwnedRequest>>; 2],
 }
 
 fn parts() -> Parts {
-    let queue = Queue::new(Limits::of_hardware(64), 1, 2).unwrap();
+    let queue = Queue::builder(Limits::of_hardware(64)).slots(1).tags(2).build().unwrap();
     let requests = [(); 2].map(|()| Mutex::new(Some(queue.try_enter_any().unwrap())));
     Parts { queue, requests }
 }

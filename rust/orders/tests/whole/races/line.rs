@@ -1,6 +1,6 @@
 //! A line for two tags, and one that a deadline ends.
 use super::race;
-use crate::{EnterAnyTimeoutError, Limits, Queue};
+use crate::{EnterError, Limits, Queue};
 use orders::turns::block_on;
 use std::time::Duration;
 
@@ -20,7 +20,7 @@ fn is_whole(queue: Queue) {
 
 #[test]
 fn three_and_two_tags() {
-    let two_tags = || Queue::new(Limits::of_hardware(64), 1, 2).unwrap();
+    let two_tags = || Queue::builder(Limits::of_hardware(64)).slots(1).tags(2).build().unwrap();
     race("two threads and a task and two tags", 2, two_tags, &[enters, enters, enters_async], is_whole);
 }
 
@@ -29,8 +29,8 @@ fn three_and_two_tags() {
 fn a_deadline_passes_in_line() {
     fn enters_in_no_time(queue: &Queue) {
         let entered = queue.enter_any_timeout(Duration::ZERO).map(drop);
-        assert!(matches!(entered, Ok(()) | Err(EnterAnyTimeoutError::TimedOut)));
+        assert!(matches!(entered, Ok(()) | Err(EnterError::TimedOut)));
     }
-    let one_tag = || Queue::new(Limits::of_hardware(64), 1, 1).unwrap();
+    let one_tag = || Queue::builder(Limits::of_hardware(64)).slots(1).tags(1).build().unwrap();
     race("a deadline that passes in line", 3, one_tag, &[enters, enters_async, enters_in_no_time], is_whole);
 }

@@ -1,12 +1,12 @@
 //! Requests with any tag, more than there are tags: each wait in line ends, and each tag is home at the end.
 use super::race;
-use crate::{EnterAnyError, Limits, Queue, TryEnterAnyError};
+use crate::{EnterError, Limits, Queue};
 use orders::turns::{block_on, waker};
 use std::pin::pin;
 use std::task::{Context, Poll};
 
 fn one_tag() -> Queue {
-    Queue::new(Limits::of_hardware(64), 1, 1).unwrap()
+    Queue::builder(Limits::of_hardware(64)).slots(1).tags(1).build().unwrap()
 }
 
 fn visits(queue: &Queue) {
@@ -67,7 +67,7 @@ fn two_give_up_in_line() {
 #[test]
 fn a_tag_that_was_kept_comes_home() {
     fn keeps(queue: &Queue) {
-        drop(queue.next_tag(0));
+        drop(queue.tag());
     }
     race("a tag that was kept", 3, one_tag, &[keeps, visits, visits_async], is_whole);
 }
@@ -91,16 +91,16 @@ fn two_tasks_freeze_beside_a_request() {
 #[test]
 fn the_device_goes_away_under_a_line() {
     fn enters(queue: &Queue) {
-        assert!(queue.enter_any().map_or_else(|why| why == EnterAnyError::Dying, |_| true));
+        assert!(queue.enter_any().map_or_else(|why| why == EnterError::Dying, |_| true));
     }
     fn enters_async(queue: &Queue) {
-        assert!(block_on(queue.enter_any_async()).map_or_else(|why| why == EnterAnyError::Dying, |_| true));
+        assert!(block_on(queue.enter_any_async()).map_or_else(|why| why == EnterError::Dying, |_| true));
     }
     fn goes(queue: &Queue) {
         queue.freeze_owned().unwrap().mark_dying();
     }
     race("a device that goes away under a line", 3, one_tag, &[enters, enters_async, goes], |queue| {
-        assert_eq!(queue.try_enter_any().unwrap_err(), TryEnterAnyError::Dying);
+        assert_eq!(queue.try_enter_any().unwrap_err(), EnterError::Dying);
         queue.remove().unwrap();
     });
 }
@@ -108,7 +108,7 @@ fn the_device_goes_away_under_a_line() {
 /// The handle is dropped while a request ends elsewhere: the tag goes home or ends, and the queue with the last share.
 #[test]
 fn the_handle_is_dropped_beside_a_request() {
-    type Parts = (std::sync::Mutex<Option<Queue>>, std::sync::Mutex<Option<crate::OwnedEntered>>);
+    type Parts = (std::sync::Mutex<Option<Queue>>, std::sync::Mutex<Option<crate::OwnedRequest>>);
     fn parts() -> Parts {
         let queue = one_tag();
         let request = queue.enter_any().unwrap();
@@ -143,7 +143,7 @@ fn is_removed(place: std::sync::Mutex<Option<Queue>>) {
 /// The queue is removed as soon as its tag is home, beside the call that brings it.
 #[test]
 fn a_removal_beside_a_tag_that_comes_home() {
-    type Parts = (std::sync::Mutex<Option<Queue>>, std::sync::Mutex<Option<crate::OwnedEntered>>);
+    type Parts = (std::sync::Mutex<Option<Queue>>, std::sync::Mutex<Option<crate::OwnedRequest>>);
     fn parts() -> Parts {
         let queue = one_tag();
         let request = queue.enter_any().unwrap();
@@ -165,7 +165,7 @@ fn a_removal_beside_a_thaw_that_wakes() {
     type Parts = (Place<Queue>, Place<crate::OwnedFrozen>, Place<crate::EnterOwnedAsync>);
     fn parts() -> Parts {
         let queue = one_tag();
-        let (frozen, entering) = (queue.freeze_owned().unwrap(), queue.enter_owned_async(queue.next_tag(0).unwrap()));
+        let (frozen, entering) = (queue.freeze_owned().unwrap(), queue.enter_owned_async(queue.tag().unwrap()));
         (Place::new(Some(queue)), Place::new(Some(frozen)), Place::new(Some(entering)))
     }
     fn thaws(parts: &Parts) {

@@ -11,8 +11,8 @@ struct Parts {
 }
 
 fn parts() -> Parts {
-    let queue = Queue::new(Limits::of_hardware(64), 2, 2).unwrap();
-    let tags = (0..2).map(|tag| Mutex::new(queue.next_tag(tag).unwrap())).collect();
+    let queue = Queue::builder(Limits::of_hardware(64)).slots(2).tags(2).build().unwrap();
+    let tags = (0..2).map(|_| Mutex::new(queue.tag().unwrap())).collect();
     Parts { queue, tags }
 }
 
@@ -43,7 +43,7 @@ fn stays_or_enters(parts: &Parts, times: u32) {
 fn serves(parts: &Parts, tag: usize, times: u32) {
     with_tag(parts, tag, |tag| {
         let mut left = times;
-        let serve = |request: &crate::Entered<'_>| {
+        let serve = |request: &crate::Request<'_>| {
             assert!([64, 8].contains(&request.limits().max));
             left = left.wrapping_sub(1);
             if left == u32::MAX { Break(()) } else { Continue(()) }

@@ -1,18 +1,18 @@
 //! A value that a queue guards: no request reads it while a freeze changes it, and no two freezes change it at once.
 use super::race;
-use crate::guarded::Queue;
-use crate::value::Value;
+use crate::plain_value::Value;
+use crate::queue::Queue;
 use crate::{Limits, Tag};
 use std::sync::Mutex;
 
 struct Parts {
     queue: Queue<Value>,
-    tags: Vec<Mutex<Tag>>,
+    tags: Vec<Mutex<Tag<Value>>>,
 }
 
 fn parts() -> Parts {
-    let queue = Queue::new(Value::default(), Limits::of_hardware(64), 1, 2).unwrap();
-    let tags = (0..2).map(|_| Mutex::new(queue.next_tag(0).unwrap())).collect();
+    let queue = Queue::builder(Limits::of_hardware(64)).slots(1).tags(2).value(Value::default()).build().unwrap();
+    let tags = (0..2).map(|_| Mutex::new(queue.tag().unwrap())).collect();
     Parts { queue, tags }
 }
 
@@ -25,7 +25,8 @@ fn changes(parts: &Parts) {
 }
 
 fn changed(parts: Parts, times: u32) {
-    assert_eq!(parts.queue.into_inner().changes, times);
+    drop(parts.tags);
+    assert_eq!(parts.queue.remove().unwrap().value.changes, times);
 }
 
 #[test]

@@ -1,6 +1,6 @@
 //! Threads and tasks that enter, beside threads that freeze: each wait ends.
 use super::race;
-use crate::{EnterError, EnterTimeoutError, FreezeTimeoutError, Limits, Queue, Tag, TryEnterError};
+use crate::{EnterError, FreezeError, Limits, Queue, Tag};
 use orders::turns::{block_on, waker};
 use std::pin::pin;
 use std::sync::{Mutex, PoisonError};
@@ -14,8 +14,8 @@ struct Parts {
 }
 
 fn parts() -> Parts {
-    let queue = Queue::new(Limits::of_hardware(64), 1, 2).unwrap();
-    let tags = (0..2).map(|_| Mutex::new(queue.next_tag(0).unwrap())).collect();
+    let queue = Queue::builder(Limits::of_hardware(64)).slots(1).tags(2).build().unwrap();
+    let tags = (0..2).map(|_| Mutex::new(queue.tag().unwrap())).collect();
     Parts { queue, tags }
 }
 
@@ -44,7 +44,7 @@ fn is_live(parts: Parts) {
     for tag in parts.tags {
         let mut tag = tag.into_inner().unwrap_or_else(PoisonError::into_inner);
         drop(parts.queue.try_enter(&mut tag).expect("a live queue"));
-        parts.queue.give_back(tag).unwrap();
+        drop(tag);
     }
     parts.queue.remove().unwrap();
 }
@@ -103,7 +103,7 @@ fn the_device_goes_away() {
     }
     race("a thread and a task at a device that goes away", 3, parts, &[enters, enters_async, goes], |parts| {
         let mut tag = parts.tags[0].lock().unwrap();
-        assert_eq!(parts.queue.try_enter(&mut tag).unwrap_err(), TryEnterError::Dying);
+        assert_eq!(parts.queue.try_enter(&mut tag).unwrap_err(), EnterError::Dying);
         assert_eq!((parts.queue.depth(), parts.queue.is_dying()), (0, true));
     });
 }
@@ -114,11 +114,11 @@ fn deadlines_pass_at_any_moment() {
     fn enters(parts: &Parts) {
         let mut tag = parts.tags[0].lock().unwrap();
         let entered = parts.queue.enter_timeout(&mut tag, Duration::from_secs(1000));
-        assert!(entered.map_or_else(|why| why == EnterTimeoutError::TimedOut, |_| true));
+        assert!(entered.map_or_else(|why| why == EnterError::TimedOut, |_| true));
     }
     fn freezes(parts: &Parts) {
         let frozen = parts.queue.freeze_timeout(Duration::from_secs(1000));
-        assert!(frozen.map_or_else(|why| why == FreezeTimeoutError::TimedOut, |_| true));
+        assert!(frozen.map_or_else(|why| why == FreezeError::TimedOut, |_| true));
     }
     race("deadlines that pass at any moment", 3, parts, &[enters, |it| visits_async(it, 1), freezes], is_live);
 }

@@ -4,7 +4,7 @@
 //! threads read, the middle of CHANGES, in microseconds.
 
 use arc_swap::ArcSwap;
-use freeze_queue::{Limits, guarded::Queue};
+use freeze_queue::{Limits, Queue};
 use percpu_gate::{Start, guarded::Gate};
 use std::cell::RefCell;
 use std::fs;
@@ -63,8 +63,8 @@ impl Way for ArcSwap<Device> {
 }
 
 impl Way for Queue<Device> {
-    fn reads(&self, number: u32, mut go_on: impl FnMut() -> bool) {
-        let mut tag = self.next_tag(number).expect("a tag");
+    fn reads(&self, _number: u32, mut go_on: impl FnMut() -> bool) {
+        let mut tag = self.tag().expect("a tag");
         while go_on() {
             black_box(self.enter(&mut tag).expect("a live queue").read());
         }
@@ -78,8 +78,8 @@ impl Way for Queue<Device> {
 struct Staying(Queue<Device>);
 
 impl Way for Staying {
-    fn reads(&self, number: u32, mut go_on: impl FnMut() -> bool) {
-        let mut tag = self.0.next_tag(number).expect("a tag");
+    fn reads(&self, _number: u32, mut go_on: impl FnMut() -> bool) {
+        let mut tag = self.0.tag().expect("a tag");
         let mut request = self.0.enter(&mut tag).expect("a live queue");
         while go_on() {
             black_box(request.read());
@@ -192,7 +192,7 @@ fn main() -> ExitCode {
     }
     let sizes = (threads, rounds, changes);
     let device = Device::default();
-    let queue = || Queue::new(device, Limits::of_hardware(64), threads, threads).expect("a queue");
+    let queue = || Queue::builder(Limits::of_hardware(64)).slots(threads).tags(threads).value(device).build().expect("a queue");
     let gate = || Gate::new(device, threads, threads, Start::Slots, Arc::new(|| {})).expect("a gate");
     time("RwLock<T>", || RwLock::new(device), sizes);
     time("ArcSwap<T>", || ArcSwap::from_pointee(device), sizes);

@@ -3,8 +3,7 @@
 //! Each task waits for a tag in line, enters, holds its request across awaits, and reads the device meanwhile. Another task changes the
 //! device under freezes, which it awaits too. At the end the device comes back.
 
-use freeze_queue::Limits;
-use freeze_queue::guarded::Queue;
+use freeze_queue::{Limits, Queue};
 use std::env;
 use std::sync::Arc;
 use std::sync::atomic::{AtomicU64, Ordering::Relaxed};
@@ -36,7 +35,7 @@ async fn change(queue: &Queue<Device>) {
 
 async fn run(tasks: u64, requests: u64, changes: u64) -> Device {
     let device = Device { version: 0, name: "0".into(), served: AtomicU64::new(0) };
-    let queue = Arc::new(Queue::new(device, Limits::of_hardware(64), 4, 63).expect("a queue"));
+    let queue = Arc::new(Queue::builder(Limits::of_hardware(64)).tags(63).value(device).build().expect("a queue"));
     let mut all: Vec<JoinHandle<()>> = Vec::new();
     let changed = Arc::clone(&queue);
     all.push(spawn(async move {
@@ -56,7 +55,7 @@ async fn run(tasks: u64, requests: u64, changes: u64) -> Device {
         task.await.expect("a task");
     }
     let queue = Arc::into_inner(queue).expect("the tasks have ended");
-    queue.remove().expect("each tag is home").0
+    queue.remove().expect("each tag is home").value
 }
 
 fn main() {

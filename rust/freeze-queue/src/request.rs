@@ -1,7 +1,7 @@
 //! A request that has entered.
 use crate::body::TagState;
 use crate::erased::queue_core::{Put, Stay};
-use crate::errors::{EnterError, RangeError, SlotError, StayError};
+use crate::errors::{EnterError, LimitsError};
 use crate::limits::Limits;
 use crate::pieces::Pieces;
 use crate::shared::Shared;
@@ -18,8 +18,8 @@ use std::mem::ManuallyDrop;
 /// ```
 /// use freeze_queue::{Limits, Queue};
 ///
-/// let queue = Queue::new(Limits::of_hardware(64).with_max(8), 1, 1)?;
-/// let mut tag = queue.next_tag(0)?;
+/// let queue = Queue::builder(Limits::of_hardware(64).with_max(8)).slots(1).tags(1).build()?;
+/// let mut tag = queue.tag()?;
 /// let request = queue.enter(&mut tag)?;
 /// for piece in request.pieces(0, 20)? {
 ///     assert!(piece.sectors <= request.limits().max);
@@ -28,33 +28,33 @@ use std::mem::ManuallyDrop;
 /// # Ok::<(), Box<dyn std::error::Error>>(())
 /// ```
 #[must_use = "a request leaves where it is dropped"]
-pub struct Entered<'e> {
-    queue: &'e Shared,
+pub struct Request<'e, T = ()> {
+    queue: &'e Shared<T>,
     /// A tag of this queue that has entered.
     tag: &'e mut TagState,
     limits: Limits,
 }
 
-impl<'e> Entered<'e> {
+impl<'e, T> Request<'e, T> {
     /// The request of a tag of this queue that has entered.
     #[inline]
-    pub(crate) fn of(queue: &'e Shared, tag: &'e mut TagState) -> Entered<'e> {
+    pub(crate) fn of(queue: &'e Shared<T>, tag: &'e mut TagState) -> Request<'e, T> {
         let limits = queue.limits_under(tag);
-        Entered { queue, tag, limits }
+        Request { queue, tag, limits }
     }
 
     /// The number of its queue.
     #[inline]
-    pub(crate) fn queue_number(&self) -> u64 {
-        self.queue.number.get()
+    pub(crate) fn queue(&self) -> &'e Shared<T> {
+        self.queue
     }
 
     /// The number of its tag ([`Tag::number`](crate::Tag::number)), by which [`Queue::in_flight`](crate::Queue::in_flight) lists it.
     ///
     /// ```
     /// # use freeze_queue::{Limits, Queue};
-    /// # let queue = Queue::new(Limits::of_hardware(64), 1, 1)?;
-    /// # let mut tag = queue.next_tag(0)?;
+    /// # let queue = Queue::builder(Limits::of_hardware(64)).slots(1).tags(1).build()?;
+    /// # let mut tag = queue.tag()?;
     /// queue.watch(true);
     /// let request = queue.enter(&mut tag)?;
     /// assert!(queue.in_flight().any(|it| it.tag == request.tag_number()));
@@ -70,8 +70,8 @@ impl<'e> Entered<'e> {
     ///
     /// ```
     /// # use freeze_queue::{Limits, Queue};
-    /// # let queue = Queue::new(Limits::of_hardware(64).with_max(8), 1, 1)?;
-    /// # let mut tag = queue.next_tag(0)?;
+    /// # let queue = Queue::builder(Limits::of_hardware(64).with_max(8)).slots(1).tags(1).build()?;
+    /// # let mut tag = queue.tag()?;
     /// let request = queue.enter(&mut tag)?;
     /// assert_eq!(request.limits().max, 8);
     /// # Ok::<(), Box<dyn std::error::Error>>(())
@@ -87,20 +87,20 @@ impl<'e> Entered<'e> {
     ///
     /// # Errors
     ///
-    /// [`RangeError::TooFar`].
+    /// [`LimitsError::TooFar`].
     ///
     /// # Examples
     ///
     /// ```
     /// # use freeze_queue::{Limits, Queue};
-    /// # let queue = Queue::new(Limits::of_hardware(64).with_chunk(8), 1, 1)?;
-    /// # let mut tag = queue.next_tag(0)?;
+    /// # let queue = Queue::builder(Limits::of_hardware(64).with_chunk(8)).slots(1).tags(1).build()?;
+    /// # let mut tag = queue.tag()?;
     /// let request = queue.enter(&mut tag)?;
     /// let starts: Vec<u64> = request.pieces(6, 12)?.map(|piece| piece.start).collect();
     /// assert_eq!(starts, [6, 8, 16]);
     /// # Ok::<(), Box<dyn std::error::Error>>(())
     /// ```
-    pub fn pieces(&self, start: u64, count: u32) -> Result<Pieces<'_>, RangeError> {
+    pub fn pieces(&self, start: u64, count: u32) -> Result<Pieces<'_>, LimitsError> {
         Pieces::of(self.limits.in_force(), start, count)
     }
 
@@ -113,14 +113,14 @@ impl<'e> Entered<'e> {
     ///
     /// # Errors
     ///
-    /// [`EnterError`] has each. It has left.
+    /// Returns [`EnterError`]; the request has already left.
     ///
     /// # Examples
     ///
     /// ```
     /// # use freeze_queue::{Limits, Queue};
-    /// # let queue = Queue::new(Limits::of_hardware(64), 1, 1)?;
-    /// # let mut tag = queue.next_tag(0)?;
+    /// # let queue = Queue::builder(Limits::of_hardware(64)).slots(1).tags(1).build()?;
+    /// # let mut tag = queue.tag()?;
     /// let mut request = queue.enter(&mut tag)?;
     /// for sectors in [10, 100, 1000] {
     ///     let pieces = request.pieces(0, sectors)?;
@@ -131,7 +131,7 @@ impl<'e> Entered<'e> {
     /// # Ok::<(), Box<dyn std::error::Error>>(())
     /// ```
     #[inline]
-    pub fn stay_or_enter(self) -> Result<Entered<'e>, EnterError> {
+    pub fn stay_or_enter(self) -> Result<Request<'e, T>, EnterError> {
         match self.queue.stays(self.tag) {
             Stay::Stayed => Ok(self),
             Stay::Left(put) => self.enter_again(put),
@@ -140,28 +140,28 @@ impl<'e> Entered<'e> {
 
     /// The request of a tag that has left, by this answer. If a waker or a wait panics, the tag doesn't leave a second time.
     #[cold]
-    fn enter_again(self, put: Put) -> Result<Entered<'e>, EnterError> {
+    fn enter_again(self, put: Put) -> Result<Request<'e, T>, EnterError> {
         let mut left = ManuallyDrop::new(self);
-        let Entered { queue, tag, limits } = &mut *left;
+        let Request { queue, tag, limits } = &mut *left;
         queue.dropped(put);
         queue.in_or_waits(tag)?;
         *limits = queue.limits_under(tag);
         Ok(ManuallyDrop::into_inner(left))
     }
 
-    /// Stays entered for the next request of this thread as [`stay_or_enter`](Entered::stay_or_enter) does, and waits for
+    /// Stays entered for the next request of this thread as [`stay_or_enter`](Request::stay_or_enter) does, and waits for
     /// nothing: if a freeze has begun, it leaves.
     ///
     /// # Errors
     ///
-    /// [`StayError::Frozen`]. It has left.
+    /// [`EnterError::Frozen`]. It has left.
     ///
     /// # Examples
     ///
     /// ```
     /// # use freeze_queue::{Limits, Queue};
-    /// # let queue = Queue::new(Limits::of_hardware(64), 1, 1)?;
-    /// # let mut tag = queue.next_tag(0)?;
+    /// # let queue = Queue::builder(Limits::of_hardware(64)).slots(1).tags(1).build()?;
+    /// # let mut tag = queue.tag()?;
     /// let mut request = queue.enter(&mut tag)?;
     /// for _ in 0..3 {
     ///     assert_eq!(request.limits().max, 64); // serves a request
@@ -173,50 +173,27 @@ impl<'e> Entered<'e> {
     /// # Ok::<(), Box<dyn std::error::Error>>(())
     /// ```
     #[inline]
-    pub fn stay(self) -> Result<Entered<'e>, StayError> {
+    pub fn stay(self) -> Result<Request<'e, T>, EnterError> {
         match self.queue.stays(self.tag) {
             Stay::Stayed => Ok(self),
             Stay::Left(put) => {
                 // Before a waker is called, which may panic: it has left, and doesn't leave again.
                 ManuallyDrop::new(self).queue.dropped(put);
-                Err(StayError::Frozen)
+                Err(EnterError::Frozen)
             }
         }
     }
-
-    /// Leaves on this slot, and its tag counts there from now on: as a request does that ends on another thread.
-    ///
-    /// # Errors
-    ///
-    /// [`SlotError::NoSlot`].
-    ///
-    /// # Examples
-    ///
-    /// ```
-    /// # use freeze_queue::{Limits, Queue};
-    /// # let queue = Queue::new(Limits::of_hardware(64), 2, 1)?;
-    /// # let mut tag = queue.next_tag(0)?;
-    /// let mut request = queue.enter(&mut tag)?;
-    /// request.use_slot(1)?;
-    /// drop(request);
-    /// assert_eq!(tag.slot(), 1);
-    /// # Ok::<(), Box<dyn std::error::Error>>(())
-    /// ```
-    pub fn use_slot(&mut self, slot: u32) -> Result<(), SlotError> {
-        self.tag.use_slot(self.queue, slot)
-    }
 }
 
-impl Drop for Entered<'_> {
+impl<T> Drop for Request<'_, T> {
     #[inline]
     fn drop(&mut self) {
         self.queue.leave(self.tag);
     }
 }
 
-impl fmt::Debug for Entered<'_> {
+impl<T> fmt::Debug for Request<'_, T> {
     fn fmt(&self, f: &mut fmt::Formatter<'_>) -> fmt::Result {
-        let (queue, slot) = (self.queue.number, self.tag.slot);
-        f.debug_struct("Entered").field("queue", &queue).field("slot", &slot).finish_non_exhaustive()
+        f.debug_struct("Request").field("queue", &self.queue.id).field("tag", &self.tag.number).finish_non_exhaustive()
     }
 }
