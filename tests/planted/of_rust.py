@@ -11,7 +11,7 @@ from running import Tests, by_cargo
 ROOT = pathlib.Path(__file__).resolve().parents[2]
 HOST = "x86_64-unknown-linux-gnu"
 # The tests of each crate, the quickest first.
-OF_QUEUE = ["life", "owned", "attacks", "values", "stay", "panics", "futures", "pool", "freezes", "waits", "moments", "in_flight", "removal", "wakers"]
+OF_QUEUE = ["life", "owned", "attacks", "values", "updates", "stay", "panics", "futures", "pool", "freezes", "waits", "moments", "in_flight", "removal", "wakers"]
 OF_GATE = ["life", "again", "values", "attacks"]
 REST = ["refused_memory", "guarded", "hammer", "model"]
 TESTS = {"freeze-queue": OF_QUEUE + REST, "percpu-gate": OF_GATE + REST}

@@ -59,20 +59,23 @@ fn in_order_of_arrival() {
     remove(queue);
 }
 
-/// With a tag at home at every moment, no try finds none.
+/// With a tag at home at every moment, no try finds none, though the tags move.
 #[test]
 fn a_tag_that_is_home_is_found() {
     let queue = queue(3);
-    let tries = number_of("TRIES", 20_000);
+    let (tries, over) = (10 * number_of("FREEZE_QUEUE_ROUNDS", 20_000), AtomicBool::new(false));
     thread::scope(|threads| {
         for _ in 0..2 {
             threads.spawn(|| {
-                for _ in 0..tries {
-                    drop(queue.try_enter_any().expect("the other thread has one of three tags at most"));
-                    drop(queue.tag().expect("the same"));
+                while !over.load(Ordering::Relaxed) {
+                    drop(queue.tag());
+                    drop(queue.enter_any().unwrap());
                 }
             });
         }
+        let all = (0..tries).all(|_| queue.try_enter_any().is_ok() && queue.tag().is_ok());
+        over.store(true, Ordering::Relaxed);
+        assert!(all, "each other thread has one of three tags at most");
     });
     remove(queue);
 }
