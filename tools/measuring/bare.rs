@@ -84,7 +84,7 @@ fn time_queue(threads: u32, count: u32) -> Result<(), Box<dyn Error>> {
         let last = u32::from(erased.leave(tag, *slot) == queue::Put::Last);
         limits.max() + limits.chunk() + limits.physical() + last
     });
-    let public = Queue::new(Limits::of_hardware(HARDWARE), threads, threads)?;
+    let public = Queue::builder(Limits::of_hardware(HARDWARE)).slots(threads).tags(threads).build()?;
     rounds.time("public crate", tags_of(&public, threads)?, |tag| {
         sum_of(public.enter(tag).expect("it is live").limits())
     });

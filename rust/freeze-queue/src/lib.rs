@@ -22,6 +22,7 @@
 //!     }
 //!     queue.update(|limits| limits.with_max(8)).unwrap(); // frozen and drained meanwhile
 //! });
+//! println!("at most {} sectors", queue.limits().max);
 //! # assert_eq!(queue.limits().max, 8);
 //! # Ok::<(), Box<dyn std::error::Error>>(())
 //! ```
