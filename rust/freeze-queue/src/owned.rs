@@ -1,5 +1,5 @@
 //! A request that takes its tag along.
-use crate::errors::LimitsError;
+use crate::errors::{EnterError, LimitsError};
 use crate::handed_back::HandedBack;
 use crate::limits::Limits;
 use crate::pieces::Pieces;
@@ -68,10 +68,10 @@ impl<T> OwnedRequest<T> {
 
     /// The request of a tag that entered; or why it didn't, with the tag.
     #[inline]
-    pub(crate) fn or_handed_back<E>(
+    pub(crate) fn or_handed_back(
         tag: Tag<T>,
-        entered: Result<(), E>,
-    ) -> Result<OwnedRequest<T>, HandedBack<Tag<T>, E>> {
+        entered: Result<(), EnterError>,
+    ) -> Result<OwnedRequest<T>, HandedBack<Tag<T>, EnterError>> {
         match entered {
             Ok(()) => Ok(OwnedRequest::of(tag)),
             Err(reason) => Err(HandedBack { value: tag, reason }),
