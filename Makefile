@@ -1,18 +1,18 @@
-# Installs the programs blkq and gate_races with their manuals, of which section 5 is made of docs/FORMATS.md and docs/races/FORMATS.md; and
-# apart from them the libraries for C, by c/Makefile.
+# Builds, tests and installs the programs blkq and gate_races with their manuals, and the libraries for C by c/Makefile. Section 5 of the
+# manuals is made from docs/FORMATS.md and docs/races/FORMATS.md.
 #
-#   make                               builds the programs by cargo, if there is no proved build of this tree: some 15 s
-#   make check                         tests what cargo builds, without the Rattle kit; .ci/Makefile has all tests, the longer ones too
-#   make check-races                   the explorer of races, without the kit
+#   make                               builds the programs with cargo in some 15 s, unless there is a proved build of this tree
+#   make check                         tests what cargo builds, without the Rattle kit; .ci/Makefile has all tests, including the longer ones
+#   make check-races                   tests the explorer of races, without the kit
 #   make prove                         proves the crates, and builds the programs from them: needs the kit, and some minutes
-#   make install PREFIX=/usr/local     puts the programs and the pages there; DESTDIR goes before it
-#   make install-c PREFIX=/usr/local   builds and puts there both libraries for C, the queue's and the gate's: the proved ones
-#                                    where the Rattle kit or a release of this tree is, else by cargo in seconds
-#   make deb                           builds packages for Debian by cargo, in out/deb; DEB is another folder
-#   make dist                          makes a release of the last commit in out/release, with the proved libraries for C if the kit is
-#                                    here; RELEASE is another folder
-#   make measure                       measures the times of docs/MEASURED.md again; WHAT is some of its parts, which tools/measure names
-#   make install-nbd PREFIX=/usr/local   builds the queue's library, and puts there nbdkit-blkq-filter and blkqctl
+#   make install PREFIX=/usr/local     installs the programs and the manuals below DESTDIR and PREFIX
+#   make install-c PREFIX=/usr/local   builds and installs both libraries for C, the queue's and the gate's: the proved ones
+#                                      if the Rattle kit or a release of this tree is there, otherwise cargo's, in seconds
+#   make deb                           builds packages for Debian with cargo, in DEB (out/deb)
+#   make dist                          makes a release of the last commit in RELEASE (out/release), with the proved libraries for C if the
+#                                      kit is installed
+#   make measure                       measures the times of docs/MEASURED.md again; WHAT selects parts, which tools/measure names
+#   make install-nbd PREFIX=/usr/local   builds the queue's library, and installs nbdkit-blkq-filter and blkqctl
 #   make uninstall-nbd PREFIX=/usr/local removes them
 PREFIX ?= /usr/local
 override PREFIX := $(abspath $(PREFIX))
@@ -26,13 +26,13 @@ all:
 	./blkq run <examples/first.blkq >/dev/null
 	./gate_races <examples/races/removal.races >/dev/null
 
-# Each test prints TAP, and tests/run runs them side by side, the longest first. The programs and libraries that they run over are
-# named by BLKQ, GATE_RACES, PLAY_CALLS and BUILD, or are what cargo builds.
+# Each test prints TAP, and tests/run runs them in parallel, the longest first. BLKQ, GATE_RACES, PLAY_CALLS and BUILD name the programs
+# and libraries to test; the default is what cargo builds.
 OVER_LIBRARIES = tests/nbd/run c/tests/run 'COMPILER=clang c/tests/run' tests/pages/run
 OVER_BOTH = tests/sizes/run tests/sweeps/devices tests/switches/run tests/examples tests/rows/run tests/rows/calls
 OVER_PROGRAMS = $(OVER_BOTH) tests/install
 OVER_TREE = tests/packages tests/tap tests/contracts tests/pictures/run 'tools/erase --check' 'tools/version --check'
-RACES_OVER_BOTH = 'tests/rows/run races' 'tests/examples races'
+RACES_OVER_BOTH = tests/races/sizes tests/races/devices 'tests/rows/run races' 'tests/examples races'
 OVER_GATE_RACES = $(addprefix tests/races/,random_races large program watched beside replayed longest_on_linux most_asked asked_lines) \
 	$(RACES_OVER_BOTH)
 OF_RACES = $(OVER_GATE_RACES) tests/races/run tests/races/lanes 'tests/rust/run races'
@@ -54,7 +54,7 @@ builds:
 		$(MAKE) -s -C c BUILD=erased, \
 		echo 'skipped: the libraries for C (apt-get install gcc libc6-dev binutils)')
 
-# What both stand on is proved side by side.
+# The crates that both depend on are proved in parallel.
 prove:
 	tools/run_program --prove blkq gate_races
 	tools/run_program --prove gate_races

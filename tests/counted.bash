@@ -1,5 +1,5 @@
-# Sourced by tests that are written in bash: prints each check as a line of TAP, with the reasons of a failure in comments behind, and
-# at the end the plan. tools/counts.py has the same for Python, and tests/run runs such tests.
+# Sourced by tests in bash: prints each check as a line of TAP, with the reasons of a failure in comments after it, and
+# the plan at the end. tools/counts.py does the same for Python, and tests/run runs such tests.
 
 checks=0 failed=0
 # The files of which a failure shows the end.

@@ -1,5 +1,5 @@
-"""Prints each check of a test as a line of TAP, with the reasons of a failure in comments behind, and at the end the plan.
-tests/counted.bash has the same for bash, and tests/run runs such tests."""
+"""Prints each check of a test as a line of TAP, with the reasons of a failure in comments after it, and the plan at the end.
+tests/counted.bash does the same for bash, and tests/run runs such tests."""
 
 import os
 import pathlib

@@ -24,7 +24,7 @@ static void *submit(void *of)
 {
     struct worker *me = of;
     uint32_t slot = (uint32_t)(me - workers), answer; /* a slot of its own for each thread */
-    uint64_t size; /* a setting of the gate, which holds still while we hold a reference */
+    uint64_t size; /* a setting of the gate, which stays the same while we hold a reference */
     while ((answer = percpu_gate_try_get_live(&me->pass, slot)) == PERCPU_GATE_OK) {
         if (percpu_gate_word(&me->pass, 0, &size) == PERCPU_GATE_OK)
             atomic_fetch_add(device, size); /* nobody frees it before our put */

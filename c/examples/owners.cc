@@ -8,8 +8,8 @@
 
 int main()
 {
-    auto queue = freeze_queue::Queue::make({64, 0, 0, 0}, 2, 2); // sectors of the hardware; slots; tags
-    auto pool = queue ? freeze_queue::Pool::make(*queue, 2) : queue.error();
+    auto queue = blkq::Queue::make({64, 0, 0, 0}, 2, 2); // sectors of the hardware; slots; tags
+    auto pool = queue ? blkq::Pool::make(*queue, 2) : queue.error();
     if (!pool)
         return 1;
     std::atomic<long> wrong{0};

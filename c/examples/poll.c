@@ -1,14 +1,15 @@
-/* A thread that sleeps in poll alone. It begins a freeze, sets the limits once the queue is drained, and enters once it is live
+/* A thread that sleeps only in poll. It begins a freeze, sets the limits once the queue is drained, and enters once it is live
  * again. Another thread has a request in flight when the freeze begins. */
 #define _GNU_SOURCE
 #include <freeze_queue_waits.h>
 
 #include <poll.h>
+#include <pthread.h>
 #include <stdio.h>
 #include <stdlib.h>
 #include <unistd.h>
 
-static freeze_queue_freezer freezer;
+static freeze_queue queue;
 static freeze_queue_waits waits;
 static freeze_queue_tag busy, mine;
 
@@ -36,14 +37,15 @@ static void set_and_thaw(void)
     need(freeze_queue_waits_thaw(&waits) == FREEZE_QUEUE_LIVE_AGAIN, "thaw");
 }
 
-/* Begins a freeze, with a request that waits to enter behind it, and goes on by the events until both are done. */
+/* Begins a freeze while a request waits to enter, and follows the events until both are done. */
 static void change_and_enter(void)
 {
     uint32_t entered = FREEZE_QUEUE_NOT_ENTERED, begun = freeze_queue_waits_begin_freeze(&waits);
+    const int drained = freeze_queue_waits_drained_event(&waits), live = freeze_queue_waits_live_event(&waits);
     bool drains = !freeze_queue_is_refused(begun);
     need(drains, freeze_queue_text(begun));
     while (drains || entered == FREEZE_QUEUE_NOT_ENTERED) {
-        struct pollfd events[] = {{drains ? waits.drained_event : -1, POLLIN, 0}, {waits.live_event, POLLIN, 0}};
+        struct pollfd events[] = {{drains ? drained : -1, POLLIN, 0}, {live, POLLIN, 0}};
         need(poll(events, 2, -1) > 0, "poll");
         if (drains && freeze_queue_waits_is_drained(&waits)) {
             set_and_thaw();
@@ -59,8 +61,9 @@ int main(void)
     freeze_queue_limits limits = {.hardware = 64};
     freeze_queue_final last;
     pthread_t device;
-    need(freeze_queue_new(&freezer, &limits, 1, 2) == FREEZE_QUEUE_OK, "new");
-    need(freeze_queue_waits_init(&waits, &freezer) == 0 && freeze_queue_waits_open_events(&waits) == 0, "events");
+    need(freeze_queue_new(&queue, &limits, 1, 2) == FREEZE_QUEUE_OK, "new");
+    need(freeze_queue_waits_init(&waits, &queue) == FREEZE_QUEUE_OK, "init");
+    need(freeze_queue_waits_open_events(&waits) == FREEZE_QUEUE_OK, "open_events");
     need(freeze_queue_waits_next_tag(&waits, &busy) == FREEZE_QUEUE_OK, "next_tag");
     need(freeze_queue_waits_next_tag(&waits, &mine) == FREEZE_QUEUE_OK, "next_tag");
     need(freeze_queue_waits_enter(&waits, &busy, 0, NULL) == FREEZE_QUEUE_OK, "enter");

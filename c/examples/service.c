@@ -1,20 +1,22 @@
 /* A small service on the queue. Threads that come and go take a tag from a pool for each request. A change of the limits has a
- * deadline, and names the requests that hold it up. The end lets each thread go, and frees everything. */
+ * deadline; on timeout the program lists the tags that are out. The end lets each thread go, and frees everything. */
 #define _POSIX_C_SOURCE 200809L
 #include <freeze_queue_pool.h>
 
+#include <pthread.h>
 #include <semaphore.h>
 #include <stdio.h>
+#include <stdlib.h>
 
 enum { SLOTS = 4, TAGS = 8, WORKERS = 4, VISITORS = 100, MILLISECOND = 1000000 };
 
-static freeze_queue_freezer freezer; /* all zero: closed */
+static freeze_queue queue; /* all zero: closed */
 static freeze_queue_waits waits;
 static freeze_queue_pool *pool;
 static sem_t entered, go_on; /* of the request that hangs */
 static uint64_t sectors;     /* what the device was sent */
 
-static void need(uint32_t answer, const char *call)
+static void need(freeze_queue_answer answer, const char *call)
 {
     if (!freeze_queue_is_refused(answer))
         return;
@@ -33,14 +35,14 @@ static uint32_t my_slot(void)
 }
 
 /* A request of 20 sectors on any thread: OK, or ERR_DYING once the service ends. */
-static uint32_t serve(void)
+static freeze_queue_answer serve(void)
 {
     freeze_queue_limits limits;
     uint32_t piece, slot = my_slot();
-    freeze_queue_tag *tag = freeze_queue_pool_take_waiting(pool, slot, NULL);
-    if (tag == NULL) /* the pool ends */
+    freeze_queue_tag *tag;
+    if (freeze_queue_pool_take_waiting(pool, slot, NULL, &tag) != FREEZE_QUEUE_OK) /* the pool ends */
         return FREEZE_QUEUE_ERR_DYING;
-    uint32_t answer = freeze_queue_waits_enter(&waits, tag, slot, NULL);
+    freeze_queue_answer answer = freeze_queue_waits_enter(&waits, tag, slot, NULL);
     if (answer == FREEZE_QUEUE_OK) {
         need(freeze_queue_limits_of(tag, &limits), "limits_of");
         for (uint32_t at = 0; at < 20; at += piece) {
@@ -68,7 +70,8 @@ static void *visit(void *unused) /* one request, and gone */
 
 static void *hang(void *unused) /* a request whose device doesn't answer for a while */
 {
-    freeze_queue_tag *tag = freeze_queue_pool_take_waiting(pool, 2, NULL);
+    freeze_queue_tag *tag;
+    need(freeze_queue_pool_take_waiting(pool, 2, NULL, &tag), "take_waiting");
     need(freeze_queue_waits_enter(&waits, tag, 2, NULL), "enter");
     sem_post(&entered);
     sem_wait(&go_on);
@@ -90,12 +93,12 @@ static uint32_t set_max(freeze_queue_limits *limits, void *max)
     return FREEZE_QUEUE_OK;
 }
 
-/* Changes one limit, and gives up after so many milliseconds. Then it says which requests hold the drain up. */
+/* Changes one limit, and gives up after `milliseconds`, unless that is 0. Then it lists the tags that are out. */
 static void change(uint32_t max, uint32_t milliseconds)
 {
     freeze_queue_taken in_flight[TAGS];
     struct timespec deadline = freeze_queue_deadline((uint64_t)milliseconds * MILLISECOND);
-    uint32_t answer = freeze_queue_waits_update(&waits, set_max, &max, milliseconds ? &deadline : NULL);
+    freeze_queue_answer answer = freeze_queue_waits_update(&waits, set_max, &max, milliseconds ? &deadline : NULL);
     printf("at most %u: %s\n", max, freeze_queue_text(answer));
     if (answer != FREEZE_QUEUE_ERR_TIMED_OUT)
         return;
@@ -107,21 +110,21 @@ static void change(uint32_t max, uint32_t milliseconds)
 static void begin(void)
 {
     freeze_queue_limits limits = {.hardware = 64, .max = 0, .chunk = 0, .physical = 1};
-    need(freeze_queue_new(&freezer, &limits, SLOTS, TAGS), "new");
-    if (freeze_queue_waits_init(&waits, &freezer) || (pool = freeze_queue_pool_new()) == NULL)
-        exit(1);
-    need(freeze_queue_pool_fill(pool, &freezer, TAGS), "fill");
+    need(freeze_queue_new(&queue, &limits, SLOTS, TAGS), "new");
+    need(freeze_queue_waits_init(&waits, &queue), "init");
+    need((pool = freeze_queue_pool_new()) == NULL ? FREEZE_QUEUE_ERR_NO_MEMORY : FREEZE_QUEUE_OK, "pool_new");
+    need(freeze_queue_pool_fill(pool, &waits, TAGS), "fill");
     freeze_queue_pool_watch(pool, true); /* notes when each tag is taken */
 }
 
-/* Each enter, waiting or to come, answers ERR_DYING; each tag comes back; and the queue is removed. */
+/* Every waiting or later enter returns ERR_DYING; each tag comes back; and the queue is removed. */
 static void end(pthread_t *workers, freeze_queue_final *last)
 {
     need(freeze_queue_waits_mark_dying(&waits), "mark_dying");
-    need(freeze_queue_pool_end(pool, &waits, NULL), "pool_end");
+    need(freeze_queue_pool_end(pool, NULL), "pool_end");
     for (int i = 0; i < WORKERS; i++)
         pthread_join(workers[i], NULL);
-    freeze_queue_pool_free(pool);
+    need(freeze_queue_pool_free(pool), "pool_free");
     need(freeze_queue_waits_end(&waits, last, NULL), "end");
 }
 

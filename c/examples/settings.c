@@ -1,12 +1,13 @@
-/* Limits that change while two threads submit: each request is cut by the limits of one setting, which hold still from its
- * entering to its leaving. A third thread freezes the queue, sets them and thaws it, a thousand times. */
+/* Limits that change while two threads submit: each request is cut by the limits of one setting, which stay the same
+ * from its entering to its leaving. A third thread freezes the queue, sets them and thaws it, a thousand times. */
 #define _POSIX_C_SOURCE 200809L
 #include "freeze_queue_waits.h"
+#include <pthread.h>
 #include <stdio.h>
 
 enum { REQUESTS = 200000, CHANGES = 1000, SECTORS = 100 };
 
-static freeze_queue_freezer freezer; /* all zero: closed */
+static freeze_queue queue; /* all zero: closed */
 static freeze_queue_waits waits;
 static struct submitter {
     freeze_queue_tag tag __attribute__((aligned(128))); /* a line of its own for each thread */
@@ -14,8 +15,8 @@ static struct submitter {
     long sent, wrong;
 } submitters[2];
 
-/* Cuts the request of 100 sectors from start on. In each setting the chunk is four times the most of a piece, or there is
- * none: pieces that were cut by two settings would show. */
+/* Cuts the request of 100 sectors from start on. In each setting the chunk is four times max, or there is none:
+ * pieces that were cut by two settings would show. */
 static void send(struct submitter *me, uint64_t start)
 {
     freeze_queue_limits limits;
@@ -47,10 +48,10 @@ int main(void)
     freeze_queue_limits limits = {.hardware = 64, .max = 0, .chunk = 0, .physical = 1};
     freeze_queue_final last;
     int changed = 0;
-    if (freeze_queue_new(&freezer, &limits, 2, 2) || freeze_queue_waits_init(&waits, &freezer))
+    if (freeze_queue_new(&queue, &limits, 2, 2) || freeze_queue_waits_init(&waits, &queue))
         return 1;
     for (int i = 0; i < 2; i++)
-        if (freeze_queue_next_tag(&freezer, &submitters[i].tag) ||
+        if (freeze_queue_waits_next_tag(&waits, &submitters[i].tag) ||
             pthread_create(&submitters[i].thread, NULL, submit, &submitters[i]))
             return 1;
     for (uint32_t i = 0; i < CHANGES; i++) {
@@ -61,11 +62,10 @@ int main(void)
     for (int i = 0; i < 2; i++) {
         pthread_join(submitters[i].thread, NULL);
         printf("thread %d: %ld sectors, %ld wrong\n", i, submitters[i].sent, submitters[i].wrong);
-        printf("its tag: %s\n", freeze_queue_text(freeze_queue_give_tag_back(&freezer, &submitters[i].tag)));
+        printf("its tag: %s\n", freeze_queue_text(freeze_queue_waits_give_tag_back(&waits, &submitters[i].tag)));
     }
-    printf("%d changes; removed: %s\n", changed, freeze_queue_text(freeze_queue_remove(&freezer, &last)));
+    printf("%d changes; removed: %s\n", changed, freeze_queue_text(freeze_queue_waits_end(&waits, &last, NULL)));
     printf("frozen %d times, drained %d times, at most %u sectors, chunks of %u\n", (int)last.kills, (int)last.releases,
            last.limits.max, last.limits.chunk);
-    freeze_queue_waits_destroy(&waits);
     return 0;
 }

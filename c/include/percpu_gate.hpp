@@ -1,10 +1,10 @@
 /*
- * The gate, for C++17: owners that move and aren't copied, and references that are put at the end of their scope. Header
- * only, over percpu_gate.h. Nothing of it is proved.
+ * The gate, for C++17: owners that can be moved but not copied, and references that are put at the end of their scope. It is
+ * header-only, over percpu_gate.h. No proof covers it.
  *
- * No call throws. A call that may be refused returns a Result: a value, or an Error with the number of the C library. The
- * gate has a function that the call of the release makes, once for each kill. The function frees what the gate guards, or
- * notifies a thread that waits. It may run on any thread that puts, tries or kills.
+ * No call throws. A call that may be refused returns a Result: a value, or an Error with the number of the C library. A gate has
+ * a function, which runs once for each kill, in the call that drops the last reference. The function frees what the gate guards,
+ * or notifies a thread that waits. It may run on any thread that puts, tries or kills.
  *
  *     auto gate = percpu_gate::Gate::make(slots, passes, [](void *device) { free_device(device); }, device);
  *     if (!gate)
@@ -13,12 +13,12 @@
  *     if (!pass)
  *         return pass.error();
  *     if (auto reference = pass->try_get_live(slot))
- *         send(device);                                                        (and here it is put)
+ *         send(device);                                                        (the reference is put after this)
  *     if (auto killed = gate->kill(); !killed)
  *         return killed.error();
  *
- * A gate outlives its passes, and a pass its references: each is a precondition. A move assignment first takes the new value,
- * and then ends the old one as its destructor does.
+ * A gate must outlive its passes, and a pass its references. A move assignment first takes the new value, and then ends the old
+ * value as its destructor does.
  */
 #ifndef PERCPU_GATE_HPP
 #define PERCPU_GATE_HPP
@@ -58,17 +58,17 @@ enum class Error : std::uint32_t {
     bad_step = PERCPU_GATE_ERR_BAD_STEP,
 };
 
-/* A text for an error, in a few words. */
-inline const char *text(Error error) noexcept { return percpu_gate_text(static_cast<std::uint32_t>(error)); }
+/* Returns a short text for an error. */
+inline const char *text(Error error) noexcept { return percpu_gate_text(static_cast<percpu_gate_answer>(error)); }
 
-/* A value, or the error for which there is none. A Result without a value converts to false. */
+/* A value, or the error that explains its absence. A Result without a value converts to false; * and -> then end the program. */
 template <class T> class [[nodiscard]] Result {
   public:
     Result(T value) noexcept : value_(std::move(value)) {}
     Result(Error error) noexcept : error_(error) {}
     explicit operator bool() const noexcept { return value_.has_value(); }
-    T &operator*() noexcept { return *value_; }
-    T *operator->() noexcept { return &*value_; }
+    T &operator*() noexcept { return value_.value(); }
+    T *operator->() noexcept { return &value_.value(); }
     Error error() const noexcept { return error_; }
 
   private:
@@ -76,7 +76,7 @@ template <class T> class [[nodiscard]] Result {
     Error error_ = Error::closed;
 };
 
-/* Done, or the error for which it wasn't. */
+/* Success, or the error of a call that was refused. */
 template <> class [[nodiscard]] Result<void> {
   public:
     Result() noexcept = default;
@@ -90,7 +90,7 @@ template <> class [[nodiscard]] Result<void> {
 
 namespace internal {
 
-/* The control, and the function for the release, at one place for the gate's life. */
+/* The control, and the function for the release, which stay at one address for the gate's life. */
 struct Core {
     percpu_gate_control control{};
     void (*on_last)(void *) = nullptr;
@@ -102,28 +102,28 @@ struct alignas(128) Handle {
     Core *core = nullptr;
 };
 
-/* Makes the call of the release if this answer is LAST or NOT_GIVEN_LAST. */
-inline std::uint32_t released(Core &core, std::uint32_t answer)
+/* Calls the function for the release if this answer is LAST or NOT_GIVEN_LAST. */
+inline percpu_gate_answer released(Core &core, percpu_gate_answer answer)
 {
     if (percpu_gate_is_last(answer) && core.on_last != nullptr)
         core.on_last(core.argument);
     return answer;
 }
 
-inline Result<void> done(std::uint32_t answer) noexcept
+inline Result<void> done(percpu_gate_answer answer) noexcept
 {
     return answer >= 16 ? Result<void>(static_cast<Error>(answer)) : Result<void>();
 }
 
 } // namespace internal
 
-/* A reference, which is put at the end of its scope. */
+/* A reference. Its destructor puts it. */
 class [[nodiscard]] Reference {
   public:
     Reference(Reference &&other) noexcept : handle_(std::exchange(other.handle_, nullptr)), slot_(other.slot_) {}
     Reference &operator=(Reference &&other) noexcept
     {
-        Reference moved(std::move(other)); /* what this one had ends with it */
+        Reference moved(std::move(other)); /* the old value ends with it */
         std::swap(handle_, moved.handle_);
         std::swap(slot_, moved.slot_);
         return *this;
@@ -134,11 +134,11 @@ class [[nodiscard]] Reference {
             internal::released(*handle_->core, percpu_gate_put(&handle_->pass, slot_, 1));
     }
 
-    /* The guarded word k, one value until the reference is put: bad_word. */
+    /* Returns the guarded word k, which stays the same until the reference is put: bad_word. */
     Result<std::uint64_t> word(std::uint32_t k) const noexcept
     {
         std::uint64_t word = 0;
-        const std::uint32_t answer = percpu_gate_word(&handle_->pass, k, &word);
+        const percpu_gate_answer answer = percpu_gate_word(&handle_->pass, k, &word);
         if (answer != PERCPU_GATE_OK)
             return static_cast<Error>(answer);
         return word;
@@ -151,13 +151,13 @@ class [[nodiscard]] Reference {
     std::uint32_t slot_;
 };
 
-/* A pass of one thread, which is retired by its gate, or freed at the end of its scope. */
+/* A pass of one thread. Gate::retire ends it; its destructor only frees it, and the gate counts it as out forever. */
 class [[nodiscard]] Pass {
   public:
     Pass(Pass &&) noexcept = default;
     Pass &operator=(Pass &&other) noexcept
     {
-        Pass moved(std::move(other)); /* what this one had ends with it */
+        Pass moved(std::move(other)); /* the old value ends with it */
         std::swap(handle_, moved.handle_);
         return *this;
     }
@@ -169,7 +169,7 @@ class [[nodiscard]] Pass {
 
     /* Takes a reference unless the gate was killed: not_given, bad_slot, held_full. */
     Result<Reference> try_get_live(std::uint32_t slot) { return given(percpu_gate_try_get_live(&handle_->pass, slot), slot); }
-    /* Takes a reference unless the gate has reached zero: the same. */
+    /* Takes a reference unless the gate has reached zero: not_given, bad_slot, held_full. */
     Result<Reference> try_get(std::uint32_t slot) { return given(percpu_gate_try_get(&handle_->pass, slot), slot); }
     bool is_dying() const noexcept { return percpu_gate_is_dying(&handle_->pass); }
     bool is_zero() const noexcept { return percpu_gate_is_zero(&handle_->pass); }
@@ -177,7 +177,7 @@ class [[nodiscard]] Pass {
   private:
     friend class Gate;
     explicit Pass(std::unique_ptr<internal::Handle> handle) noexcept : handle_(std::move(handle)) {}
-    Result<Reference> given(std::uint32_t answer, std::uint32_t slot)
+    Result<Reference> given(percpu_gate_answer answer, std::uint32_t slot)
     {
         if (answer == PERCPU_GATE_OK)
             return Reference(handle_.get(), slot);
@@ -187,10 +187,10 @@ class [[nodiscard]] Pass {
     std::unique_ptr<internal::Handle> handle_;
 };
 
-/* A gate, whose control is freed at the end of its scope. */
+/* A gate. Its destructor frees the control. */
 class [[nodiscard]] Gate {
   public:
-    /* A live gate of 1 to 512 slots and 1 to 1,024 passes, whose release calls a function: bad_size, no_memory. */
+    /* Makes a gate of 1 to 512 slots and 1 to 1,024 passes, with a function for the release: bad_size, no_memory. */
     static Result<Gate> make(std::uint32_t slots, std::uint32_t passes, void (*on_last)(void *), void *argument = nullptr,
                              std::uint32_t start = PERCPU_GATE_START_SLOTS) noexcept
     {
@@ -200,7 +200,7 @@ class [[nodiscard]] Gate {
             return Error::no_memory;
         core->on_last = on_last;
         core->argument = argument;
-        const std::uint32_t answer = percpu_gate_new(&core->control, slots, passes, start, words);
+        const percpu_gate_answer answer = percpu_gate_new(&core->control, slots, passes, start, words);
         if (answer != PERCPU_GATE_OK)
             return static_cast<Error>(answer);
         return Gate(std::move(core));
@@ -208,7 +208,7 @@ class [[nodiscard]] Gate {
     Gate(Gate &&) noexcept = default;
     Gate &operator=(Gate &&other) noexcept
     {
-        Gate moved(std::move(other)); /* what this one had ends with it */
+        Gate moved(std::move(other)); /* the old value ends with it */
         std::swap(core_, moved.core_);
         return *this;
     }
@@ -218,13 +218,13 @@ class [[nodiscard]] Gate {
             percpu_gate_free_control(&core_->control);
     }
 
-    /* A pass for a thread: no_pass, no_memory. */
+    /* Gives a pass to a thread: no_pass, no_memory. */
     Result<Pass> next_pass() noexcept
     {
         std::unique_ptr<internal::Handle> handle(new (std::nothrow) internal::Handle);
         if (!handle)
             return Error::no_memory;
-        const std::uint32_t answer = percpu_gate_next_pass(&core_->control, &handle->pass);
+        const percpu_gate_answer answer = percpu_gate_next_pass(&core_->control, &handle->pass);
         if (answer != PERCPU_GATE_OK)
             return static_cast<Error>(answer);
         handle->core = core_.get();
@@ -237,10 +237,10 @@ class [[nodiscard]] Gate {
     }
     /* Kills the gate: already_dead, mid_switch, worn_out. */
     Result<void> kill() { return internal::done(internal::released(*core_, percpu_gate_kill(&core_->control))); }
-    /* Brings back a dead gate that has reached zero: not_dead, not_zero, mid_switch. */
+    /* Revives a dead gate that has reached zero: not_dead, not_zero, mid_switch. */
     Result<void> reinit() noexcept { return internal::done(percpu_gate_reinit(&core_->control)); }
     bool is_zero() const noexcept { return percpu_gate_control_is_zero(&core_->control); }
-    /* Stores the guarded word k of a gate that is dead and at zero. */
+    /* Stores the guarded word k of a gate that is dead and at zero: bad_word, not_dead, not_zero, mid_switch. */
     Result<void> store_word(std::uint32_t k, std::uint64_t word) noexcept
     {
         return internal::done(percpu_gate_store_word(&core_->control, k, word));

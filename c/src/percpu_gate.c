@@ -6,18 +6,18 @@
 /* The place of a counter, and what it drew. No counter draws a number twice, and no two lie at one place. */
 struct gate_number { uint64_t counter, drawn; };
 
-uint32_t percpu_gate_new_numbered(percpu_gate_control *control, const struct gate_number *number, uint32_t slots,
-                                  uint32_t passes, uint32_t start, const uint64_t words[8]);
+percpu_gate_answer percpu_gate_new_numbered(percpu_gate_control *control, const struct gate_number *number, uint32_t slots,
+                                            uint32_t passes, uint32_t start, const uint64_t words[8]);
 
-uint32_t percpu_gate_new(percpu_gate_control *control, uint32_t slots, uint32_t passes, uint32_t start,
-                         const uint64_t words[8])
+percpu_gate_answer percpu_gate_new(percpu_gate_control *control, uint32_t slots, uint32_t passes, uint32_t start,
+                                   const uint64_t words[8])
 {
     static _Atomic uint64_t counter;
     const struct gate_number number = {(uint64_t)(uintptr_t)&counter, atomic_fetch_add(&counter, 1) + 1};
     return percpu_gate_new_numbered(control, &number, slots, passes, start, words);
 }
 
-const char *percpu_gate_text(uint32_t answer)
+const char *percpu_gate_text(percpu_gate_answer answer)
 {
     switch (answer) {
     case PERCPU_GATE_OK: return "done";

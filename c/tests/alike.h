@@ -5,17 +5,19 @@
 #ifdef OF_QUEUE
 #include "freeze_queue.h"
 #define ALIKE(name) FREEZE_QUEUE_##name
-typedef freeze_queue_freezer owner;
+typedef freeze_queue owner;
 typedef freeze_queue_tag seat;
 typedef freeze_queue_final final;
-enum { MOST_SEATS = FREEZE_QUEUE_MOST_TAGS, ERR_NO_SEAT = FREEZE_QUEUE_ERR_NO_TAG, ERR_SEATS_OUT = FREEZE_QUEUE_ERR_TAGS_OUT };
-enum { ERR_FOREIGN = FREEZE_QUEUE_ERR_OTHER_QUEUE, STARTS = 1 };
+enum { MOST_SEATS = FREEZE_QUEUE_MOST_TAGS, STARTS = 1 };
+#define ERR_NO_SEAT FREEZE_QUEUE_ERR_NO_TAG
+#define ERR_SEATS_OUT FREEZE_QUEUE_ERR_TAGS_OUT
+#define ERR_FOREIGN FREEZE_QUEUE_ERR_OTHER_QUEUE
 #define next_seat freeze_queue_next_tag
 #define take_back freeze_queue_give_tag_back
 #define end freeze_queue_remove
-#define free_owner freeze_queue_free_freezer
+#define free_owner freeze_queue_free
 #define free_seat freeze_queue_free_tag
-#define owner_number freeze_queue_freezer_number
+#define owner_number freeze_queue_number
 #define seat_number freeze_queue_tag_number
 #else
 #include "percpu_gate.h"
@@ -23,8 +25,10 @@ enum { ERR_FOREIGN = FREEZE_QUEUE_ERR_OTHER_QUEUE, STARTS = 1 };
 typedef percpu_gate_control owner;
 typedef percpu_gate_pass seat;
 typedef percpu_gate_final final;
-enum { MOST_SEATS = PERCPU_GATE_MOST_PASSES, ERR_NO_SEAT = PERCPU_GATE_ERR_NO_PASS, ERR_SEATS_OUT = PERCPU_GATE_ERR_PASSES_OUT };
-enum { ERR_FOREIGN = PERCPU_GATE_ERR_OTHER_GATE, STARTS = 3 };
+enum { MOST_SEATS = PERCPU_GATE_MOST_PASSES, STARTS = 3 };
+#define ERR_NO_SEAT PERCPU_GATE_ERR_NO_PASS
+#define ERR_SEATS_OUT PERCPU_GATE_ERR_PASSES_OUT
+#define ERR_FOREIGN PERCPU_GATE_ERR_OTHER_GATE
 #define next_seat percpu_gate_next_pass
 #define take_back percpu_gate_retire
 #define end percpu_gate_exit
@@ -33,7 +37,10 @@ enum { ERR_FOREIGN = PERCPU_GATE_ERR_OTHER_GATE, STARTS = 3 };
 #define owner_number percpu_gate_control_number
 #define seat_number percpu_gate_pass_number
 #endif
-enum { OK = ALIKE(OK), ERR_NO_MEMORY = ALIKE(ERR_NO_MEMORY), ERR_CLOSED = ALIKE(ERR_CLOSED), MOST_SLOTS = ALIKE(MOST_SLOTS) };
+#define OK ALIKE(OK)
+#define ERR_NO_MEMORY ALIKE(ERR_NO_MEMORY)
+#define ERR_CLOSED ALIKE(ERR_CLOSED)
+enum { MOST_SLOTS = ALIKE(MOST_SLOTS) };
 
 /* Makes a gate with this start, or a queue, whose guarded word or maximum is 3. */
 static uint32_t make(owner *of, uint32_t slots, uint32_t seats, uint32_t start)

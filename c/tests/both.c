@@ -10,7 +10,7 @@ int main(void)
     percpu_gate_control control = {0};
     percpu_gate_pass pass = {0};
     percpu_gate_final left;
-    freeze_queue_freezer freezer = {0};
+    freeze_queue freezer = {0};
     freeze_queue_tag tag = {0};
     freeze_queue_final last;
     uint32_t depth;
@@ -22,7 +22,7 @@ int main(void)
         return 2;
     if (!percpu_gate_is_last(percpu_gate_put(&pass, 0, 1)) || !freeze_queue_is_drained(freeze_queue_leave(&tag, 0)))
         return 3;
-    if (percpu_gate_control_number(&control) != 1 || freeze_queue_freezer_number(&freezer) != 1)
+    if (percpu_gate_control_number(&control) != 1 || freeze_queue_number(&freezer) != 1)
         return 4; /* each library counts its own */
     if (percpu_gate_retire(&control, &pass) || percpu_gate_exit(&control, &left) ||
         freeze_queue_give_tag_back(&freezer, &tag) || freeze_queue_remove(&freezer, &last))

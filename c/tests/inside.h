@@ -1,5 +1,5 @@
-/* Included by tests that look into the memory of a library, or write there, as no program may. Linked with --wrap=malloc and
- * free, they know the blocks that the library has, and can refuse one. A word is found by its values, as the one of the
+/* Included by tests that look into the memory of a library, or write there, as no program may. Linked with --wrap=malloc, free
+ * and posix_memalign, they know the blocks that the library has, and can refuse one. A word is found by its values, as the one of the
  * blocks that follows what is counted. */
 #ifndef INSIDE_H
 #define INSIDE_H
@@ -12,6 +12,7 @@
 #include <string.h>
 
 void *__real_malloc(size_t size);
+int __real_posix_memalign(void **at, size_t alignment, size_t size);
 void __real_free(void *at);
 
 enum { BLOCKS = 64 };
@@ -19,13 +20,15 @@ enum { BLOCKS = 64 };
 static struct { uint64_t *at; size_t words; } blocks[BLOCKS];
 static long allowed = -1; /* none refused */
 
-void *__wrap_malloc(size_t size)
+static bool is_refused(void)
 {
-    if (allowed == 0)
-        return NULL;
     if (allowed > 0)
-        allowed--;
-    void *at = __real_malloc(size);
+        return allowed--, false;
+    return allowed == 0;
+}
+
+static void *noted(void *at, size_t size)
+{
     for (int i = 0; at && i < BLOCKS; i++)
         if (blocks[i].at == NULL) {
             blocks[i].at = at;
@@ -33,6 +36,16 @@ void *__wrap_malloc(size_t size)
             break;
         }
     return at;
+}
+
+void *__wrap_malloc(size_t size) { return is_refused() ? NULL : noted(__real_malloc(size), size); }
+
+int __wrap_posix_memalign(void **at, size_t alignment, size_t size)
+{
+    const int refused = is_refused() ? 12 : __real_posix_memalign(at, alignment, size); /* ENOMEM */
+    if (refused == 0)
+        noted(*at, size);
+    return refused;
 }
 
 void __wrap_free(void *at)

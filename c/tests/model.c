@@ -1,9 +1,8 @@
 /* Random calls on one thread, right ones and wrong ones, on a few gates: each answer, and each value that is written,
  * is what a model of plain numbers says. Words: the seed, and how many calls. */
 #include "percpu_gate.h"
+#include "random_calls.h"
 
-#include <stdio.h>
-#include <stdlib.h>
 #include <string.h>
 
 enum { CONTROLS = 3, PASSES = 12, GATES = 1 << 16, HELD_MOST = 65535, UNWRITTEN = 12345 };
@@ -19,14 +18,6 @@ static struct gate gates[GATES];
 static struct gate *next_gate = gates;
 static struct { percpu_gate_control handle; struct gate *gate; } controls[CONTROLS];
 static struct { percpu_gate_pass handle; struct gate *gate; uint32_t held; uint64_t releases; } passes[PASSES];
-static uint64_t seed;
-static long calls;
-
-static uint32_t any_below(uint32_t n)
-{
-    seed = seed * 6364136223846793005u + 1442695040888963407u;
-    return (uint32_t)(seed >> 33) % n;
-}
 
 /* Any word of 64 bits, and often one at an end. */
 static uint64_t any_word(void)
@@ -34,16 +25,6 @@ static uint64_t any_word(void)
     uint64_t most = UINT64_MAX, half = (uint64_t)any_below(UINT32_MAX) << 32;
     return any_below(4) == 0 ? most * any_below(2) : half | any_below(UINT32_MAX);
 }
-
-static void is(uint64_t answer, uint64_t want, const char *what)
-{
-    if (answer == want)
-        return;
-    fprintf(stderr, "call %ld: %s is %lu, not %lu\n", calls, what, (unsigned long)answer, (unsigned long)want);
-    exit(1);
-}
-
-#define IS(value, want) is(value, want, #value)
 
 static bool in_a_kill(const struct gate *g)
 {

@@ -1,17 +1,19 @@
-/* The owners for C++17, where a field could be forgotten: what a move assignment carries, what a refused stay gives back, a queue
- * whose end is refused, and the number of each name. Compiled with no exceptions and no RTTI too. The first wrong answer ends the
+/* The owners for C++17, where a field could be forgotten: what a move assignment carries, a queue whose end is refused, the
+ * number of each name, and the handles of the C headers in C++. Compiled with no exceptions and no RTTI too. The first wrong answer ends the
  * program, since a destructor might wait for ever after it. */
 #include "freeze_queue.hpp"
+#include "percpu_gate.hpp"
 
 #include <cstdio>
 #include <cstdlib>
+#include <cstring>
 #include <fcntl.h>
 
 using namespace std::chrono_literals;
-using freeze_queue::Error;
-using freeze_queue::Mode;
-using freeze_queue::Pool;
-using freeze_queue::Queue;
+using blkq::Error;
+using blkq::Mode;
+using blkq::Pool;
+using blkq::Queue;
 
 static void is(const char *what, bool holds, int line)
 {
@@ -53,6 +55,10 @@ HAS_NUMBER(Error::tag_not_entered, FREEZE_QUEUE_ERR_TAG_NOT_ENTERED);
 HAS_NUMBER(Error::bad_mode, FREEZE_QUEUE_ERR_BAD_MODE);
 HAS_NUMBER(Error::bad_range, FREEZE_QUEUE_ERR_BAD_RANGE);
 HAS_NUMBER(Error::tag_not_out, FREEZE_QUEUE_ERR_TAG_NOT_OUT);
+HAS_NUMBER(Error::bad_deadline, FREEZE_QUEUE_ERR_BAD_DEADLINE);
+HAS_NUMBER(Error::bad_return, FREEZE_QUEUE_ERR_BAD_RETURN);
+HAS_NUMBER(Error::in_update, FREEZE_QUEUE_ERR_IN_UPDATE);
+HAS_NUMBER(Error::no_event, FREEZE_QUEUE_ERR_NO_EVENT);
 HAS_NUMBER(Mode::slots, FREEZE_QUEUE_MODE_SLOTS);
 HAS_NUMBER(Mode::atomic, FREEZE_QUEUE_MODE_ATOMIC);
 
@@ -89,23 +95,6 @@ static void what_moves_ends_in_its_own_queue()
 
 /* ---- Refusals ---- */
 
-/* A request has its tag on after a stay that is misuse, and none after one in vain: that tag is the pool's, for the next. */
-static void a_refused_stay_gives_back_what_left()
-{
-    auto queue = Queue::make({64, 0, 0, 0}, 1, 1);
-    auto pool = Pool::make(*queue, 1);
-    auto request = pool->enter(0);
-    request->leaves_on(9);
-    IS(request->stay().error() == Error::bad_slot && pool->in_flight(nullptr, 0) == 1);
-    request->leaves_on(0);
-    IS(freeze_queue_waits_begin_freeze(queue->waits()) == FREEZE_QUEUE_OK);
-    IS(request->stay(0ns).error() == Error::timed_out && pool->in_flight(nullptr, 0) == 0);
-    IS(freeze_queue_waits_thaw(queue->waits()) == FREEZE_QUEUE_LIVE_AGAIN);
-    auto next = pool->enter(0);
-    { auto ended = std::move(*request); }
-    IS(pool->in_flight(nullptr, 0) == 1 && next->stay());
-}
-
 /* The destructor of a queue that is frozen 1,000 times, whose end is refused, closes its events and frees it. */
 static void a_queue_whose_end_is_refused_is_freed()
 {
@@ -113,7 +102,7 @@ static void a_queue_whose_end_is_refused_is_freed()
     {
         auto queue = Queue::make({64, 0, 0, 0}, 1, 1);
         IS(freeze_queue_waits_open_events(queue->waits()) == 0);
-        event = queue->waits()->live_event;
+        event = freeze_queue_waits_live_event(queue->waits());
         for (int i = 0; i < 1000; i++)
             IS(freeze_queue_waits_begin_freeze(queue->waits()) == FREEZE_QUEUE_DRAINED);
         IS(queue->end().error() == Error::depth_full && queue->freeze().error() == Error::depth_full);
@@ -122,11 +111,50 @@ static void a_queue_whose_end_is_refused_is_freed()
     IS(fcntl(event, F_GETFD) == -1);
 }
 
+/* ---- Handles of the C headers ---- */
+
+/* Makes an object without an initializer over memory of ones. The functions are apart, so that no compiler drops the ones. */
+__attribute__((noinline)) static void fill(void *memory, std::size_t size) { std::memset(memory, 0xff, size); }
+template <class Type> __attribute__((noinline)) static Type *made_at(void *memory) { return new (memory) Type; }
+
+template <class Type> struct Plain {
+    alignas(Type) unsigned char memory[sizeof(Type)];
+    Type *operator()()
+    {
+        fill(memory, sizeof memory);
+        return made_at<Type>(memory);
+    }
+};
+
+template <class Handle> static void a_plain_handle_is_closed()
+{
+    Plain<Handle> plain;
+    const Handle *handle = plain();
+    unsigned char is_open;
+    std::memcpy(&is_open, &handle->is_open, 1);
+    IS(is_open == 0 && handle->at == nullptr);
+    IS(handle->reserved.words[0] == nullptr && handle->reserved.words[1] == nullptr);
+}
+
+template <class Struct> static void a_plain_struct_is_zero()
+{
+    Plain<Struct> plain;
+    const Struct *made = plain();
+    for (void *word : made->opaque)
+        IS(word == nullptr);
+    IS(made->reserved.words[0] == nullptr && made->reserved.words[1] == nullptr);
+}
+
 int main()
 {
+    a_plain_handle_is_closed<freeze_queue>();
+    a_plain_handle_is_closed<freeze_queue_tag>();
+    a_plain_handle_is_closed<percpu_gate_control>();
+    a_plain_handle_is_closed<percpu_gate_pass>();
+    a_plain_struct_is_zero<freeze_queue_waits>();
+    a_plain_struct_is_zero<freeze_queue_pool>();
     a_request_moves_with_its_pool();
     what_moves_ends_in_its_own_queue();
-    a_refused_stay_gives_back_what_left();
     a_queue_whose_end_is_refused_is_freed();
     std::printf("each field with its owner\n");
     return 0;

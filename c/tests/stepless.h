@@ -1,5 +1,5 @@
 /* Included by tests of which calls take no step, not even one that is taken back: while such a call runs the words that count
- * are memory that no thread may write, so a write is told. Linked with --wrap=malloc and free: each block has pages of its own. */
+ * are memory that no thread may write, so a write is told. Linked with --wrap=malloc, free and posix_memalign: each block has pages of its own. */
 #ifndef STEPLESS_H
 #define STEPLESS_H
 #include "is.h"
@@ -20,6 +20,7 @@ static int block_count, the_table;
 static volatile sig_atomic_t writes;
 
 void *__wrap_malloc(size_t size);
+int __wrap_posix_memalign(void **at, size_t alignment, size_t size);
 void __wrap_free(void *at);
 
 void *__wrap_malloc(size_t size)
@@ -31,6 +32,12 @@ void *__wrap_malloc(size_t size)
     blocks[block_count].at = at;
     blocks[block_count++].size = whole;
     return at;
+}
+
+int __wrap_posix_memalign(void **at, size_t alignment, size_t size)
+{
+    *at = alignment <= PAGE ? __wrap_malloc(size) : NULL;
+    return *at == NULL;
 }
 
 void __wrap_free(void *at) { (void)at; }

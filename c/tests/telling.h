@@ -36,6 +36,9 @@ void __tsan_acquire(void *at)
     places[1] = at;
     step('a');
 }
+void __tsan_ignore_thread_begin(void) {}
+void __tsan_ignore_thread_end(void) {}
+
 /* A call, the steps of an answer that tells of nothing, and those of its answers that order memory. */
 struct call {
     const char *name;

@@ -8,14 +8,14 @@ const NOTICES = {
   step: "The link names a step that isn't there.",
 };
 
-// The outcome and the step that are shown, if the answer is that of the text; while the text runs those that were asked for.
+// The outcome and step on display, if the answer belongs to the current text. While the text runs: those that the link asked for.
 function chosenNow() {
   if (page.isStale) return page.asked;
   const step = page.stepping.schedule ? { step: page.stepping.step } : {};
   return page.outcome ? { outcome: page.outcome, ...step } : step;
 }
 
-// Puts the link to what is shown into the address, and the text beside it, for the way back.
+// Writes the link to what is shown into the address bar, and saves the text in the history entry.
 function keepLink() {
   const [text, chosen] = [find("input").value, chosenNow()];
   const fragment = text.length <= MOST_LINK ? fragmentOf(kindOf(text) ?? "script", text, chosen) : "";
@@ -40,19 +40,19 @@ async function copyLink() {
   return undefined;
 }
 
-// What a link names that isn't there; undefined if it is all there.
+// Describes what a link names that doesn't exist, or returns undefined if everything exists.
 function missing({ outcome, step }) {
   if (outcome !== undefined && outcome !== page.outcome) return NOTICES.outcome;
   return step !== undefined && step !== page.stepping.step ? NOTICES.step : undefined;
 }
 
-// Leaves what is shown as an entry of the history, behind a new one.
+// Pushes a new history entry, so that Back returns to what is shown now.
 function leaveEntry() {
   keepLink();
   history.pushState(null, "", location.href);
 }
 
-// Opens what an entry of the history has. Whether it has something.
+// Opens the text of a history entry. Returns whether the entry had one.
 function openEntry(entry) {
   if (typeof entry?.text !== "string") return false;
   named(entry.name);
@@ -60,7 +60,7 @@ function openEntry(entry) {
   return true;
 }
 
-// Opens what the fragment of the address has. Whether it has something.
+// Opens the text in the fragment of the address. Returns whether there was one.
 function openFragment() {
   const asked = readFragment(location.hash);
   if (!asked) return false;

@@ -1,10 +1,10 @@
-// The answer: line by line beside the input, or the outcomes of a race as a table.
+// Renders the answer: line by line next to the input, or the outcomes of a race as a table.
 
 const MOST_ROWS = 5000;
 const MOST_OUTCOMES = 500;
 const MOST_LETTERS = 10000;
 
-// What an answer of a race means: the words, and the calls that they answer.
+// Meanings of a race's results: the words, and the calls that return them.
 const MEANINGS = {
   given: "the try took its reference",
   refused: "the try took none: its addition was taken back, and that wasn't the last reference",
@@ -26,7 +26,7 @@ const MEANINGS = {
   "waits for dead": "a deadlock: this call waits until the gate is killed, and no call is left that kills it",
 };
 
-// Those that mean something else on Linux's percpu_ref.
+// Results with a different meaning on Linux's percpu_ref.
 const MEANINGS_ON_LINUX = {
   refused: "the try took none: the count was zero, or DEAD was set",
   last: "this call dropped the last reference: it is the release",
@@ -37,12 +37,12 @@ function clipped(text) {
   return text.length <= MOST_LETTERS ? text : `${text.slice(0, MOST_LETTERS)} .. (${text.length} letters)`;
 }
 
-// Whether a schedule's reply is that of a step which can't be taken.
+// Whether a reply says that the step can't be taken.
 function isStuck(reply) {
   return /^stuck \d/.test(reply);
 }
 
-// The rows of a script's or a schedule's answer, as elements. The refused line has the reason instead.
+// The rows of a script's or a schedule's answer, as elements. A refused line shows the reason.
 function rowElements(rows, refused) {
   return rows.slice(0, MOST_ROWS).map(({ number, line, reply }) => {
     const isRefused = refused && number === refused.line;
@@ -56,7 +56,7 @@ function rowElements(rows, refused) {
   });
 }
 
-// The calls of each actor of a race, as its lines have them.
+// The calls of each actor of a race, as written in its lines.
 function callsOf(text) {
   const calls = new Map();
   for (const { words } of saidIn(text).slice(2)) {
@@ -67,7 +67,7 @@ function callsOf(text) {
   return calls;
 }
 
-// The end of each gate: its line, without the words before it.
+// The final state of each gate: its line, without the leading words.
 function endOf({ schedule, isDeadlock }) {
   const ends = linesOf(schedule).filter((line) => /^# (@\d+ )?end /.test(line));
   const end = ends.map((line) => withBias(line.replace(/^# /, "").replace(/end /, ""))).join("; ");
@@ -95,7 +95,7 @@ function outcomeRow(outcome, actors, onChoice) {
   return row;
 }
 
-// The table of a race's outcomes. A click on a row, or its button, chooses the outcome.
+// The table of a race's outcomes. Clicking a row or its button selects the outcome.
 function outcomeTable(outcomes, calls, onChoice) {
   const shown = outcomes.slice(0, MOST_OUTCOMES);
   const actors = (outcomes[0]?.actors ?? []).map(({ actor }) => actor).filter((actor) => calls.has(actor));
@@ -105,7 +105,7 @@ function outcomeTable(outcomes, calls, onChoice) {
   return element("table", {}, [element("caption", { textContent: caption }), outcomeHead(actors, calls), body]);
 }
 
-// Marks the row of the outcome that is chosen, in a table of these outcomes.
+// Marks the row of the selected outcome in a table of these outcomes.
 function markChoice(table, outcomes, chosen) {
   [...table.querySelector("tbody").rows].forEach((row, index) => {
     const isChosen = outcomes[index].number === chosen.number;
@@ -118,7 +118,7 @@ function hasWord({ actors }, word) {
   return actors.some(({ answers }) => answers.split(" / ").includes(word));
 }
 
-// The meanings of the words that these outcomes have, each with a button for the first of them.
+// The meanings of the words in these outcomes, each with a button that selects the first outcome with that word.
 function glossaryOf(outcomes, onChoice) {
   const isLinux = outcomes[0]?.schedule.startsWith("linux 1\n");
   return Object.entries(isLinux ? { ...MEANINGS, ...MEANINGS_ON_LINUX } : MEANINGS).flatMap(([word, meaning]) => {

@@ -1,12 +1,12 @@
-// The machine of a gate, as docs/GATE.md and docs/FORMATS.md have it: tests/machines/gate.py, for the page. The answer of the proved
-// module is compared with it before anything is drawn. The guarded words have 64 bits, so they are BigInts.
+// The state machine of a gate, as in docs/GATE.md and docs/FORMATS.md; a port of tests/machines/gate.py. The page compares the answer of
+// the proved module with it before it draws anything. Guarded words have 64 bits, so they are BigInts.
 
 const BIAS = 2 ** 48;
 const DELTA = 2 ** 20;
 const ROOM = 65535;
 const KILLS = 2 ** 40;
 
-// The control's steps that move it, and the phases in which each may be taken.
+// The control's steps that change its phase, and the phases in which each is enabled.
 const PHASES = {
   dead: ["live in slots", "live atomic"],
   close: ["live in slots", "closing"],
@@ -20,14 +20,14 @@ const PHASES = {
   open: ["opening"],
 };
 
-// A step that isn't enabled, and why.
+// Thrown for a step that isn't enabled, with the reason.
 class Stuck extends Error {}
 
 function needs(holds, why) {
   if (!holds) throw new Stuck(why);
 }
 
-// What keeps a schedule from being drawn.
+// Thrown if a schedule can't be drawn.
 class Wrong extends Error {}
 
 function wrongUnless(holds, why) {
@@ -38,7 +38,7 @@ function isOwn(table, name) {
   return Object.prototype.hasOwnProperty.call(table, name);
 }
 
-// A gate between two steps.
+// The state of a gate between two steps.
 class Gate {
   constructor({ slots, passes, start, kills, words }) {
     const isDead = start === "dead";
@@ -52,7 +52,7 @@ class Gate {
     this.control = { held: 0, owes: null, joined: false };
   }
 
-  // Whether the initial reference is in.
+  // Whether the initial reference is held.
   hasBase() {
     return this.phase !== "dead";
   }
@@ -61,7 +61,7 @@ class Gate {
     return ["live in slots", "closing", "opening"].includes(this.phase);
   }
 
-  // The shared word, as a step that loads it is answered.
+  // The shared word, as a step that loads it replies.
   shown() {
     return `${this.zero ? "zero" : this.dead ? "dead" : "live"} ${this.value}`;
   }
@@ -71,7 +71,7 @@ class Gate {
     return `end ${this.shown()} front ${this.front} kills ${this.kills} releases ${this.releases} held ${held}`;
   }
 
-  // Takes a step and returns its reply. If it isn't enabled, Stuck is thrown, and nothing has changed.
+  // Takes a step and returns its reply. Throws Stuck if the step isn't enabled; the state is unchanged then.
   take({ actor, name, numbers }) {
     return actor === "c" ? this.takeOfControl(name, numbers) : this.takeOfPass(actor, name, numbers);
   }
@@ -111,7 +111,7 @@ class Gate {
     return "last";
   }
 
-  // Whether a slot's exchange from what was seen is won.
+  // Whether a compare-and-exchange on a slot succeeds, from the value that was seen.
   wins(slot, seen, next) {
     needs(Math.abs(seen) <= DELTA && Math.abs(next) <= DELTA, "bad amount");
     return this.slots[slot] === seen;

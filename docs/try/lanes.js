@@ -1,24 +1,24 @@
-// A schedule as lanes: tools/races_pictures/lanes.py, for the page, with the same elements: one lane for each actor, its steps in order with
-// their replies, shaded where the actor holds references or has a step pending; beside them the words of each gate.
+// Draws a schedule as lanes; a port of tools/races_pictures/lanes.py that draws the same elements: a lane per actor with its steps in order
+// and their replies, shaded while the actor holds references or has a step pending, and the words of each gate next to the lanes.
 
 const [SIZE, SMALL] = [13, 12];
 const [ROW, BOX] = [44, 26];
 const [TOP, EDGE, GAP, INNER] = [64, 16, 10, 12];
 const END = 18;
-// The kinds of words that have marks, and whether these stand in front of something else that such a word holds.
+// The kinds of words that have marks, and whether a mark precedes another value in such a word.
 const MARKED = { shared: true, flags: false };
 
-// A lane, or a word of a gate, from x on.
+// A column of the picture, starting at x: a lane or a word of a gate.
 function column(name, x, wide) {
   return { name, x, wide, middle: x + wide / 2, end: x + wide };
 }
 
-// A reply or an end with the bias of the shared word by its name.
+// A reply or a final state, with the bias of the shared word written by name.
 function withBias(text) {
   return text.replace(/\b(zero|dead|live) (\d{15,})\b/, (_, mark, value) => `${mark} ${biasAnd(Number(value) - BIAS)}`);
 }
 
-// A reply as its box shows it, the shared word's with the bias by its name.
+// A reply as shown in its box; the bias of the shared word is written by name.
 function replyOf(row) {
   return row.isStuck ? row.reply.split(" ").slice(2).join(" ") : withBias(row.reply);
 }
@@ -28,7 +28,7 @@ function actorName(actor) {
   return String(actor).startsWith("rcu ") ? actor : `pass ${actor}`;
 }
 
-// The words for what an actor holds and has pending at each gate. Of several gates those at which they are the same are named in front.
+// Text for what an actor holds and has pending at each gate. Gates with equal text are listed together.
 function standingOf(actor, moment) {
   const said = moment.map((state) => state.standing(actor).words);
   if (said.length === 1) return said[0];
@@ -51,7 +51,7 @@ class Lanes {
     return `${steps.join("; ")}; ${this.schedule.ends.join("; ")}`;
   }
 
-  // The columns, each as wide as the longest of its texts.
+  // The columns, each as wide as its longest text.
   place() {
     let x = EDGE;
     this.lanes = new Map();
@@ -74,7 +74,7 @@ class Lanes {
     this.wide = Math.max(x - GAP, EDGE + widthOf(this.title, 15) + 14 + widthOf(this.name, SMALL), ...ends) + EDGE;
   }
 
-  // How wide the longest text of a lane is.
+  // The width of the longest text in a lane.
   wideOf(actor) {
     const rows = this.schedule.rows.filter((row) => this.laneOf(row.step) === actor);
     const steps = rows.map((row) => widthOf(`${row.step.text}   ${replyOf(row)}`, SIZE));
@@ -82,27 +82,27 @@ class Lanes {
     return Math.max(...steps, ...small, 90);
   }
 
-  // The lane of a step's actor; the control's if there is no such actor.
+  // The lane of a step's actor, or the control's lane if the actor doesn't exist.
   laneOf(step) {
     return this.schedule.actors.includes(step.actor) ? step.actor : "c";
   }
 
-  // The words of a gate that are drawn, each with all that it holds in turn. If there is nothing to be seen in any word of a kind, as in
-  // slots that were never open, these are left out.
+  // The words of a gate to draw, each with the values that it holds over time. Kinds whose words never show anything, such as slots that
+  // were never open, are left out.
   shownWords(gate) {
     const words = this.moments[0][gate].words.map((_, index) => this.moments.map((moment) => moment[gate].words[index]));
     const seen = new Set(words.flat().flatMap(({ kind, isIdle }) => (isIdle ? [] : [kind])));
     return words.filter(([{ kind }]) => seen.has(kind));
   }
 
-  // The texts of a word, with room for its marks: in front, or alone.
+  // The texts of a word, with room for its marks.
   textsOf(held) {
     const [texts, room] = [held.map(({ text }) => text), " ".repeat(Math.max(...held.map(({ marks }) => marks.join(" ").length)) + 3)];
     if (!isOwn(MARKED, held[0].kind)) return texts;
     return MARKED[held[0].kind] ? texts.map((text) => room + text) : [...texts, room];
   }
 
-  // The middle of a step's row; the gate stands between -1 and 0 as it starts.
+  // The vertical middle of a step's row. The initial state is between rows -1 and 0.
   yOf(row) {
     return TOP + ROW * (row + 1);
   }
@@ -133,7 +133,7 @@ class Lanes {
     });
   }
 
-  // The number of each of several gates, above its words.
+  // If there are several gates: the number of each, above its words.
   drawNumbers() {
     if (this.moments[0].length === 1) return;
     this.moments[0].forEach((_, gate) => {
@@ -144,7 +144,7 @@ class Lanes {
     });
   }
 
-  // What an actor holds and has pending at each gate, each gate in its part of the lane.
+  // What an actor holds and has pending, each gate in its own part of the lane.
   drawShades(actor) {
     const [lane, gates] = [this.lanes.get(actor), this.moments[0].length];
     const wide = lane.wide / gates;
@@ -153,7 +153,7 @@ class Lanes {
     }
   }
 
-  // What an actor holds and has pending at a gate, from the step that changes it to the next that does.
+  // What an actor holds and has pending at a gate, from one step that changes it to the next.
   drawShade(x, wide, parts) {
     let since = 0;
     for (let index = 1; index <= parts.length; index += 1) {
@@ -167,7 +167,7 @@ class Lanes {
     }
   }
 
-  // The words for what an actor holds and has pending, under the step that changed it.
+  // Text for what an actor holds and has pending, below the step that changed it.
   drawStanding(actor) {
     let before;
     this.moments.forEach((moment, index) => {
@@ -178,7 +178,7 @@ class Lanes {
     });
   }
 
-  // A step's box with its reply, and the line to the word that the step is taken on.
+  // A step's box with its reply, and the line to the word that it accesses.
   drawStep(index, row) {
     const [lane, y] = [this.lanes.get(this.laneOf(row.step)), this.yOf(index)];
     const [kind, x, wide] = [this.kindOf(row), lane.x + 4, lane.wide - 8];
@@ -197,7 +197,7 @@ class Lanes {
     return answer === "last" ? "done" : "plain";
   }
 
-  // The line to the words that a step is taken on, with a dot on each.
+  // The line to the words that a step accesses, with a dot on each.
   drawReach(index, row, lane, y) {
     const isTarget = (word) => row.targets.some(({ gate, kind, at }) => gate === word.gate && kind === word.kind && at === word.at);
     const reached = this.words.filter(isTarget);
@@ -209,7 +209,7 @@ class Lanes {
     reached.forEach(({ middle }, at) => this.picture.dot(middle, y, kind, !changed[at]));
   }
 
-  // What a word of a gate holds, after each step that changes it.
+  // The value of a word after each step that changes it.
   drawWord(word, last) {
     this.picture.line([[word.middle, TOP + ROW / 2 - 6], [word.middle, last - 14]], "rule");
     let before;

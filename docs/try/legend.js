@@ -1,4 +1,4 @@
-// What the words of a schedule mean: those of its steps and replies, from docs/GATE.md and docs/FORMATS.md.
+// Meanings of the words in a schedule's steps and replies, from docs/GATE.md and docs/FORMATS.md.
 
 const MEANINGS_OF_STEPS = {
   "add try": "adds 1 to the shared word, as a try for any gate; refused if ZERO was set",
@@ -39,7 +39,7 @@ const MEANINGS_OF_REPLIES = {
   stuck: "the step can't be taken here, and the later ones aren't tried",
 };
 
-// Those of a schedule on Linux's percpu_ref, from docs/LINUX.md.
+// The same for a schedule on Linux's percpu_ref, from docs/LINUX.md.
 const STEPS_ON_LINUX = {
   load: "loads the flags; from here to its count the actor is in a section of RCU, for which a grace period waits",
   "load again": "a live try loads the flags again",
@@ -81,17 +81,17 @@ const REPLIES_ON_LINUX = {
   stuck: "the step can't be taken here, and the later ones aren't tried",
 };
 
-// The word of a step in the legend. A pass and the control have the mark and the load of the shared word in common.
+// A step's word in the legend. Passes and the control share the words for the mark and the load of the shared word.
 function wordOfStep({ actor, name }) {
   return actor === "c" && !["mark", "shared"].includes(name) ? `c ${name}` : name;
 }
 
-// The word of a step on a percpu_ref: without its numbers and signs, and without the letter of a flag.
+// The word of a step on a percpu_ref, without numbers, signs and the letter of a flag.
 function wordOnLinux({ text }) {
   return text.split(" ").filter((word) => /^[a-z_]{2,}$/.test(word)).join(" ");
 }
 
-// The words of a schedule's steps and of its replies, each with what it means, in the order of the tables above.
+// The words in a schedule's steps and replies with their meanings, in the order of the tables above.
 function legendOf({ machine, rows }) {
   const isLinux = machine instanceof PercpuRef;
   const steps = new Set(rows.map(({ step }) => (isLinux ? wordOnLinux : wordOfStep)(step)));

@@ -1,8 +1,8 @@
-// The machine of Linux's percpu_ref, as docs/LINUX.md and docs/races/FORMATS.md have it: tests/machines/walk.py, for the page. A schedule takes
+// The state machine of Linux's percpu_ref, as in docs/LINUX.md and docs/races/FORMATS.md; a port of tests/machines/walk.py. A schedule takes
 // the steps of a race's calls one after another.
 
 const [FLAGS, COUNT, SWITCH] = ["flags", "count", "switch"].map((kind) => ({ gate: 0, kind, at: null }));
-// What a call is answered that counts, and neither finds zero nor leaves it; and the words that an `await` looks at.
+// The result of a call that counts without finding or leaving zero, and the words that an `await` loads.
 const COUNTED = { try: "given", live: "given", get: "ok", put: "not last" };
 const AWAITED = { zero: [COUNT], dead: [FLAGS] };
 
@@ -10,20 +10,20 @@ function onCounter(at) {
   return { gate: 0, kind: "counter", at };
 }
 
-// The next step of an actor: its words, the words of the counter that it is taken on, what it has to wait for, and whether the control
-// has the lock until then.
+// An actor's next step: its words, the words of the counter that it accesses, what it has to wait for, and whether the control holds the
+// lock until then.
 function nextStep(text, on, { waitsFor = "", isLocked = false } = {}) {
   return { text, on, waitsFor, isLocked };
 }
 
-// The words of a percpu_ref. The count is what it has beside the bias.
+// The words of a percpu_ref. The count excludes the bias.
 class Counter {
   constructor(slots, start) {
     Object.assign(this, { isAtomic: start !== "slots", isDead: start === "dead", hasBias: start === "slots", count: start === "dead" ? 0 : 1 });
     Object.assign(this, { counters: new Array(slots).fill(0), releases: 0 });
   }
 
-  // The flags, as a step that loads them replies.
+  // The flags, as replied to a step that loads them.
   flags() {
     return [...(this.isAtomic ? ["atomic"] : []), ...(this.isDead ? ["dead"] : [])].join(" ") || "percpu";
   }
@@ -36,12 +36,12 @@ class Counter {
     return !this.hasBias && this.count === 0;
   }
 
-  // The count, with the bias by its name.
+  // The count, with the bias written by name.
   shown() {
     return this.hasBias ? `bias${this.count < 0 ? "" : "+"}${this.count}` : String(this.count);
   }
 
-  // Takes n from the count. It is the release if that leaves zero.
+  // Subtracts n from the count. Reaching zero is the release.
   put(n) {
     this.count -= n;
     if (this.isZero()) this.releases += 1;
@@ -53,7 +53,7 @@ class Counter {
   }
 }
 
-// A step as its line says it.
+// A step, parsed from its line.
 class RefStep {
   constructor(line, words) {
     const count = words[0] === "rcu" ? 2 : 1;
@@ -64,7 +64,7 @@ class RefStep {
   }
 }
 
-// A percpu_ref and the calls on it between two steps. `switching` is the callback of the switch that is under way.
+// The state of a percpu_ref and of the calls on it between two steps. `switching` is the callback of the switch in progress.
 class PercpuRef {
   constructor({ slots, passes, start, calls }) {
     Object.assign(this, { passes, counter: new Counter(slots, start), hasBase: start !== "dead", switching: null });
@@ -76,7 +76,7 @@ class PercpuRef {
     });
   }
 
-  // An actor begins the first of these calls.
+  // Lets an actor begin the first of these calls.
   begin(seat, calls) {
     seat.steps = this.stepsOf(seat, calls);
     this.goOn(seat);
@@ -90,12 +90,12 @@ class PercpuRef {
     return ["c", ...[...this.seats.keys()].filter((actor) => actor !== "c")];
   }
 
-  // Whether the control has the lock of all switches.
+  // Whether the control holds the lock for mode switches.
   isLocked() {
     return this.seats.get("c").next?.isLocked ?? false;
   }
 
-  // Whether what a step waits for is so. To look for zero takes the lock.
+  // Whether a step's condition holds. Checking for zero takes the lock.
   mayGo({ waitsFor }) {
     const so = {
       "": true,
@@ -108,17 +108,17 @@ class PercpuRef {
     return so[waitsFor] ?? this.setFlags.has(waitsFor);
   }
 
-  // The step of a line.
+  // Parses the step of a line.
   step(line, words) {
     return new RefStep(line, words);
   }
 
-  // The words that a step is taken on: of the one counter, each one's kind and its number.
+  // The words that a step accesses, all of the one counter, each by kind and number.
   targets({ actor }) {
     return this.seats.get(actor)?.next?.on ?? [];
   }
 
-  // Takes a step and returns its reply. If it isn't its actor's next one, or may not come yet, Stuck is thrown.
+  // Takes a step and returns its reply. Throws Stuck if it isn't its actor's next step or isn't enabled yet.
   take({ actor, text }) {
     const seat = this.seats.get(actor);
     needs(seat, "no such actor");
@@ -130,12 +130,12 @@ class PercpuRef {
     return [...this.found, ...this.answers.slice(0, 1)].join(", ") || "ok";
   }
 
-  // What is shown of it now.
+  // The current state, for display.
   moment() {
     return [new RefState(this)];
   }
 
-  // The line of the end.
+  // The final line.
   ends() {
     const { counter } = this;
     const held = Array.from({ length: this.passes }, (_, pass) => this.seats.get(pass).held).reduce((sum, it) => sum + it, 0);
@@ -143,9 +143,9 @@ class PercpuRef {
     return [`end ${counter.flags()}, ${words}`];
   }
 
-  // The steps of each call: what comes behind a `yield` is what the step does, and the answer of the call is returned.
+  // The steps of each call. The code after a `yield` is what the step does; the call's result is returned.
 
-  // The steps of some calls, one after another. A section ends with its call.
+  // The steps of several calls, one after another. A read-side section ends with its call.
   *stepsOf(seat, calls) {
     for (const call of calls) {
       const answer = yield* call;
@@ -192,7 +192,7 @@ class PercpuRef {
     return seat.held + n <= ROOM && (what !== "get" || seat.held > 0);
   }
 
-  // A try, a get or a put: on its counter, or if a flag is set on the count.
+  // A try, a get or a put: on the per-CPU counter, or on the count if a flag is set.
   *count(seat, what, slot, n = 1) {
     if (!this.canCount(seat, what, slot, n)) return "passed over";
     const [{ counter }, change, isTry] = [this, what === "put" ? -n : n, what === "try" || what === "live"];
@@ -216,7 +216,7 @@ class PercpuRef {
     return COUNTED[what];
   }
 
-  // Loads the flags, in a section.
+  // Loads the flags in a read-side section.
   *load(seat, text) {
     yield nextStep(text, [FLAGS]);
     this.found.push(this.counter.flags());
@@ -260,7 +260,7 @@ class PercpuRef {
     return "ok";
   }
 
-  // Switches to the mode that is wanted, unless it is there. One that was killed is in atomic mode.
+  // Switches to the requested mode unless it is in force. A killed percpu_ref is in atomic mode.
   *switch(purpose) {
     if (this.switching !== null) yield nextStep("slept", [SWITCH], { waitsFor: "switch" });
     const isAtomic = this.counter.isDead || this.wants === "atomic";
@@ -284,7 +284,7 @@ class PercpuRef {
     counter.isAtomic = false;
   }
 
-  // Gives a callback to RCU. Its grace period waits for the sections that there are.
+  // Queues an RCU callback. Its grace period waits for the current read-side sections.
   addCallback() {
     this.awaited = new Set([...this.seats.values()].filter((seat) => seat.isInSection));
     this.switching = `rcu ${this.seats.size - this.passes - 1}`;
@@ -294,7 +294,7 @@ class PercpuRef {
     this.begin(seat, [this.callback(seat)]);
   }
 
-  // The callback of a switch to atomic mode: it puts the reference of the switch.
+  // The callback of a switch to atomic mode: puts the switch's reference.
   *callback(seat) {
     const { counter } = this;
     yield nextStep("collect", [COUNT, ...counter.counters.map((_, at) => onCounter(at))], { waitsFor: "grace period" });

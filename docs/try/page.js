@@ -1,19 +1,19 @@
-// The page: its controls, and what they show.
+// The page's controls and what they show.
 
 const MOST_SHOWN = 1 << 20;
 const PAUSE = 500;
 const LINE_HEIGHT = 21;
 // More lines than the input ever shows at once.
 const SEEN = 80;
-// As in the style sheet.
+// The same as in the style sheet.
 const BESIDE_EACH_OTHER = "(min-width: 60rem)";
 const NAMES = { script: "a script", schedule: "a schedule", race: "a race" };
 const find = (id) => document.getElementById(id);
 
-// `turn` numbers the runs, of which the last one is shown. While `isStale`, what is shown answers an older text than the input has.
+// `turn` counts the runs; the last one is shown. While `isStale`, the answer on display belongs to an older text.
 const page = { isStale: false, asked: {}, began: 0, runner: undefined, stepping: undefined, kind: undefined, outcomes: [], outcome: 0, timer: 0, wait: 0, turn: 0, marked: 0, count: 0, most: undefined, answer: "" };
 
-// What a text is answered: by the kind of its first word, unless another is asked for. The bytes may be no UTF-8.
+// Runs a text and returns the answer. The first word gives the kind unless one is passed. The bytes need not be UTF-8.
 function answered(input, kind, most, room) {
   const bytes = typeof input === "string" ? new TextEncoder().encode(input) : input;
   return page.runner.run(kind ?? kindOf(new TextDecoder().decode(bytes)) ?? "script", bytes, most, room);
@@ -31,7 +31,7 @@ function secondsRun() {
   return `${((performance.now() - page.began) / 1000).toFixed(1)} s`;
 }
 
-// Counts the time of a run until it ends.
+// Shows the elapsed time until the run ends.
 function startClock() {
   page.began = performance.now();
   const tell = () => say(`running: ${secondsRun()}`);
@@ -46,7 +46,7 @@ function stopClock() {
   find("stop").disabled = true;
 }
 
-// Marks what is shown as the answer to an older text: it's dimmed, and nothing of it can be chosen. Or takes that back.
+// Dims and disables the answer if it belongs to an older text, or enables it again.
 function markStale(isStale) {
   page.isStale = isStale;
   ["answer-part", "steps", "whole"].forEach((id) => {
@@ -55,7 +55,7 @@ function markStale(isStale) {
   });
 }
 
-// What the page says of the kind of a text, and the help for it; for each kind, if it is none.
+// Shows the kind of a text and the help for that kind, or the help for each kind if the text is of none.
 function tellKind(kind) {
   find("kind").textContent = kind ? NAMES[kind] : "neither a script nor a schedule nor a race";
   Object.keys(NAMES).forEach((it) => (find(`help-${it}`).hidden = kind !== undefined && it !== kind));
@@ -75,7 +75,7 @@ function clear() {
   markLine(0);
 }
 
-// Runs what is in the input, and shows what it is answered; then chooses the outcome and the step that a link asks for.
+// Runs the input and shows the answer, then selects the outcome and step that a link asks for.
 async function runInput(chosen = {}) {
   clearTimeout(page.wait);
   const text = find("input").value;
@@ -100,7 +100,7 @@ async function runInput(chosen = {}) {
   return undefined;
 }
 
-// Shows a schedule that the page doesn't replay: what does, and its lanes if the replies are printed in it.
+// Shows a schedule that the page can't replay: which program does, and its lanes if the text contains the replies.
 function showPrinted(text, chosen) {
   page.runner.stop();
   stopClock();
@@ -116,7 +116,7 @@ function showPrinted(text, chosen) {
   keepLink();
 }
 
-// What is said of a run without an answer; undefined of another.
+// The message for a run without an answer, or undefined if it has one.
 function unanswered({ status, fault }) {
   const smaller = page.kind === "race" ? ": a race with fewer passes, slots or calls has fewer states" : "";
   if (status === STOPPED) return `stopped after ${secondsRun()}${smaller}`;
@@ -166,13 +166,13 @@ function showOutcomes(text, answer, chosen) {
   if (first) choose(first, chosen.step);
 }
 
-// A reader chooses an outcome, and goes on with its steps.
+// Selects an outcome for the reader and moves the focus to its steps.
 function chooseHere(outcome) {
   choose(outcome);
   find("steps-head").focus({ preventScroll: true });
 }
 
-// Chooses an outcome, draws its schedule, and brings it into view.
+// Selects an outcome, draws its schedule and scrolls to it.
 function choose(outcome, step) {
   if (page.isStale) return;
   page.outcome = outcome.number;
@@ -181,7 +181,7 @@ function choose(outcome, step) {
   page.stepping.comeIntoView();
 }
 
-// Draws a schedule whose answer the page's own machine gives too.
+// Draws a schedule if the page's own state machine gives the same answer.
 function showSchedule(title, name, text, answer, step) {
   page.drawn = text;
   find("open").hidden = page.kind === "schedule";
@@ -201,12 +201,12 @@ function markLine(line) {
   layOut();
 }
 
-// The numbers from one to another, each on a line.
+// The numbers of a range, one per line.
 function numbered(from, to) {
   return Array.from({ length: Math.max(0, to - from + 1) }, (_, index) => `${from + index}\n`).join("");
 }
 
-// The numbers of the lines that are seen, behind so many others, with that of a refused line marked.
+// The numbers of the visible lines, after the given number of lines, with a refused line marked.
 function showNumbers(hidden) {
   const numbers = find("numbers");
   const count = Math.max(page.count, page.marked);
@@ -218,7 +218,7 @@ function showNumbers(hidden) {
   numbers.style.minWidth = `calc(${String(count).length}ch + 1.5rem)`;
 }
 
-// The numbers and the mark of the refused line, as far as the input is scrolled.
+// Updates the line numbers and the mark of the refused line to the scroll position.
 function layOut() {
   const [scrolled, mark] = [find("input").scrollTop, find("refused-line")];
   const hidden = Math.floor(scrolled / LINE_HEIGHT);
@@ -228,7 +228,7 @@ function layOut() {
   mark.style.top = `${8 + (page.marked - 1) * LINE_HEIGHT - scrolled}px`;
 }
 
-// Puts a text into the input, and runs it.
+// Puts a text into the input and runs it.
 function open(text, chosen) {
   find("input").value = text;
   find("input").scrollTop = 0;
@@ -236,7 +236,7 @@ function open(text, chosen) {
   return runInput(chosen);
 }
 
-// Names what is in the input: an example, or none.
+// Shows which example is in the input, if any.
 function named(name, shows = "") {
   const example = EXAMPLES.find((it) => it.name === name);
   page.name = example?.name;
@@ -259,7 +259,7 @@ function fillMenu() {
   }
 }
 
-// Opens an example. A text of the reader's own stays behind it in the history.
+// Opens an example. The reader's own text stays in the history.
 function onExample() {
   const { value } = find("example");
   if (!value) return;
@@ -305,7 +305,7 @@ function connect() {
   addEventListener("popstate", ({ state }) => openEntry(state) || openFragment());
 }
 
-// Says that this browser can't run the module.
+// Reports that this browser can't run the module.
 function giveUp() {
   find("no-memory64").hidden = false;
   document.querySelectorAll(".controls button, .controls select, #input").forEach((it) => (it.disabled = true));

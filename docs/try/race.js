@@ -1,4 +1,4 @@
-// The page of one race: its outcomes, of which one is drawn. The address has the outcome and the step.
+// A page for one race: lists its outcomes and draws one. The address holds the outcome and the step.
 
 const find = (id) => document.getElementById(id);
 const race = { ...JSON.parse(find("data").textContent), stepping: undefined, outcome: 0 };
@@ -8,7 +8,7 @@ function keepAddress(step) {
   history.replaceState(null, "", `#outcome=${race.outcome}&step=${step}`);
 }
 
-// Chooses an outcome, and draws its schedule at a step, or at its end.
+// Selects an outcome and draws its schedule at a step, or at its end.
 function choose(outcome, step) {
   race.outcome = outcome.number;
   if (outcome.number <= MOST_OUTCOMES) markChoice(find("outcomes"), race.outcomes, outcome);
@@ -16,14 +16,14 @@ function choose(outcome, step) {
   race.stepping.show(`outcome ${outcome.number}`, race.name, schedule, step);
 }
 
-// A reader chooses an outcome, and goes on with its steps.
+// Selects an outcome for the reader and moves the focus to its steps.
 function chooseHere(outcome) {
   choose(outcome);
   find("steps-head").focus({ preventScroll: true });
   race.stepping.comeIntoView();
 }
 
-// Chooses what the address names; the first outcome, before its first step, if it names none.
+// Selects the outcome and step in the address, or the first outcome before its first step.
 function chooseAsked() {
   const asked = new URLSearchParams(location.hash.replace(/^#/, ""));
   const [number, step] = ["outcome", "step"].map((name) => numberIn(asked.get(name)));

@@ -1,10 +1,10 @@
-// The worker that answers an input, which can be stopped.
+// Runs inputs in a worker that can be stopped.
 
 const MOST_MEMORY = 2 ** 31;
 const FIRST_ROOM = 16 << 20;
 const STOPPED = "stopped";
 
-// The bytes of the module, which the page has compressed.
+// The bytes of the module, which is compressed in the page.
 async function moduleBytes() {
   const packed = Uint8Array.from(atob(MODULE), (letter) => letter.charCodeAt(0));
   const unpacked = new Blob([packed]).stream().pipeThrough(new DecompressionStream("gzip"));
@@ -17,8 +17,8 @@ class Runner {
     this.source = URL.createObjectURL(new Blob([document.getElementById("worker").textContent], { type: "text/javascript" }));
   }
 
-  // The status, the answer as bytes, the line of a fault and the milliseconds that an input takes. A run that is stopped answers so.
-  // `most` bounds the bytes of memory, and `room` is the first room for the answer.
+  // Runs an input. Returns its status (STOPPED if it was stopped), the answer's bytes, the line of a fault and the milliseconds taken.
+  // `most` is the maximum number of bytes of memory; `room` is the initial size of the buffer for the answer.
   run(kind, input, most = MOST_MEMORY, room = FIRST_ROOM) {
     this.stop();
     this.worker ??= this.started();
@@ -31,7 +31,7 @@ class Runner {
     });
   }
 
-  // A worker with the module. What it says once it is ended isn't heard: another one may be at work then.
+  // Starts a worker with the module. Messages from a worker that was ended are ignored, since another may be running.
   started() {
     const worker = new Worker(this.source);
     const hear = (answered) => worker === this.worker && this.done?.(answered);
@@ -41,7 +41,7 @@ class Runner {
     return worker;
   }
 
-  // Ends a run that is under way, with its worker.
+  // Ends the current run and its worker.
   stop() {
     if (!this.done) return;
     this.worker.terminate();

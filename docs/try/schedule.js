@@ -1,7 +1,7 @@
-// A schedule and its answer, compared: of one gate or several by the machine of gate.js, and of Linux's percpu_ref by that of linux.js. It is
-// tools/races_pictures/schedule.py, for the page.
+// Compares a schedule with its answer: of one gate or several by the state machine of gate.js, and of Linux's percpu_ref by that of linux.js.
+// A port of tools/races_pictures/schedule.py.
 
-// How many numbers follow the words of each step, and the word that the step looks at or changes.
+// How many numbers follow the words of each step, and the word that the step loads or changes.
 const PASS_STEPS = {
   "add try": [0, "shared"],
   "add live": [0, "shared"],
@@ -32,13 +32,13 @@ const CONTROL_STEPS = {
   join: [1, null],
   shared: [0, "shared"],
 };
-// A call of a race, as it stands above the steps on a percpu_ref.
+// A call of a race, as written above the steps on a percpu_ref.
 const CALL = new RegExp(
   "^(?:(?:try|live|word) [0-9]+|(?:get|put|store) [0-9]+ [0-9]+|await (?:zero|dead|[a-z])|set [a-z]|front|dying|zero|kill|mark_dead|" +
     "close_next|collect|confirm|drop_base|reinit|resurrect|slots|atomic)$",
 );
 
-// A step as its line says it, at the gate with this index. What stands in front of it in the line is a part of its text.
+// A step, parsed from its line, at the gate with this index. What precedes it in the line is part of its text.
 class Step {
   constructor(line, words, gate = 0, front = "") {
     Object.assign(this, { line, gate, text: front + words.slice(1).join(" ") });
@@ -54,14 +54,14 @@ class Step {
     this.target = known[this.name][1];
   }
 
-  // Which of the slots, or of the guarded words, a step is taken on, in a gate as it is before the step.
+  // The index of the slot or guarded word that a step accesses, in the state before the step.
   on(gate) {
     if (this.target !== "slot" && this.target !== "word") return null;
     return this.actor === "c" && this.target === "slot" ? gate.at : this.numbers[0];
   }
 }
 
-// The gates of a schedule: one, or several, each of which has its number in front of what is said of it.
+// The gates of a schedule. If there are several, the lines about each begin with its number.
 class Gates {
   constructor(gates, isNumbered) {
     Object.assign(this, { gates, isNumbered, passes: gates[0].passes.length });
@@ -69,7 +69,7 @@ class Gates {
     this.actors = ["c", ...gates[0].passes.keys()];
   }
 
-  // The step of a line.
+  // Parses the step of a line.
   step(line, words) {
     if (!this.isNumbered) return new Step(line, words);
     const gate = this.fronts.indexOf(`${words[0]} `);
@@ -77,28 +77,28 @@ class Gates {
     return new Step(line, words.slice(1), gate, this.fronts[gate]);
   }
 
-  // The word that a step is taken on, if any, in the gates as they are before the step: its gate, its kind and its number.
+  // The word that a step accesses, if any, in the state before the step: its gate, kind and number.
   targets(step) {
     return step.target ? [{ gate: step.gate, kind: step.target, at: step.on(this.gates[step.gate]) }] : [];
   }
 
-  // Takes a step and returns its reply. If it isn't enabled, Stuck is thrown.
+  // Takes a step and returns its reply. Throws Stuck if it isn't enabled.
   take(step) {
     return this.gates[step.gate].take(step);
   }
 
-  // What is shown of each gate now.
+  // The current state of each gate, for display.
   moment() {
     return this.gates.map((gate) => new GateState(gate));
   }
 
-  // The lines of the end.
+  // The final lines.
   ends() {
     return this.gates.map((gate, index) => this.fronts[index] + gate.end());
   }
 }
 
-// What the line of a world says: the slots, the passes, the start, the kills, and the words behind them.
+// Parses the line of a world: slots, passes, start, kills, and the words that follow.
 function worldOf(words) {
   const isWorld = words.length >= 5 && ["slots", "atomic", "dead"].includes(words[3]);
   wrongUnless(isWorld && [words[1], words[2], words[4]].every((word) => /^[0-9]+$/.test(word)), "no world");
@@ -106,19 +106,19 @@ function worldOf(words) {
   return { slots, passes, start: words[3], kills, more: words.slice(5) };
 }
 
-// The gate of a world's line.
+// The gate that a world's line describes.
 function gateOf(words) {
   const { more, ...said } = worldOf(words);
   wrongUnless(more.every((word) => /^[0-9]+$/.test(word)), "no world");
   return new Gate({ ...said, words: more.map(BigInt) });
 }
 
-// The gate of the first of these lines, and the lines of the steps.
+// The gate that the first line describes, and the lines of the steps.
 function oneGate([world, ...lines]) {
   return [new Gates([gateOf(world.words)], false), lines];
 }
 
-// The gates of the first of these lines, and the lines of the steps.
+// The gates that the first lines describe, and the lines of the steps.
 function severalGates(lines) {
   const end = lines.findIndex(({ words }) => words[0] !== "world");
   const count = end < 0 ? lines.length : end;
@@ -127,7 +127,7 @@ function severalGates(lines) {
   return [new Gates(gates, true), lines.slice(count)];
 }
 
-// The actor of a line of a race, and its calls, each as its words.
+// The actor of a race's line and its calls, each split into words.
 function callsOn({ number, words }, passes) {
   wrongUnless(words[0] === "c" || (/^[0-9]+$/.test(words[0]) && Number(words[0]) < passes), `line ${number}: no actor`);
   const calls = words.slice(1).join(" ").split(" / ");
@@ -135,7 +135,7 @@ function callsOn({ number, words }, passes) {
   return [words[0] === "c" ? "c" : Number(words[0]), calls.map((call) => call.split(" "))];
 }
 
-// The percpu_ref of the first of these lines with the calls of the next ones, and the lines of the steps.
+// The percpu_ref that the first line describes, with the calls of the next lines, and the lines of the steps.
 function onLinux([world, ...lines]) {
   const { more, ...said } = worldOf(world.words);
   wrongUnless(more.join(" ") === "linux", "no world");
@@ -147,10 +147,10 @@ function onLinux([world, ...lines]) {
   return [new PercpuRef({ ...said, calls }), lines.slice(end + 1)];
 }
 
-// The first line of a schedule, and what makes its machine.
+// The first word of a schedule, and the constructor of its state machine.
 const MACHINES = { "gate 1": oneGate, "gates 1": severalGates, "linux 1": onLinux };
 
-// The machine of a schedule, and the lines of its steps.
+// The state machine of a schedule, and the lines of its steps.
 function machineOf([first, ...lines]) {
   const head = first?.words.join(" ");
   const isSchedule = isOwn(MACHINES, head) && lines[0]?.words[0] === "world";
@@ -158,7 +158,7 @@ function machineOf([first, ...lines]) {
   return MACHINES[head](lines);
 }
 
-// A schedule with the reply to each of its steps, and the gates after each of the first `most`. The last row may be a step that isn't
+// A schedule with the reply to each step, and the state after each of the first `most` steps. The last row may be a step that isn't
 // enabled.
 class Schedule {
   constructor(text, answer, most = Infinity) {
@@ -196,7 +196,7 @@ class Schedule {
     this.rows.push({ step, targets, reply, isStuck, moment: this.rows.length < this.most ? this.machine.moment() : undefined });
   }
 
-  // The gates as they are after so many steps.
+  // The state of the gates after this many steps.
   momentAfter(count) {
     return count === 0 ? this.start : this.rows[count - 1].moment;
   }

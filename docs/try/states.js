@@ -1,25 +1,24 @@
-// What is shown of a gate, or of Linux's percpu_ref, between two steps: its words, and what each actor holds and has pending there. It is
-// tools/races_pictures/states.py, for the page.
+// What the page shows of a gate, or of Linux's percpu_ref, between two steps: its words, and what each actor holds and has pending.
+// A port of tools/races_pictures/states.py.
 
-// A word: its kind, its number among those of its kind, its name, what it holds, the marks that are set in it, and whether there is
-// nothing to be seen in it.
+// A word: its kind, its number within the kind, its name, its value, the marks set in it, and whether it has nothing to show.
 class Word {
   constructor(kind, at, name, text, { marks = [], isIdle = false } = {}) {
     Object.assign(this, { kind, at, name, text, marks, isIdle });
   }
 
-  // All that it holds.
+  // Its value and marks.
   get value() {
     return [...this.marks, this.text].filter((it) => it !== "").join(" ");
   }
 }
 
-// What an actor holds and has pending, and the words for it.
+// What an actor holds and has pending, and the text for it.
 function standingWith(held, pending) {
   return { holds: held.length > 0, pending: pending.length > 0, words: [...held, ...pending].join(", ") };
 }
 
-// The bias by its name, and what is counted beside it.
+// The bias by name, and the count without it.
 function biasAnd(rest) {
   return rest === 0 ? "bias" : `bias${rest > 0 ? "+" : ""}${rest}`;
 }
@@ -28,7 +27,7 @@ function slotShown(slot) {
   return slot === null ? "closed" : slot > 0 ? `+${slot}` : String(slot);
 }
 
-// A gate between two steps.
+// The state of a gate between two steps.
 class GateState {
   pendingShown = "a step is pending";
 
@@ -37,7 +36,7 @@ class GateState {
     this.words = this.wordsOf(gate);
   }
 
-  // The words in the order of their columns.
+  // The words, in column order.
   wordsOf(gate) {
     const marks = [...(gate.dead ? ["DEAD"] : []), ...(gate.zero ? ["ZERO"] : [])];
     const count = gate.hasBias() ? biasAnd(gate.value - BIAS) : String(gate.value);
@@ -55,7 +54,7 @@ class GateState {
   }
 }
 
-// A percpu_ref between two steps.
+// The state of a percpu_ref between two steps.
 class RefState {
   pendingShown = "a section, a lock, a grace period";
 
@@ -64,7 +63,7 @@ class RefState {
     this.standings = new Map([...ref.seats].map(([actor, seat]) => [actor, this.standingIn(ref, actor, seat)]));
   }
 
-  // The words in the order of their columns.
+  // The words, in column order.
   wordsOf(counter, switching) {
     const marks = [...(counter.isAtomic ? ["ATOMIC"] : []), ...(counter.isDead ? ["DEAD"] : [])];
     const isUnused = !counter.isPercpu();
@@ -82,7 +81,7 @@ class RefState {
     return standingWith(seat.held ? [`holds ${seat.held}`] : [], seat.isInSection ? ["in a section"] : waits);
   }
 
-  // What an actor holds and has pending; nothing of a callback that isn't there yet.
+  // What an actor holds and has pending; empty for a callback that doesn't exist yet.
   standing(actor) {
     return this.standings.get(actor) ?? standingWith([], []);
   }

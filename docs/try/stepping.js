@@ -1,24 +1,23 @@
-// A schedule, step by step: the lanes, the gate at a step, and what the step is.
+// Shows a schedule step by step: the lanes, the state at a step, and what the step does.
 
 const MOST_STEPS = 600;
 const MOST_PASSES = 16;
 
-// An element with its properties and children.
+// Creates an element with properties and children.
 function element(tag, properties = {}, children = []) {
   const made = Object.assign(document.createElement(tag), properties);
   made.append(...children);
   return made;
 }
 
-// The rows of the table of a gate between two steps: the name and the value of each word, first of those that there is one of, and what
-// each actor holds.
+// The rows of the table of a gate's state: each word's name and value, single words first, and what each actor holds.
 function gateShown(state, actors) {
   const words = [...state.words.filter(({ at }) => at === null), ...state.words.filter(({ at }) => at !== null)];
   const standing = actors.map((actor) => [actorName(actor), state.standing(actor).words || "holds nothing"]);
   return [...words.map(({ name, value }) => [name, value]), ...standing];
 }
 
-// A row of that table, with what it was before.
+// A row of that table, with the previous value.
 function rowOfGate([name, now], old) {
   const isChanged = old !== now;
   const cells = [element("th", { scope: "row", textContent: name }), element("td", { textContent: now })];
@@ -40,7 +39,7 @@ class Stepping {
     this.find("steps").hidden = true;
   }
 
-  // Shows a schedule of a text with this name, at a step or at its end.
+  // Shows the schedule of a text with this name, at a step or at its end.
   show(title, name, schedule, step = -1) {
     const { find } = this;
     this.schedule = schedule;
@@ -69,27 +68,27 @@ class Stepping {
       box.setAttribute("class", kind);
       return box;
     });
-    // The veil is above the shapes, and below the texts.
+    // The veil lies above the shapes and below the texts.
     this.texts = [...lanes.querySelectorAll("text")];
     lanes.firstElementChild.append(later, ...this.texts, now);
     Object.assign(this, { now, later });
   }
 
-  // The picture and its heading come into view.
+  // Scrolls to the picture and its heading.
   comeIntoView() {
     const isCalm = matchMedia("(prefers-reduced-motion: reduce)").matches;
     this.find("steps").scrollIntoView({ block: "start", behavior: isCalm ? "instant" : "smooth" });
   }
 
-  // Whether the left and right keys step from there: from the part with the steps, or from nowhere; not where they scroll or move a
-  // mark.
+  // Whether the left and right keys step when this element has the focus: in the part with the steps, or with no focus, but not where they
+  // scroll or move a cursor.
   stepsFrom(place) {
     const frame = place.closest("[tabindex='0']");
     if (frame && frame.scrollWidth > frame.clientWidth) return false;
     return !["TEXTAREA", "INPUT", "SELECT"].includes(place.tagName) && (place === document.body || this.find("steps").contains(place));
   }
 
-  // Steps by the left and right keys.
+  // Handles the left and right keys.
   onKey(event) {
     const isStep = ["ArrowLeft", "ArrowRight"].includes(event.key) && !event.altKey && !event.ctrlKey && !event.metaKey;
     if (!isStep || !this.schedule || !this.stepsFrom(event.target)) return;
@@ -97,7 +96,7 @@ class Stepping {
     this.goTo(this.step + (event.key === "ArrowLeft" ? -1 : 1));
   }
 
-  // Goes to the gate as it is after so many steps.
+  // Shows the state after this many steps.
   goTo(step) {
     if (!this.schedule) return;
     this.step = Math.max(0, Math.min(step, this.count));
@@ -119,7 +118,7 @@ class Stepping {
     return `Step ${this.step} of ${this.count}: ${step.actor === "c" ? "the control" : actorName(step.actor)}: ${step.text} → ${withBias(reply)}`;
   }
 
-  // The table of the gate, or of each gate under its number.
+  // The table of the gate, or of each gate below its number.
   showGates() {
     const [{ schedule, step }, table] = [this, this.find("state")];
     const [before, now] = [schedule.momentAfter(Math.max(0, step - 1)), schedule.momentAfter(step)];
@@ -133,7 +132,7 @@ class Stepping {
     table.append(...bodies);
   }
 
-  // Frames the step's row in the lanes, and fades the later ones.
+  // Frames the step's row in the lanes and fades later rows.
   markRow() {
     const [lanes, wide] = [this.find("lanes"), this.drawing.wide];
     const place = (box, y, high) => {

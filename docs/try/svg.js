@@ -1,16 +1,14 @@
-// A page of SVG: tools/races_pictures/svg.py, for the page, element by element the same. The letters are all of one width, so the width of a
-// text is known from its length. Colours are named by their purpose; the style sheet has them, once for a light page and once for
-// a dark one.
+// Builds an SVG picture; a port of tools/races_pictures/svg.py that creates the same elements. The font is monospaced, so the width of a text
+// follows from its length. Colours are named by purpose and defined in the style sheet, for a light and a dark page.
 
 const LETTER = 0.602;
 
-// How wide a text is, in points.
+// The width of a text, in points.
 function widthOf(words, size) {
   return words.length * LETTER * size;
 }
 
-// A number of points, with one decimal if it has any. A tie goes to the even digit, as in Python: of those that are floats only .25
-// would go elsewhere.
+// Formats a number of points with at most one decimal. Ties round to even, as in Python; among floats only .25 would differ.
 function points(value) {
   return (value % 1 === 0.25 ? value - 0.05 : value).toFixed(1).replace(/\.0$/, "");
 }
@@ -19,7 +17,7 @@ function escaped(words) {
   return words.replace(/&/g, "&amp;").replace(/</g, "&lt;").replace(/>/g, "&gt;");
 }
 
-// The elements of a picture, in the order in which they are drawn.
+// The elements of a picture, in drawing order.
 class Picture {
   constructor(title, description) {
     Object.assign(this, { title, description, drawn: [] });
@@ -44,7 +42,7 @@ class Picture {
     this.drawn.push(`<circle class="${fill}" cx="${points(x)}" cy="${points(y)}" r="4"/>`);
   }
 
-  // A text whose letters stand on the line at y.
+  // A text with its baseline at y.
   text(x, y, words, { kind = "ink", size = 13, anchor = "start", isBold = false } = {}) {
     if (!words) return;
     const more = (anchor === "start" ? "" : ` text-anchor="${anchor}"`) + (isBold ? ' font-weight="bold"' : "");
@@ -52,7 +50,7 @@ class Picture {
     this.drawn.push(`<text class="${kind}" ${place}${more}>${escaped(words)}</text>`);
   }
 
-  // The whole of it.
+  // The whole picture.
   made(wide, high) {
     const [across, down] = [points(wide), points(high)];
     return [

@@ -1,8 +1,8 @@
-// The texts: their lines, the kind of an input, the answer beside its lines, the outcomes of a race, and the fragment of a link.
+// Parses texts: lines, the kind of an input, replies per line, the outcomes of a race, and the fragment of a link.
 
 const HEADS = { __proto__: null, blkq: "script", gate: "schedule", gates: "schedule", linux: "schedule", races: "race" };
 const HEADS_OF_SCHEDULES = ["gate 1", "gates 1", "linux 1"];
-// What is said of a schedule that the page doesn't replay, by the first word of its text.
+// The message for a schedule that the page can't replay, by the first word of its text.
 const NOT_REPLAYED = {
   __proto__: null,
   gates: "This page replays schedules of one gate. In a terminal blkq replay takes the part of each gate: races/FORMATS.md tells how to cut it out.",
@@ -20,24 +20,24 @@ function wordsOf(line) {
   return line.split(/[ \t]+/).filter((word) => word !== "");
 }
 
-// The lines that say something, with their numbers from 1 and their words.
+// The lines that aren't empty or comments, with their numbers, from 1, and their words.
 function saidIn(text) {
   return linesOf(text)
     .map((line, index) => ({ number: index + 1, words: wordsOf(line) }))
     .filter(({ words }) => words.length > 0 && !words[0].startsWith("#"));
 }
 
-// The kind of an input, by its first word; undefined if the word is none of the three.
+// The kind of an input by its first word, or undefined if it is none of the three.
 function kindOf(text) {
   return HEADS[saidIn(text)[0]?.words[0]];
 }
 
-// Why the page doesn't replay this text, and what does; undefined of any other text.
+// Why the page can't replay this text and what can, or undefined if it can.
 function notReplayed(text) {
   return NOT_REPLAYED[saidIn(text)[0]?.words[0]];
 }
 
-// A script's replies by the numbers of their lines, and the line of the disk.
+// A script's replies by line number, and the disk's line.
 function repliesOfScript(answer) {
   const replies = new Map();
   let last = "";
@@ -49,7 +49,7 @@ function repliesOfScript(answer) {
   return { replies, last };
 }
 
-// A schedule's replies by the numbers of their lines, and the line of the end.
+// A schedule's replies by line number, and the final line.
 function repliesOfSchedule(text, answer) {
   const replies = new Map();
   const lines = linesOf(answer);
@@ -58,7 +58,7 @@ function repliesOfSchedule(text, answer) {
   return { replies, last: lines[steps.length] ?? "" };
 }
 
-// A row for each line of a script or a schedule, with its reply, and one for the end, as examples/beside prints them.
+// A row per line of a script or a schedule with its reply, and one for the end, as printed by examples/beside.
 function rowsBeside(kind, text, answer) {
   const { replies, last } = kind === "script" ? repliesOfScript(answer) : repliesOfSchedule(text, answer);
   const rows = linesOf(text).map((line, index) => ({ number: index + 1, line, reply: replies.get(index + 1) }));
@@ -66,7 +66,7 @@ function rowsBeside(kind, text, answer) {
   return rows;
 }
 
-// A row for each line of a schedule that has its replies printed below its steps.
+// A row per line of a schedule whose text has the replies below the steps.
 function rowsOfPrinted(text) {
   return linesOf(text).map((line, index, lines) => {
     const hasReply = line !== "" && !line.startsWith("#") && lines[index + 1]?.startsWith("# ");
@@ -74,7 +74,7 @@ function rowsOfPrinted(text) {
   });
 }
 
-// The rows of a race's answer: each step with the reply that is printed below it.
+// The rows of a race's answer: each step with the reply below it.
 function rowsOfRace(answer) {
   const rows = [];
   for (const line of linesOf(answer)) {
@@ -91,7 +91,7 @@ function printed(rows) {
   return rows.map(({ line, reply }) => (reply === undefined ? line : `${line.padEnd(BESIDE)} ${reply}`) + "\n").join("");
 }
 
-// The outcomes of a race: each with the answers of its actors, whether one waits for ever, and its schedule as it is printed.
+// The outcomes of a race, each with its actors' results, whether an actor waits forever, and its schedule as printed.
 function outcomesOf(answer) {
   const outcomes = [];
   for (const line of linesOf(answer)) {
@@ -105,7 +105,7 @@ function outcomesOf(answer) {
   return outcomes;
 }
 
-// The replies that are printed in a schedule of a race.
+// The replies in the printed schedule of a race.
 function repliesIn(schedule) {
   return linesOf(schedule)
     .filter((line) => line.startsWith("# "))
@@ -113,21 +113,21 @@ function repliesIn(schedule) {
     .join("");
 }
 
-// The fragment of a link to an input, and what a fragment says. Letters, digits, spaces and slashes stay readable. Half of a pair of
-// code units is the replacement character there, as it is in the bytes that run.
+// Encodes and decodes the fragment of a link to an input. Letters, digits, spaces and slashes stay readable. A lone surrogate becomes the
+// replacement character, as in the bytes that run.
 function fragmentOf(kind, text, chosen = {}) {
   const spelled = encodeURIComponent(text.toWellFormed()).replace(/%20/g, "+").replace(/%2F/g, "/");
   const more = Object.entries(chosen).map(([name, value]) => `&${name}=${value}`);
   return `#${kind}=${spelled}${more.join("")}`;
 }
 
-// A number in a link; NaN if it is none, and undefined if the link has none.
+// A number in a link: NaN if it isn't a number, undefined if it is missing.
 function numberIn(word) {
   if (word === null) return undefined;
   return /^[0-9]{1,9}$/.test(word) ? Number(word) : NaN;
 }
 
-// Whether the bytes of a fragment are spelled as they should be.
+// Whether the percent-encoding of a fragment is valid.
 function isSpelled(fragment) {
   try {
     return typeof decodeURIComponent(fragment) === "string";

@@ -1,11 +1,11 @@
 "use strict";
-// In the worker. Each run has an instance of its own, as each run of the program is a process: its memory goes with it. Addresses
-// and lengths have 64 bits, so they are BigInts.
+// Runs in the worker. Each run has its own instance of the module, so its memory is freed with it. Addresses and lengths have 64 bits, so
+// they are BigInts.
 const EXPORTS = { script: "browser_script", schedule: "browser_replay", race: "browser_race" };
 const FAULT = -1;
 let compiled;
 
-// An instance for an input, with room for an answer.
+// Creates an instance for an input, with a buffer for the answer.
 function prepared(input, room, most) {
   const { exports } = new WebAssembly.Instance(compiled, {});
   const place = (size) => {
@@ -19,7 +19,7 @@ function prepared(input, room, most) {
   return { exports, places };
 }
 
-// The status, the answer's bytes and the line of a fault. An answer that didn't fit is asked for again, with the room that it needs.
+// Returns the status, the answer's bytes and the line of a fault. Runs again with a larger buffer if the answer didn't fit.
 function run({ kind, input, most, room }) {
   const { exports, places } = prepared(input, room, most);
   const words = [places.input, input.length, places.room, room, places.numbers, places.numbers + 8].map(BigInt);

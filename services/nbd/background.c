@@ -1,4 +1,4 @@
-/* A thread of the service's own, beside nbdkit's. */
+/* A thread of the service's own, in addition to nbdkit's. */
 #include "service.h"
 
 int begin_background(background *one, void *run(void *))

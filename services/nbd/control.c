@@ -1,23 +1,11 @@
-/* The lines of the control: their effect on the queue, and their replies. A line of a script is answered as docs/FORMATS.md has
- * it. No line waits: one that drains the queue or flushes the backend is answered later (go_on). */
+/* The lines of the control: their effect on the queue, and their replies. The lines of a script have the replies of docs/FORMATS.md.
+ * No call waits: a line that drains the queue or flushes the backend gets its reply later (go_on). */
 #include "service.h"
 #include <inttypes.h>
 #include <stdio.h>
 #include <string.h>
 
-/* A freeze that was answered and isn't thawed. */
-typedef struct hold {
-    const controller *owner; /* NULL: its connection has ended */
-    holding holding;
-    uint64_t ends_at; /* of a lease, in nanoseconds */
-} hold;
-
-static hold holds[FREEZE_QUEUE_MOST_DEPTH];
-static uint32_t held;
-
-/* The freezes of this file that aren't thawed, and since when there is one, in nanoseconds. */
-static uint32_t frozen;
-static uint64_t frozen_since;
+static uint64_t numbers; /* of freezes, up to the last one */
 
 control_counts controlled = {.mode = FREEZE_QUEUE_MODE_SLOTS};
 
@@ -27,8 +15,6 @@ uint64_t now(void)
     clock_gettime(CLOCK_MONOTONIC, &at);
     return (uint64_t)at.tv_sec * 1000000000 + (uint64_t)at.tv_nsec;
 }
-
-uint64_t time_frozen(void) { return controlled.frozen + (frozen > 0 ? now() - frozen_since : 0); }
 
 /* ---- Replies ---- */
 
@@ -45,13 +31,15 @@ static void say_refusal(controller *to, uint32_t refused)
 {
     controlled.refused++;
     to->refused = refused;
+    to->ended[0] = '\0';
+    note("refused: %s, " WHO, freeze_queue_text(refused), WHOSE(to->who));
     if (refused >= FREEZE_QUEUE_ERR_ABOVE_HARDWARE && refused <= FREEZE_QUEUE_ERR_BAD_PHYSICAL)
         say(to, "EINVAL");
     else
         say(to, refused == FREEZE_QUEUE_ERR_DEPTH_FULL ? "depth full" : freeze_queue_text(refused));
 }
 
-/* The field that the queue refuses; FIELDS where it isn't for a field. */
+/* The field that the queue refuses; FIELDS if the refusal isn't about a field. */
 static int field_refused(uint32_t refused)
 {
     switch (refused) {
@@ -62,90 +50,95 @@ static int field_refused(uint32_t refused)
     }
 }
 
-/* The last refusal of a controller's lines, which may have been EINVAL alone. */
+/* Says why the queue last refused a line of a controller; the reply itself may have been just EINVAL. */
 static void say_why(controller *to)
 {
     char text[128];
     int field = field_refused(to->refused);
     const char *name = field < FIELDS ? fields[field] : "queue";
     snprintf(text, sizeof text, "%s: %s", name, freeze_queue_text(to->refused));
-    say(to, to->refused == FREEZE_QUEUE_OK ? "nothing was refused" : text);
+    say(to, to->ended[0] != '\0' ? to->ended : to->refused == FREEZE_QUEUE_OK ? "nothing was refused" : text);
 }
 
 /* ---- Freezes that are held ---- */
 
-/* Ends a freeze. A dying queue refuses that, and needs it no more. */
-static void thaw_queue(void)
+/* Thaws the freeze that a controller's pending line began. A `flush` began none. */
+static void give_up(controller *from, const char *why)
 {
-    uint32_t thawed = freeze_queue_waits_thaw(&blkq.waits);
-    if (!freeze_queue_is_refused(thawed))
-        controlled.thaws++;
-    if (--frozen == 0)
-        controlled.frozen += now() - frozen_since;
-}
-
-/* Thaws the hold at a place. */
-static void end_hold(uint32_t place)
-{
-    thaw_queue();
-    held--;
-    memmove(&holds[place], &holds[place + 1], (held - place) * sizeof *holds);
-}
-
-bool holds_any(const controller *from)
-{
-    for (uint32_t place = 0; place < held; place++)
-        if (holds[place].owner == from)
-            return true;
-    return from->stage != IDLE;
-}
-
-/* Thaws the freeze whose drain or flush a controller waits for. */
-static void give_up(controller *from)
-{
-    if (from->stage != IDLE)
+    if (from->stage != IDLE && from->asked.verb != FLUSH_NOW)
         thaw_queue();
+    if (from->stage != IDLE && why != NULL)
+        note("%s given up: %s, " WHO, verbs[from->asked.verb], why, WHOSE(from->who));
     from->stage = IDLE;
 }
 
 void forget_controller(controller *from)
 {
-    give_up(from);
-    for (uint32_t place = held; place-- > 0;)
-        if (holds[place].owner == from && holds[place].holding == WHILE_CONNECTED)
-            end_hold(place);
-        else if (holds[place].owner == from)
-            holds[place].owner = NULL;
+    give_up(from, "its connection's end");
+    forget_holds(from);
 }
 
-int end_leases(void)
+/* Gives up lines whose drain or flush takes longer than the server allows. Returns when the next line will. */
+static uint64_t end_late_lines(uint64_t at)
 {
-    uint64_t at = now(), next = UINT64_MAX;
-    for (uint32_t place = held; place-- > 0;) {
-        if (holds[place].holding != LEASED)
-            continue;
-        if (holds[place].ends_at <= at)
-            end_hold(place);
-        else if (holds[place].ends_at < next)
-            next = holds[place].ends_at;
+    uint64_t next = UINT64_MAX;
+    for (controller *one = next_controller(NULL); one != NULL && blkq.drain_timeout != 0; one = next_controller(one)) {
+        uint64_t late = one->stage == IDLE ? UINT64_MAX : one->since + blkq.drain_timeout;
+        if (late <= at) {
+            char text[64];
+            snprintf(text, sizeof text, "%s took more than %g s", one->stage == DRAINING ? "drain" : "flush", (double)blkq.drain_timeout / 1e9);
+            give_up(one, text);
+            controlled.refused++;
+            say(one, text);
+        } else if (late < next) {
+            next = late;
+        }
     }
+    return next;
+}
+
+int end_late(void)
+{
+    uint64_t at = now(), lines = end_late_lines(at), next = end_late_holds(at);
+    if (lines < next)
+        next = lines;
     if (next == UINT64_MAX)
         return -1;
     uint64_t milliseconds = (next - at) / 1000000 + 1;
     return milliseconds > 1000000 ? 1000000 : (int)milliseconds;
 }
 
+const char *state_now(void)
+{
+    const char *state = holds_now() > 0 ? "held" : "running";
+    for (controller *one = next_controller(NULL); one != NULL; one = next_controller(one))
+        if (one->stage == DRAINING)
+            return "draining";
+        else if (one->stage == FLUSHING)
+            state = "flushing";
+    return state;
+}
+
 /* ---- A line goes on once the queue is drained ---- */
 
 static void hold_on(controller *from)
 {
-    uint64_t lease = (uint64_t)from->asked.value * 1000000000;
-    holds[held++] = (hold){from, from->asked.holding, from->asked.holding == LEASED ? now() + lease : 0};
+    add_hold(from);
     from->stage = IDLE;
     say_depth(from);
 }
 
-/* The limits that a line asks for, the others as they are in force. */
+/* One more than the place of the last freeze that a controller holds. If it holds none, replies and returns 0. */
+static uint32_t needed_hold(controller *from)
+{
+    uint32_t depth = 0, place = last_hold(from);
+    freeze_queue_waits_depth(&blkq.waits, &depth);
+    if (place == 0)
+        say(from, depth > 0 ? "not yours" : "not frozen");
+    return place;
+}
+
+/* The limits that a line sets, and the limits in force for the fields that it doesn't name. */
 static uint32_t limits_asked(const command *asked, freeze_queue_limits *limits)
 {
     uint32_t refused = freeze_queue_waits_limits(&blkq.waits, limits), piece;
@@ -153,12 +146,12 @@ static uint32_t limits_asked(const command *asked, freeze_queue_limits *limits)
     for (int field = 0; field < FIELDS; field++)
         if (asked->sets[field])
             *values[field] = asked->to[field];
-    if (limits->physical == 0) /* the library takes it for the default, and a line never asks for that */
+    if (limits->physical == 0) /* the library takes 0 for the default, which no line asks for */
         return FREEZE_QUEUE_ERR_BAD_PHYSICAL;
     return refused == FREEZE_QUEUE_OK ? freeze_queue_first_piece(limits, 0, 1, &piece) : refused;
 }
 
-/* Sets the limits of the drained queue, all that a line names by one call. */
+/* Sets the limits of the drained queue, all that a line names in one call. */
 static void set_limits(controller *from)
 {
     freeze_queue_limits limits;
@@ -169,6 +162,7 @@ static void set_limits(controller *from)
         say_refusal(from, refused);
     } else {
         controlled.settings++;
+        note("set: max %" PRIu32 " chunk %" PRIu32 " physical %" PRIu32 ", " WHO, limits.max, limits.chunk, limits.physical, WHOSE(from->who));
         say(from, "ok");
     }
 }
@@ -176,30 +170,40 @@ static void set_limits(controller *from)
 static void end_flush(controller *from, int failed)
 {
     controlled.flushing += now() - from->since;
+    if (failed == 0 && from->asked.verb == FLUSH_NOW) {
+        from->stage = IDLE;
+        if (needed_hold(from) > 0) /* it may have ended during the flush */
+            say(from, "ok");
+        return;
+    }
     if (failed == 0) {
         controlled.quiesces++;
         hold_on(from);
         return;
     }
     char text[64];
-    give_up(from);
-    controlled.refused++;
     snprintf(text, sizeof text, "flush: %s", strerror(failed));
+    give_up(from, text);
+    controlled.refused++;
     say(from, text);
+}
+
+static void begin_flush(controller *from)
+{
+    from->stage = FLUSHING;
+    from->since = now();
+    from->ticket = ask_flush();
 }
 
 /* The queue is drained, and the freeze of the line has begun. */
 static void go_on_drained(controller *from)
 {
-    uint64_t drained = now();
-    controlled.draining += drained - from->since;
-    from->since = drained;
+    controlled.draining += now() - from->since;
     if (from->asked.verb == SET) {
         set_limits(from);
-        give_up(from);
+        give_up(from, NULL);
     } else if (from->asked.verb == QUIESCE && blkq.flush != NULL) {
-        from->stage = FLUSHING;
-        from->ticket = ask_flush();
+        begin_flush(from);
     } else {
         controlled.freezes += from->asked.verb == FREEZE;
         controlled.quiesces += from->asked.verb == QUIESCE;
@@ -223,46 +227,103 @@ static void begin_freeze(controller *from)
 {
     uint32_t begun = FREEZE_QUEUE_ERR_DYING;
     if (!freeze_queue_waits_is_dying(&blkq.waits))
-        begun = held < FREEZE_QUEUE_MOST_DEPTH ? freeze_queue_waits_begin_freeze(&blkq.waits) : FREEZE_QUEUE_ERR_DEPTH_FULL;
+        begun = holds_now() < FREEZE_QUEUE_MOST_DEPTH ? freeze_queue_waits_begin_freeze(&blkq.waits) : FREEZE_QUEUE_ERR_DEPTH_FULL;
     if (freeze_queue_is_refused(begun)) {
         say_refusal(from, begun);
         return;
     }
+    count_freeze(); /* the time frozen includes the drain */
     from->stage = DRAINING;
     from->since = now();
-    if (frozen++ == 0)
-        frozen_since = from->since;
+    from->number = ++numbers;
     go_on(from);
 }
 
 static void thaw(controller *from)
 {
-    uint32_t depth = 0, place = held;
-    while (place > 0 && holds[place - 1].owner != from)
-        place--;
-    if (place > 0) {
-        end_hold(place - 1);
-        say_depth(from);
+    uint32_t place = needed_hold(from);
+    if (place == 0)
+        return;
+    end_hold(place - 1, "its owner");
+    say_depth(from);
+}
+
+/* Gives up the line whose freeze has this number while it drains or flushes, or all such lines for 0. Returns whether there was one. */
+static bool give_up_lines(uint64_t number, const char *why)
+{
+    bool found = false;
+    for (controller *other = next_controller(NULL); other != NULL; other = next_controller(other))
+        if (other->stage != IDLE && (number == 0 || (other->number == number && other->asked.verb != FLUSH_NOW))) {
+            give_up(other, why);
+            say(other, "thawed");
+            found = true;
+        }
+    return found;
+}
+
+/* Ends the freeze with a number, whoever owns it. */
+static void thaw_one(controller *from)
+{
+    char why[128];
+    uint32_t place = hold_numbered(from->asked.number);
+    snprintf(why, sizeof why, "thaw %" PRIu32 " of " WHO, from->asked.number, WHOSE(from->who));
+    if (place > 0)
+        end_hold(place - 1, why);
+    else if (from->asked.number == 0 || !give_up_lines(from->asked.number, why)) {
+        say(from, "no such freeze");
         return;
     }
-    freeze_queue_waits_depth(&blkq.waits, &depth);
-    say(from, depth > 0 ? "not yours" : "not frozen");
+    say_depth(from);
+}
+
+/* Flushes the backend under a freeze that the controller holds. */
+static void flush(controller *from)
+{
+    if (needed_hold(from) == 0)
+        return;
+    if (blkq.flush == NULL)
+        say(from, "ok");
+    else
+        begin_flush(from);
+}
+
+/* Opens an export for the last freeze that the controller holds, and closes the export that the freeze had. */
+static void export(controller *from)
+{
+    char name[EXPORT_NAME], address[256], text[sizeof name + sizeof address + 16];
+    uint32_t place = needed_hold(from);
+    if (place == 0)
+        return;
+    uint64_t *number = export_of(place - 1);
+    close_export(*number);
+    *number = blkq.exports ? open_export(name) : 0;
+    tell_address(address, sizeof address);
+    snprintf(text, sizeof text, "export %s %s", name, address);
+    say(from, *number != 0 ? text : blkq.exports ? "too many exports" : "no backend");
 }
 
 /* Ends every freeze, and each line that still drains or flushes. */
 static void thaw_all(controller *from)
 {
-    for (controller *other = next_controller(NULL); other != NULL; other = next_controller(other))
-        if (other->stage != IDLE) {
-            give_up(other);
-            say(other, "thawed");
-        }
-    while (held > 0)
-        end_hold(held - 1);
+    char why[96];
+    snprintf(why, sizeof why, "thaw all of " WHO, WHOSE(from->who));
+    give_up_lines(0, why);
+    while (holds_now() > 0)
+        end_hold(holds_now() - 1, why);
     say_depth(from);
 }
 
-/* Limits that are refused freeze nothing. A queue that is drained already needs no freeze of its own. */
+static void take_label(controller *from)
+{
+    char *label = from->who.label;
+    strncpy(label, from->asked.label, sizeof from->who.label - 1);
+    for (; *label != '\0'; label++)
+        if ((unsigned char)*label < ' ' || (unsigned char)*label > '~' || *label == '"')
+            *label = '?';
+    say(from, "ok");
+}
+
+/* Refused limits begin no freeze. If the queue is drained already, the line needs no freeze of its own. */
 static void set(controller *from)
 {
     freeze_queue_limits limits;
@@ -277,12 +338,12 @@ static void set(controller *from)
 
 static void count_by(controller *from)
 {
-    uint32_t refused = freeze_queue_waits_mode(&blkq.waits, from->asked.value);
+    uint32_t refused = freeze_queue_waits_mode(&blkq.waits, from->asked.mode);
     if (refused != FREEZE_QUEUE_OK) {
         say_refusal(from, refused);
         return;
     }
-    controlled.mode = from->asked.value;
+    controlled.mode = from->asked.mode;
     say(from, "ok");
 }
 
@@ -303,12 +364,22 @@ void run_line(controller *from, char *line)
         say(from, fault);
         return;
     }
+    if (!may_freeze(from) && (from->asked.verb == FREEZE || from->asked.verb == QUIESCE || from->asked.verb == SET)) {
+        note("refused: busy, " WHO, WHOSE(from->who));
+        say(from, "busy");
+        return;
+    }
     switch (from->asked.verb) {
     case NOTHING: break;
     case FREEZE:
     case QUIESCE: begin_freeze(from); break;
+    case FLUSH_NOW: flush(from); break;
+    case EXPORT: export(from); break;
     case THAW: thaw(from); break;
+    case LABEL: take_label(from); break;
+    case THAW_ONE: thaw_one(from); break;
     case THAW_ALL: thaw_all(from); break;
+    case HOLDERS: tell(from, tell_holders); break;
     case SET: set(from); break;
     case WHY: say_why(from); break;
     case MODE: count_by(from); break;

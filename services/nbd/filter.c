@@ -1,118 +1,17 @@
 /* nbdkit-blkq-filter: the queue before any backend of nbdkit. Each request passes the queue (request.c), and its pieces go
  * to the backend; a quiesce flushes the backend while the queue is drained. */
-#include "service.h"
+#include "connections.h"
 #include <errno.h>
-#include <nbdkit-filter.h>
 #include <stdlib.h>
 #include <string.h>
 
 #if NBDKIT_FILTER_API_VERSION != 6
-#error "nbdkit-filter.h has another version of the API than 6: read its changes first"
+#error "nbdkit-filter.h's API version isn't 6: read its changes first"
 #endif
-
-/* A client's connection, as long as the backend is open for it. */
-typedef struct connection {
-    nbdkit_next *next;
-    uint32_t minimum; /* bytes of the backend's smallest block; 1 where the backend names none */
-    int fua;          /* an NBDKIT_FUA_.. */
-    bool flushes, is_listed;
-    pthread_mutex_t flushing; /* held by the flush of a quiesce, or of the connection's end */
-    atomic_bool is_written;   /* since the last flush began */
-    struct connection *before, *after;
-} connection;
-
-static bool is_serial; /* the backend does one request at a time */
-static pthread_mutex_t one_at_a_time = PTHREAD_MUTEX_INITIALIZER, lock = PTHREAD_MUTEX_INITIALIZER;
-static connection *connections; /* under the lock */
-static atomic_int lost;         /* the errno of a flush that failed as its connection went */
-
-/* ---- Connections, for a quiesce ---- */
-
-static void list(connection *one)
-{
-    pthread_mutex_lock(&lock);
-    one->after = connections;
-    if (connections != NULL)
-        connections->before = one;
-    connections = one;
-    one->is_listed = true;
-    pthread_mutex_unlock(&lock);
-}
-
-/* Waits while a quiesce flushes by the connection; no later one does. */
-static void unlist(connection *one)
-{
-    pthread_mutex_lock(&lock);
-    if (one->is_listed && one->before != NULL)
-        one->before->after = one->after;
-    else if (one->is_listed)
-        connections = one->after;
-    if (one->is_listed && one->after != NULL)
-        one->after->before = one->before;
-    one->is_listed = false;
-    pthread_mutex_unlock(&lock);
-}
-
-/* ---- One thread in a serial backend, the flusher among them ---- */
-
-static void begin_call(void)
-{
-    if (is_serial)
-        pthread_mutex_lock(&one_at_a_time);
-}
-
-static void end_call(void)
-{
-    if (is_serial)
-        pthread_mutex_unlock(&one_at_a_time);
-}
-
-/* ---- Flushed ---- */
-
-/* Has the backend flush by a connection: 0, or an errno. */
-static int flush_by(connection *one)
-{
-    int failed = 0;
-    begin_call();
-    bool done = one->next->flush(one->next, 0, &failed) == 0;
-    end_call();
-    return done ? 0 : failed != 0 ? failed : EIO;
-}
-
-/* Flushes the writes of a connection, if there were any: 0, or an errno. If the connection leaves, a quiesce gets the errno too.
- * Waits for a flush that another thread has begun. */
-static int flush_connection(connection *one, bool leaves)
-{
-    int failed = 0;
-    pthread_mutex_lock(&one->flushing);
-    if (one->flushes && atomic_exchange(&one->is_written, false))
-        failed = flush_by(one);
-    if (failed != 0 && leaves)
-        atomic_store(&lost, failed);
-    else if (failed != 0)
-        atomic_store(&one->is_written, true);
-    pthread_mutex_unlock(&one->flushing);
-    return failed;
-}
-
-/* Flushes the writes of all connections, for a quiesce. A connection that went was flushed then. */
-static int flush_backend(void)
-{
-    int failed = 0;
-    pthread_mutex_lock(&lock);
-    for (connection *one = connections; one != NULL; one = one->after) {
-        int flushed = flush_connection(one, false);
-        if (flushed != 0)
-            failed = flushed;
-    }
-    pthread_mutex_unlock(&lock);
-    int left = atomic_exchange(&lost, 0); /* of those that went meanwhile too */
-    return failed != 0 ? failed : left;
-}
 
 /* ---- The server comes and goes ---- */
 
-/* A parameter of the queue has its name behind blkq-, with - for _. */
+/* A parameter of the queue is blkq- and its name, with - for _. */
 static int filter_config(nbdkit_next_config *next, nbdkit_backend *nxdata, const char *key, const char *value)
 {
     static const char prefix[] = "blkq-";
@@ -128,18 +27,25 @@ static int filter_config(nbdkit_next_config *next, nbdkit_backend *nxdata, const
 
 static const char help[] =
     "blkq-control=PATH           a Unix socket for blkqctl\n"
+    "blkq-control-group=GROUP, blkq-control-mode=MODE    who may connect to it\n"
+    "blkq-control-fd=N           instead of PATH, a socket that already listens\n"
     "blkq-max-sectors=N          the longest piece of a request; 0: blkq-hardware-sectors (0)\n"
-    "blkq-chunk-sectors=N        no piece crosses a multiple of it; 0: none (0)\n"
-    "blkq-physical-sectors=N     pieces end where a physical block ends, a power of two (1)\n"
-    "blkq-hardware-sectors=N     the most that max_sectors can be (65535)\n"
-    "blkq-slots=N, blkq-tags=N   of the queue: 1 to 512 (the processors), and 1 to 1023 requests at once (63)\n"
-    "blkq-nowait=true            a request that comes to a frozen queue is refused";
+    "blkq-chunk-sectors=N        no piece crosses a multiple of N; 0: no chunks (0)\n"
+    "blkq-physical-sectors=N     requests are cut where a physical block ends, if possible; a power of two (1)\n"
+    "blkq-hardware-sectors=N     the greatest value of max_sectors (65535)\n"
+    "blkq-slots=N                counters for requests, 1 to 512 (the processors)\n"
+    "blkq-tags=N                 maximum number of requests in flight, 1 to 1023 (63)\n"
+    "blkq-drain-timeout=S        a drain or a flush that takes longer is given up\n"
+    "blkq-max-hold=S             a freeze ends at the latest S seconds after its drain (a quiesce: after its flush)\n"
+    "blkq-name=NAME              the disk in metrics and in the journal\n"
+    "blkq-audit=journal          notes freezes, thaws, settings and refusals\n"
+    "blkq-nowait=true            a request to a frozen queue is refused";
 
 static int filter_get_ready(int thread_model)
 {
     is_serial = thread_model != NBDKIT_THREAD_MODEL_PARALLEL;
     blkq.flush = flush_backend;
-    blkq.control_key = "blkq-control";
+    blkq.exports = true;
     return make_queue();
 }
 
@@ -165,8 +71,13 @@ static void *filter_open(nbdkit_next_open *next, nbdkit_context *context, int re
         refuse("open", strerror(errno));
         return NULL;
     }
+    if (is_export_name(name) && (opened->export = find_export(name, &name)) == 0) {
+        refuse("blkq", "no current freeze has an export of this name");
+        free(opened);
+        return NULL;
+    }
     begin_call();
-    int failed = next(context, readonly, name);
+    int failed = next(context, readonly || opened->export != 0, name); /* nbdkit refuses writes on a read-only connection */
     end_call();
     if (failed != 0) {
         free(opened);
@@ -176,7 +87,7 @@ static void *filter_open(nbdkit_next_open *next, nbdkit_context *context, int re
     return opened;
 }
 
-/* Asks the backend all that requests and a quiesce need, so that nbdkit needn't ask it then. */
+/* Asks the backend everything that requests and a quiesce need, so that nbdkit doesn't have to ask it later. */
 static int filter_prepare(nbdkit_next *next, void *handle, int readonly)
 {
     connection *opened = handle;
@@ -191,7 +102,8 @@ static int filter_prepare(nbdkit_next *next, void *handle, int readonly)
     opened->flushes = writes && flushes;
     if (opened->minimum == 0)
         opened->minimum = 1;
-    list(opened);
+    if (opened->export == 0) /* an export writes nothing that a quiesce could flush */
+        list_connection(opened);
     return 0;
 }
 
@@ -201,7 +113,7 @@ static int filter_finalize(nbdkit_next *next, void *handle)
     connection *leaving = handle;
     (void)next;
     int failed = flush_connection(leaving, true);
-    unlist(leaving);
+    unlist_connection(leaving);
     return failed == 0 ? 0 : -1;
 }
 
@@ -209,12 +121,12 @@ static int filter_finalize(nbdkit_next *next, void *handle)
 static void filter_close(void *handle)
 {
     connection *closed = handle;
-    unlist(closed);
+    unlist_connection(closed);
     pthread_mutex_destroy(&closed->flushing);
     free(closed);
 }
 
-/* The backend's sizes; the preferred one is the queue's physical block where that is larger. */
+/* The backend's block sizes; the preferred one is the queue's physical block if that is larger. */
 static int filter_block_size(nbdkit_next *next, void *handle, uint32_t *minimum, uint32_t *preferred, uint32_t *maximum)
 {
     freeze_queue_limits limits;
@@ -244,8 +156,8 @@ typedef struct passage {
     struct nbdkit_extents *extents;
 } passage;
 
-/* If the backend writes through itself, each piece has to. If nbdkit flushes behind a write instead, only the last piece asks for
- * that, since the flush reaches all pieces before it. */
+/* If the backend writes through itself, each piece has to. If nbdkit flushes after a write instead, only the last piece asks for
+ * that, since the flush covers all pieces before it. */
 static uint32_t flags_of(const request *wanted, bool is_last)
 {
     const passage *by = wanted->backend;
@@ -279,72 +191,75 @@ static int do_piece(const request *wanted, uint64_t offset, uint32_t count, bool
     begin_call();
     bool done = call(wanted, offset, count, flags_of(wanted, is_last), &failed) == 0;
     end_call();
+    if (wanted->operation == FLUSH && !done)
+        atomic_store(&blkq.flush_lost, true);
     if ((writes || (was_written && !done)) && !atomic_load(&by->from->is_written))
         atomic_store(&by->from->is_written, true);
     return done ? 0 : failed != 0 ? failed : EIO;
 }
 
-/* Serves a request, and answers as nbdkit wants it. */
-static int pass(nbdkit_next *next, void *handle, struct nbdkit_extents *extents, request wanted, int *failed)
+/* Reads the backend, bypassing the queue, for the owner of a freeze: 0, or an errno. A read during which the freeze ended fails. */
+static int read_past(const request *wanted)
 {
-    connection *from = handle;
-    passage by = {from, next, extents};
-    wanted.minimum = from->minimum;
-    wanted.do_piece = do_piece;
-    wanted.backend = &by;
-    wanted.is_whole = (wanted.flags & NBDKIT_FLAG_FAST_ZERO) != 0;
-    *failed = serve(&wanted);
-    if (*failed == 0)
-        return 0;
-    return refuse("blkq", strerror(*failed));
+    const passage *by = wanted->backend;
+    int failed = 0;
+    begin_call();
+    bool done = call(wanted, wanted->offset, wanted->count, wanted->flags, &failed) == 0;
+    end_call();
+    if (!is_export_open(by->from->export))
+        return ESHUTDOWN;
+    return done ? 0 : failed != 0 ? failed : EIO;
 }
 
-static request asked(operation operation, uint32_t flags, uint32_t count, uint64_t offset)
+/* Serves a request, and returns what nbdkit expects. */
+static int pass(passage by, operation operation, void *bytes, uint32_t count, uint64_t offset, uint32_t flags, int *failed)
 {
-    return (request){.operation = operation, .flags = flags, .count = count, .offset = offset};
+    const request wanted = {.operation = operation, .flags = flags, .count = count, .offset = offset, .minimum = by.from->minimum,
+                            .is_whole = (flags & NBDKIT_FLAG_FAST_ZERO) != 0, .do_piece = do_piece, .bytes = bytes, .backend = &by};
+    *failed = by.from->export != 0 ? read_past(&wanted) : serve(&wanted);
+    if (*failed == 0)
+        return 0;
+    log_failure(&wanted, *failed, by.from->export != 0);
+    return -1;
 }
 
 static int filter_pread(nbdkit_next *next, void *handle, void *bytes, uint32_t count, uint64_t offset, uint32_t flags,
                         int *failed)
 {
-    request wanted = asked(READ, flags, count, offset);
-    wanted.bytes = bytes;
-    return pass(next, handle, NULL, wanted, failed);
+    return pass((passage){.from = handle, .next = next}, READ, bytes, count, offset, flags, failed);
 }
 
-/* The bytes of a write are read alone. */
+/* The bytes of a write are only read. */
 static int filter_pwrite(nbdkit_next *next, void *handle, const void *bytes, uint32_t count, uint64_t offset,
                          uint32_t flags, int *failed)
 {
-    request wanted = asked(WRITE, flags, count, offset);
-    wanted.bytes = (void *)(uintptr_t)bytes;
-    return pass(next, handle, NULL, wanted, failed);
+    return pass((passage){.from = handle, .next = next}, WRITE, (void *)(uintptr_t)bytes, count, offset, flags, failed);
 }
 
 static int filter_trim(nbdkit_next *next, void *handle, uint32_t count, uint64_t offset, uint32_t flags, int *failed)
 {
-    return pass(next, handle, NULL, asked(TRIM, flags, count, offset), failed);
+    return pass((passage){.from = handle, .next = next}, TRIM, NULL, count, offset, flags, failed);
 }
 
 static int filter_zero(nbdkit_next *next, void *handle, uint32_t count, uint64_t offset, uint32_t flags, int *failed)
 {
-    return pass(next, handle, NULL, asked(ZERO, flags, count, offset), failed);
+    return pass((passage){.from = handle, .next = next}, ZERO, NULL, count, offset, flags, failed);
 }
 
 static int filter_cache(nbdkit_next *next, void *handle, uint32_t count, uint64_t offset, uint32_t flags, int *failed)
 {
-    return pass(next, handle, NULL, asked(CACHE, flags, count, offset), failed);
+    return pass((passage){.from = handle, .next = next}, CACHE, NULL, count, offset, flags, failed);
 }
 
 static int filter_extents(nbdkit_next *next, void *handle, uint32_t count, uint64_t offset, uint32_t flags,
                           struct nbdkit_extents *extents, int *failed)
 {
-    return pass(next, handle, extents, asked(EXTENTS, flags, count, offset), failed);
+    return pass((passage){.from = handle, .next = next, .extents = extents}, EXTENTS, NULL, count, offset, flags, failed);
 }
 
 static int filter_flush(nbdkit_next *next, void *handle, uint32_t flags, int *failed)
 {
-    return pass(next, handle, NULL, asked(FLUSH, flags, 0, 0), failed);
+    return pass((passage){.from = handle, .next = next}, FLUSH, NULL, 0, 0, flags, failed);
 }
 
 static struct nbdkit_filter filter = {

@@ -1,4 +1,4 @@
-/* A thread that flushes the backend for a quiesce, so that the control answers others meanwhile. */
+/* A thread that flushes the backend for a quiesce, so that the control can serve others meanwhile. */
 #include "service.h"
 #include <errno.h>
 #include <sys/eventfd.h>
@@ -6,15 +6,15 @@
 
 static background flusher = NO_BACKGROUND;
 
-/* The tickets and the errno are under the flusher's lock. */
+/* The flusher's lock guards the tickets and the errno. */
 static struct {
     int event;            /* readable once a flush is done */
-    uint64_t asked, done; /* tickets: the last one that was given, and those up to here are done */
+    uint64_t asked, done; /* tickets: the last one given, and the last one that is done */
     uint64_t failed_at;   /* the last ticket of the last flush that failed, */
     int failed;           /* and its errno */
 } flushes = {.event = -1};
 
-/* Sleeps until a flush is asked for, and gives the last ticket; 0: the thread is to end. Under the lock. */
+/* Sleeps until a flush is asked for, and returns the last ticket; 0: the thread has to end. Called under the lock. */
 static uint64_t next_ticket(void)
 {
     while (!flusher.is_over && flushes.asked == flushes.done)
@@ -22,7 +22,7 @@ static uint64_t next_ticket(void)
     return flusher.is_over ? 0 : flushes.asked;
 }
 
-/* Each flush is for all tickets that were given before it began. */
+/* Each flush serves all tickets that were given before it began. */
 static void *flush_when_asked(void *nothing)
 {
     uint64_t ticket;

@@ -1,4 +1,4 @@
-/* The lines of the control: the lines of a script that are about its queue, read as docs/FORMATS.md says, and more. */
+/* Parses the lines of the control: those lines of a script that are about its queue, as in docs/FORMATS.md, and more. */
 #include "service.h"
 #include <string.h>
 
@@ -6,7 +6,7 @@ enum { MOST_WORDS = 2 + 2 * FIELDS, MOST_DIGITS = 20 };
 
 const char *const fields[FIELDS] = {"max_sectors", "chunk_sectors", "physical_sectors"};
 
-/* Reads a number of 1 to 20 digits below 2^32: NULL, or its fault. */
+/* Reads a number of 1 to 20 digits below 2^32. Returns NULL, or the fault. */
 static const char *parse_number(const char *word, uint32_t *number)
 {
     size_t digits = strspn(word, "0123456789");
@@ -22,7 +22,24 @@ static const char *parse_number(const char *word, uint32_t *number)
     return NULL;
 }
 
-/* The place of a word among the names of the fields; FIELDS where it is none of them. */
+const char *parse_seconds(char *word, uint64_t *nanoseconds)
+{
+    uint32_t whole = 0, place = 100000000;
+    size_t digits = strspn(word, "0123456789");
+    char *point = word[digits] == '.' ? word + digits : NULL;
+    size_t behind = point == NULL ? 0 : strspn(point + 1, "0123456789");
+    if (point != NULL && (behind == 0 || behind > 9 || point[1 + behind] != '\0'))
+        return "bad number";
+    if (point != NULL)
+        *point = '\0';
+    const char *fault = parse_number(word, &whole);
+    *nanoseconds = (uint64_t)whole * 1000000000;
+    for (size_t i = 1; i <= behind; i++, place /= 10)
+        *nanoseconds += (uint64_t)(point[i] - '0') * place;
+    return fault == NULL && *nanoseconds == 0 ? "out of range" : fault;
+}
+
+/* The index of a field's name; FIELDS if the word isn't one. */
 static int field_of(const char *word)
 {
     int field = 0;
@@ -31,7 +48,7 @@ static int field_of(const char *word)
     return field;
 }
 
-/* Each form takes the words of a line, of which the first one has been read, and gives NULL or the first fault. */
+/* Each form takes the words of a line after the first, and returns NULL or the first fault. */
 typedef const char *form(char *const words[], size_t count, command *parsed);
 
 static const char *parse_alone(char *const words[], size_t count, command *parsed)
@@ -42,30 +59,34 @@ static const char *parse_alone(char *const words[], size_t count, command *parse
 
 static const char *parse_freeze(char *const words[], size_t count, command *parsed)
 {
-    bool is_lease = count > 1 && strcmp(words[1], "lease") == 0, is_kept = count > 1 && strcmp(words[1], "keep") == 0;
-    parsed->holding = is_lease ? LEASED : is_kept ? KEPT : WHILE_CONNECTED;
-    if (is_lease && count == 2)
+    static const char *const names[] = {[HELD] = "hold", [LEASED] = "lease", [KEPT] = "keep"};
+    for (holding how = HELD; how <= KEPT && count > 1; how++)
+        if (strcmp(words[1], names[how]) == 0)
+            parsed->holding = how;
+    bool is_timed = parsed->holding == HELD || parsed->holding == LEASED;
+    if (is_timed && count == 2)
         return "missing word";
-    if (count > (is_lease ? 3 : is_kept ? 2 : 1))
+    if (count > (is_timed ? 3 : parsed->holding == KEPT ? 2 : 1))
         return "extra word";
-    const char *fault = is_lease ? parse_number(words[2], &parsed->value) : NULL;
-    return fault == NULL && is_lease && parsed->value == 0 ? "out of range" : fault;
+    return is_timed ? parse_seconds(words[2], &parsed->lasts) : NULL;
 }
 
 static const char *parse_thaw(char *const words[], size_t count, command *parsed)
 {
-    bool is_all = count > 1 && strcmp(words[1], "all") == 0;
-    if (is_all)
-        parsed->verb = THAW_ALL;
-    return count > (is_all ? 2 : 1) ? "extra word" : NULL;
+    bool is_all = count > 1 && strcmp(words[1], "all") == 0, is_one = count > 1 && strspn(words[1], "0123456789") > 0;
+    if (is_all || is_one)
+        parsed->verb = is_all ? THAW_ALL : THAW_ONE;
+    if (count > (is_all || is_one ? 2 : 1))
+        return "extra word";
+    return is_one ? parse_number(words[1], &parsed->number) : NULL;
 }
 
 static const char *parse_mode(char *const words[], size_t count, command *parsed)
 {
     if (count != 2)
         return count < 2 ? "missing word" : "extra word";
-    parsed->value = strcmp(words[1], "atomic") == 0 ? FREEZE_QUEUE_MODE_ATOMIC : FREEZE_QUEUE_MODE_SLOTS;
-    return parsed->value == FREEZE_QUEUE_MODE_ATOMIC || strcmp(words[1], "slots") == 0 ? NULL : "unknown word";
+    parsed->mode = strcmp(words[1], "atomic") == 0 ? FREEZE_QUEUE_MODE_ATOMIC : FREEZE_QUEUE_MODE_SLOTS;
+    return parsed->mode == FREEZE_QUEUE_MODE_ATOMIC || strcmp(words[1], "slots") == 0 ? NULL : "unknown word";
 }
 
 static const char *parse_set(char *const words[], size_t count, command *parsed)
@@ -89,9 +110,10 @@ static const char *parse_set(char *const words[], size_t count, command *parsed)
 }
 
 static const struct { const char *first; verb verb; form *parse; } forms[] = {
-    {"freeze", FREEZE, parse_freeze}, {"quiesce", QUIESCE, parse_freeze}, {"thaw", THAW, parse_thaw},
-    {"set", SET, parse_set},          {"why", WHY, parse_alone},          {"mode", MODE, parse_mode},
-    {"stat", STAT, parse_alone},      {"metrics", METRICS, parse_alone},
+    {"freeze", FREEZE, parse_freeze}, {"quiesce", QUIESCE, parse_freeze},  {"flush", FLUSH_NOW, parse_alone},
+    {"thaw", THAW, parse_thaw},       {"set", SET, parse_set},             {"why", WHY, parse_alone},
+    {"mode", MODE, parse_mode},       {"stat", STAT, parse_alone},         {"metrics", METRICS, parse_alone},
+    {"export", EXPORT, parse_alone},  {"holders", HOLDERS, parse_alone},
 };
 
 /* Cuts a line at spaces and tabs, and counts its words, up to MOST_WORDS. */
@@ -106,7 +128,12 @@ static size_t cut_words(char *line, char *words[MOST_WORDS])
 
 const char *parse(char *line, command *parsed)
 {
+    static const char label[] = "label ";
     char *words[MOST_WORDS];
+    if (strncmp(line, label, sizeof label - 1) == 0) {
+        *parsed = (command){.verb = LABEL, .label = line + sizeof label - 1};
+        return NULL;
+    }
     size_t count = cut_words(line, words);
     *parsed = (command){.verb = NOTHING};
     if (count == 0 || words[0][0] == '#')

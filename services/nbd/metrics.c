@@ -1,19 +1,20 @@
-/* The counts of all slots added up: the line of `stat`, and metrics in the text format of Prometheus. */
+/* The counts of all tags added up: the line of `stat`, and metrics in the text format of OpenMetrics. */
 #include "service.h"
 #include <inttypes.h>
 #include <stdio.h>
 #include <stdlib.h>
+#include <string.h>
 
-static const char *const names[OPERATIONS] = {"read", "write", "trim", "zero", "cache", "extents", "flush"};
+const char *const operations[OPERATIONS] = {"read", "write", "trim", "zero", "cache", "extents", "flush"};
 
-/* ---- Added up ---- */
+/* ---- Sums ---- */
 
-/* The sum, over the slots, of a count that lies so many bytes behind the beginning of a slot's counts. */
+/* The sum over all tags of the count at this offset in a tag's counts. */
 static uint64_t sum_at(size_t offset)
 {
     uint64_t sum = 0;
-    for (uint32_t slot = 0; slot < blkq.slots; slot++) {
-        const char *counts = (const char *)&blkq.counts[slot];
+    for (uint32_t tag = 0; tag < blkq.tags; tag++) {
+        const char *counts = (const char *)&blkq.counts[tag];
         sum += atomic_load_explicit((const atomic_uint_fast64_t *)(const void *)(counts + offset), memory_order_relaxed);
     }
     return sum;
@@ -26,7 +27,7 @@ static size_t waiting_of(uint32_t operation) { return place_of(operation) + offs
 
 static size_t bucket_of(uint32_t place) { return offsetof(histogram, buckets) + place * sizeof(atomic_uint_fast64_t); }
 
-/* How many durations the histogram at an offset has. */
+/* The number of durations in the histogram at an offset. */
 static uint64_t count_at(size_t offset)
 {
     uint64_t count = 0;
@@ -42,7 +43,7 @@ static uint64_t failed_of(uint32_t operation)
 
 /* ---- stat ---- */
 
-/* The text that a call writes; NULL: no memory. */
+/* The text that a call writes; NULL: out of memory. */
 static char *text_of(void write_to(FILE *), size_t *length)
 {
     char *text = NULL;
@@ -70,47 +71,67 @@ static void write_stat(FILE *file)
     fprintf(file, "stat reads %" PRIu64 " writes %" PRIu64, count_at(latency_of(READ)),
             count_at(latency_of(WRITE)) + count_at(latency_of(TRIM)) + count_at(latency_of(ZERO)));
     fprintf(file, " again %" PRIu64 " eio %" PRIu64 " depth %" PRIu32, sum_at(offsetof(counts, again)), failed, depth);
-    fprintf(file, " max %" PRIu32 " chunk %" PRIu32 " physical %" PRIu32 " mode %s\n", limits.max, limits.chunk,
-            limits.physical, controlled.mode == FREEZE_QUEUE_MODE_ATOMIC ? "atomic" : "slots");
+    fprintf(file, " max %" PRIu32 " chunk %" PRIu32 " physical %" PRIu32 " mode %s state %s\n", limits.max, limits.chunk,
+            limits.physical, controlled.mode == FREEZE_QUEUE_MODE_ATOMIC ? "atomic" : "slots", state_now());
 }
 
 char *tell_stat(size_t *length) { return text_of(write_stat, length); }
+char *tell_holders(size_t *length) { return text_of(list_holds, length); }
 
 /* ---- metrics ---- */
 
+/* In OpenMetrics the name of a counter lacks the _total of its sample. */
 static void head(FILE *file, const char *name, const char *type, const char *help)
 {
-    fprintf(file, "# HELP blkq_%s %s\n# TYPE blkq_%s %s\n", name, help, name, type);
+    int length = (int)(strlen(name) - (strcmp(type, "counter") == 0 ? sizeof "_total" - 1 : 0));
+    fprintf(file, "# HELP blkq_%.*s %s\n# TYPE blkq_%.*s %s\n", length, name, help, length, name, type);
 }
+
+/* The beginning of a sample, up to the disk's label. */
+static void sample(FILE *file, const char *name) { fprintf(file, "blkq_%s{disk=\"%s\"", name, disk_name()); }
 
 static void write_number(FILE *file, const char *name, const char *type, const char *help, uint64_t value)
 {
     head(file, name, type, help);
-    fprintf(file, "blkq_%s %" PRIu64 "\n", name, value);
+    sample(file, name);
+    fprintf(file, "} %" PRIu64 "\n", value);
+}
+
+static void write_labelled(FILE *file, const char *name, const char *label, const char *is, uint64_t value)
+{
+    sample(file, name);
+    fprintf(file, ",%s=\"%s\"} %" PRIu64 "\n", label, is, value);
 }
 
 static void write_by_operation(FILE *file, const char *name, const char *help, uint64_t count(uint32_t operation))
 {
     head(file, name, "counter", help);
     for (uint32_t operation = 0; operation < OPERATIONS; operation++)
-        fprintf(file, "blkq_%s{operation=\"%s\"} %" PRIu64 "\n", name, names[operation], count(operation));
+        write_labelled(file, name, "operation", operations[operation], count(operation));
 }
 
-/* The place n has durations of at most 2^n microseconds, and the last place durations of any length. */
+static void sample_of(FILE *file, const char *name, const char *part, const char *operation)
+{
+    fprintf(file, "blkq_%s_%s{disk=\"%s\",operation=\"%s\"", name, part, disk_name(), operation);
+}
+
+/* Bucket n has durations of at most 2^n microseconds, and the last bucket durations of any length. */
 static void write_histogram(FILE *file, const char *name, const char *operation, size_t offset)
 {
     uint64_t count = 0;
     for (uint32_t place = 0; place < BUCKETS; place++) {
         count += sum_at(offset + bucket_of(place));
-        fprintf(file, "blkq_%s_bucket{operation=\"%s\",le=\"", name, operation);
+        sample_of(file, name, "bucket", operation);
         if (place == BUCKETS - 1)
-            fprintf(file, "+Inf\"} %" PRIu64 "\n", count);
+            fprintf(file, ",le=\"+Inf\"} %" PRIu64 "\n", count);
         else
-            fprintf(file, "%.9g\"} %" PRIu64 "\n", (double)(1u << place) / 1e6, count);
+            fprintf(file, ",le=\"%.9g\"} %" PRIu64 "\n", (double)(1u << place) / 1e6, count);
     }
     uint64_t nanoseconds = sum_at(offset + offsetof(histogram, nanoseconds));
-    fprintf(file, "blkq_%s_sum{operation=\"%s\"} %.9f\n", name, operation, (double)nanoseconds / 1e9);
-    fprintf(file, "blkq_%s_count{operation=\"%s\"} %" PRIu64 "\n", name, operation, count);
+    sample_of(file, name, "sum", operation);
+    fprintf(file, "} %.9f\n", (double)nanoseconds / 1e9);
+    sample_of(file, name, "count", operation);
+    fprintf(file, "} %" PRIu64 "\n", count);
 }
 
 static uint64_t requests_of(uint32_t operation) { return count_at(latency_of(operation)); }
@@ -126,21 +147,31 @@ static void write_requests(FILE *file)
     write_by_operation(file, "pieces_total", "Pieces that the backend did.", pieces_of);
     write_by_operation(file, "waits_total", "Requests that waited for a tag or a thaw.", waits_of);
     write_number(file, "again_total", "counter", "Requests refused by a frozen queue.", sum_at(offsetof(counts, again)));
-    head(file, "latency_seconds", "histogram", "From the coming of a request to its end, with the waiting.");
+    head(file, "latency_seconds", "histogram", "Time from a request's arrival to its completion, waiting included.");
     for (uint32_t operation = 0; operation < OPERATIONS; operation++)
-        write_histogram(file, "latency_seconds", names[operation], latency_of(operation));
-    head(file, "waiting_seconds", "histogram", "Of the requests that waited for a tag or a thaw.");
+        write_histogram(file, "latency_seconds", operations[operation], latency_of(operation));
+    head(file, "waiting_seconds", "histogram", "Time for which requests waited for a tag or a thaw.");
     for (uint32_t operation = 0; operation < OPERATIONS; operation++)
-        write_histogram(file, "waiting_seconds", names[operation], waiting_of(operation));
+        write_histogram(file, "waiting_seconds", operations[operation], waiting_of(operation));
 }
 
-static void write_seconds(FILE *file, const char *name, const char *help, uint64_t nanoseconds)
+static void write_seconds(FILE *file, const char *name, const char *type, const char *help, double seconds)
 {
-    head(file, name, "counter", help);
-    fprintf(file, "blkq_%s %.9f\n", name, (double)nanoseconds / 1e9);
+    head(file, name, type, help);
+    sample(file, name);
+    fprintf(file, "} %.9f\n", seconds);
 }
 
-/* Where the time of freezes goes: what is neither the drain's nor the flush's is the command's that a freeze is held for. */
+static void write_state(FILE *file)
+{
+    static const char *const states[] = {"running", "draining", "flushing", "held"};
+    const char *state = state_now();
+    head(file, "state", "gauge", "The state of the queue: its sample is 1, and the others are 0.");
+    for (size_t i = 0; i < sizeof states / sizeof *states; i++)
+        write_labelled(file, "state", "state", states[i], strcmp(state, states[i]) == 0);
+}
+
+/* Where the time of freezes goes. What is neither drain nor flush is the command that a freeze is held for. */
 static void write_freezes(FILE *file)
 {
     uint32_t depth = 0;
@@ -148,12 +179,15 @@ static void write_freezes(FILE *file)
     write_number(file, "freeze_depth", "gauge", "Freezes that are not thawed.", depth);
     write_number(file, "freezes_total", "counter", "Freezes that were drained.", controlled.freezes);
     write_number(file, "quiesces_total", "counter", "Freezes that were drained and flushed.", controlled.quiesces);
-    write_number(file, "thaws_total", "counter", "Freezes that ended, those of settings too.", controlled.thaws);
-    write_seconds(file, "frozen_seconds_total", "Time for which the queue was frozen.", time_frozen());
-    write_seconds(file, "drain_seconds_total", "Time that freezes took to drain the queue.", controlled.draining);
-    write_seconds(file, "flush_seconds_total", "Time that quiesces waited for a flush.", controlled.flushing);
+    write_number(file, "thaws_total", "counter", "Freezes that ended, including those of settings.", controlled.thaws);
+    write_seconds(file, "frozen_seconds_total", "counter", "Time for which the queue was frozen.", (double)time_frozen() / 1e9);
+    write_seconds(file, "drain_seconds_total", "counter", "Time that completed drains took.", (double)controlled.draining / 1e9);
+    write_seconds(file, "flush_seconds_total", "counter", "Time that completed flushes took.", (double)controlled.flushing / 1e9);
+    write_seconds(file, "oldest_hold_seconds", "gauge", "How long the queue has been frozen, the drain included; 0 if it is running.", seconds_frozen());
+    write_number(file, "flush_lost", "gauge", "1 if a flush of the backend has failed since the start: data may be lost.",
+                 atomic_load(&blkq.flush_lost));
     write_number(file, "settings_total", "counter", "Changes of the limits.", controlled.settings);
-    write_number(file, "refused_total", "counter", "Lines that the queue refused, and quiesces whose flush failed.", controlled.refused);
+    write_number(file, "refused_total", "counter", "Lines that the queue refused, and drains and flushes that failed or were given up.", controlled.refused);
 }
 
 static void write_queue(FILE *file)
@@ -161,19 +195,20 @@ static void write_queue(FILE *file)
     freeze_queue_limits limits = {0};
     freeze_queue_waits_limits(&blkq.waits, &limits);
     write_number(file, "waiting", "gauge", "Requests that wait now.", atomic_load(&blkq.waiting));
-    write_number(file, "tags", "gauge", "Requests in flight at most.", blkq.tags);
+    write_number(file, "tags", "gauge", "Maximum number of requests in flight.", blkq.tags);
     write_number(file, "tags_out", "gauge", "Tags of requests in flight, or waiting for the thaw.",
                  freeze_queue_pool_in_flight(&blkq.pool, NULL, 0));
     head(file, "limit_sectors", "gauge", "The limits in force, in sectors of 512 bytes.");
-    fprintf(file, "blkq_limit_sectors{limit=\"max\"} %" PRIu32 "\n", limits.max);
-    fprintf(file, "blkq_limit_sectors{limit=\"chunk\"} %" PRIu32 "\n", limits.chunk);
-    fprintf(file, "blkq_limit_sectors{limit=\"physical\"} %" PRIu32 "\n", limits.physical);
-    fprintf(file, "blkq_limit_sectors{limit=\"hardware\"} %" PRIu32 "\n", limits.hardware);
+    write_labelled(file, "limit_sectors", "limit", "max", limits.max);
+    write_labelled(file, "limit_sectors", "limit", "chunk", limits.chunk);
+    write_labelled(file, "limit_sectors", "limit", "physical", limits.physical);
+    write_labelled(file, "limit_sectors", "limit", "hardware", limits.hardware);
 }
 
 static void write_metrics(FILE *file)
 {
     write_requests(file);
+    write_state(file);
     write_freezes(file);
     write_queue(file);
     fprintf(file, "# EOF\n");

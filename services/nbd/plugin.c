@@ -1,8 +1,7 @@
-/* nbdkit-blkq-plugin: a disk in memory behind the queue, to try the queue with no backend. */
+/* nbdkit-blkq-plugin: a disk in memory behind the queue, to try the queue without a backend. */
 #define NBDKIT_API_VERSION 2
 #include "service.h"
 #include <errno.h>
-#include <inttypes.h>
 #include <nbdkit-plugin.h>
 #include <stdlib.h>
 #include <string.h>
@@ -13,7 +12,7 @@
 static struct {
     uint8_t *bytes;
     uint64_t size;    /* bytes, of whole sectors */
-    uint32_t latency; /* microseconds that each piece takes besides, as of a device */
+    uint32_t latency; /* extra microseconds for each piece, to imitate a device */
 } disk = {.size = 64 * 1024 * 1024};
 
 /* ---- The command line ---- */
@@ -24,7 +23,7 @@ static int parse_size(const char *text)
     if (bytes < 0)
         return -1;
     if (bytes < SECTOR || bytes % SECTOR != 0 || bytes / SECTOR > (int64_t)1 << 33)
-        return refuse("size", "1 to 2^33 sectors of 512 bytes");
+        return refuse("size", "has to be 1 to 2^33 sectors of 512 bytes");
     disk.size = (uint64_t)bytes;
     return 0;
 }
@@ -39,15 +38,18 @@ static int plugin_config(const char *key, const char *value)
 }
 
 static const char help[] =
-    "size=SIZE                 of the disk, in bytes (64M)\n"
-    "hardware_sectors=N        the most that max_sectors can be (65535)\n"
+    "size=SIZE                 size of the disk, in bytes (64M)\n"
+    "hardware_sectors=N        the greatest value of max_sectors (65535)\n"
     "max_sectors=N             the longest piece of a request; 0: hardware_sectors (0)\n"
-    "chunk_sectors=N           no piece crosses a multiple of it; 0: none (0)\n"
-    "physical_sectors=N        pieces end where a physical block ends, a power of two (1)\n"
-    "slots=N, tags=N           of the queue: 1 to 512 (the processors), and 1 to 1023 requests at once (63)\n"
-    "latency_microseconds=N    added to each piece, as a device would (0)\n"
+    "chunk_sectors=N           no piece crosses a multiple of N; 0: no chunks (0)\n"
+    "physical_sectors=N        requests are cut where a physical block ends, if possible; a power of two (1)\n"
+    "slots=N                   counters for requests, 1 to 512 (the processors)\n"
+    "tags=N                    maximum number of requests in flight, 1 to 1023 (63)\n"
+    "latency_microseconds=N    extra time for each piece, to imitate a device (0)\n"
     "control=PATH              a Unix socket for blkqctl\n"
-    "nowait=true               a request that comes to a frozen queue is refused";
+    "drain_timeout=S, max_hold=S, name=NAME, audit=journal    as the filter's\n"
+    "control_group=GROUP, control_mode=MODE, control_fd=N     as the filter's\n"
+    "nowait=true               a request to a frozen queue is refused";
 
 /* ---- The server comes and goes ---- */
 
@@ -80,7 +82,7 @@ static int64_t plugin_get_size(void *handle)
     return (int64_t)disk.size;
 }
 
-/* In bytes: a sector; the physical block in force; and the most that a line of a script may ask for. */
+/* In bytes: a sector, the physical block in force, and the maximum length of a request in a script. */
 static int plugin_block_size(void *handle, uint32_t *minimum, uint32_t *preferred, uint32_t *maximum)
 {
     freeze_queue_limits limits;
@@ -93,7 +95,7 @@ static int plugin_block_size(void *handle, uint32_t *minimum, uint32_t *preferre
     return 0;
 }
 
-/* Each connection reads the writes of the others, with no flush. */
+/* Each connection sees the writes of the others without a flush. */
 static int plugin_can_multi_conn(void *handle)
 {
     (void)handle;
@@ -108,7 +110,7 @@ static int plugin_can_fua(void *handle)
 
 /* ---- Requests ---- */
 
-/* Takes as long for a piece as a device would. */
+/* Takes extra time for a piece, to imitate a device. */
 static void pass_latency(void)
 {
     const struct timespec length = {disk.latency / 1000000, (long)(disk.latency % 1000000) * 1000};
@@ -140,7 +142,7 @@ static int do_bytes(operation operation, void *bytes, uint32_t count, uint64_t o
         refused = serve(&wanted);
     if (refused == 0)
         return 0;
-    nbdkit_error("%" PRIu32 " bytes at %" PRIu64 ": %s", count, offset, strerror(refused));
+    log_failure(&wanted, refused, false);
     nbdkit_set_error(refused);
     return -1;
 }
@@ -151,7 +153,7 @@ static int plugin_pread(void *handle, void *bytes, uint32_t count, uint64_t offs
     return do_bytes(READ, bytes, count, offset);
 }
 
-/* The bytes of a write are read alone. */
+/* The bytes of a write are only read. */
 static int plugin_pwrite(void *handle, const void *bytes, uint32_t count, uint64_t offset, uint32_t flags)
 {
     (void)handle, (void)flags;
@@ -170,7 +172,7 @@ static int plugin_trim(void *handle, uint32_t count, uint64_t offset, uint32_t f
     return do_bytes(TRIM, NULL, count, offset);
 }
 
-/* No write could be lost. */
+/* There is nothing to flush: no write can be lost. */
 static int plugin_flush(void *handle, uint32_t flags)
 {
     (void)handle, (void)flags;

@@ -1,4 +1,4 @@
-/* A request: it takes a tag, enters the queue, is cut by the limits in force and done piece by piece, and leaves. */
+/* A request: takes a tag, enters the queue, is cut by the limits in force and done piece by piece, and leaves. */
 #define NBDKIT_API_VERSION 2
 #include "service.h"
 #include <errno.h>
@@ -6,38 +6,39 @@
 #include <sched.h>
 
 #ifdef WATCHED
-#include "watch.h" /* tests/nbd: writes down by which limits each request was cut */
+#include "watch.h" /* tests/nbd: records the limits that cut each request */
 #else
 #define watch_piece(tag, wanted, limits, from, to)
 #endif
 
-/* A request that waits looks once a second whether its client is still there. If more than a thousand wait, they look more
- * rarely: at most a thousand looks a second. In nanoseconds. */
+/* A waiting request checks once a second whether its client is still there. If more than a thousand wait, they check less
+ * often: at most a thousand checks a second. In nanoseconds. */
 enum { LOOK_AFTER = 1000 * 1000 * 1000, BETWEEN_LOOKS = 1000 * 1000 };
 
-/* A number for each thread, by which it finds where its search for a tag begins. It lies with the thread's own stack, and so is
- * found with no call, and isn't freed before the thread. */
-static uint32_t number_of_this_thread(void)
-{
-    static atomic_uint threads;
-    static _Thread_local uint32_t number __attribute__((tls_model("initial-exec"))) = UINT32_MAX;
-    if (number == UINT32_MAX)
-        number = atomic_fetch_add(&threads, 1);
-    return number;
-}
-
-/* nbdkit has more threads than there are processors: the slot is the processor's, so that no other one writes there. */
+/* nbdkit has more threads than there are processors, so the slot is the processor's: no other processor writes there. */
 static uint32_t slot_of_this_processor(void)
 {
     int processor = sched_getcpu();
-    return processor < 0 ? 0 : (uint32_t)processor % blkq.slots;
+    uint32_t slot = processor < 0 ? 0 : (uint32_t)processor;
+    return slot < blkq.slots ? slot : slot % blkq.slots;
 }
 
-/* ---- Counted ---- */
+/* Where the search for a tag begins: the slots' places are spread over the pool, so a processor most often takes the tag that it gave back,
+ * and the tag and its counts are in its cache. */
+static uint32_t place_of(uint32_t slot) { return slot * blkq.tags_apart >> 16; }
 
+/* ---- Counts ---- */
+
+/* The pool's tags lie behind one another. */
+static counts *counts_of(const freeze_queue_tag *tag)
+{
+    return &blkq.counts[(uintptr_t)tag / sizeof(freeze_queue_pooled) - blkq.first_tag];
+}
+
+/* A tag's counts have one writer at a time, so no locked instruction is needed. */
 static void add(atomic_uint_fast64_t *count, uint64_t more)
 {
-    atomic_fetch_add_explicit(count, more, memory_order_relaxed);
+    atomic_store_explicit(count, atomic_load_explicit(count, memory_order_relaxed) + more, memory_order_relaxed);
 }
 
 static void count_duration(histogram *durations, uint64_t nanoseconds)
@@ -48,7 +49,9 @@ static void count_duration(histogram *durations, uint64_t nanoseconds)
     add(&durations->nanoseconds, nanoseconds);
 }
 
-/* ---- Waiting ---- */
+/* ---- Waiting, out of the way of requests that don't ---- */
+
+#define APART __attribute__((cold, noinline))
 
 static struct timespec next_look(void)
 {
@@ -56,7 +59,7 @@ static struct timespec next_look(void)
     return freeze_queue_deadline(all > LOOK_AFTER ? all : LOOK_AFTER);
 }
 
-/* Whether the server ends or the client has gone: then nbdkit lets no thread of the connection sleep. */
+/* Whether the server ends or the client has gone. In both cases nbdkit refuses to let the connection's threads sleep. */
 static bool is_unwanted(void) { return freeze_queue_waits_is_dying(&blkq.waits) || nbdkit_nanosleep(0, 1) != 0; }
 
 static void begin_waiting(void)
@@ -67,20 +70,21 @@ static void begin_waiting(void)
 
 static void end_waiting(void) { atomic_fetch_sub(&blkq.waiting, 1); }
 
-/* Waits for a tag; NULL where the request isn't wanted any more. */
-static freeze_queue_tag *wait_for_tag(uint32_t thread)
+/* Waits for a tag; NULL if the request isn't wanted any more. */
+APART static freeze_queue_tag *wait_for_tag(uint32_t place)
 {
-    freeze_queue_tag *tag;
+    freeze_queue_tag *tag = NULL;
+    uint32_t refused;
     begin_waiting();
     do {
         struct timespec look = next_look();
-        tag = freeze_queue_pool_take_waiting(&blkq.pool, thread, &look);
-    } while (tag == NULL && !is_unwanted());
+        refused = freeze_queue_pool_take_waiting(&blkq.pool, place, &look, &tag);
+    } while (refused == FREEZE_QUEUE_ERR_TIMED_OUT && !is_unwanted());
     end_waiting();
     return tag;
 }
 
-/* The errno for the answer to an entering, of a queue that isn't frozen. */
+/* The errno for the result of entering, unless the queue is frozen. */
 static int errno_of(uint32_t entered)
 {
     if (entered == FREEZE_QUEUE_OK)
@@ -89,7 +93,7 @@ static int errno_of(uint32_t entered)
 }
 
 /* Waits for the thaw, and enters: 0, or an errno of serve. */
-static int wait_for_thaw(freeze_queue_tag *tag, uint32_t slot)
+APART static int wait_for_thaw(freeze_queue_tag *tag, uint32_t slot)
 {
     uint32_t entered;
     bool is_wanted = true;
@@ -104,15 +108,16 @@ static int wait_for_thaw(freeze_queue_tag *tag, uint32_t slot)
 
 /* ---- Under the tag ---- */
 
-/* Where the first piece of a request ends that has been done up to here, in bytes; 0 where the queue refuses. A request is
- * cut as the sectors that it touches. A piece doesn't end inside a block of the backend: it ends before that block, or behind
- * it if it begins there. Chunks and physical blocks lie alike in each period, so no disk is too large for first_piece. */
+/* The end of the next piece of a request that is done up to here, in bytes; 0 if the queue refuses. The sectors that the request
+ * touches are cut. A piece doesn't end inside a block of the backend: it ends before that block, or after it if it begins there.
+ * first_piece takes starts below 2^33. Chunks and physical blocks repeat in each period, so a later start is reduced by periods. */
 static uint64_t piece_end(const freeze_queue_limits *limits, const request *wanted, uint64_t from)
 {
-    uint64_t end = wanted->offset + wanted->count, start = from / SECTOR, sectors = (end - 1) / SECTOR + 1 - start;
-    uint64_t period = (uint64_t)limits->physical * (limits->chunk > 0 ? limits->chunk : 1);
+    uint64_t end = wanted->offset + wanted->count, start = from / SECTOR, sectors = (end - 1) / SECTOR + 1 - start, place = start;
     uint32_t piece;
-    if (freeze_queue_first_piece(limits, start % period, (uint32_t)sectors, &piece) != FREEZE_QUEUE_OK)
+    if (start >> 33 != 0)
+        place %= (uint64_t)limits->physical * (limits->chunk > 0 ? limits->chunk : 1);
+    if (freeze_queue_first_piece(limits, place, (uint32_t)sectors, &piece) != FREEZE_QUEUE_OK)
         return 0;
     uint64_t to = (start + piece) * SECTOR;
     if (to < end && to % wanted->minimum != 0) {
@@ -123,7 +128,7 @@ static uint64_t piece_end(const freeze_queue_limits *limits, const request *want
     return to < end ? to : end;
 }
 
-/* Does the pieces of a request whose tag is entered, so that no limit changes meanwhile, and counts them. */
+/* Does the pieces of a request, and counts them. Its tag is entered, so no limit changes meanwhile. */
 static int do_pieces(freeze_queue_tag *tag, const request *wanted, uint32_t *pieces)
 {
     freeze_queue_limits limits;
@@ -145,7 +150,7 @@ static int do_pieces(freeze_queue_tag *tag, const request *wanted, uint32_t *pie
     return 0;
 }
 
-/* Does a request whose tag is entered. A flush and the question for extents move no bytes, and aren't cut. */
+/* Does a request whose tag is entered. A flush and a query for extents move no bytes, and aren't cut. */
 static int do_request(freeze_queue_tag *tag, const request *wanted, uint32_t *pieces)
 {
     if (wanted->operation != EXTENTS && wanted->operation != FLUSH)
@@ -154,14 +159,28 @@ static int do_request(freeze_queue_tag *tag, const request *wanted, uint32_t *pi
     return wanted->do_piece(wanted, wanted->offset, wanted->count, true);
 }
 
-/* Enters, does the request, and leaves. It is counted before it leaves: so counts hold still while the queue is drained. */
+/* Counts a request before it leaves, so that counts don't change while the queue is drained. */
+static void count_request(operation_counts *mine, const request *wanted, uint32_t pieces, int failed, uint64_t began)
+{
+    add(&mine->pieces, pieces);
+    if (failed != 0) {
+        add(&mine->failed, 1);
+        return;
+    }
+    add(&mine->bytes, wanted->count);
+    count_duration(&mine->latency, now() - began);
+}
+
+/* Enters, does the request, and leaves. */
 static int pass_queue(freeze_queue_tag *tag, const request *wanted, uint32_t slot, uint64_t began, bool has_waited)
 {
-    operation_counts *mine = &blkq.counts[slot].of[wanted->operation];
+    counts *counted = counts_of(tag);
+    operation_counts *mine = &counted->of[wanted->operation];
     uint32_t pieces = 0, entered = freeze_queue_waits_try_enter(&blkq.waits, tag, slot);
-    if (entered == FREEZE_QUEUE_NOT_ENTERED) {
-        if (blkq.nowait)
-            return EAGAIN;
+    if (entered == FREEZE_QUEUE_NOT_ENTERED && blkq.nowait) {
+        add(&counted->again, 1);
+        return EAGAIN;
+    } else if (entered == FREEZE_QUEUE_NOT_ENTERED) {
         int refused = wait_for_thaw(tag, slot);
         if (refused != 0)
             return refused;
@@ -172,27 +191,19 @@ static int pass_queue(freeze_queue_tag *tag, const request *wanted, uint32_t slo
     if (has_waited)
         count_duration(&mine->waiting, now() - began);
     int failed = do_request(tag, wanted, &pieces);
-    add(&mine->pieces, pieces);
-    if (failed == 0) {
-        add(&mine->bytes, wanted->count);
-        count_duration(&mine->latency, now() - began);
-    }
+    count_request(mine, wanted, pieces, failed, began);
     return freeze_queue_waits_leave(&blkq.waits, tag, slot) == FREEZE_QUEUE_OK ? failed : EIO;
 }
 
 int serve(const request *wanted)
 {
-    uint32_t thread = number_of_this_thread(), slot = slot_of_this_processor();
+    uint32_t slot = slot_of_this_processor(), place = place_of(slot);
     uint64_t began = now();
-    freeze_queue_tag *tag = freeze_queue_pool_take(&blkq.pool, thread);
+    freeze_queue_tag *tag = freeze_queue_pool_take(&blkq.pool, place);
     bool has_waited = tag == NULL;
-    if (tag == NULL && (tag = wait_for_tag(thread)) == NULL)
+    if (tag == NULL && (tag = wait_for_tag(place)) == NULL)
         return ESHUTDOWN;
     int failed = pass_queue(tag, wanted, slot, began, has_waited);
     freeze_queue_pool_give(&blkq.pool, tag);
-    if (failed == EAGAIN)
-        add(&blkq.counts[slot].again, 1);
-    else if (failed != 0 && failed != ESHUTDOWN)
-        add(&blkq.counts[slot].of[wanted->operation].failed, 1);
     return failed;
 }

@@ -1,50 +1,64 @@
-/* Shared by the files of nbdkit-blkq-filter and nbdkit-blkq-plugin: the queue before a backend, and the calls of each file. */
+/* Shared by the files of nbdkit-blkq-filter and nbdkit-blkq-plugin: the queue in front of a backend, and the functions of each file. */
 #ifndef SERVICE_H
 #define SERVICE_H
 
 #include <freeze_queue_pool.h>
+#include <pthread.h>
 #include <stdatomic.h>
 #include <stdbool.h>
 #include <stddef.h>
 #include <stdint.h>
+#include <stdio.h>
+#include <sys/types.h>
 
-enum { SECTOR = 512 /* bytes */, MOST_COUNT = 65535 /* sectors that the hardware can take in a command */ };
+enum { SECTOR = 512 /* bytes */, MOST_COUNT = 65535 /* greatest number of sectors in a command */ };
 
 typedef enum operation { READ, WRITE, TRIM, ZERO, CACHE, EXTENTS, FLUSH, OPERATIONS } operation;
+extern const char *const operations[OPERATIONS]; /* their names */
 
-/* Durations: place n counts the ones of at most 2^n microseconds that no earlier place counts; the last place, all longer ones. */
+/* Durations: bucket n counts those of at most 2^n microseconds that no earlier bucket counts; the last bucket counts all longer ones. */
 enum { BUCKETS = 25 };
 typedef struct histogram {
     atomic_uint_fast64_t nanoseconds; /* the sum */
     atomic_uint_fast64_t buckets[BUCKETS];
 } histogram;
 
-/* The requests of one operation on one slot. Those that were done are counted in latency. */
+/* The requests of one operation with one tag. latency counts those that succeeded. */
 typedef struct operation_counts {
-    atomic_uint_fast64_t bytes, pieces, failed;
-    histogram latency; /* from arrival to leaving, with the waiting */
-    histogram waiting; /* of those that had to wait for a tag or for the thaw */
+    _Alignas(64) atomic_uint_fast64_t bytes, pieces, failed;
+    histogram latency; /* from arrival to leaving, including waits */
+    histogram waiting; /* of requests that had to wait for a tag or for the thaw */
 } operation_counts;
 
-/* One slot's counts, on cache lines of their own. */
+/* One tag's counts, on their own cache lines. Only the request that has the tag changes them. */
 typedef struct counts {
     _Alignas(128) operation_counts of[OPERATIONS];
-    atomic_uint_fast64_t again; /* refused, since the queue was frozen and nowait was asked for */
+    atomic_uint_fast64_t again; /* requests refused because of a frozen queue and nowait */
 } counts;
 
 typedef struct service {
-    freeze_queue_limits limits; /* at the start, as the command line has them */
+    freeze_queue_limits limits; /* at the start, from the command line */
     uint32_t slots; /* 0 on the command line: one for each processor */
     uint32_t tags;
-    bool nowait;         /* a request to a frozen queue is refused, and doesn't wait */
+    uint32_t tags_apart; /* places of the pool from one slot to the next, times 2^16 */
+    uintptr_t first_tag; /* the address of the pool's first tag, in tags */
+    bool nowait;         /* a request to a frozen queue is refused instead of waiting */
     char *control;       /* the path of the control's socket, or NULL */
-    const char *control_key; /* the name of its parameter */
-    int (*flush)(void);  /* flushes the backend: 0, or an errno; NULL where nothing could be lost */
-    freeze_queue_freezer freezer;
+    int control_at;      /* its socket, if another program made it and listens; else -1 */
+    const char *control_key, *control_at_key; /* the names of their parameters, on the command line; NULL: not given */
+    gid_t control_group; /* (gid_t)-1: that of the process */
+    mode_t control_mode;
+    char *name;          /* of the disk, for metrics and the journal; NULL: the control's path */
+    char *audit;         /* the journal's socket, or NULL */
+    uint64_t drain_timeout, max_hold; /* in nanoseconds; 0: none */
+    bool exports;        /* the backend can be read bypassing the queue */
+    int (*flush)(void);  /* flushes the backend: 0, or an errno; NULL if nothing can be lost */
+    freeze_queue freezer;
     freeze_queue_waits waits;
     freeze_queue_pool pool;
-    atomic_uint waiting; /* requests that wait, for a tag or for the thaw */
-    counts counts[FREEZE_QUEUE_MOST_SLOTS];
+    atomic_bool flush_lost; /* a flush of the backend has failed */
+    atomic_uint waiting; /* requests that wait for a tag or for the thaw */
+    counts counts[FREEZE_QUEUE_MOST_TAGS]; /* in the order of the tags */
 } service;
 
 extern service blkq;
@@ -61,26 +75,29 @@ typedef struct background {
 
 #define NO_BACKGROUND {.lock = PTHREAD_MUTEX_INITIALIZER, .wakes = PTHREAD_COND_INITIALIZER}
 
-/* Begins the thread: 0, or an errno. Wakes it. Ends it and waits for its end, if it was begun. */
+/* Starts the thread: 0, or an errno; wakes it; ends it and waits for its end, if it was started. */
 int begin_background(background *one, void *run(void *));
 void wake_background(background *one);
 void end_background(background *one);
 
-/* ---- queue.c: the queue comes and goes, for the filter and the plugin ---- */
+/* ---- queue.c: start and end of the queue, for the filter and the plugin ---- */
 
-/* Takes a parameter of the queue by its name, which the command line has as key. -1: refused, and nbdkit has the reason. */
+/* Takes a parameter of the queue by its name; key is its name on the command line. -1: refused, and the reason is logged. */
 int configure_queue(const char *key, const char *name, const char *value);
 
-/* Makes the queue, and the control's socket, before nbdkit goes into the background; then opens the events and starts the
+/* Make the queue and the control's socket, before nbdkit goes into the background; then open the events and start the
  * threads. -1: refused. */
 int make_queue(void);
 int start_threads(void);
 
-/* Ends the threads and the queue once every client has gone. Frees the parameters, also of a server that didn't start. */
+/* End the threads and the queue once every client has gone; free the parameters, also of a server that didn't start. */
 void end_queue(void);
 void unload_queue(void);
 
-/* Gives nbdkit the reason of a refusal: -1. */
+/* The disk's name, for metrics and the journal. */
+const char *disk_name(void);
+
+/* Logs the reason of a refusal. Returns -1. */
 int refuse(const char *subject, const char *why);
 
 /* Wakes the thread that looks for nbdkit's end, since a request waits. */
@@ -106,14 +123,21 @@ struct request {
     void *backend; /* for do_piece */
 };
 
-/* Does a request under the limits in force: 0, or an errno. EAGAIN: frozen, and nowait; ESHUTDOWN: the server ends or the
- * client has gone; EIO: the queue refused a call, which no request leads to; or the backend's. */
+/* Does a request under the limits in force: 0, or an errno. EAGAIN: the queue is frozen, with nowait; ESHUTDOWN: the server ends or
+ * the client has gone; EIO: the queue refused a call, which no request causes; otherwise the backend's errno. */
 int serve(const request *wanted);
+
+/* ---- errors.c ---- */
+
+/* Logs a request that failed, with its errno, unless ten were logged in the last ten seconds. */
+void log_failure(const request *wanted, int failed, bool has_export);
 
 /* ---- line.c ---- */
 
-typedef enum verb { NOTHING, FREEZE, QUIESCE, THAW, THAW_ALL, SET, WHY, MODE, STAT, METRICS } verb;
-typedef enum holding { WHILE_CONNECTED, LEASED, KEPT } holding;
+typedef enum verb { NOTHING, FREEZE, QUIESCE, FLUSH_NOW, EXPORT, LABEL, THAW, THAW_ONE, THAW_ALL, HOLDERS, SET, WHY, MODE, STAT, METRICS } verb;
+/* How long a freeze lasts: as long as its connection; the same, but no longer than a time (HELD); for a time (LEASED); until it is
+ * thawed by its number or by `thaw all`, or until blkq-max-hold (KEPT). */
+typedef enum holding { WHILE_CONNECTED, HELD, LEASED, KEPT } holding;
 enum { MAX_SECTORS, CHUNK_SECTORS, PHYSICAL_SECTORS, FIELDS };
 
 extern const char *const fields[FIELDS];
@@ -122,70 +146,145 @@ extern const char *const fields[FIELDS];
 typedef struct command {
     verb verb;
     holding holding;       /* of FREEZE and QUIESCE */
-    uint32_t value;        /* seconds of LEASED; of MODE: FREEZE_QUEUE_MODE_SLOTS or FREEZE_QUEUE_MODE_ATOMIC */
-    bool sets[FIELDS];     /* of SET: the fields that it names, */
-    uint32_t to[FIELDS];   /* and their values in sectors */
+    uint64_t lasts;        /* nanoseconds of HELD and LEASED */
+    uint32_t number;       /* of THAW_ONE: a freeze's */
+    const char *label;     /* of LABEL: the rest of its line */
+    uint32_t mode;         /* FREEZE_QUEUE_MODE_SLOTS or FREEZE_QUEUE_MODE_ATOMIC */
+    bool sets[FIELDS];     /* of SET: the fields that it names */
+    uint32_t to[FIELDS];   /* the values of these fields, in sectors */
 } command;
 
-/* Reads a line, which it cuts into words: NULL, or the first fault of docs/FORMATS.md. */
+/* Reads seconds above 0 such as 1.5, with at most 9 digits after the point. Returns NULL, or the fault. */
+const char *parse_seconds(char *word, uint64_t *nanoseconds);
+
+/* Parses a line, cutting it into words in place. Returns NULL, or the first fault of docs/FORMATS.md. */
 const char *parse(char *line, command *parsed);
 
-/* ---- control.c: the thread of the control alone calls these ---- */
+/* ---- control.c: called only by the control's thread ---- */
 
-enum { LINE_MOST = 256 }; /* bytes of a line, its line feed too */
+enum { LINE_MOST = 256 }; /* maximum length of a line in bytes, with its line feed */
 
 typedef enum stage { IDLE, DRAINING, FLUSHING } stage;
+
+/* The process behind a controller, and its label. */
+typedef struct who {
+    int pid;
+    unsigned uid;
+    char label[64];
+} who;
+#define WHO "pid %d uid %u \"%s\""
+#define WHOSE(who) (who).pid, (who).uid, (who).label
 
 /* A connection to the control. */
 typedef struct controller {
     int at; /* -1: nobody */
+    who who;
+    uint64_t number; /* of its last freeze, even if that isn't answered yet */
     stage stage;
-    command asked;   /* unless IDLE: the line that isn't answered yet, whose freeze has begun */
+    command asked;   /* unless IDLE: the pending line, whose freeze has begun */
     uint64_t since;  /* when its stage began, in nanoseconds */
     uint64_t ticket; /* while FLUSHING: the flush that it waits for */
-    uint32_t refused; /* the last refusal of its lines by the queue */
-    uint64_t heard;  /* when, in nanoseconds */
+    uint32_t refused; /* the queue's last refusal of one of its lines */
+    char ended[64];   /* how its last freeze ended by itself, since that refusal */
+    uint64_t heard;  /* when it last sent something, in nanoseconds */
     bool has_ended;  /* it sends no more */
     size_t filled;
     char line[LINE_MOST];
-    char *reply; /* bytes that it didn't take yet: from sent to length */
+    char *reply; /* bytes from sent to length aren't sent yet */
     size_t length, sent;
 } controller;
 
-/* Does a line, and answers it or leaves it for later. */
+/* Runs a line, and replies to it or leaves it pending. */
 void run_line(controller *from, char *line);
 
-/* Goes on with the line of a controller that isn't IDLE, where the queue is drained or the flush is done. */
+/* Continues the pending line of a controller that isn't IDLE, if the queue is drained or the flush is done. */
 void go_on(controller *from);
 
 /* Ends all that a controller holds unless it is kept or leased, since its connection ended. */
 void forget_controller(controller *from);
 
-/* Whether a controller has a freeze that isn't thawed. */
-bool holds_any(const controller *from);
+/* Ends holds, drains and flushes that take too long. Returns the milliseconds until the next one will; -1 if there is none. */
+int end_late(void);
 
-/* Thaws leases that are over, and gives the milliseconds until the next one ends; -1 where there is none. */
-int end_leases(void);
+/* The state of the queue: running, draining, flushing or held. */
+const char *state_now(void);
 
 /* Nanoseconds of CLOCK_MONOTONIC. */
 uint64_t now(void);
 
+/* ---- holds.c ---- */
+
+extern const char *const verbs[]; /* of the lines that freeze */
+
+/* Count a freeze that begins; thaw a freeze that isn't held, or no longer. */
+void count_freeze(void);
+void thaw_queue(void);
+
+/* Add the freeze that a controller asked for to the holds; end the hold at a place, and note why. */
+void add_hold(controller *from);
+void end_hold(uint32_t place, const char *why);
+
+uint32_t holds_now(void);
+
+/* Whether a controller holds a freeze. */
+bool holds_any(const controller *from);
+
+/* One more than the place of the last freeze that a controller holds, or of the freeze with a number; 0: there is none. */
+uint32_t last_hold(const controller *from);
+uint32_t hold_numbered(uint64_t number);
+
+/* The number of a hold's export, for reading and changing. */
+uint64_t *export_of(uint32_t place);
+
+/* Ends all that a controller holds unless it is kept or leased, since its connection ended. */
+void forget_holds(const controller *from);
+
+/* Ends each hold whose time has come. Returns when the next one ends; UINT64_MAX: there is none. */
+uint64_t end_late_holds(uint64_t at);
+
+/* Writes a line for each freeze, and a last line. */
+void list_holds(FILE *file);
+
+/* The seconds since the queue was last running, 0 if it runs; the seconds since a time. */
+double seconds_frozen(void);
+double seconds_since(uint64_t at);
+
+/* ---- audit.c ---- */
+
+/* Notes what was done, in nbdkit's debug log and, with blkq-audit, in the journal. */
+void note(const char *format, ...) __attribute__((format(printf, 1, 2)));
+
 /* ---- flush.c: a thread that flushes, so that the control goes on meanwhile ---- */
 
-/* Starts the thread and makes flush_event, which is readable once a flush is done; ends both. 0, or an errno. */
+/* Start the thread and make flush_event, which is readable once a flush is done: 0, or an errno; end both. */
 int start_flushing(void);
 void end_flushing(void);
 int flush_event(void);
 
-/* Asks for a flush that begins later than this call, and gives its ticket. */
+/* Asks for a flush that begins after this call. Returns its ticket. */
 uint64_t ask_flush(void);
 
-/* Whether the flush of a ticket is done, and its errno, or the errno of a later flush that has failed since. */
+/* Whether the flush of a ticket is done; failed gets its errno, or the errno of a later flush that has failed since. */
 bool is_flushed(uint64_t ticket, int *failed);
+
+/* ---- exports.c ---- */
+
+enum { EXPORT_NAME = 48 /* bytes of a name, with its end */ };
+
+/* Open an export for a freeze, with a random name, and return its number, or 0 if there are too many; close it, which has to come before
+ * the thaw (0: no export). Called only by the control's thread. */
+uint64_t open_export(char name[EXPORT_NAME]);
+void close_export(uint64_t number);
+
+/* Whether an export is still open; whether a name has the form of an export's name; the number of the open export with a name, or 0. rest
+ * gets the name for the backend, which follows a /. */
+bool is_export_open(uint64_t number);
+bool is_export_name(const char *name);
+uint64_t find_export(const char *name, const char **rest);
 
 /* ---- metrics.c ---- */
 
-/* Counted by the thread of the control alone. */
+/* Changed only by the control's thread. */
 typedef struct control_counts {
     uint64_t freezes, quiesces, thaws, settings, refused;
     uint64_t draining, flushing, frozen; /* nanoseconds */
@@ -194,22 +293,33 @@ typedef struct control_counts {
 
 extern control_counts controlled;
 
-/* The nanoseconds for which the queue was frozen up to now. */
+/* The nanoseconds for which the queue has been frozen in all. */
 uint64_t time_frozen(void);
 
-/* Writes the line of `stat`, and the metrics as Prometheus reads them: an allocation of length bytes; NULL: no memory. */
+/* Write the line of `stat`, the lines of `holders`, and the metrics in the OpenMetrics format, into an allocation of length bytes; NULL: out of
+ * memory. */
 char *tell_stat(size_t *length);
+char *tell_holders(size_t *length);
 char *tell_metrics(size_t *length);
 
 /* ---- socket.c ---- */
 
-/* Makes the control's socket and listens; then starts the thread that answers there; ends both. -1: refused. */
+/* Takes over the control's socket from another program, if it passed one. -1: refused. */
+int take_control(void);
+
+/* Make the control's socket and listen; start the thread that serves it; end both. -1: refused. */
 int bind_control(void);
 int start_control(void);
 void end_control(void);
 
-/* Every controller that is connected, one after another from NULL on. */
+/* The next connected controller; NULL begins and ends the list. */
 controller *next_controller(controller *after);
+
+/* Writes where nbdkit listens for clients: unix:PATH, tcp:PORT, or none. */
+void tell_address(char *text, size_t most);
+
+/* Whether a controller may begin a freeze: those in the last places may not. */
+bool may_freeze(const controller *from);
 
 /* Adds to the reply of a controller. */
 void say(controller *to, const char *text);

@@ -1,10 +1,13 @@
-/* The control's socket: one thread takes lines from every controller that is connected, and answers each in order. It never
- * waits but in poll, so a drain, a flush or a controller that hangs holds up nobody else. */
+/* The control's socket. One thread takes lines from every connected controller, and replies to each in order. It waits only in
+ * poll, so a drain, a flush or a controller that hangs delays nobody else. */
 #define NBDKIT_API_VERSION 2
 #include "service.h"
 #include <errno.h>
+#include <fcntl.h>
 #include <nbdkit-plugin.h>
+#include <netinet/in.h>
 #include <poll.h>
+#include <stdio.h>
 #include <stdlib.h>
 #include <string.h>
 #include <sys/eventfd.h>
@@ -13,11 +16,12 @@
 #include <sys/un.h>
 #include <unistd.h>
 
-enum { CONTROLLERS = 64, OTHERS = 4, PAUSE = 100 /* milliseconds */ };
+/* The places of controllers. Those after FREEZERS are reserved for lines that begin no freeze, such as `thaw all`. */
+enum { FREEZERS = 64, CONTROLLERS = FREEZERS + 4, OTHERS = 4, PAUSE = 100 /* milliseconds */ };
 
 static controller controllers[CONTROLLERS];
 static int listening = -1, ending = -1;
-static struct stat bound; /* the socket in its folder */
+static struct stat bound; /* the socket in its directory */
 static pthread_t thread;
 static bool runs;
 
@@ -37,7 +41,7 @@ controller *next_controller(controller *after)
 
 /* ---- Replies ---- */
 
-/* Adds bytes to a reply. A controller whose reply has no memory is let go: its connection is cut. */
+/* Adds bytes to a reply. If there is no memory for it, the controller's connection is closed. */
 static void reply_with(controller *to, const char *bytes, size_t length)
 {
     char *longer = to->at < 0 ? NULL : realloc(to->reply, to->length + length);
@@ -63,7 +67,7 @@ void say_all(controller *to, char *text, size_t length)
     free(text);
 }
 
-/* Sends as much of a reply as its controller takes now. Whether its connection is still there. */
+/* Sends as much of a reply as the controller takes now. Returns whether its connection is still there. */
 static bool send_reply(controller *to)
 {
     while (to->sent < to->length) {
@@ -78,6 +82,34 @@ static bool send_reply(controller *to)
     return true;
 }
 
+/* ---- Where nbdkit listens ---- */
+
+static bool tell_name(int at, char *text, size_t most)
+{
+    union { struct sockaddr any; struct sockaddr_un local; struct sockaddr_in v4; struct sockaddr_in6 v6; } name = {0};
+    socklen_t length = sizeof name - 1;
+    int listens = 0;
+    socklen_t size = sizeof listens;
+    if (at == listening || getsockopt(at, SOL_SOCKET, SO_ACCEPTCONN, &listens, &size) != 0 || !listens ||
+        getsockname(at, &name.any, &length) != 0)
+        return false;
+    if (name.any.sa_family == AF_UNIX && name.local.sun_path[0] == '/')
+        return snprintf(text, most, "unix:%s", name.local.sun_path) > 0;
+    if (name.any.sa_family == AF_INET || name.any.sa_family == AF_INET6)
+        return snprintf(text, most, "tcp:%d", ntohs(name.v4.sin_port)) > 0; /* the port is at the same place in both */
+    return false;
+}
+
+/* nbdkit doesn't tell a filter where it listens. Its sockets are among the first descriptors of this process. */
+void tell_address(char *text, size_t most)
+{
+    enum { DESCRIPTORS = 256 };
+    for (int at = 0; at < DESCRIPTORS; at++)
+        if (tell_name(at, text, most))
+            return;
+    snprintf(text, most, "none");
+}
+
 /* ---- Controllers ---- */
 
 static void let_go(controller *one)
@@ -88,7 +120,7 @@ static void let_go(controller *one)
     *one = (controller){.at = -1};
 }
 
-/* Does the first whole line of those that came, and keeps the rest. Whether there was one. */
+/* Does the first complete line of the received bytes, and keeps the rest. Returns whether there was one. */
 static bool do_next_line(controller *from)
 {
     char line[LINE_MOST], *end = memchr(from->line, '\n', from->filled);
@@ -102,15 +134,15 @@ static bool do_next_line(controller *from)
         length--;
     for (size_t i = 0; i < length; i++)
         if (line[i] == '\0')
-            line[i] = '?'; /* of no word */
+            line[i] = '?'; /* a NUL would end the line early; no word has a '?' */
     line[length] = '\0';
     run_line(from, line);
     return true;
 }
 
-/* Goes as far as it can: with the line that isn't answered yet, the reply, and then the next lines. Whether the controller
- * stays. It doesn't if it sends a longer line than there are, or if it has ended and has its replies. The part of a line
- * that it leaves behind is never run. */
+/* Goes as far as it can with the pending line, the reply, and then the next lines. Returns whether the controller stays. It
+ * doesn't if it sends a line that is too long, or if it has ended and has its replies. An incomplete last line is never
+ * run. */
 static bool serve_controller(controller *one)
 {
     do {
@@ -124,7 +156,7 @@ static bool serve_controller(controller *one)
     return !one->has_ended && one->filled < LINE_MOST;
 }
 
-/* Takes the bytes that a controller sent. Whether it is still there. */
+/* Takes the bytes that a controller sent. Returns whether it is still there. */
 static bool hear(controller *one)
 {
     ssize_t came = recv(one->at, one->line + one->filled, LINE_MOST - one->filled, MSG_DONTWAIT);
@@ -136,7 +168,7 @@ static bool hear(controller *one)
     return true;
 }
 
-/* A controller that hung up gives up its lines, but for those that came whole and wait for nothing. */
+/* Lets a controller go that hung up, after running its complete lines, up to the first that would wait. */
 static void attend(controller *one, short events)
 {
     bool stays = true;
@@ -147,7 +179,7 @@ static void attend(controller *one, short events)
         let_go(one);
 }
 
-/* The events to look for: lines, while none waits to be answered; room for a reply. poll reports a hang-up always. */
+/* The events to poll for: input, unless a line is pending; room for a reply. poll always reports a hang-up. */
 static short events_of(const controller *one)
 {
     if (one->length > 0)
@@ -155,11 +187,13 @@ static short events_of(const controller *one)
     return one->stage == IDLE && !one->has_ended ? POLLIN : 0;
 }
 
-/* A place for a controller; where each is taken the one that is idle longest and holds no freeze has to go. */
-static controller *find_place(void)
+bool may_freeze(const controller *from) { return from < controllers + FREEZERS; }
+
+/* A free place among these. If all are taken, the controller that is idle longest and holds no freeze is disconnected. */
+static controller *find_place(controller *first, const controller *end)
 {
     controller *longest = NULL;
-    for (controller *one = controllers; one < controllers + CONTROLLERS; one++) {
+    for (controller *one = first; one < end; one++) {
         if (one->at < 0)
             return one;
         if (!holds_any(one) && (longest == NULL || one->heard < longest->heard))
@@ -172,20 +206,19 @@ static controller *find_place(void)
 
 static void admit(void)
 {
-    static const char busy[] = "busy\n";
     int at = accept4(listening, NULL, NULL, SOCK_CLOEXEC);
     if (at < 0) {
         if (errno != EINTR && errno != EAGAIN && errno != ECONNABORTED)
             poll(NULL, 0, PAUSE); /* out of descriptors or memory */
         return;
     }
-    controller *place = find_place();
-    if (place == NULL) {
-        (void)!send(at, busy, sizeof busy - 1, MSG_NOSIGNAL | MSG_DONTWAIT);
-        close(at);
-        return;
-    }
-    *place = (controller){.at = at, .heard = now()};
+    controller *place = find_place(controllers, controllers + FREEZERS);
+    if (place == NULL)
+        place = find_place(controllers + FREEZERS, controllers + CONTROLLERS); /* of these none holds a freeze */
+    struct ucred peer = {.pid = 0};
+    socklen_t length = sizeof peer;
+    (void)getsockopt(at, SOL_SOCKET, SO_PEERCRED, &peer, &length);
+    *place = (controller){.at = at, .heard = now(), .who = {.pid = peer.pid, .uid = peer.uid}};
 }
 
 /* ---- The thread ---- */
@@ -202,12 +235,12 @@ static bool any_is(stage stage)
 static void *serve_control(void *nothing)
 {
     for (;;) {
-        int drained = any_is(DRAINING) ? blkq.waits.drained_event : -1;
+        int within = end_late(), drained = any_is(DRAINING) ? freeze_queue_waits_drained_event(&blkq.waits) : -1;
         struct pollfd all[OTHERS + CONTROLLERS] = {
             {ending, POLLIN, 0}, {listening, POLLIN, 0}, {drained, POLLIN, 0}, {flush_event(), POLLIN, 0}};
         for (int i = 0; i < CONTROLLERS; i++)
             all[OTHERS + i] = (struct pollfd){controllers[i].at, events_of(&controllers[i]), 0};
-        if (poll(all, OTHERS + CONTROLLERS, end_leases()) < 0 && errno != EINTR)
+        if (poll(all, OTHERS + CONTROLLERS, within) < 0 && errno != EINTR)
             return nothing;
         if (all[0].revents != 0)
             return nothing;
@@ -222,7 +255,7 @@ static void *serve_control(void *nothing)
     }
 }
 
-/* ---- Begun and ended ---- */
+/* ---- Start and end ---- */
 
 /* Whether a server answers at an address. */
 static bool is_answered(const struct sockaddr_un *address)
@@ -234,11 +267,10 @@ static bool is_answered(const struct sockaddr_un *address)
     return !is_refused;
 }
 
-/* Binds a socket whose owner alone may connect, since a controller can stop every client. One that a dead server left goes. */
+/* Binds the socket; nobody can connect before it listens. Removes a socket that a dead server left. */
 static int bind_at(int at, const struct sockaddr_un *address)
 {
     struct stat found;
-    mode_t before = umask(0077);
     int failed = bind(at, (const struct sockaddr *)address, sizeof *address);
     bool is_taken = failed != 0 && errno == EADDRINUSE;
     if (is_taken && lstat(blkq.control, &found) == 0 && S_ISSOCK(found.st_mode) && !is_answered(address) &&
@@ -246,8 +278,31 @@ static int bind_at(int at, const struct sockaddr_un *address)
         failed = bind(at, (const struct sockaddr *)address, sizeof *address);
     else if (is_taken)
         errno = EADDRINUSE;
-    umask(before);
     return failed;
+}
+
+int take_control(void)
+{
+    struct sockaddr_un address = {.sun_family = AF_UNSPEC};
+    socklen_t length = sizeof address - 1, size = sizeof(int);
+    int listens = 0, at = blkq.control_at;
+    if (blkq.control_at_key == NULL)
+        return 0;
+    blkq.control_key = blkq.control_at_key;
+    if (getsockopt(at, SOL_SOCKET, SO_ACCEPTCONN, &listens, &size) != 0 || !listens ||
+        getsockname(at, (struct sockaddr *)&address, &length) != 0 || address.sun_family != AF_UNIX)
+        return refuse(blkq.control_key, "has to be a Unix socket that listens");
+    free(blkq.control);
+    blkq.control = strdup(address.sun_path);
+    return fcntl(at, F_SETFD, FD_CLOEXEC) == 0 && fcntl(at, F_SETFL, O_NONBLOCK) == 0 && blkq.control ? 0 : refuse(blkq.control_key, strerror(errno));
+}
+
+/* Lets the owner connect, and the others that the mode allows. A controller can stop every client, so the default is the owner alone. */
+static int open_to_others(void)
+{
+    if (blkq.control_group != (gid_t)-1 && chown(blkq.control, (uid_t)-1, blkq.control_group) != 0)
+        return refuse_control("chown");
+    return chmod(blkq.control, blkq.control_mode) == 0 ? 0 : refuse_control("chmod");
 }
 
 int bind_control(void)
@@ -255,7 +310,8 @@ int bind_control(void)
     struct sockaddr_un address = {.sun_family = AF_UNIX};
     for (controller *one = controllers; one < controllers + CONTROLLERS; one++)
         one->at = -1;
-    if (blkq.control == NULL)
+    listening = blkq.control_at;
+    if (blkq.control == NULL || listening >= 0)
         return 0;
     if (strlen(blkq.control) >= sizeof address.sun_path) {
         errno = ENAMETOOLONG;
@@ -271,6 +327,8 @@ int bind_control(void)
         return -1;
     }
     listening = at;
+    if (open_to_others() != 0)
+        return -1;
     if (stat(blkq.control, &bound) != 0)
         return refuse_control("stat");
     return listen(at, CONTROLLERS) == 0 ? 0 : refuse_control("listen");
@@ -288,7 +346,7 @@ int start_control(void)
     return runs ? 0 : refuse_control("thread");
 }
 
-/* Removes the socket unless another one has its path now. */
+/* Removes the socket, unless another socket has its path now. */
 static void unbind_control(void)
 {
     struct stat found;

@@ -1,5 +1,5 @@
-"""The machine of a gate, as docs/GATE.md and docs/FORMATS.md have it: a world, its atomic steps, and the reply to each. It is written from
-these pages alone. A schedule's answer is compared with it, and gate_calls.py makes the calls of a race of its steps."""
+"""The machine of a gate: a world, its atomic steps, and the reply to each. It was written only from docs/GATE.md and docs/FORMATS.md. Answers to
+schedules are compared with it, and gate_calls.py builds the calls of a race from its steps."""
 
 BIAS = 1 << 48
 DELTA = 1 << 20

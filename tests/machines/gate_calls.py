@@ -1,7 +1,7 @@
-"""The calls of a race on one gate or several, each as the steps of gate.py that it takes one after another: docs/GATE.md has both.
+"""The calls of a race on one gate or several, each as the sequence of steps of gate.py that docs/GATE.md gives for it.
 
-A moment of a race is each gate, and how far each actor is in its calls. An actor is in one call: it begins the call once the one before it
-has its answer, at the gate that the call names. No gate knows of a call that comes later.
+A moment of a race is the state of each gate, and how far each actor is in its calls. An actor is in one call at a time, at the gate that the
+call names, and begins it once the call before has its answer. No gate knows of later calls.
 """
 
 from typing import NamedTuple

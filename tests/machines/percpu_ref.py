@@ -1,5 +1,5 @@
-"""The machine of Linux's percpu_ref, as docs/LINUX.md and docs/races/FORMATS.md have it: the calls of a race, and the steps of each. It goes from
-value to value, which a search keeps. walk.py has the words of the steps and their replies."""
+"""The machine of Linux's percpu_ref, written from docs/LINUX.md and docs/races/FORMATS.md: the calls of a race, and the steps of each. States are
+values, so that a search can keep them. walk.py has the words of the steps and their replies."""
 
 from collections import namedtuple
 

@@ -1,4 +1,4 @@
-"""A race as its text says it, and the search through all of its moments. docs/races/FORMATS.md has the texts."""
+"""The parser of races (docs/races/FORMATS.md), and the search through all moments of a race."""
 
 from collections import deque
 from typing import NamedTuple

@@ -1,4 +1,4 @@
-"""A race on Linux's percpu_ref that goes on step by step: docs/races/FORMATS.md has the words of the steps and the replies."""
+"""Walks a race on Linux's percpu_ref step by step, in the words and with the replies of docs/races/FORMATS.md."""
 
 from machines.percpu_ref import BIAS, CALLBACK_SECTION, PASS_SECTION, first, is_locked, is_percpu, turns
 

@@ -1,5 +1,5 @@
-"""Who soak.py has at a server at once: clients that verify what they read, clients that come and go, and controllers. Each is a function
-of the soak, of draws of its own, and of its number, and runs in a process of its own."""
+"""The actors that soak.py runs at the same time: clients that verify what they read, clients that come and go, and controllers. Each actor is
+a function of the soak, its own random numbers, and its own number, and runs in its own process."""
 
 import json
 import os
@@ -17,16 +17,17 @@ from copies import BLKQCTL, BLOCK
 from tries import MIB, fio
 
 HANGS = 300.0  # seconds: longer than any freeze of these, on a processor that others share too
-WRITERS, MODELS, STORMS, CHANGERS = 4, 4, 2, 2
-FIO_AT, MODELS_AT, SIZE = 2 * MIB, 16 * MIB, 64 * MIB  # the writers' places are at the disk's beginning and at its end
+WRITERS, MODELS, STORMS, CHANGERS, COMMITTERS = 4, 4, 2, 2, 2
+# The writers' places are at the disk's beginning and at its end, the committers' between fio's and the models'.
+FIO_AT, COMMITS_AT, MODELS_AT, SIZE = 2 * MIB, 12 * MIB, 16 * MIB, 64 * MIB
 
 
 class Hang(Exception):
-    """A request or a line that isn't answered."""
+    """A request or a line that gets no answer."""
 
 
 class Torn(Exception):
-    """Bytes that nobody wrote there."""
+    """Bytes that no client wrote there."""
 
 
 def wait_for(client, *cookies):
@@ -39,15 +40,20 @@ def wait_for(client, *cookies):
                 raise Hang(f"request {cookie}")
 
 
+def lent(block, place=0, length=None):
+    """A buffer over bytes of the caller's. libnbd 1.14 never frees one of its own that a request had."""
+    return nbd.Buffer.from_buffer(memoryview(block)[place : None if length is None else place + length])
+
+
 # ---- Clients that verify ----
 
 
 class Model:
-    """A client with a part of the disk of its own, and what it wrote there."""
+    """A client with its own part of the disk, and what it wrote there."""
 
     def __init__(self, soak, draws, number):
         self.soak, self.draws, self.client = soak, draws, soak.client()
-        self.at, self.bytes = MODELS_AT + number * MIB, bytearray(MIB)
+        self.at, self.bytes, self.found = MODELS_AT + number * MIB, bytearray(MIB), bytearray(MIB)
         wait_for(self.client, self.client.aio_zero(MIB, self.at))
 
     def places(self):
@@ -62,14 +68,14 @@ class Model:
         block = self.draws.randbytes(64) * (length // 64 + 1)
         self.bytes[place : place + length] = block[:length]
         flags = self.draws.choice((0, 0, 0, nbd.CMD_FLAG_FUA))
-        return self.client.aio_pwrite(nbd.Buffer.from_bytearray(bytearray(block[:length])), self.at + place, flags=flags)
+        return self.client.aio_pwrite(lent(self.bytes, place, length), self.at + place, flags=flags)
 
     def zero(self, place, length):
         self.bytes[place : place + length] = bytes(length)
         return self.client.aio_zero(length, self.at + place)
 
     def round(self):
-        """Requests at once in places of their own, of which trims are written over; then each place is read."""
+        """Makes requests at once, each in its own place, and overwrites trims; then reads each place."""
         kind, places = self.draws.choice(("writes", "writes", "writes", "zeros", "trims", "reads")), list(self.places())
         if kind == "trims":
             wait_for(self.client, *(self.client.aio_trim(length, self.at + place) for place, length in places))
@@ -81,13 +87,11 @@ class Model:
         if self.draws.random() < 0.05:
             wait_for(self.client, self.client.aio_flush())
             self.soak.count("flushes")
-        read = [(place, nbd.Buffer(length)) for place, length in places]
-        wait_for(self.client, *[self.client.aio_pread(buffer, self.at + place) for place, buffer in read])
-        self.soak.count("reads", len(read))
-        for place, buffer in read:
-            found = buffer.to_bytearray()
-            if found != self.bytes[place : place + len(found)]:
-                raise Torn(f"{len(found)} bytes at {self.at + place}, after {kind}")
+        wait_for(self.client, *[self.client.aio_pread(lent(self.found, place, length), self.at + place) for place, length in places])
+        self.soak.count("reads", len(places))
+        for place, length in places:
+            if self.found[place : place + length] != self.bytes[place : place + length]:
+                raise Torn(f"{length} bytes at {self.at + place}, after {kind}")
 
 
 def verifies(soak, draws, number):
@@ -118,27 +122,40 @@ def places_of(writer):
 
 def writes_in_order(soak, _, number):
     """Writes a number near the disk's beginning, and only then near its end (copies.py)."""
-    client, written = soak.client(), 0
+    client, written, block = soak.client(), 0, bytearray(BLOCK)
     while not soak.enough.is_set():
         written += 1
+        block[:] = struct.pack("<Q", written) * (BLOCK // 8)
         for place in places_of(number):
-            block = bytearray(struct.pack("<Q", written) * (BLOCK // 8))
-            wait_for(client, client.aio_pwrite(nbd.Buffer.from_bytearray(block), place))
+            wait_for(client, client.aio_pwrite(lent(block), place))
         soak.count("ordered_writes", 2)
     client.shutdown()
 
 
 def is_torn(copy, writer):
-    """Whether a copy has other than the same number at both of a writer's places, or at the second the one before."""
+    """Whether a copy is torn: the second place of a writer has neither the number of the first nor the one before."""
     blocks = [copy[place : place + BLOCK] for place in places_of(writer)]
     first, second = (struct.unpack("<Q", block[:8])[0] for block in blocks)
     are_whole = all(block == block[:8] * (BLOCK // 8) for block in blocks)
     return not (are_whole and first - 1 <= second <= first)
 
 
+def commits(soak, _, number):
+    """Writes a number to the disk, and only then to the log's."""
+    clients, written, block = [soak.client(), soak.client(soak.log)], 0, bytearray(BLOCK)
+    while not soak.enough.is_set():
+        written += 1
+        block[:] = struct.pack("<Q", written) * (BLOCK // 8)
+        for client in clients:
+            wait_for(client, client.aio_pwrite(lent(block), COMMITS_AT + number * BLOCK))
+        soak.count("commits")
+    for client in clients:
+        client.shutdown()
+
+
 def storms(soak, draws, _):
-    """Connects and goes: in the handshake, in order, or with a request in flight or waiting (one: nbdkit 1.32 aborts where several
-    threads reply to a client that was killed)."""
+    """Connects and disconnects: in the handshake, in order, or with one request in flight or waiting (only one, since nbdkit 1.32 aborts
+    if several threads reply to a killed client)."""
     while not soak.enough.is_set():
         way = draws.randrange(4)
         if way == 0:
@@ -161,7 +178,7 @@ def storms(soak, draws, _):
 
 
 def changes(soak, draws, _):
-    """Settings that are taken, or given up at a `thaw all`, and one in ten that is refused."""
+    """Changes settings, which succeed or are given up at a `thaw all`; one in ten is refused."""
     with closing(soak.control()) as control:
         while not soak.enough.is_set():
             drawn = {"max_sectors": draws.choice((0, 1, 7, 8, 64, 256)), "chunk_sectors": draws.choice((0, 3, 8, 128)),
@@ -193,7 +210,7 @@ def needs_depth(control, line):
 
 
 def freezes(soak, draws):
-    """Freezes that are owned, left to the end of the connection, leased for a second, or kept until a `thaw all`."""
+    """Begins freezes that are thawed, left to the end of the connection, leased for a second, or kept until a `thaw all`."""
     while not soak.enough.is_set():
         how = draws.choice(("owned", "owned", "left", "left", "leased", "kept"))
         with closing(soak.control()) as control:
@@ -212,7 +229,7 @@ def freezes(soak, draws):
 
 
 def breaks(soak, draws):
-    """Controllers that are killed while they hold or wait, that give up a drain, and that send garbage."""
+    """Runs controllers that are killed while they hold or wait, that give up a drain, and that send garbage."""
     while not soak.enough.is_set():
         way = draws.choice(("killed", "killed", "given_up", "garbage"))
         control = soak.control()
@@ -235,7 +252,7 @@ def breaks(soak, draws):
 
 
 def backs_up(soak, draws):
-    """Copies under a quiesce, each of which is whole, or is told to be lost."""
+    """Makes copies under a quiesce. Each has to be whole, or reported as lost."""
     copy = soak.server.path("copy")
     while not soak.enough.is_set():
         told = subprocess.run([sys.executable, BLKQCTL, soak.server.control_path, "quiesce", "--", "cp", soak.server.disk, copy],
@@ -253,6 +270,33 @@ def backs_up(soak, draws):
         time.sleep(draws.random() * 2)
 
 
+def freezes_groups(soak, draws):
+    """Copies the committers' places on both disks, the disk that is written first before the other. Each copy has to be of one moment, or reported as lost."""
+    disks = soak.server, soak.log
+    copies = [soak.server.path("group"), soak.log.path("group")]
+    taking = [f"dd status=none bs={BLOCK} skip={COMMITS_AT // BLOCK} count={COMMITTERS} if={disk.disk} of={copy}"
+              for disk, copy in zip(disks, copies)]
+    group = [sys.executable, BLKQCTL, "group", f"disk={disks[0].control_path}", f"log={disks[1].control_path}", "--"]
+    apart = [[sys.executable, BLKQCTL, disk.control_path, "quiesce", "--"] for disk in disks]
+    while not soak.enough.is_set():
+        lines = [[*by, *take.split()] for by, take in zip(apart, taking)] if soak.apart else [[*group, "sh", "-c", " && ".join(taking)]]
+        statuses = [subprocess.run(line, stderr=subprocess.PIPE, timeout=HANGS, check=False).returncode for line in lines]
+        if 125 in statuses:  # by a `thaw all`
+            soak.count("lost_groups")
+            continue
+        assert not any(statuses), statuses
+        first, second = ([struct.unpack_from("<Q", read(copy), number * BLOCK)[0] for number in range(COMMITTERS)] for copy in copies)
+        if not all(one - 1 <= other <= one for one, other in zip(first, second)):
+            raise Torn(f"disks of two moments: {first}, {second}")
+        soak.count("groups")
+        time.sleep(draws.random() * 2)
+
+
+def read(path):
+    with open(path, "rb") as file:
+        return file.read()
+
+
 # ---- All of them ----
 
 
@@ -261,6 +305,8 @@ def start_clients(soak):
         soak.start(verifies, number)
     for number in range(WRITERS):
         soak.start(writes_in_order, number)
+    for number in range(COMMITTERS):
+        soak.start(commits, number)
     soak.start(runs_fio)
     for number in range(STORMS):
         soak.start(storms, number)
@@ -269,5 +315,5 @@ def start_clients(soak):
 def start_controllers(soak):
     for number in range(CHANGERS):
         soak.start(changes, number)
-    for act in (freezes, breaks, backs_up):
+    for act in (freezes, breaks, backs_up, freezes_groups):
         soak.start(act)

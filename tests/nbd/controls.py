@@ -1,6 +1,7 @@
-"""Controllers of the control, and the freezes that they leave behind: controls.py SERVED NAME tries one thing."""
+"""Tests the control, and what happens to the freezes of controllers that go: controls.py SERVED NAME runs one test."""
 
 import os
+import re
 import signal
 import socket
 import subprocess
@@ -12,18 +13,10 @@ from contextlib import ExitStack, closing, contextmanager
 import nbd
 
 from gates import Paused
-from server import WITHIN, Control, Server
+from server import WITHIN, Control, Server, run_test, soon
 from tries import done
 
 FIELDS = {"max": 12, "chunk": 14, "physical": 16}
-
-
-def soon(is_so, why, within=WITHIN):
-    """Waits until something is so."""
-    late = time.monotonic() + within
-    while not is_so():
-        assert time.monotonic() < late, why
-        time.sleep(0.01)
 
 
 def depth_of(server):
@@ -51,7 +44,7 @@ class Busy:
 
 
 def slow(served, seconds):
-    """A server whose requests take so long."""
+    """A server whose requests take this long."""
     if "filter" in served:
         return Server(served, backend=["--filter=delay", "memory", "1M", f"delay-read={int(seconds * 1e3)}ms"])
     return Server(served, "size=1M", f"latency_microseconds={int(seconds * 1e6)}")
@@ -69,11 +62,25 @@ def held_up(served, seconds=10):
             yield server, lambda: None
 
 
+@contextmanager
+def busy_at(path):
+    """A socket at which nobody can connect, since its backlog is full."""
+    with socket.socket(socket.AF_UNIX) as busy, ExitStack() as many:
+        busy.bind(path)
+        busy.listen(0)
+        while True:
+            coming = many.enter_context(socket.socket(socket.AF_UNIX))
+            coming.setblocking(False)
+            if coming.connect_ex(path) != 0:
+                break
+        yield path
+
+
 # ---- Freezes and their controllers ----
 
 
 def owned(served):
-    """A freeze ends with its connection, however that ends; thaw ends one's own freezes alone."""
+    """A freeze ends with its connection, however that ends. `thaw` ends only freezes of the same connection."""
     with Server(served, "size=1M") as server, closing(server.control()) as other:
         first = server.control()
         first.need("freeze", "depth 1")
@@ -94,7 +101,7 @@ def owned(served):
 
 
 def kept(served):
-    """A freeze that is kept or leased outlives its connection; a lease ends, and thaw all ends all."""
+    """A kept or leased freeze outlives its connection. A lease ends by itself, and `thaw all` ends all."""
     with Server(served, "size=1M") as server, closing(server.control()) as control:
         with closing(server.control()) as leaving:
             leaving.need("freeze keep", "depth 1")
@@ -112,7 +119,7 @@ def kept(served):
 
 
 def given_up(served):
-    """A drain holds up nobody else, and ends with its controller or by thaw all; then a request enters at once."""
+    """A drain delays no other controller, and ends with its own or by `thaw all`; then a request enters at once."""
     for seconds in (10, 60, 240):
         began = time.monotonic()
         try:
@@ -165,7 +172,7 @@ def one_change(served):
 
 
 def parts(served):
-    """Lines come in parts; one without its end is never run; one that is too long, or garbage, harms its controller alone."""
+    """A line may come in parts. A line without its end is never run. A line that is too long, or garbage, harms only its own controller."""
     with Server(served, "size=1M") as server:
         with closing(server.control()) as first:
             for part in (b"fre", b"eze\nth", b"aw\r\nthaw\nset max_sectors 1"):
@@ -191,7 +198,7 @@ def parts(served):
 
 
 def idle(served):
-    """Connections that are idle hold no place: the one idle longest goes. Those that hold a freeze stay."""
+    """Idle connections don't block places: the one that is idle longest is closed. Connections that hold a freeze stay."""
     with Server(served, "size=1M") as server, ExitStack() as many:
         holding = many.enter_context(closing(server.control()))
         holding.need("freeze", "depth 1")
@@ -203,15 +210,10 @@ def idle(served):
         sleeping[0].need("thaw", "not yours")
         assert sleeping[1].at.recv(1) == b"", "the connection that is idle longest stays"
         holding.need("thaw", "depth 0")
-        freezing = [many.enter_context(closing(server.control())) for _ in range(64)]
-        for number, control in enumerate(freezing, 1):
-            control.need("freeze", f"depth {number}")
-        with closing(server.control()) as extra:
-            assert extra.replies.read() == "busy\n"
 
 
 def hanging(served):
-    """A controller that takes no replies holds up nobody, and goes on once it takes them."""
+    """A controller that doesn't read replies delays nobody, and continues once it reads them."""
     with Server(served, "size=1M") as server, closing(server.control()) as other:
         with closing(server.control()) as deaf:
             deaf.at.setblocking(False)
@@ -224,7 +226,7 @@ def hanging(served):
             other.need("freeze", "depth 1")
             other.need("thaw", "depth 0")
             deaf.at.setblocking(True)
-            assert deaf.replies.readline().startswith("# HELP blkq_requests_total")
+            assert deaf.replies.readline().startswith("# HELP blkq_requests ")
         other.need("thaw", "not frozen")
 
 
@@ -232,10 +234,7 @@ def hanging(served):
 
 
 def metrics_of(control):
-    control.at.sendall(b"metrics\n")
-    lines = []
-    while not lines or lines[-1] != "# EOF":
-        lines.append(control.replies.readline().rstrip("\n"))
+    lines = [re.sub(r'(?<=\{)disk="[^"]*",?', "", line).replace("{}", "") for line in control.lines("metrics")]
     return {name: float(value) for name, _, value in (line.rpartition(" ") for line in lines if line[0] != "#")}
 
 
@@ -277,7 +276,7 @@ def switches(server):
 
 
 def waiting_is_cheap(served):
-    """Three hundred requests that wait look a thousand times a second at most, and not twenty times a second each."""
+    """Three hundred waiting requests make at most a thousand checks a second together, and not twenty a second each."""
     with Server(served, "size=1M") as server, closing(server.control()) as control:
         clients = [server.client() for _ in range(20)]
         control.need("freeze", "depth 1")
@@ -298,7 +297,7 @@ def waiting_is_cheap(served):
 
 
 def started(served):
-    """A server that can't have its control's socket doesn't start, in the background either; a dead server's socket goes."""
+    """A server that can't bind its control's socket doesn't start, even in the background. A dead server's socket is replaced."""
     server = Server(served, "size=1M")
     with tempfile.TemporaryDirectory() as folder:
         words = server.words(["size=1M"], None, ())
@@ -321,4 +320,4 @@ def started(served):
 
 
 if __name__ == "__main__":
-    globals()[sys.argv[2]](sys.argv[1])
+    run_test(globals())

@@ -1,5 +1,6 @@
-"""Copies of a disk that clients write to, and blkqctl: copies.py FILTER NAME tries one thing."""
+"""Tests copies of a disk that clients write to, and blkqctl: copies.py FILTER NAME runs one test."""
 
+import json
 import os
 import re
 import signal
@@ -8,10 +9,10 @@ import subprocess
 import sys
 import tempfile
 import threading
-from contextlib import closing
+from contextlib import ExitStack, closing, contextmanager
 
-from controls import Busy, depth_of, held_up, in_force, soon
-from server import WITHIN, Server, in_memory
+from controls import Busy, busy_at, depth_of, held_up, in_force, soon
+from server import WITHIN, Server, in_memory, run_test
 from tries import MIB
 
 BLKQCTL = os.path.join(os.path.dirname(__file__), "..", "..", "services", "nbd", "blkqctl")
@@ -19,7 +20,7 @@ WRITERS, TRIES, BLOCK, SIZE = 4, 20, 4096, 32 * MIB
 
 
 def blkqctl(server, *words, status=0, **more):
-    """What blkqctl prints, which has to end with this status."""
+    """Runs blkqctl, which has to end with this status, and returns its output."""
     found = subprocess.run([sys.executable, BLKQCTL, server.control_path, *words], stdout=subprocess.PIPE,
                            stderr=subprocess.PIPE, timeout=1200, check=False, **more)
     assert found.returncode == status, (words, found)
@@ -30,8 +31,8 @@ def blkqctl(server, *words, status=0, **more):
 
 
 class Writer(threading.Thread):
-    """Writes a number at a place near the disk's beginning, and only then the same number at one near its end: at each moment the
-    second is as large as the first, or one behind. A copy of which that isn't so is torn."""
+    """Writes a number near the disk's beginning, and only then the same number near its end. At each moment the second number is equal
+    to the first or one less. Otherwise a copy is torn."""
 
     def __init__(self, server, number):
         super().__init__()
@@ -84,7 +85,7 @@ def consistent(served):
 
 
 def torn(served):
-    """Plain copies are torn, if the writers go on between their halves, as they do where a copy takes long: the try above would see it."""
+    """Plain copies are torn if the writers go on between their halves, as in a copy that takes long. So the test above would see it."""
 
     def copy_plainly(server, writers):
         with open(server.disk, "rb") as disk, open(server.path("copy"), "wb") as copied:
@@ -97,13 +98,13 @@ def torn(served):
     assert found == TRIES, f"{found} of {TRIES} copies are torn"
 
 
-# Kills a server by its number a second later, as one that takes long to end.
+# Kills a server by its process id one second later, like a server that takes long to end.
 LATE_KILL = 'kill() { if [[ $1 == %* ]]; then builtin kill "$@"; else (sleep 1; builtin kill "$@") >/dev/null & fi; }\n'
 
 
 def page(served):
-    """The README's backup, line by line, and a second one over it. No file is overwritten while clients wait: the file that cp writes
-    isn't there when it begins. At the end the server has ended, also a slow one."""
+    """Runs the README's backup, line by line, and a second backup over it. No file is overwritten while clients wait: the file that cp
+    writes doesn't exist when it begins. At the end the server has ended, even a slow one."""
     with open(os.path.join(os.path.dirname(BLKQCTL), "README.md"), encoding="utf-8") as file:
         text = file.read().split("## A consistent backup in five minutes\n", 1)[1].split("\n## ", 1)[0]
     steps = [line[4:] for line in text.splitlines() if line.startswith("    ") and not line.startswith(("    apt-get", "    make", "    export"))]
@@ -143,7 +144,7 @@ def commands(served):
         for words, reply in ((["max_sectors", "65"], "EINVAL: max_sectors: more sectors than the hardware takes"),
                              (["max_sectors", "4", "chunk_sectors", "65536"],
                               "EINVAL: chunk_sectors: a chunk of more than 65535 sectors"), (["max_sectors"], "missing word")):
-            assert refusal(server, "set", *words) == f"blkqctl: set: {reply}\n"
+            assert refusal(server, "set", *words) == f"blkqctl: {server.control_path}: set: {reply}\n"
         assert blkqctl(server, "mode", "atomic") == "ok\n"
         assert blkqctl(server, "stat").startswith("stat reads 0 writes 0 ")
         assert blkqctl(server, "metrics").endswith("# EOF\n")
@@ -153,18 +154,20 @@ def commands(served):
         assert blkqctl(server, "freeze", "--lease", "3000") == "depth 2\n"
         assert depth_of(server) == 2
         assert blkqctl(server, "thaw", "all") == "depth 0\n"
-        for words in (["freeze"], ["thaw"], ["freeze", "--lease", "1", "--keep"], ["stat", "--", "true"], ["freeze", "--"],
-                      ["mode", "quick"], []):
+        for words in (["freeze"], ["thaw"], ["freeze", "--lease", "1", "--keep"], ["freeze", "--keep", "--", "true"], ["stat", "--", "true"], ["freeze", "--"],
+                      ["mode", "quick"], ["set", "sectors", "8"], ["freeze", "--lease", "0"], []):
             blkqctl(server, *words, status=2)
         assert "exit status" in blkqctl(server, "--help")
+        shown = blkqctl(server, "backup", "--help")
+        assert shown.startswith("usage: blkqctl SOCKET backup [-h]") and "limit for the copy" in shown, shown
     gone = subprocess.run([sys.executable, BLKQCTL, "/nowhere", "stat"], stderr=subprocess.PIPE, check=False)
     assert gone.returncode == 3 and gone.stderr == b"blkqctl: /nowhere: No such file or directory\n"
 
 
-def refusal(server, *words):
-    """What blkqctl writes to standard error where the server refuses."""
+def refusal(server, *words, status=1):
+    """What blkqctl writes to standard error when the server refuses, or when it ends with another status."""
     found = subprocess.run([sys.executable, BLKQCTL, server.control_path, *words], stderr=subprocess.PIPE, timeout=1200, check=False)
-    assert found.returncode == 1, (words, found)
+    assert found.returncode == status, (words, found)
     return found.stderr.decode()
 
 
@@ -185,12 +188,15 @@ def on_a_terminal(server, *words):
 
 
 def around(served):
-    """A freeze around a command: its status, and the thaw however it ends; a freeze that is lost on the way is told."""
+    """A freeze around a command has the command's status, and is thawed however the command ends. A freeze that is lost meanwhile is reported."""
     with Server(served, "size=1M") as server, closing(server.control()) as control:
-        for command, status in ((["true"], 0), (["sh", "-c", "exit 7"], 7), (["sh", "-c", "kill -9 $$"], 137),
-                                (["/no/such/program"], 127), (["/"], 126)):
+        for command, status in ((["true"], 0), (["sh", "-c", "exit 7"], 7), (["sh", "-c", "kill -9 $$"], 137)):
             blkqctl(server, "freeze", "--", *command, status=status)
             assert depth_of(server) == 0, command
+        for program, status, reason in (("/no/such/program", 127, "No such file or directory"), ("/", 126, "Permission denied"),
+                                        ("no-such-program", 127, "No such file or directory")):
+            assert refusal(server, "freeze", "--", program, status=status) == f"blkqctl: {program}: {reason}\n"
+            assert depth_of(server) == 0, program
         asking = ["sh", "-c", f"{sys.executable} {BLKQCTL} {server.control_path} stat"]
         assert " depth 1 " in blkqctl(server, "quiesce", "--", *asking)
         thawed = ["sh", "-c", f"until {asking[2]} | grep -q ' depth 0 '; do sleep 0.1; done"]
@@ -199,8 +205,8 @@ def around(served):
             control.need("thaw all", "depth 0")
             losing.process.terminate()
             assert losing.process.wait(WITHIN) == 125
-        for number, status in ((signal.SIGTERM, 143), (signal.SIGKILL, -9)):
-            with Sleeping(server) as ended:
+        for number, status, more in ((signal.SIGTERM, 143, ()), (signal.SIGKILL, -9, ()), (signal.SIGKILL, -9, ("--lease", "3000"))):
+            with Sleeping(server, *more) as ended:
                 ended.process.send_signal(number)
                 assert ended.process.wait(WITHIN) == status
                 soon(lambda: depth_of(server) == 0, "the freeze stays")
@@ -212,7 +218,7 @@ def around(served):
 
 
 def told(served):
-    """-v tells how long a freeze took that outlives blkqctl too; --version is the tree's."""
+    """-v reports how long a freeze took, even one that outlives blkqctl. --version is the tree's."""
     with Server(served, "size=1M") as server:
         for name in ("freeze", "quiesce"):
             found = subprocess.run([sys.executable, BLKQCTL, "-v", server.control_path, name, "--lease", "3000"], stdout=subprocess.DEVNULL,
@@ -228,12 +234,24 @@ def told(served):
 class Sleeping:
     """blkqctl with a freeze around a sleep, which has begun."""
 
-    def __init__(self, server):
+    def __init__(self, server, *more):
         sleep = ["sh", "-c", "echo begun && exec sleep 3000"]
-        command = [sys.executable, BLKQCTL, server.control_path, "freeze", "--", *sleep]
+        command = [sys.executable, BLKQCTL, server.control_path, "freeze", *more, "--", *sleep]
         self.process = subprocess.Popen(command, stdout=subprocess.PIPE, stderr=subprocess.DEVNULL)
         assert self.process.stdout.readline() == b"begun\n"
         assert depth_of(server) == 1
+
+    @staticmethod
+    @contextmanager
+    def around(served):
+        """A server that ends otherwise than its own way, and a blkqctl that sleeps there."""
+        server = Server(served, "size=1M")
+        command = [sys.executable, BLKQCTL, server.control_path, "freeze", "--", "sh", "-c", "echo begun && exec sleep 3000"]
+        with subprocess.Popen(command, stdout=subprocess.PIPE, stderr=subprocess.PIPE) as running:
+            assert running.stdout.readline() == b"begun\n"
+            yield server, running
+        server.errors.close()
+        server.folder.cleanup()
 
     def __enter__(self):
         return self
@@ -245,16 +263,71 @@ class Sleeping:
 
 
 def in_time(served):
-    """A drain that takes too long is given up, and leaves nothing behind."""
+    """A drain that takes too long is given up, and leaves nothing behind. The message names the socket, and there is a status for it. If
+    nobody takes its connection, the status is that of a server that isn't there."""
     with held_up(served) as (server, let_go):
         busy = Busy(server)
-        given_up = subprocess.run([sys.executable, BLKQCTL, "--timeout", "0.5", server.control_path, "quiesce", "--", "true"],
-                                  stderr=subprocess.DEVNULL, check=False)
-        assert given_up.returncode == 125
-        soon(lambda: depth_of(server) == 0, "the drain goes on")
+        for more, status in ((["--", "true"], 125), (["--keep"], 4)):
+            given_up = subprocess.run([sys.executable, BLKQCTL, "--timeout", "0.5", server.control_path, "quiesce", *more],
+                                      stderr=subprocess.PIPE, check=False)
+            assert given_up.returncode == status, given_up
+            assert given_up.stderr.decode().startswith(f"blkqctl: {server.control_path}: quiesce"), given_up
+            assert given_up.stderr.endswith(b": no reply within 0.5 s\n"), given_up
+            soon(lambda: depth_of(server) == 0, "the drain goes on")
         let_go()
         busy.need_done()
+        with busy_at(server.path("busy")) as path:
+            for words in (["stat"], ["quiesce", "--", "true"], ["backup", "--to", server.path("copy")]):
+                late = subprocess.run([sys.executable, BLKQCTL, "--timeout", "0.1", path, *words], stderr=subprocess.PIPE, check=False)
+                assert late.returncode == 3 and late.stderr.decode().startswith(f"blkqctl: {path}: "), late
+
+
+def json_told(served):
+    """--json has the same content as the text."""
+    with Server(served, "size=1M", "max_sectors=8") as server:
+        server.client().pwrite(bytes(512), 0)
+        found = json.loads(blkqctl(server, "--json", "stat"))
+        assert (found["writes"], found["max"], found["mode"], found["depth"]) == (1, 8, "slots", 0), found
+        found = json.loads(blkqctl(server, "--json", "quiesce", "--", "sh", "-c", "sleep 0.2; exit 3", status=3))
+        assert found["status"] == 3 and found["command_seconds"] >= 0.2 and found["quiesce_seconds"] >= 0 and found["lost"] is None
+        found = json.loads(blkqctl(server, "--json", "freeze", "--lease", "1.5"))
+        assert found["depth"] == 1 and found["freeze_seconds"] >= 0
+        soon(lambda: depth_of(server) == 0, "a lease doesn't end")
+
+
+def server_goes(served):
+    """If the server goes, blkqctl ends with a message: during a command, in `watch`, and before it began."""
+    with Sleeping.around(served) as (server, losing):
+        server.process.kill()
+        server.process.wait()
+        losing.terminate()
+        told = losing.communicate(timeout=WITHIN)[1].decode()
+        assert losing.returncode == 125 and "the freeze ended before sh did (the server has gone)" in told, told
+    server = Server(served, "size=1M")
+    with subprocess.Popen([sys.executable, BLKQCTL, server.control_path, "watch", "-n", "0.05"], stdout=subprocess.PIPE,
+                          stderr=subprocess.PIPE) as watching:
+        watching.stdout.readline()
+        server.process.kill()
+        server.process.wait()
+        told = watching.communicate(timeout=WITHIN)[1].decode()
+    assert watching.returncode == 3 and told == f"blkqctl: {server.control_path}: watch: the server has gone\n", told
+    server.errors.close()
+    server.folder.cleanup()
+
+
+def emergency(served):
+    """`thaw all` gets a place although 64 controllers hold freezes. No freeze can begin from that place."""
+    with Server(served, "size=1M") as server, ExitStack() as many:
+        freezing = [many.enter_context(closing(server.control())) for _ in range(64)]
+        for number, control in enumerate(freezing, 1):
+            control.need("freeze", f"depth {number}")
+        for words in (["quiesce", "--keep"], ["set", "max_sectors", "8"]):
+            assert refusal(server, *words) == f"blkqctl: {server.control_path}: {words[0]}: busy\n"
+        for _ in range(9):
+            many.enter_context(closing(server.control())).need("thaw", "not yours")
+        assert blkqctl(server, "thaw", "all") == "depth 0\n"
+        freezing[0].need("freeze", "depth 1")
 
 
 if __name__ == "__main__":
-    globals()[sys.argv[2]](sys.argv[1])
+    run_test(globals())

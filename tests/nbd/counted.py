@@ -1,18 +1,21 @@
-"""What the metrics count: counted.py SERVED NAME tries one thing."""
+"""Tests what the metrics count: counted.py SERVED NAME runs one test."""
 
+import errno
+import json
 import re
 import sys
 import time
-from contextlib import closing
+from contextlib import closing, suppress
 
 import nbd
 
 from controls import metrics_of, slow, soon
+from copies import blkqctl
 from cuts import do
-from gates import Paused, shell, write
+from gates import Paused, done_by, shell, write
 from flushes import quiescing
-from server import Server
-from tries import done
+from server import Server, run_test
+from tries import done, fio, run
 
 OPERATIONS = ("read", "write", "trim", "zero", "cache", "extents", "flush")
 BOUNDS = [*(f"{2**n / 1e6:.9g}" for n in range(24)), "+Inf"]
@@ -23,28 +26,96 @@ def cumulative(found, name, operation):
 
 
 def text(served):
-    """The text is as Prometheus reads it: a name's help and type come before its lines, and each histogram has its buckets, in
+    """The text has the form that Prometheus reads: the help and type of a name come before its lines, and each histogram has its buckets in
     order, its sum and its count."""
-    sample = re.compile(r'(blkq_\w+)(\{\w+="[^"]+"(,le="[^"]+")?\})? [0-9.]+(e-\d+)?')
-    with Server(served) as server, closing(server.control()) as control:
-        control.at.sendall(b"metrics\n")
-        lines = []
-        while not lines or lines[-1] != "# EOF":
-            lines.append(control.replies.readline().rstrip("\n"))
-        name = kind = None
+    sample = re.compile(r'(blkq_\w+)\{disk="d b"(,\w+="[^"]+"(,le="[^"]+")?)?\} [0-9.]+(e-\d+)?')
+    with Server(served, "name=d b") as server, closing(server.control()) as control:
+        lines, name, kind = control.lines("metrics"), None, None
         for number, line in enumerate(lines[:-1]):
             if line.startswith("# HELP "):
                 name, kind = line.split()[2], lines[number + 1].split()[3]
                 assert lines[number + 1] == f"# TYPE {name} {kind}" and kind in ("counter", "gauge", "histogram"), line
             elif not line.startswith("# TYPE "):
                 found = sample.fullmatch(line)
-                ends = ("_bucket", "_sum", "_count") if kind == "histogram" else ("",)
+                ends = {"histogram": ("_bucket", "_sum", "_count"), "counter": ("_total",), "gauge": ("",)}[kind]
                 assert found and found[1] in [name + end for end in ends], line
         for name in ("latency", "waiting"):
             wanted = [line for it in OPERATIONS for line in (
-                *(f'blkq_{name}_seconds_bucket{{operation="{it}",le="{bound}"}} 0' for bound in BOUNDS),
-                f'blkq_{name}_seconds_sum{{operation="{it}"}} 0.000000000', f'blkq_{name}_seconds_count{{operation="{it}"}} 0')]
+                *(f'blkq_{name}_seconds_bucket{{disk="d b",operation="{it}",le="{bound}"}} 0' for bound in BOUNDS),
+                f'blkq_{name}_seconds_sum{{disk="d b",operation="{it}"}} 0.000000000',
+                f'blkq_{name}_seconds_count{{disk="d b",operation="{it}"}} 0')]
             assert [line for line in lines if line.startswith(f"blkq_{name}_seconds")] == wanted, name
+
+
+def parsed(served):
+    """OpenMetrics' own parser takes the text, and two disks' samples on one host have no name and labels in common."""
+    from prometheus_client.openmetrics.parser import text_string_to_metric_families
+
+    found = []
+    for name in ({}, {"name": "wal"}):
+        with Server(served, *(f"{key}={value}" for key, value in name.items())) as server, closing(server.control()) as control:
+            server.client().pwrite(bytes(512), 0)
+            control.need("freeze", "depth 1")
+            text = blkqctl(server, "metrics")
+            samples = [it for family in text_string_to_metric_families(text) for it in family.samples]
+            assert {it.labels["disk"] for it in samples} == {name.get("name", server.control_path)}
+            values = {(it.name, it.labels.get("operation") or it.labels.get("state")): it.value for it in samples}
+            assert values["blkq_requests_total", "write"] == 1 == values["blkq_state", "held"] and values["blkq_state", "running"] == 0
+            found.append({(it.name, *sorted(it.labels.items())) for it in samples})
+    assert len(found[0]) == len(found[1]) > 300 and not found[0] & found[1]
+
+
+def of_freezes(served):
+    """The metrics have the state, and since when the queue has been frozen. A failed flush stays visible although the next quiesce succeeds."""
+    with Server(served, backend=shell()) as server, closing(server.control()) as control:
+        assert metrics_of(control)["blkq_oldest_hold_seconds"] == 0 == metrics_of(control)["blkq_flush_lost"]
+        control.need("freeze", "depth 1")
+        time.sleep(0.2)
+        control.need("freeze", "depth 2")
+        found = metrics_of(control)
+        assert found["blkq_oldest_hold_seconds"] >= 0.2 and found['blkq_state{state="held"}'] == 1
+        control.need("thaw all", "depth 0")
+        client = server.client()
+        client.pwrite(bytes(512), 0)
+        write(server, "unflushed", done_by(server, "pwrite")[0][1])
+        control.need("quiesce", "flush: No space left on device")
+        assert metrics_of(control)["blkq_flush_lost"] == 1
+        write(server, "unflushed")
+        control.need("quiesce", "depth 1")
+        found = metrics_of(control)
+        assert found["blkq_flush_lost"] == 1 and found['blkq_state{state="held"}'] == 1 and found['blkq_state{state="running"}'] == 0
+    with Server(served, backend=shell()) as server, closing(server.control()) as control:
+        client = server.client()
+        client.pwrite(bytes(512), 0)
+        write(server, "unflushed", done_by(server, "pwrite")[0][1])
+        assert done([client], [client.aio_flush()]) != [0]
+        assert metrics_of(control)["blkq_flush_lost"] == 1
+
+
+def logged(served):
+    """A failed request is logged with its operation, place and errno. Of many at once, ten are logged, and the number of the others."""
+    with Server(served, backend=["--filter=error", "memory", "1M", "error=ENOSPC", "error-rate=100%"]) as server:
+        client = server.client()
+        for number, call in enumerate((lambda: client.pread(512, 512), lambda: client.pwrite(bytes(1024), 1024),
+                                       lambda: client.trim(2048, 1536))):
+            with suppress(nbd.Error):
+                call()
+                assert False, number
+        for _ in range(139):
+            assert done([client], [client.aio_pread(nbd.Buffer(512), 512)]) == [errno.ENOSPC]
+        found = logged_of(server)
+        for line in ("read of 512 bytes at 512", "write of 1024 bytes at 1024", "trim of 2048 bytes at 1536"):
+            assert f"{line}: No space left on device ({errno.ENOSPC})" in found, found
+        lines = len([line for line in found if " of " in line])
+        time.sleep(11)
+        assert done([client], [client.aio_pread(nbd.Buffer(512), 512)]) == [errno.ENOSPC]
+        left_out = [int(line.split()[0]) for line in logged_of(server) if "not logged" in line]
+        assert 10 <= lines < 142 and sum(left_out) == 142 - lines, (lines, left_out)
+
+
+def logged_of(server):
+    """The filter's own lines of the log."""
+    return [line.split("error: blkq: ")[1] for line in server.said().splitlines() if "error: blkq: " in line]
 
 
 def by_operation(served):
@@ -71,8 +142,21 @@ def by_operation(served):
             assert found[f"blkq_waits_total{label}"] == found[f"blkq_waiting_seconds_sum{label}"] == 0, name
 
 
+def of_many(served):
+    """No request is missed if many threads make requests at the same time."""
+    with Server(served, "size=32M") as server, closing(server.control()) as control:
+        told = run(*fio(server, 8, bs="512", size="4m", offset_increment="4m", **{"output-format": "json"}))
+        job = json.loads(told[told.index(b"{") :])["jobs"][0]
+        found = metrics_of(control)
+        for name in ("read", "write"):
+            counted = [found[f'blkq_{it}_total{{operation="{name}"}}'] for it in ("requests", "pieces", "bytes")]
+            made = job[name]["total_ios"]
+            assert made > 16000 and counted == [made, made, 512 * made], (name, made, counted)
+            assert cumulative(found, "latency", name)[-1] == made, name
+
+
 def is_in_its_bucket(found, before, name):
-    """Whether the one read between two texts is counted in the bucket of its duration, by which the sum has grown, and all above."""
+    """Whether the one read between two texts is counted in the bucket of its duration, which is the growth of the sum, and in all above."""
     total = f'blkq_{name}_seconds_sum{{operation="read"}}'
     took = found[total] - before[total]
     grown = [now - then for now, then in zip(cumulative(found, name, "read"), cumulative(before, name, "read"))]
@@ -81,7 +165,7 @@ def is_in_its_bucket(found, before, name):
 
 
 def sums(served):
-    """A histogram's sum is its durations' in seconds, and a duration is in the bucket that it belongs to and all above."""
+    """A histogram's sum is that of its durations in seconds, and a duration is counted in its own bucket and all above."""
     with slow(served, 0.1) as server, closing(server.control()) as control:
         client, began, found = server.client(), time.monotonic(), metrics_of(control)
         for _ in range(3):
@@ -108,7 +192,7 @@ def sums(served):
 
 
 def tag_waits(served):
-    """A request waits for a tag where all are out, is counted as waiting, and goes on when one comes back."""
+    """If all tags are out, a request waits for a tag, is counted as waiting, and continues when a tag comes back."""
     with Server(served, "size=1M", "tags=1") as server, closing(server.control()) as control:
         clients = [server.client() for _ in range(3)]
         control.need("freeze", "depth 1")
@@ -129,7 +213,7 @@ def tag_waits(served):
 
 
 def tag_in_flight(served):
-    """A request waits for the tag of one that is in flight; the server's end doesn't wait for those."""
+    """A request waits for the tag of a request in flight. The server's end doesn't wait for waiting requests."""
     with Paused(served, "tags=1") as server, closing(server.control()) as control:
         first, second = server.client(), server.client()
         server.tell(b"p")
@@ -146,7 +230,7 @@ def tag_in_flight(served):
 
 
 def stages(served):
-    """The metrics tell where the time of a quiesce goes: the drain, the flush, and how long the queue was frozen in all."""
+    """The metrics show where the time of a quiesce goes: the drain, the flush, and how long the queue was frozen in all."""
     with Server(served, backend=shell()) as server, closing(server.control()) as control:
         client, began = server.client(), time.monotonic()
         client.pwrite(bytes(512), 0)
@@ -175,4 +259,4 @@ def stages(served):
 
 
 if __name__ == "__main__":
-    globals()[sys.argv[2]](sys.argv[1])
+    run_test(globals())

@@ -1,7 +1,6 @@
-"""The pieces of each kind of request: cuts.py SERVED NAME tries one thing."""
+"""Tests the pieces of each kind of request: cuts.py SERVED NAME runs one test."""
 
 import errno
-import sys
 from contextlib import closing
 
 import nbd
@@ -10,7 +9,7 @@ from controls import metrics_of
 from filters import logged, with_log
 from gates import done_by, shell, write
 from pieces import pieces
-from server import Server
+from server import Server, run_test
 from tries import done
 
 SECTOR = 512
@@ -18,7 +17,7 @@ CALLS = {"Read": "pread", "Write": "pwrite", "Trim": "trim", "Zero": "zero", "Ca
 
 
 def ask(client, name, count, offset, flags=0):
-    """Begins a request, and gives its cookie."""
+    """Begins a request, and returns its cookie."""
     if name == "Read":
         return client.aio_pread(nbd.Buffer(count), offset)
     if name == "Write":
@@ -60,7 +59,7 @@ def each_kind(served):
 
 
 def no_more(served):
-    """A trim and a zero that are cut clear their own bytes, all of them and no more."""
+    """A trim and a zero that are cut clear exactly their own bytes."""
     size, begin, count = 1 << 17, 3 * SECTOR, 41 * SECTOR
     with Server(served, "size=128K", "max_sectors=3", "chunk_sectors=7") as server:
         client = server.client()
@@ -72,8 +71,8 @@ def no_more(served):
 
 
 def through(served):
-    """FUA: each piece of a write, trim or zero has it where the backend writes through itself; the last one where nbdkit flushes
-    behind it; none unless the client asks for it."""
+    """FUA: if the backend writes through itself, each piece of a write, trim or zero has it. If nbdkit flushes after it, the last piece
+    has it. No piece has it unless the client asks for it."""
     for mode, wanted in (("native", [True] * 4), ("emulate", [False] * 3 + [True])):
         with with_log(served, "max_sectors=2", backend=["--filter=fua", "memory", "1M", f"fuamode={mode}"]) as server:
             client = server.client()
@@ -113,7 +112,7 @@ def smallest(served):
 
 
 def piece_fails(served):
-    """The error of a piece in the middle is the request's: the pieces behind it aren't done, and it counts as failed alone."""
+    """The error of a piece in the middle is the request's error. Later pieces aren't done, and the request counts only as failed."""
     with Server(served, "max_sectors=2", backend=shell()) as server, closing(server.control()) as control:
         client = server.client()
         write(server, "full", *(f"{name} 3072" for name in CALLS.values()))
@@ -144,4 +143,4 @@ def set_frozen(served):
 
 
 if __name__ == "__main__":
-    globals()[sys.argv[2]](sys.argv[1])
+    run_test(globals())

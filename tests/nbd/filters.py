@@ -1,4 +1,4 @@
-"""The filter before backends and beside filters of nbdkit's own: filters.py FILTER NAME tries one thing."""
+"""Tests the filter before backends and together with nbdkit's own filters: filters.py FILTER NAME runs one test."""
 
 import errno
 import os
@@ -7,14 +7,13 @@ import signal
 import socket
 import struct
 import subprocess
-import sys
 import tempfile
 from contextlib import closing
 
 import nbd
 
 from controls import metrics_of, soon
-from server import Server
+from server import Server, run_test
 from tries import MIB, done, fio, run, while_settings_change
 
 # A line of nbdkit's log filter: a request below the queue.
@@ -70,7 +69,7 @@ def passed_on(served):
 
 
 def refused_on(served):
-    """Clients see no ability that the backend lacks, and read only stays so."""
+    """Clients see no ability that the backend lacks, and a read-only backend stays read-only."""
     with Server(served, backend=["--filter=nozero", "--filter=fua", "--filter=nocache", "memory", "1M", "zeromode=none",
                                  "cachemode=none"]) as server:
         client = server.client()
@@ -82,7 +81,7 @@ def refused_on(served):
 
 
 def through(served):
-    """FUA: each piece writes through where the backend does so itself; where nbdkit flushes for it, the last piece does."""
+    """FUA: each piece writes through if the backend does so itself. If nbdkit flushes for it, only the last piece does."""
     for mode, wanted in (("native", [True] * 4), ("emulate", [False, False, False, True])):
         backend = ["--filter=fua", "memory", "1M", f"fuamode={mode}"]
         with with_log(served, "max_sectors=2", backend=backend) as server:
@@ -94,7 +93,7 @@ def through(served):
 
 
 def fast_zero(served):
-    """A fast zero that would be cut is refused at once; one that isn't is passed on."""
+    """A fast zero that would be cut is refused at once. Other fast zeros are passed on."""
     with with_log(served, "max_sectors=4", backend=("memory", "1M")) as server:
         client = server.client()
         client.zero(2048, 0, nbd.CMD_FLAG_FAST_ZERO)
@@ -226,7 +225,7 @@ def failing(served):
 
 
 def killed_writers(served):
-    """Fifty writers that are killed leave nothing behind: tags, freezes and connections are as they were."""
+    """Fifty killed writers leave nothing behind: tags, freezes and connections are as before."""
     with Server(served, "tags=8") as server, closing(server.control()) as control:
         for number in range(50):
             with subprocess.Popen(["nbdcopy", "/dev/zero", server.uri], stderr=subprocess.DEVNULL) as writer:
@@ -275,4 +274,4 @@ def never_done(served):
 
 
 if __name__ == "__main__":
-    globals()[sys.argv[2]](sys.argv[1])
+    run_test(globals())

@@ -1,6 +1,5 @@
-"""The flush of a quiesce: flushes.py FILTER NAME tries one thing."""
+"""Tests the flush of a quiesce: flushes.py FILTER NAME runs one test."""
 
-import sys
 import threading
 from contextlib import closing, contextmanager
 
@@ -8,17 +7,17 @@ import nbd
 
 from controls import depth_of, soon
 from gates import done_by, is_answered, shell, write
-from server import Server
+from server import Server, run_test
 from tries import done
 
 
 def begun(server, name, count=1):
-    """Waits until the backend has begun so many calls of a name."""
+    """Waits until the backend has begun this many calls of a name."""
     soon(lambda: len(done_by(server, name)) >= count, f"no {name} in the backend")
 
 
 def quiescing(server):
-    """A controller whose quiesce has drained the queue, and flushes."""
+    """A controller whose quiesce has drained the queue and is flushing."""
     control = server.control()
     before = len(done_by(server, "flush"))
     control.at.sendall(b"quiesce\n")
@@ -28,7 +27,7 @@ def quiescing(server):
 
 @contextmanager
 def flush_is_held(served):
-    """A server with a client that wrote, whose flush the backend holds up: the server, a controller and the client."""
+    """A server, a controller, and a client that wrote and whose flush the backend holds up."""
     with Server(served, backend=shell()) as server, closing(server.control()) as control:
         client = server.client()
         client.pwrite(bytes(512), 0)
@@ -37,7 +36,7 @@ def flush_is_held(served):
 
 
 def of_each(served):
-    """Each connection that wrote is flushed, also by a trim or a zero alone, and once; those that only read are not."""
+    """Each connection that wrote is flushed once, even if it only made a trim or a zero. Connections that only read aren't."""
     with Server(served, backend=shell()) as server, closing(server.control()) as control:
         clients = [server.client() for _ in range(5)]
         clients[0].pwrite(bytes(512), 0)
@@ -59,7 +58,7 @@ def of_each(served):
 
 
 def that_fails(served):
-    """A quiesce is refused where the flush of any connection fails, the newest or not, and tries that one again."""
+    """A quiesce is refused if the flush of any connection fails, and the next quiesce tries that connection again."""
     with Server(served, backend=shell()) as server, closing(server.control()) as control:
         clients = [server.client() for _ in range(3)]
         for number, client in enumerate(clients):
@@ -79,7 +78,7 @@ def that_fails(served):
 
 
 def by_its_client(served):
-    """What a client flushed itself isn't flushed again, unless that failed or it wrote since."""
+    """A connection that its client flushed isn't flushed again, unless that flush failed or the client has written since."""
     with Server(served, backend=shell()) as server, closing(server.control()) as control:
         client = server.client()
         client.pwrite(bytes(512), 0)
@@ -98,7 +97,7 @@ def by_its_client(served):
 
 
 def of_the_lost(served):
-    """A flush that fails as its connection goes is answered to the next quiesce, once."""
+    """A flush that fails while its connection closes is reported to the next quiesce, once."""
     with Server(served, backend=shell()) as server, closing(server.control()) as control:
         client = server.client()
         control.need("quiesce", "depth 1")
@@ -116,7 +115,7 @@ def of_the_lost(served):
 
 
 def slow(served):
-    """A flush that takes long holds up its own controller alone, and the queue goes on at once when that one goes."""
+    """A long flush delays only its own controller, and the queue goes on at once when that controller goes."""
     with Server(served, backend=shell()) as server, closing(server.control()) as control:
         client, other = server.client(), server.client()
         client.pwrite(bytes(512), 0)
@@ -164,7 +163,7 @@ def behind_the_drain(served):
 
 
 def thawed(served):
-    """`thaw all` ends a quiesce that flushes: it is told so, and the flush's end freezes nothing."""
+    """`thaw all` ends a quiesce that is flushing. Its controller is told, and nothing is frozen when the flush ends."""
     with flush_is_held(served) as (server, control, client):
         with closing(quiescing(server)) as quiesced:
             assert not is_answered(quiesced, 0.3), "a quiesce is answered before its flush is done"
@@ -180,8 +179,33 @@ def thawed(served):
             quiesced.need("freeze", "depth 1")
 
 
+def coming_and_going(served):
+    """Clients connect and disconnect while the flush of another hangs, also once the flush is given up. The client whose connection is flushed
+    leaves when the flush is done."""
+    with flush_is_held(served) as (server, control, client):
+        old = [server.client() for _ in range(2)]
+        with closing(quiescing(server)) as quiesced:
+            for leaving in old:
+                moves = [threading.Thread(target=server.client), threading.Thread(target=leaving.shutdown)]
+                server.clients.remove(leaving)
+                for move in moves:
+                    move.start()
+                soon(lambda: not any(move.is_alive() for move in moves), "a client can't come or go while another is flushed")
+                control.need("thaw all", "depth 0")
+            assert quiesced.replies.readline() == "thawed\n"
+        server.clients.remove(client)
+        gone = threading.Thread(target=client.shutdown)
+        gone.start()
+        gone.join(0.5)
+        assert gone.is_alive(), "a connection is closed while it is flushed"
+        write(server, "held")
+        gone.join()
+        control.need("quiesce", "depth 1")
+        control.need("thaw", "depth 0")
+
+
 def of_a_leaving(served):
-    """A quiesce waits for the flush by which a connection goes: its writes may not be kept yet."""
+    """A quiesce waits for the flush of a closing connection, whose writes may not be on disk yet."""
     with flush_is_held(served) as (server, control, leaving):
         server.clients.remove(leaving)
         gone = threading.Thread(target=leaving.shutdown)
@@ -228,4 +252,4 @@ def open_lines(server, name):
 
 
 if __name__ == "__main__":
-    globals()[sys.argv[2]](sys.argv[1])
+    run_test(globals())

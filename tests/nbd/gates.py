@@ -1,5 +1,5 @@
-"""Backends that a test holds up and lets go, that fail where they are told, and that write down what they do, by nbdkit's eval plugin
-and its pause filter."""
+"""Backends, made of nbdkit's eval plugin and pause filter, that a test can hold up and release, that fail on demand, and that record what they
+do."""
 
 import os
 import select
@@ -13,8 +13,8 @@ CALL = 'echo {name} $2 $4 $3 >>{{folder}}/done; while grep -qs {name} {{folder}}
 
 
 def shell(*words, **rest):
-    """The words of a backend of a mebibyte that keeps nothing; rest has what a call does besides. A call fails with ENOSPC where
-    {folder}/full has a line of its name and offset."""
+    """The arguments of a backend of a mebibyte that stores nothing; rest has what a call also does. A call fails with ENOSPC if
+    {folder}/full has a line with its name and offset."""
     full = 'grep -qsx "$1 $4" {folder}/full && echo ENOSPC full >&2 && exit 1; '
     given = {"pread": full + "head -c $3 /dev/zero", "pwrite": "cat >/dev/null; " + full, "trim": full, "zero": full, "cache": full,
              "flush": 'grep -qsx "$2" {folder}/unflushed && echo ENOSPC full >&2 && exit 1; '}
@@ -35,14 +35,14 @@ def done_by(server, *names):
 
 
 def write(server, name, *lines):
-    """Puts lines into a file of the server's folder, all at once."""
+    """Writes lines into a file of the server's folder in one step."""
     with open(server.path("new"), "w", encoding="ascii") as file:
         file.writelines(f"{line}\n" for line in lines)
     os.rename(server.path("new"), server.path(name))
 
 
 def is_answered(control, within):
-    """Whether a line of a reply comes within so many seconds."""
+    """Whether a line of a reply comes within this many seconds."""
     return bool(select.select([control.at], [], [], within)[0])
 
 

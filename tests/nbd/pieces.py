@@ -1,4 +1,4 @@
-"""The pieces of a request, written from docs/FORMATS.md alone."""
+"""Computes the pieces of a request; written only from docs/FORMATS.md."""
 
 
 def reach(start, limits):

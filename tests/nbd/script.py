@@ -1,5 +1,5 @@
-"""Plays a script of examples/ at a watched server, request after request: script.py PLUGIN SCRIPT ANSWER fails where what
-is answered isn't what stands in the file ANSWER."""
+"""Runs a script of examples/ on a watched server, request after request: script.py PLUGIN SCRIPT ANSWER fails if the replies
+aren't those of the file ANSWER."""
 
 import sys
 
@@ -23,7 +23,7 @@ def runs(data):
 
 
 class Player:
-    """A script's disk and queue, at a server."""
+    """Runs the lines of a script on a server's disk and queue."""
 
     def __init__(self, server, sectors, version):
         self.server, self.sectors, self.version = server, sectors, version
@@ -59,6 +59,7 @@ class Player:
         if words == ["stat"]:
             found = reply.split()
             found[8] = str(int(found[8]) + self.past_end)
+            del found[19:]  # the state, which a script's has not
             if self.version == "1":
                 del found[15:17]
             reply = " ".join(found)

@@ -1,25 +1,26 @@
-"""The control's socket and its places: served.py SERVED NAME tries one thing."""
+"""Tests the control's socket and its places: served.py SERVED NAME runs one test."""
 
+import fcntl
+import grp
 import os
 import select
 import signal
 import socket
 import stat
 import subprocess
-import sys
 import tempfile
 from contextlib import ExitStack, closing, suppress
 
 import nbd
 
-from controls import depth_of, metrics_of, soon
+from controls import busy_at, depth_of, metrics_of, soon
 from gates import Paused, is_answered
-from server import WITHIN, Control, Server
+from server import WITHIN, Control, Server, run_test
 from tries import done
 
 
 def private(served):
-    """The control's user alone may connect, whatever umask nbdkit was started with; the backend's stays nbdkit's."""
+    """Only the control's user may connect, whatever nbdkit's umask is. The backend keeps nbdkit's umask."""
     before = os.umask(0)
     try:
         server = Server(served, "size=1M")
@@ -32,8 +33,63 @@ def private(served):
             assert "Umask:\t0022\n" in file.readlines()  # nbdkit's own
 
 
+def grouped(served):
+    """A group and a mode let others connect. With a group or mode that doesn't exist the server doesn't start."""
+    name = "daemon" if os.getuid() == 0 else grp.getgrgid(os.getgid()).gr_name
+    with Server(served, "size=1M", f"control_group={name}", "control_mode=660") as server:
+        found = os.lstat(server.control_path)
+        assert stat.S_IMODE(found.st_mode) == 0o660 and found.st_gid == grp.getgrnam(name).gr_gid, found
+        assert stat.S_IMODE(os.lstat(server.control_path).st_mode) == 0o660
+        with closing(server.control()) as control:
+            control.need("thaw", "not frozen")
+    for wrong in ("control_group=no such group", "control_mode=9", "control_mode=1000", "control_mode=", "control_fd=0"):
+        refused = Server(served, "size=1M", wrong, wait=False)
+        assert refused.process.wait(WITHIN) != 0, wrong
+        refused.errors.close()
+        refused.folder.cleanup()
+
+
+def listening(path):
+    at = socket.socket(socket.AF_UNIX)
+    at.bind(path)
+    at.listen(8)
+    return at
+
+
+def activated(served):
+    """The command of the systemd unit takes over the sockets of the disk and the control. Connections from before its start are served. Both sockets stay."""
+    unit = os.path.join(os.path.dirname(__file__), "..", "..", "services", "nbd", "systemd", "blkq-nbd@.service")
+    [start] = [line for line in read(unit).replace("\\\n", "").splitlines() if line.startswith("ExecStart=")]
+    with tempfile.TemporaryDirectory() as folder, listening(f"{folder}/nbd") as disk, listening(f"{folder}/control") as control:
+        subprocess.run(["truncate", "-s", "1M", f"{folder}/disk"], check=True)
+        command = start.split("=", 1)[1].replace("--filter=blkq", f"--filter={served}").replace("/var/lib/blkq-%i/disk.img", f"{folder}/disk")
+        given = [fcntl.fcntl(at, fcntl.F_DUPFD, 20) for at in (disk, control)]
+        early = Control(f"{folder}/control")
+        begin = f'exec env LISTEN_PID=$$ LISTEN_FDS=2 "$@" 3<&{given[0]} 4<&{given[1]}'
+        with subprocess.Popen(["bash", "-c", begin, "bash", *command.split()], pass_fds=given) as running:
+            try:
+                with closing(early):
+                    early.at.settimeout(WITHIN)
+                    try:
+                        early.need("quiesce", "depth 1")
+                    except TimeoutError:
+                        raise AssertionError("nobody answers who came before the server") from None
+                    early.need("thaw", "depth 0")
+                    assert metrics_of(early)['blkq_state{state="running"}'] == 1
+                client = nbd.NBD()
+                client.connect_unix(f"{folder}/nbd")
+                client.pwrite(b"x" * 512, 0)
+                client.shutdown()
+            finally:
+                running.terminate()
+            assert running.wait(WITHIN) == 0
+        for at in given:
+            os.close(at)
+        assert os.path.exists(f"{folder}/control"), "the socket of systemd's is removed"
+
+
 def of_another(served):
-    """A server removes no socket of another's: neither one that took its path, at its end, nor one that is busy, at its start."""
+    """A server removes no socket of another server: neither at its end, if another took its path, nor at its start, if a server answers there."""
     with tempfile.TemporaryDirectory() as folder:
         path = f"{folder}/control"
         with Server(served, "size=1M", f"control={path}") as first:
@@ -45,14 +101,7 @@ def of_another(served):
                 with closing(Control(path)) as control:
                     control.need("thaw", "not frozen")
                 assert second.process.poll() is None
-        with socket.socket(socket.AF_UNIX) as busy, ExitStack() as many:
-            busy.bind(path)
-            busy.listen(0)
-            while True:  # until its backlog is full
-                coming = many.enter_context(socket.socket(socket.AF_UNIX))
-                coming.setblocking(False)
-                if coming.connect_ex(path) != 0:
-                    break
+        with busy_at(path):
             refused = Server(served, "size=1M", f"control={path}", wait=False)
             try:
                 status = refused.process.wait(WITHIN)
@@ -65,7 +114,7 @@ def of_another(served):
 
 
 def evicted(served):
-    """Where all places are taken a controller that drains keeps its own, however long it waits."""
+    """If all places are taken, a draining controller keeps its own, however long it waits."""
     with Paused(served) as server, ExitStack() as many:
         client = server.client()
         server.tell(b"p")
@@ -85,7 +134,7 @@ def evicted(served):
 
 
 def why(served):
-    """The field that a setting is refused for, and the reason, are told to its own controller."""
+    """`why` tells the field and the reason of a refused setting only to its own controller."""
     with Server(served, "size=1M", "hardware_sectors=64") as server, closing(server.control()) as control, \
             closing(server.control()) as other:
         control.need("why", "nothing was refused")
@@ -111,7 +160,7 @@ def read(path):
 
 
 def in_flight(control, client):
-    """A read that is seen in flight. On a starved machine one may be done before anybody looks: then another follows."""
+    """Begins a read and returns while it is in flight. On a starved machine a read may be done before that is seen; then another follows."""
     while True:
         before = metrics_of(control)['blkq_requests_total{operation="read"}']
         cookie = client.aio_pread(nbd.Buffer(512), 0)
@@ -152,4 +201,4 @@ def in_background(served):
 
 
 if __name__ == "__main__":
-    globals()[sys.argv[2]](sys.argv[1])
+    run_test(globals())

@@ -1,4 +1,4 @@
-"""nbdkit with the plugin, or with the filter before a backend, in a folder of its own; and its control."""
+"""Starts nbdkit with the plugin, or with the filter before a backend, in a folder of its own; connects to its control."""
 
 import os
 import signal
@@ -39,6 +39,24 @@ def in_memory():
     return place if room.f_bavail * room.f_frsize >= needed else None
 
 
+def soon(is_so, why, within=WITHIN):
+    """Waits until a condition holds."""
+    late = time.monotonic() + within
+    while not is_so():
+        assert time.monotonic() < late, why
+        time.sleep(0.01)
+
+
+def run_test(tests):
+    """Runs the test that the command line names. Whatever doesn't come in time, or is cut off, fails it as an assertion does."""
+    try:
+        tests[sys.argv[2]](sys.argv[1])
+    except (subprocess.TimeoutExpired, TimeoutError) as late:
+        raise AssertionError(f"it hangs: {late}") from late
+    except ConnectionError as gone:
+        raise AssertionError(f"the server has gone: {gone}") from gone
+
+
 class Control:
     """A connection to the control's socket."""
 
@@ -51,9 +69,23 @@ class Control:
             raise
         self.replies = self.at.makefile("r", encoding="ascii")
 
+    def reply(self):
+        """The next line of a reply."""
+        line = self.replies.readline()
+        if not line:
+            raise ConnectionError("the server has closed the control")
+        return line.rstrip("\n")
+
     def ask(self, line):
         self.at.sendall(line.encode() + b"\n")
-        return self.replies.readline().rstrip("\n")
+        return self.reply()
+
+    def lines(self, line):
+        """Sends a line and returns the lines of its reply, including the last one, '# EOF'."""
+        found = [self.ask(line)]
+        while found[-1] != "# EOF":
+            found.append(self.reply())
+        return found
 
     def need(self, line, reply):
         found = self.ask(line)
@@ -65,9 +97,9 @@ class Control:
 
 
 class Server:
-    """Serves until its end; what is left then is seen by its status and what it wrote to standard error. A path of the filter is
-    served before the file plugin on `size` bytes (64M), or before other words of nbdkit's, filters and a plugin, where {folder} is
-    the server's; and behind `outer` filters."""
+    """Serves until the end of the block, and then checks the status and standard error. The filter is placed before the file plugin on
+    `size` bytes (64M), or before the filters and plugin in `backend`, in which {folder} is the server's folder; and after the filters
+    in `outer`."""
 
     def __init__(self, served, *parameters, backend=None, outer=(), wait=True):
         self.served, self.plugin = served, os.path.basename(served)
@@ -89,7 +121,7 @@ class Server:
         return os.path.join(self.folder.name, name)
 
     def words(self, parameters, backend, outer):
-        """The words of nbdkit's command line behind its own options."""
+        """The arguments of nbdkit after its own options."""
         given = {"control": self.control_path}
         given.update(parameter.split("=", 1) for parameter in parameters)
         self.control_path = given["control"]
@@ -102,7 +134,7 @@ class Server:
         return [*(f"--filter={name}" for name in outer), f"--filter={self.served}", *backend, *ours]
 
     def wait_for_control(self):
-        """Until the control answers, as nbdkit did before it."""
+        """Waits until the control answers. nbdkit answered earlier."""
         late = time.monotonic() + STARTS_WITHIN
         while True:
             assert self.process.poll() is None, self.said()
@@ -124,7 +156,7 @@ class Server:
         return Control(self.control_path)
 
     def client(self):
-        """A connection, which is let go before the end: nbdkit waits for a client that sends nothing."""
+        """Opens a connection, which is closed before the end, since nbdkit waits for idle clients."""
         client = nbd.NBD()
         client.connect_unix(self.socket)
         self.clients.append(client)
@@ -137,7 +169,7 @@ class Server:
             connection.shutdown(socket.SHUT_RDWR)
 
     def processor_time(self):
-        """Seconds that the server's threads took so far."""
+        """Processor time of the server's threads so far, in seconds."""
         with open(f"/proc/{self.process.pid}/stat", encoding="ascii") as file:
             fields = file.read().rpartition(")")[2].split()
         return (int(fields[11]) + int(fields[12])) / os.sysconf("SC_CLK_TCK")

@@ -1,9 +1,10 @@
 #!/usr/bin/python3
-"""A long run of the filter before the file plugin on a tmpfs: soak.py FILTER [SECONDS [SEED]], an hour without SECONDS.
+"""Runs the filter before the file plugin on a tmpfs for a long time: soak.py FILTER [SECONDS [SEED [apart]]]. The default is an hour.
 
-Everything of actors.py goes on at once: clients that compare each read with what they wrote, fio, clients that come and go, settings,
-freezes that are owned, leased, kept and left behind by controllers that are killed, and backups. Then memory and descriptors have to be
-as at the beginning, and SIGTERM has to end the server while it is loaded and frozen. Each minute has a line, and the end a line of
+All actors of actors.py run at the same time: clients that compare each read with what they wrote, fio, clients that come and go, settings,
+freezes that are owned, leased, kept and left behind by killed controllers, backups, and groups of two servers. With `apart` the two servers are
+frozen one after another, and the run has to fail. At the end, memory and descriptors have to be
+as at the beginning, and SIGTERM has to end the server while it is loaded and frozen. It prints a line each minute, and a last line of
 figures. The status is 0 if nothing was wrong."""
 
 import multiprocessing
@@ -24,7 +25,7 @@ from server import Control, Server, in_memory
 
 COUNTED = ("reads", "writes", "zeros", "trims", "flushes", "fio_runs", "fio_requests", "ordered_writes", "connections", "settings",
            "refused_settings", "owned", "left", "leased", "kept", "killed", "garbage", "given_up", "copies", "lost_copies",
-           "data_errors", "hangs", "faults")
+           "commits", "groups", "lost_groups", "data_errors", "hangs", "faults")
 WRONG = ("data_errors", "hangs", "faults")
 GROWTH, ROUNDS = 16384, 4  # KiB of memory in a round; how many are made until one grows by less
 
@@ -32,8 +33,8 @@ GROWTH, ROUNDS = 16384, 4  # KiB of memory in a round; how many are made until o
 class Soak:
     """What the actors share: the server, their counts, and whether they go on. The server's SIGTERM follows `ends`."""
 
-    def __init__(self, server, seed):
-        self.server, self.seed, self.actors, self.threads = server, seed, [], weight(server)[2]
+    def __init__(self, server, log, seed, apart):
+        self.server, self.log, self.seed, self.apart, self.actors, self.threads = server, log, seed, apart, [], weight(server)[2]
         self.counts = {name: multiprocessing.Value("Q", 0) for name in COUNTED}
         self.enough, self.ends = multiprocessing.Event(), multiprocessing.Event()
 
@@ -63,7 +64,7 @@ class Soak:
                 traceback.print_exc()
 
     def join(self, within):
-        """Ends the actors, of which none may take longer than this."""
+        """Ends the actors. None may take longer than this."""
         self.enough.set()
         late = time.monotonic() + within
         for actor in self.actors:
@@ -81,9 +82,9 @@ class Soak:
         control.at.settimeout(HANGS)
         return control
 
-    def client(self):
+    def client(self, server=None):
         client = nbd.NBD()
-        client.connect_unix(self.server.socket)
+        client.connect_unix((server or self.server).socket)
         return client
 
 
@@ -113,7 +114,7 @@ def is_steady(server):
 
 
 def at_rest(soak):
-    """The server's weight once every client and controller has gone."""
+    """The server's memory and descriptors once every client and controller has gone."""
     with closing(soak.control()) as control:
         needs_depth(control, "thaw all")
         soon(lambda: metrics_of(control)["blkq_waiting"] == metrics_of(control)["blkq_tags_out"] == 0, "requests of nobody", HANGS)
@@ -123,7 +124,7 @@ def at_rest(soak):
 
 
 def loaded(soak, began, seconds):
-    """Everything at once, for so many seconds or until something is wrong."""
+    """Runs all actors at once, for this many seconds or until something is wrong."""
     start_clients(soak)
     start_controllers(soak)
     told = began
@@ -136,7 +137,7 @@ def loaded(soak, began, seconds):
 
 
 def end(soak):
-    """SIGTERM to a server that is loaded and frozen."""
+    """Sends SIGTERM to a server that is loaded and frozen."""
     start_clients(soak)
     time.sleep(2)
     with closing(soak.control()) as control:
@@ -146,6 +147,7 @@ def end(soak):
         soak.enough.set()
         soak.server.end(HANGS)
     soak.join(HANGS)
+    soak.log.end(HANGS)
 
 
 def run(soak, seconds):
@@ -172,21 +174,22 @@ def run(soak, seconds):
     return 1 if wrong else 0
 
 
-def main(served, seconds, seed):
+def main(served, seconds, seed, apart):
     print(f"seed {seed}", flush=True)
-    server = Server(served, "size=64M")
+    servers = [Server(served, "size=64M") for _ in range(2)]
     try:
-        return run(Soak(server, seed), seconds)
+        return run(Soak(*servers, seed, apart), seconds)
     finally:
-        if server.process.poll() is None:
-            server.process.kill()
-            server.process.wait()
-        server.errors.close()
-        server.folder.cleanup()
+        for server in servers:
+            if server.process.poll() is None:
+                server.process.kill()
+                server.process.wait()
+            server.errors.close()
+            server.folder.cleanup()
 
 
 if __name__ == "__main__":
     tempfile.tempdir = in_memory()
     os.environ["MALLOC_ARENA_MAX"] = "4"  # else memory grows by an arena for each thread that comes, eight for each processor
     sys.exit(main(sys.argv[1], float(sys.argv[2]) if len(sys.argv) > 2 else 3600.0,
-                  sys.argv[3] if len(sys.argv) > 3 else str(int(time.time()))))
+                  sys.argv[3] if len(sys.argv) > 3 else str(int(time.time())), sys.argv[4:] == ["apart"]))

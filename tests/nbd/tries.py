@@ -1,10 +1,9 @@
-"""What clients that nobody here wrote see of the plugin: tries.py PLUGIN NAME tries one thing, and fails by its status."""
+"""Tests the plugin with clients that were written elsewhere: tries.py PLUGIN NAME runs one test; its status says whether it passed."""
 
 import errno
 import random
 import signal
 import subprocess
-import sys
 import tempfile
 import threading
 import time
@@ -12,7 +11,7 @@ import time
 import nbd
 
 from pieces import pieces, watched
-from server import WITHIN, Server
+from server import WITHIN, Server, run_test, soon
 
 MIB = 1 << 20
 SETTINGS = ["max_sectors 1", "chunk_sectors 3", "max_sectors 7", "physical_sectors 8", "max_sectors 128",
@@ -24,7 +23,7 @@ def run(*words, **more):
 
 
 def done(clients, cookies, within=WITHIN):
-    """Waits until each client's request is done, and gives the errno of each, 0 for success."""
+    """Waits until each client's request is done, and returns the errno of each; 0 is success."""
     found, late = [], time.monotonic() + within
     for client, cookie in zip(clients, cookies):
         try:
@@ -38,8 +37,8 @@ def done(clients, cookies, within=WITHIN):
 
 
 def fio(server, jobs, seconds=None, **options):
-    """fio on so many connections, each on a mebibyte of its own. A timed one goes over it again and again, so it has one
-    request under way at a time: two that overlap would race for the disk's bytes, as the thread sanitizer tells."""
+    """Runs fio on this many connections, each on its own mebibyte. A timed run goes over it again and again, so it has one
+    request in flight at a time: overlapping requests would race for the disk's bytes, which the thread sanitizer reports."""
     depth = "1" if seconds else "4"
     given = {"rw": "randrw", "bs": "4k", "size": "1m", "offset_increment": "1m", "iodepth": depth, **options}
     timed = ["--time_based", f"--runtime={seconds}"] if seconds else []
@@ -49,7 +48,7 @@ def fio(server, jobs, seconds=None, **options):
 
 
 class Changing(threading.Thread):
-    """Changes settings until it is told to end, and a thousand times at least."""
+    """Changes settings at least a thousand times, until it is told to end."""
 
     def __init__(self, server, least):
         super().__init__()
@@ -98,11 +97,15 @@ def told(plugin):
 
 
 def refused_parameters(plugin):
-    """A server that can't be what it is asked to be doesn't start, and says why."""
+    """With a refused parameter the server doesn't start, and says why."""
+    before = "blkq-" if "filter" in plugin else ""
     wrong = {"slots=513": "slots or tags", "tags=1024": "slots or tags", "max_sectors=65536": "more sectors",
              "physical_sectors=3": "power of two", "hardware_sectors=0": "hardware limit", "chunk_sectors=65536": "chunk",
              "nowait=perhaps": "perhaps", "sectors=4": "no such parameter",
-             "control=/nowhere/at/all": f"error: {'blkq-' if 'filter' in plugin else ''}control=/nowhere/at/all: bind: No such file"}
+             "name=": "name: a name has 1 to 63 characters", "name=" + 64 * "x": "1 to 63 characters", 'name="db"': "no double quotes",
+             "control=/nowhere/at/all": f"error: {before}control=/nowhere/at/all: bind: No such file"}
+    for number in ("0", "-1"):
+        wrong[f"control_fd={number}"] = f"error: {before}control{'-' if before else '_'}fd: has to be a Unix socket that listens"
     if "filter" not in plugin:
         wrong["size=1000"] = "size"
     for parameter, why in wrong.items():
@@ -118,7 +121,7 @@ def refused_parameters(plugin):
 
 
 def copies(plugin):
-    """What nbdcopy brings in it takes out, while settings change."""
+    """nbdcopy reads back what it wrote, while settings change."""
     with Server(plugin, "size=32M") as server, tempfile.TemporaryDirectory() as folder:
         given, taken = f"{folder}/given", f"{folder}/taken"
         with open(given, "wb") as file:
@@ -129,7 +132,7 @@ def copies(plugin):
 
 
 def patterns(plugin):
-    """qemu-io's patterns, at places that are no sector's, and zeros and trims."""
+    """qemu-io verifies its patterns at unaligned places, and zeros and trims."""
     with Server(plugin, "size=4M", "max_sectors=3", "chunk_sectors=5", "physical_sectors=2") as server:
         steps = ["write -P 0xa1 0 1M", "write -P 0xb2 1000 3000", "read -P 0xb2 1000 3000", "read -P 0xa1 0 1000",
                  "read -P 0xa1 4000 1000000", "write -z 64k 64k", "read -P 0 64k 64k", "discard 512k 4k",
@@ -183,12 +186,11 @@ def frozen_second(plugin):
 
 
 def held_still(plugin):
-    """What is frozen is drained when that is answered: under load counts hold still then, and limits are set."""
+    """When a freeze is answered the queue is drained: under load, counts don't change then, and limits can be set."""
     with Server(plugin, "size=16M", "max_sectors=1") as server:
         load = subprocess.Popen(fio(server, 8, 20, bs="512k"), stdout=subprocess.DEVNULL, stderr=subprocess.DEVNULL)
         control = server.control()
-        while control.ask("stat").split()[2] in ("0", "1"):
-            time.sleep(0.02)
+        soon(lambda: control.ask("stat").split()[2] not in ("0", "1"), "the load doesn't begin")
         try:
             for _ in range(20):
                 control.need("freeze", "depth 1")
@@ -204,7 +206,7 @@ def held_still(plugin):
 
 
 def refused_at_once(plugin):
-    """With nowait a request that comes to a frozen queue is refused at once, and counted."""
+    """With nowait a request to a frozen queue is refused at once, and counted."""
     with Server(plugin, "size=1M", "nowait=true", "tags=1") as server:
         control, client = server.control(), server.client()
         control.need("freeze", "depth 1")
@@ -218,25 +220,17 @@ def refused_at_once(plugin):
 
 
 def until_waiting(control, count):
-    """Waits until so many requests wait."""
-    late = time.monotonic() + WITHIN
-    while waiting_now(control) != count:
-        assert time.monotonic() < late, f"not {count} requests wait"
-        time.sleep(0.02)
+    """Waits until this many requests wait."""
+    soon(lambda: waiting_now(control) == count, f"not {count} requests wait")
 
 
 def waiting_now(control):
-    """How many requests wait."""
-    control.at.sendall(b"metrics\n")
-    found = 0
-    while (line := control.replies.readline()) != "# EOF\n":
-        if line.startswith("blkq_waiting "):
-            found = int(line.split()[1])
-    return found
+    """The number of waiting requests."""
+    return next(int(line.rpartition(" ")[2]) for line in control.lines("metrics") if line.startswith("blkq_waiting{"))
 
 
 def gone(plugin):
-    """A client that goes while its request waits leaves its tag, the only one, to others; so does one that is killed."""
+    """A client that disconnects or is killed while its request waits leaves the only tag to others."""
     with Server(plugin, "size=64M", "tags=1") as server:
         control, leaving = server.control(), server.client()
         control.need("freeze", "depth 1")
@@ -261,15 +255,18 @@ def gone(plugin):
 
 
 def lines(plugin):
-    """Faults in their order, as docs/FORMATS.md has them, and how lines are cut."""
+    """Faults are found in the order of docs/FORMATS.md, and lines are cut as it says."""
     with Server(plugin, "size=1M", "hardware_sectors=64") as server:
         control = server.control()
         for line, reply in (
-            ("stat", "stat reads 0 writes 0 again 0 eio 0 depth 0 max 64 chunk 0 physical 1 mode slots"),
+            ("stat", "stat reads 0 writes 0 again 0 eio 0 depth 0 max 64 chunk 0 physical 1 mode slots state running"),
             ("read 0 1", "unknown word"), ("freeze now", "extra word"), ("freeze keep on", "extra word"),
             ("freeze lease", "missing word"), ("freeze lease 1 2", "extra word"), ("freeze lease x", "bad number"),
             ("freeze lease 0", "out of range"), ("quiesce lease 4294967296", "out of range"), ("thaw each", "extra word"),
-            ("thaw all now", "extra word"), ("metrics all", "extra word"), ("set", "missing word"),
+            ("thaw all now", "extra word"), ("thaw 1 2", "extra word"), ("thaw 4294967296", "out of range"), ("thaw 7", "no such freeze"),
+            ("freeze hold", "missing word"), ("freeze lease 1.", "bad number"), ("freeze lease 1.0000000001", "bad number"),
+            ("freeze hold 0.0", "out of range"), ("holders all", "extra word"), ("flush", "not frozen"), ("export", "not frozen"),
+            ("flush now", "extra word"), ("metrics all", "extra word"), ("set", "missing word"),
             ("set max_sectors 4 chunk_sectors", "missing word"), ("set max_sectors 4 max_sectors 5", "extra word"),
             ("set max_sectors x chunk_sectors -1", "bad number"), ("set max_sectors 9 chunk_sectors 65536", "EINVAL"),
             ("set x", "missing word"), ("set x y", "unknown word"), ("set max_sectors 4 4 4", "extra word"),
@@ -280,7 +277,7 @@ def lines(plugin):
             ("set physical_sectors 32768 max_sectors 64", "ok"), ("mode", "missing word"), ("mode quick", "unknown word"),
             ("mode atomic", "ok"), ("thaw", "not frozen"), ("freeze", "depth 1"), ("set max_sectors 4294967295", "EINVAL"),
             ("set max_sectors 7", "ok"), ("thaw", "depth 0"), ("# nothing\n\n \t\nstat",
-             "stat reads 0 writes 0 again 0 eio 0 depth 0 max 7 chunk 65535 physical 32768 mode atomic"),
+             "stat reads 0 writes 0 again 0 eio 0 depth 0 max 7 chunk 65535 physical 32768 mode atomic state running"),
         ):
             control.need(line, reply)
         for depth in range(1, 1001):
@@ -300,8 +297,7 @@ def ended(plugin):
         server = Server(plugin, "size=16M")
         loading = subprocess.Popen(fio(server, 8, 20), stdout=subprocess.DEVNULL, stderr=subprocess.DEVNULL)
         control = server.control()
-        while control.ask("stat").split()[2] in ("0", "1"):
-            time.sleep(0.02)
+        soon(lambda: control.ask("stat").split()[2] not in ("0", "1"), "the load doesn't begin")
         for depth in range(1, freezes + 1):
             control.need("freeze", f"depth {depth}")
         try:
@@ -320,13 +316,13 @@ def one_setting(plugin):
 
 
 def two_settings(plugin):
-    """Where nothing stands in the queue's place requests are cut by two settings: so the try above sees them."""
+    """Without the queue, requests are cut by two settings. So the test above would see it."""
     two, count = cut_by_two(plugin)
     assert two > 0, f"none of {count} requests"
 
 
 def cut_by_two(plugin):
-    """How many requests were cut by two settings, and how many there were."""
+    """The number of requests that were cut by two settings, and of all requests."""
     with Server(plugin, "size=16M") as server:
         found = []
         while len(found) <= 1000:  # a second of a busy machine may have some hundred
@@ -337,4 +333,4 @@ def cut_by_two(plugin):
 
 
 if __name__ == "__main__":
-    globals()[sys.argv[2]](sys.argv[1])
+    run_test(globals())

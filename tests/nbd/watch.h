@@ -1,15 +1,16 @@
-/* Writes down by which limits each request was cut, a line each, into the file that WATCHED names in the environment:
+/* Records the limits that cut each request, a line for each, in the file that WATCHED names in the environment:
  *
  *     START COUNT PIECES MAX CHUNK PHYSICAL MAX CHUNK PHYSICAL
  *
- * the pieces joined by +, and the limits in force at its first piece and, read anew, after its last one. A request of several pieces
- * sleeps behind its first one, so that a change of limits comes in between if nothing keeps it out, on one processor too. */
+ * The pieces are joined by +. The limits are those in force at the first piece, and read again after the last. A request of several pieces
+ * sleeps after its first piece, so that a change of limits comes in between unless something prevents it, even on one processor. */
 #include <fcntl.h>
 #include <inttypes.h>
 #include <stdio.h>
 #include <stdlib.h>
 #include <string.h>
 #include <time.h>
+#include <unistd.h>
 
 /* Of the request that a thread does: the limits at its first piece, and its line so far. */
 static _Thread_local struct {

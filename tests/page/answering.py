@@ -1,4 +1,4 @@
-"""The answers of the page: their bytes, beside the lines, and the lanes that are drawn of them."""
+"""Tests the page's answers: their bytes, the replies next to the lines, and the lanes drawn from them."""
 
 import base64
 import hashlib
@@ -13,7 +13,7 @@ MUTANTS = 200
 
 
 def answers(page, given, room="undefined"):
-    """What the page answers these inputs, with so much room at first: the status and the text of each."""
+    """The page's answers to these inputs, with this much room at first: the status and the text of each."""
     texts = [[it.kind, base64.b64encode(it.text).decode()] for it in given]
     found = page.js(
         f"""(async () => {{
@@ -30,7 +30,7 @@ def answers(page, given, room="undefined"):
 
 
 def examples(page, counts):
-    """The bytes of each example's answer, as the file beside it has them."""
+    """The bytes of each example's answer are those of its answer file."""
     each = list(inputs.examples())
     for (given, wanted), found in zip(each, answers(page, [it for it, _ in each])):
         counts.equal(f"{given.name} is answered as the file beside it", found.text, wanted)
@@ -45,7 +45,7 @@ def equal_answers(page, counts, programs):
         counts.equal(f"{given.kind} {given.name} is answered as by the program", found, programs.answer(given))
 
 
-# A head, a line and how often it comes: of about as many bytes as a text may have. The last answer has 94 MB.
+# A head, a line, and how often it is repeated: almost as many bytes as a text may have. The last answer has 94 MB.
 GREATEST = {
     "many lines": ("script", "blkq 1\ndisk 4096 hw 7\n", "stat\n", 200_000),
     "many steps": ("schedule", "gate 1\nworld 64 64 slots 0\n", "0 look 0\n", 116_000),
@@ -61,7 +61,7 @@ SUM_OF = """(async () => {{
 
 
 def greatest(page, counts, programs):
-    """Inputs of great sizes, by the sums of their answers."""
+    """Large inputs, checked by the sums of their answers."""
     for name, (kind, head, line, count) in GREATEST.items():
         found = page.js(SUM_OF.format(head=js(head), line=js(line), count=count, kind=kind))
         native = programs.answer(inputs.Input(name, kind, (head + line * count).encode()))
@@ -69,7 +69,7 @@ def greatest(page, counts, programs):
 
 
 def beside(page, counts):
-    """The lines with their answers, as examples/beside prints them, and the same in the page's rows."""
+    """The page's rows have the lines with their answers, as examples/beside prints them."""
     for given, _ in inputs.examples():
         path = next((ROOT / "examples").rglob(given.name))
         done = subprocess.run([ROOT / "examples/beside", path], capture_output=True, text=True, check=False)
@@ -84,7 +84,7 @@ def beside(page, counts):
 
 
 def drawings(page, counts):
-    """The lanes of each schedule of the examples, those in the answers of races too, element by element as tools/picture has them."""
+    """The lanes of each schedule of the examples, also in the answers of races, are those of tools/picture, element by element."""
     for given, answer in inputs.examples():
         text, answer = given.text.decode(), answer.decode()
         schedules = {"schedule": [(text, answer)], "race": list(shown.schedules_in(answer)), "script": []}[given.kind]

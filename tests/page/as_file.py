@@ -1,4 +1,4 @@
-"""The page as a file: what it is made of, its size and its links; and its heap under sanitizers."""
+"""Tests the page as a file: its parts, its size and its links; and its heap under sanitizers."""
 
 import os
 import pathlib
@@ -41,7 +41,7 @@ def module_changed(name):
     return f"{name} has changed since its module was made: run tools/page"
 
 
-# A change of one file: the text that is there, the one in its place, and what tools/page --check says then.
+# A change of one file: the old text, the new one, and what tools/page --check then says.
 CHANGES = {
     "a body below": ("crates/line_text/src/fault.rt", "Why::NoDisk => 3,", "Why::NoDisk => 4,", module_changed("crates/line_text")),
     "a contract": ("crates/browser/src/calls.rt", "ensures no_line {", "ensures none {", module_changed("crates/browser")),
@@ -54,7 +54,7 @@ CHANGES = {
     "the menu": ("docs/try/examples.txt", "in all orders", "in each order", AROUND),
     "the page by hand": ("docs/try.html", "<main>", "<main >", AROUND),
     "a sum by hand": ("docs/try.html", '"crates/line_text": "', '"crates/line_text": "0', module_changed("crates/line_text")),
-    "a crate that isn't below": ("crates/run_desk/src/desk.rt", "\n", "\n// Another line.\nconst MORE: u32 = 1;\n", None),
+    "a crate that isn't below": ("crates/in_flight/src/table.rt", "\n", "\n// Another line.\nconst MORE: u32 = 1;\n", None),
 }
 
 
@@ -70,7 +70,7 @@ def copied(copy):
     return copy
 
 
-# Puts the sums of the sources that are there into the page.
+# Puts the sums of the current sources into the page.
 NEW_SUMS = """
 import sys
 sys.path.insert(0, "tools")
@@ -87,7 +87,7 @@ def with_new_sums(copy):
 
 
 def changed_sources(counts, copy=None):
-    """After each change of a copy the check says what to make anew, and nothing after one that the page isn't made of."""
+    """After each change of a copy the check says what to make anew; after a change of a file that isn't part of the page it says nothing."""
     if not copy:
         with tempfile.TemporaryDirectory(prefix="page-sources-") as name:
             return changed_sources(counts, copied(pathlib.Path(name)))

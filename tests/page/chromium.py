@@ -35,11 +35,11 @@ def browser():
 
 
 def js(text):
-    """A text as JavaScript spells it."""
+    """A text as a JavaScript literal."""
     return "decodeURIComponent('" + urllib.parse.quote(text, safe="") + "')"
 
 
-# Has each run that begins from now on go on until it is stopped, so that no machine is too fast for a look at one that runs; and the end
+# Lets each later run go on until it is stopped, so that a test can look at a run even on a fast machine; and the end
 # of that.
 ENDLESS = """window.post ??= Worker.prototype.postMessage;
     Worker.prototype.postMessage = function (data) { data.kind || post.call(this, data); };"""
@@ -47,11 +47,11 @@ AS_LONG_AS_IT_TAKES = "Worker.prototype.postMessage = window.post;"
 
 
 class Failed(Exception):
-    """What the browser refused, or an exception of the page."""
+    """The browser refused a call, or the page threw an exception."""
 
 
 class Chromium:
-    """A browser with one tab, of which a wait has an end after these seconds. `with` ends it."""
+    """A browser with one tab. Waits end after these seconds; `with` closes the browser."""
 
     def __init__(self, patience=300):
         self.patience = patience
@@ -96,7 +96,7 @@ class Chromium:
         shutil.rmtree(self.data, ignore_errors=True)
 
     def message(self, seconds):
-        """The next message of the browser."""
+        """Returns the next message of the browser."""
         while b"\0" not in self.left:
             if not select.select([self.read], [], [], seconds)[0]:
                 raise Failed(f"the browser said nothing for {seconds} seconds")
@@ -124,7 +124,7 @@ class Chromium:
         return said["result"]
 
     def js(self, text, seconds=900):
-        """The value of an expression in the page; a promise's value."""
+        """Returns the value of an expression in the page, or the value of its promise."""
         said = self.call("Runtime.evaluate", seconds, expression=text, returnByValue=True, awaitPromise=True)
         if "exceptionDetails" in said:
             told = said["exceptionDetails"]
@@ -147,7 +147,7 @@ class Chromium:
         self.js("typeof begun === 'undefined' || begun.then(() => true)")
 
     def key(self, name, times=1, held=None):
-        """Presses a key, with another one held."""
+        """Presses a key while another is held."""
         for _ in range(times):
             more = {"key": name, "code": {" ": "Space"}.get(name, name), "windowsVirtualKeyCode": KEYS[name], "modifiers": HELD[held]}
             if name in ("Enter", " ") and not held:
@@ -156,14 +156,14 @@ class Chromium:
             self.call("Input.dispatchKeyEvent", type="keyUp", key=name, code=more["code"])
 
     def names(self):
-        """The role and the name of each part of the page that can have the focus, as a screen reader is told them."""
+        """Returns the role and the name of each focusable part of the page, as a screen reader gets them."""
         value = lambda node, which: node.get(which, {}).get("value", "")
         nodes = [it for it in self.call("Accessibility.getFullAXTree")["nodes"] if not it.get("ignored")]
         focusable = [it for it in nodes if any(p["name"] == "focusable" and p["value"]["value"] for p in it.get("properties", []))]
         return [[value(it, "role"), value(it, "name").strip()] for it in focusable if value(it, "role") != "RootWebArea"]
 
     def look(self, wide, high, scheme, is_phone=False):
-        """Sets the size of the window, and light or dark."""
+        """Sets the size of the window, and the light or dark scheme."""
         size = {"width": wide, "height": high, "deviceScaleFactor": 1, "mobile": is_phone}
         self.call("Emulation.setDeviceMetricsOverride", **size)
         self.call("Emulation.setEmulatedMedia", features=[{"name": "prefers-color-scheme", "value": scheme}])

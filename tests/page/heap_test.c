@@ -1,5 +1,5 @@
-/* The heap of the page's module over an arena of this program: large blocks cut into small ones, blocks beside one another in random
- * calls, refusals at the bound, and the product of 128 bits against the compiler's own. */
+/* Tests the heap of the page's module over an arena of this program: large blocks cut into small ones, neighbouring blocks in random
+ * calls, refusals at the bound, and the 128-bit product against the compiler's. */
 #include "heap.h"
 
 #include <sanitizer/asan_interface.h>

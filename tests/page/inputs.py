@@ -1,4 +1,4 @@
-"""The inputs for the page: the examples, the rows of tests/rows, and mutated ones of both, the same in each run."""
+"""Inputs for the page: the examples, the rows of tests/rows, and mutations of both, the same in each run."""
 
 import pathlib
 import random
@@ -25,14 +25,14 @@ class Input(NamedTuple):
 
 
 class Native(NamedTuple):
-    """What a program answers: its status, and its answer or the line on standard error."""
+    """A program's status, and its answer or the line on standard error."""
 
     status: int
     text: bytes
 
 
 def examples():
-    """Each example, with the answer beside it."""
+    """Each example with its answer file."""
     for path in sorted((ROOT / "examples").rglob("*")):
         if path.suffix in KINDS:
             yield Input(path.name, KINDS[path.suffix], path.read_bytes()), path.with_suffix(".answer").read_bytes()
@@ -55,7 +55,7 @@ def changed_number(line, some):
 
 
 def mutated(text, other, some):
-    """A text with one small change: of a line, a word, a number or a byte."""
+    """Returns the text with one small change: of a line, a word, a number or a byte."""
     lines = text.split(b"\n")
     at = some.randrange(len(lines))
     match some.randrange(9):
@@ -85,7 +85,7 @@ def mutated(text, other, some):
 
 
 def mutants(count):
-    """So many inputs, each kind as often as another."""
+    """Returns this many inputs, each kind equally often."""
     some = random.Random(SEED)
     seeds = [it for it, _ in examples()] + [it for it in rows() if len(it.text) < 4000]
     by_kind = {kind: [it for it in seeds if it.kind == kind] for kind in KINDS.values()}

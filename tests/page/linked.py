@@ -1,4 +1,4 @@
-"""Links to an input: long ones, strange letters, and what the page keeps where a link can't have it."""
+"""Tests links to an input: long links, unusual characters, and what the page keeps if a link can't hold it."""
 
 import re
 import urllib.parse
@@ -40,7 +40,7 @@ def whole_links(page, counts, url):
 
 
 def long_links(page, counts):
-    """An input that is too long for a link has none, is kept for the way back, and is there again after a reload."""
+    """An input that is too long for a link has no link, is kept in the history, and is there again after a reload."""
     letters = {"letters": ("x", 8200, 7900), "letters of two bytes": ("\u00e9", 1400, 1200)}
     for name, (letter, many, few) in letters.items():
         text = f"{SCRIPT}#{letter * many}\n"
@@ -63,7 +63,7 @@ def long_links(page, counts):
 
 
 def strange_links(page, counts, url):
-    """Line feeds in front, letters that a link spells, and half of a pair of code units."""
+    """Leading line feeds, letters that a link has to escape, and half of a surrogate pair."""
     text = f"\n\n# a + b / c & d = e % f # g \u00e9 \U0001f600\n\t{SCRIPT}"
     page.open(f"{url}#script={urllib.parse.quote(text, safe='')}")
     page.until(ANSWERED)
@@ -81,7 +81,7 @@ def strange_links(page, counts, url):
 
 
 def chosen_links(page, counts):
-    """The link follows the outcome and the step, and an input that is refused has a link too."""
+    """The link follows the outcome and the step; a refused input has a link too."""
     page.js("openExample('removal.races')")
     page.until("page.outcomes.length === 4")
     counts.equal("a link without an outcome", page.js("(({ outcome, step }) => [outcome ?? '', step ?? ''])(readFragment(location.hash))"), ["", ""])
@@ -100,7 +100,7 @@ def chosen_links(page, counts):
 
 
 def links_of_documents(page, counts, url):
-    """Each link of a document to an input on the page is answered, with the outcome that it names."""
+    """Each link of a document to an input on the page opens the input, with the outcome that it names."""
     found = 0
     for path in [ROOT / "README.md", *sorted((ROOT / "docs").rglob("*.md"))]:
         for fragment in re.findall(r"\]\([./\w]*\btry\.html(#[^)\s]+)\)", path.read_text(encoding="utf-8")):

@@ -1,10 +1,10 @@
-"""How the page looks: small and large, light and dark; its contrasts, labels and keys."""
+"""Tests how the page looks, small and large, light and dark; its contrasts, labels and keys."""
 
 LOOKS = [(wide, scheme) for wide in (400, 1400) for scheme in ("light", "dark")]
 LEAST_CONTRAST = 4.5
 
-# The least contrast of a text of the page with the ground behind it, and the text: with what is seen through, and of the drawing too.
-# A text that is disabled or inert counts for none.
+# The least contrast of a text with its background, and the text: transparency is taken into account, and the drawing too.
+# A disabled or inert text doesn't count.
 CONTRAST = """(() => {
     const CLEAR = [0, 0, 0, 0];
     const numbers = (colour) => {
@@ -57,7 +57,7 @@ CONTRAST = """(() => {
     return least;
 })()"""
 
-# Controls by their roles and names, as a screen reader is told them.
+# Controls by their roles and names, as a screen reader gets them.
 NAMED = [["combobox", "Example"], ["button", "Run"], ["button", "Copy link"], ["textbox", "Input"], ["link", "FORMATS.md"]]
 OF_STEPS = [["button", "First"], ["button", "Back"], ["slider", "Step"], ["region", "The schedule as lanes"]]
 OF_RACE = [["region", "Answer"], ["button", "outcome 4: draw its schedule"], ["button", "Open as a schedule"], ["button", "last: draw outcome 1"]]
@@ -100,7 +100,7 @@ def fits_and_reads(page, counts, name, controls, wide):
 
 
 def by_keys(page, counts, url):
-    """From the top of the page to an outcome's lanes by the keys alone."""
+    """Reaches an outcome's lanes from the top of the page by keys alone."""
     page.open(url)
     page.until("page.outcomes.length === 4")
     page.js("document.activeElement.blur()")

@@ -1,4 +1,4 @@
-"""The tries of the page, each over a browser in which it is open."""
+"""The tests of the page, each run in a browser in which the page is open."""
 
 import pathlib
 from typing import NamedTuple
@@ -29,7 +29,7 @@ class Setting(NamedTuple):
     picture: pathlib.Path = inputs.ROOT / "tools/picture"
 
 
-# Those that take a page, the counts and the setting; what differs between two versions of the page is tried first.
+# The parts, which take a page, the counts and the setting. Those that differ between two versions of the page come first.
 PARTS = {
     "stepping": lambda page, counts, _: stepping.stepping(page, counts),
     "tables": lambda page, counts, on: tables.of_tables(page, counts, on.programs, inputs.Input),
@@ -58,7 +58,7 @@ PARTS = {
 
 
 def tried(page, counts, setting, names=()):
-    """Opens the page, and makes each try, or those of these names."""
+    """Opens the page, and runs each part, or those with these names."""
     page.open(setting.url)
     for name in names or PARTS:
         try:

@@ -1,4 +1,4 @@
-"""Schedules that the page doesn't replay, of several gates and on Linux's percpu_ref: they are drawn by the replies printed in them."""
+"""Tests schedules that the page doesn't replay, of several gates and on Linux's percpu_ref. They are drawn from the replies printed in them."""
 
 import shown
 from chromium import js
@@ -53,7 +53,7 @@ ON_LINUX = (
     "world 3 1 dead 0 linux\n0 try 2 / zero / front\nc reinit / kill / reinit / store 0 1\n",
     "world 2 1 atomic 0 linux\n0 live 1 / put 0 1\nc kill\n",
 )
-# The calls of races on one in percpu mode, and steps, of which the last has to wait: for a section, a switch, the lock, zero, DEAD and a flag.
+# The calls of races in percpu mode, and steps whose last one has to wait: for a section, a switch, the lock, zero, DEAD and a flag.
 EARLY = (
     "0 try 0\nc kill\nsteps\n0 load\nc set dead\nc set atomic\nc call_rcu\nrcu 0 collect\n",
     "c atomic / slots\nsteps\nc set atomic\nc call_rcu\nc switched\n",
@@ -68,7 +68,7 @@ DRAWN = [False, "not replayed here, but drawn by the replies that are printed in
 
 
 def printed(text, answer):
-    """A schedule as gate_races prints it: each step with its reply below it, and at last the ends."""
+    """A schedule as gate_races prints it: each step with its reply below it, and finally the ends."""
     replies = iter(answer.splitlines())
     lines = [it for line in text.splitlines() for it in ([line, f"# {next(replies)}"] if line.startswith("@") else [line])]
     return "".join(f"{line}\n" for line in [*lines, *(f"# {end}" for end in replies)])
@@ -93,7 +93,7 @@ def several(page, counts, programs, given):
 
 
 def undrawn(page, counts, text):
-    """What isn't drawn of them: other replies or ends, another gate, gates with other passes, and steps without replies."""
+    """Schedules that aren't drawn: with other replies or ends, another gate, gates with other passes, or steps without replies."""
     wrong = {
         "the answer's line 4 says 'refused', and the machine 'given'": text.replace("# given", "# refused", 1),
         "and the machine '@2 end live 2814749767106": text.replace("# @2 end live", "# @2 end dead"),
@@ -124,7 +124,7 @@ def opened(page, counts):
 
 
 def outcomes(page, counts):
-    """The table of the outcomes of a race of two gates has the end of each of them, and which one is a deadlock."""
+    """The table of the outcomes of a race of two gates has the end of each gate, and marks deadlocks."""
     page.js("openExample('two_queues.races')")
     page.until(f"page.outcomes.length === 3 && {ANSWERED}")
     answer = (shown.ROOT / "examples/races/two_queues.answer").read_text(encoding="utf-8")
@@ -146,7 +146,7 @@ def drawn_alike(page, counts, name, text, answer):
 
 
 def on_linux(page, counts, programs, given):
-    """Outcomes of races on Linux's percpu_ref, as they are printed, and each without a step, as the native program replays it."""
+    """Outcomes of races on Linux's percpu_ref, as printed, and each without one step, as the native program replays it."""
     for at, text in enumerate(ON_LINUX, 1):
         answer = programs.answer(given("a race on Linux", "race", f"races 1\n{text}".encode())).text.decode()
         schedules = list(shown.schedules_in(answer))
@@ -169,7 +169,7 @@ def on_linux(page, counts, programs, given):
 
 
 def too_early(page, counts, programs, given):
-    """Steps on Linux's percpu_ref that come before what they wait for, as the native program replays them."""
+    """Steps on Linux's percpu_ref that come too early, as the native program replays them."""
     for steps in EARLY:
         text = f"linux 1\nworld 1 1 slots 0 linux\n{steps}"
         answer = programs.answer(given("a step too early", "linux", text.encode())).text.decode()
@@ -178,7 +178,7 @@ def too_early(page, counts, programs, given):
 
 
 def legends(page, counts):
-    """Each word of a step on Linux's percpu_ref that is drawn has its meaning, and each reply but numbers and answers of questions."""
+    """Each word of a drawn step on Linux's percpu_ref has a meaning in the legend, and so has each reply except numbers and answers to questions."""
     page.js("openExample('linux_reinit.races')")
     page.until(f"page.outcomes.length === 8 && {ANSWERED}")
     words = set()

@@ -1,4 +1,4 @@
-"""The page of a race that tools/picture makes: its outcomes, the gate at each step of each of them, and how it looks."""
+"""Tests the page of a race that tools/picture makes: its outcomes, the gate at each step of each outcome, and how it looks."""
 
 import pathlib
 import re
@@ -22,7 +22,7 @@ def picture(program, *words):
 
 
 def as_a_file(counts, work, program):
-    """What a race's page is made of, and what it isn't made of."""
+    """The parts that a race's page has, and those that it doesn't have."""
     (work / "a.races").write_text((ROOT / "examples/races/removal.races").read_text(encoding="utf-8"), encoding="utf-8")
     right = (ROOT / "examples/races/removal.answer").read_text(encoding="utf-8")
     status, page, _ = picture(program, "race", str(ROOT / "examples/races/removal.races"))
@@ -74,7 +74,7 @@ def whole(page, counts, name, url):
 
 
 def addresses(page, counts, url):
-    """The address leads to an outcome and a step, and the slider, a row and the glossary to others."""
+    """The address selects an outcome and a step; the slider, a row and the glossary select others."""
     page.open(f"{url}#outcome=2&step=3")
     counts.equal("an address leads to its step", page.js(SHOWN), [2, 3, "Step by step: outcome 2", "#outcome=2&step=3"])
     page.js("find('step').focus()")

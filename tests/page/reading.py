@@ -1,4 +1,4 @@
-"""What a reader does with the page: goes on while a text runs, scrolls, opens a damaged link, goes back, and looks at a picture."""
+"""Tests what a reader does with the page: continues while a text runs, scrolls, opens a damaged link, goes back, and looks at a picture."""
 
 import urllib.parse
 
@@ -20,7 +20,7 @@ def removal(page):
 
 
 def old_answer(page, counts, large):
-    """While a new text runs, the old answer is dimmed, nothing of it can be chosen, and a link has nothing of it."""
+    """While a new text runs, the old answer is dimmed, nothing in it can be chosen, and a link has no part of it."""
     page.js("openExample('removal.races', { outcome: 2, step: 3 })")
     page.until("page.outcome === 2 && find('status').textContent.startsWith('answered')")
     page.js(f"{ENDLESS} find('input').value = {large}; find('input').dispatchEvent(new Event('input'))")
@@ -41,7 +41,7 @@ def old_answer(page, counts, large):
 
 
 def keys(page, counts):
-    """The left and right keys scroll the table of the outcomes, and step in the part of the steps, or from nowhere."""
+    """The left and right keys scroll the table of the outcomes if it has the focus, and otherwise step."""
     page.look(400, 800, "light", is_phone=True)
     removal(page)
     page.js(OUTCOME)
@@ -62,7 +62,7 @@ def keys(page, counts):
 
 
 def damaged_links(page, counts, url):
-    """What a link names that isn't there is said."""
+    """If a link names something that doesn't exist, the page says so."""
     race = "#race=races+1%0Aworld+1+1+atomic+0%0A0+live+0%0Ac+kill%0A"
     outcome, step = "The link names an outcome that isn't there.", "The link names a step that isn't there."
     links = {f"{race}&outcome=99": outcome, f"{race}&outcome=x": outcome, f"{race}&outcome=1&step=99": step, f"{race}&outcome=1": ""}
@@ -77,10 +77,10 @@ def damaged_links(page, counts, url):
 
 
 def way_back(page, counts):
-    """A schedule that is opened has the step, and the way back leads to the race with its outcome."""
+    """An opened schedule has the step, and going back leads to the race with its outcome."""
     removal(page)
     page.js(OUTCOME)
-    # No entry is ahead then.
+    # Then the history has no entry ahead.
     entries = page.js("history.pushState(history.state, '', location.href); history.length")
     page.js("find('open').click()")
     page.until("page.kind === 'schedule' && find('status').textContent.startsWith('answered')")
@@ -93,7 +93,7 @@ def way_back(page, counts):
 
 
 def into_view(page, counts, url):
-    """A chosen outcome comes into view, for the reader of a link too, and at once if less motion is wanted."""
+    """A chosen outcome is scrolled into view, also when a link is opened, and at once if reduced motion is preferred."""
     race = urllib.parse.quote(page.js("EXAMPLES[0].text"))
     for wide, high in ((1400, 900), (400, 800)):
         page.look(wide, high, "light", is_phone=wide < 600)
@@ -109,7 +109,7 @@ def into_view(page, counts, url):
 
 
 def by_kind(page, counts):
-    """A step that can't be taken is a fault, the bias has its name, and the help tells of the kind of the text."""
+    """A step that can't be taken is a fault, the bias has its name, and the help is for the kind of the text."""
     page.js("open('gate 1\\nworld 1 1 slots 0\\n0 shared\\n0 sub 1\\n')")
     page.until("find('status').textContent.startsWith('answered')")
     counts.check("the status says where it is stuck", page.js("find('status').textContent").endswith(", stuck at line 4: nothing held"))

@@ -1,4 +1,4 @@
-"""Runs of an input: stopped with its worker, followed by another, without memory, and ended by a trap."""
+"""Tests runs of an input: stopped together with its worker, followed by another, without memory, and ended by a trap."""
 
 from chromium import AS_LONG_AS_IT_TAKES, ENDLESS
 
@@ -10,14 +10,14 @@ window.Worker = class extends Worker {
 };"""
 ENDED = "workers.map((it) => it.isEnded)"
 STATUS = "find('status').textContent"
-# What an old worker says late.
+# A late message of an old worker.
 LATE = """(() => {
     const data = { status: 0, line: 0, answer: new TextEncoder().encode('late').buffer, milliseconds: 1 };
     workers[0].dispatchEvent(new MessageEvent('message', { data }));
     workers[0].dispatchEvent(new ErrorEvent('error', { message: 'late' }));
     return new Promise((done) => setTimeout(done));
 })()"""
-# Within the page, so that a race that takes seconds hasn't ended where this program is slow.
+# Within the page, so that a race that takes seconds hasn't ended if this program is slow.
 STOPPED_ONCE_IT_RUNS = """new Promise((done) => {{
     void open({large});
     const look = setInterval(() => {{
@@ -37,7 +37,7 @@ MANY = {
 
 
 def stops(page, counts, url, large):
-    """Stop and an edit end the worker, and what an ended worker says late isn't taken as the answer of the next run."""
+    """Stop and an edit end the worker, and a late message of an ended worker isn't taken as the answer of the next run."""
     script = page.call("Page.addScriptToEvaluateOnNewDocument", source=WORKERS)["identifier"]
     page.open(url)
     page.until(f"{STATUS}.startsWith('answered')")
@@ -68,7 +68,7 @@ def stops(page, counts, url, large):
 
 
 def one_after_another(page, counts, large):
-    """A race that is stopped, and one that is too large, and the page after each."""
+    """A stopped race and a race that is too large, and the page after each."""
     counts.equal("a race runs for a while", page.js(STOPPED_ONCE_IT_RUNS.format(large=large)), "running")
     page.until("find('status').textContent.startsWith('stopped after')")
     counts.check("a race is stopped", page.js("find('stop').disabled"))
@@ -81,7 +81,7 @@ def one_after_another(page, counts, large):
 
 
 def memory(page, counts):
-    """An input of each kind that needs more memory than there is answers so, and is no trap; and the page goes on."""
+    """An input of each kind that needs too much memory gets that answer, not a trap, and the page goes on."""
     for kind, text in MANY.items():
         page.js(f"page.most = {LITTLE}; void open({text})")
         page.until(f"!{STATUS}.startsWith('running')")
@@ -95,7 +95,7 @@ def memory(page, counts):
 
 
 def faults(page, counts):
-    """A worker that fails says why, and the next run is answered; so does a device without memory for the page's own."""
+    """A worker that fails says why, and the next run is answered. The same holds if the device has no memory for the page itself."""
     told = page.js("page.runner.run('nothing', new Uint8Array(1)).then(({ status, fault }) => [status, fault])")
     counts.equal("a trap has its own status", told[0], -1)
     counts.check("and a reason", "Error" in told[1], told)
@@ -109,7 +109,7 @@ def faults(page, counts):
 
 
 def without_memory64(page, counts, url):
-    """Where the browser takes no module with 64-bit memory the page says so."""
+    """If the browser doesn't support modules with 64-bit memory, the page says so."""
     script = page.call("Page.addScriptToEvaluateOnNewDocument", source="WebAssembly.validate = () => false;")["identifier"]
     page.open(url)
     shows = "[find('no-memory64').hidden, find('run').disabled, find('no-memory64').textContent.includes('64-bit')]"

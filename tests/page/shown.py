@@ -1,4 +1,4 @@
-"""What the page has to show of a schedule, by tools/races_pictures: the gates between its steps, and its lanes."""
+"""Computes what the page has to show for a schedule, with tools/races_pictures: the gates between its steps, and its lanes."""
 
 import pathlib
 import re
@@ -12,7 +12,7 @@ from races_pictures.schedule import Schedule, schedules_in
 
 # The rows of the table of the gates, as elements of the page.
 TABLE = "[...find('state').querySelectorAll('tbody tr')]"
-# The name and the value in each row; of a row with the number of a gate that alone.
+# The name and the value in each row; a row with the number of a gate has only that.
 STATE = f"{TABLE}.map((row) => [...row.cells].slice(0, 2).map((cell) => cell.textContent))"
 
 
@@ -39,5 +39,5 @@ def captions(text, answer):
 
 
 def drawn(title, name, text, answer):
-    """The elements of the lanes, without the style sheet, which the page has for all of its drawings."""
+    """The elements of the lanes, without the style sheet, which the page has once for all drawings."""
     return re.sub(r"<style>.*?</style>\n", "", lanes.draw(title, name, Schedule(text, answer)), flags=re.DOTALL)

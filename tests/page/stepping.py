@@ -1,4 +1,4 @@
-"""Stepping through a schedule, by the keys and by the slider; and the marks of a refused line."""
+"""Tests stepping through a schedule with keys and with the slider; and the marks of a refused line."""
 
 import inputs
 import shown
@@ -43,7 +43,7 @@ def slider(page, counts):
 
 
 def refusals(page, counts):
-    """A refused line is marked, with its reason, and the mark goes with the fault."""
+    """A refused line is marked, with its reason, and the mark disappears with the fault."""
     page.js("open('races 1\\nworld 1 1 atomic 0\\n0 live 0 / putt 0 1\\nc kill\\n')")
     page.until("find('reason').textContent")
     counts.equal("the reason", page.js("find('reason').textContent"), "line 3: unknown word")

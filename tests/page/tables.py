@@ -1,4 +1,4 @@
-"""What stands around an answer: the table of outcomes, its glossary, the gate and the lanes with several slots, and what is cut."""
+"""Tests what surrounds an answer: the table of outcomes, its glossary, the gate and the lanes with several slots, and what is cut off."""
 
 import pathlib
 import re
@@ -52,7 +52,7 @@ LONG = "'gate 1\\nworld 1 1 slots 0\\n' + '0 look 0\\n'.repeat(601)"
 
 
 def outcomes_in(answer):
-    """The cells of the table: of each outcome its number, the answers of each actor, the steps and the end."""
+    """The cells of the table: for each outcome its number, the answers of each actor, the steps and the end."""
     for part in re.split(r"^(?=outcome )", answer, flags=re.MULTILINE)[1:]:
         number, steps, deadlock = re.match(r"outcome (\d+) steps (\d+)( deadlock)?\n", part).groups()
         said = [line.partition(" ")[2] for line in part[: HEAD.search(part).start()].splitlines()[1:]]
@@ -61,7 +61,7 @@ def outcomes_in(answer):
 
 
 def outcomes(page, counts):
-    """The table of the outcomes has what the answer has, and a click on a row, on its button or in the glossary draws the outcome."""
+    """The table has the outcomes of the answer, and a click on a row, on its button or in the glossary draws the outcome."""
     page.js("openExample('removal.races')")
     page.until(f"page.outcomes.length === 4 && {ANSWERED}")
     answer = (ROOT / "examples/races/removal.answer").read_text(encoding="utf-8")
@@ -79,7 +79,7 @@ def outcomes(page, counts):
 
 
 def deadlock(page, counts):
-    """The table says which outcome is a deadlock, and the glossary what its actor waits for."""
+    """The table marks a deadlock, and the glossary says what its actor waits for."""
     page.js("openExample('freeze.races')")
     page.until(f"page.outcomes.length === 12 && {ANSWERED}")
     answer = (ROOT / "examples/races/freeze.answer").read_text(encoding="utf-8")
@@ -116,7 +116,7 @@ def slots(page, counts, answer):
 
 
 def walked(page, counts, name, text, answer):
-    """A schedule step by step: its gates and what they were before, what is marked of it, the captions, the frame and the buttons."""
+    """A schedule step by step: its gates and their previous values, the marked rows, the captions, the frame and the buttons."""
     wanted, captions = shown.gates(text, answer), shown.captions(text, answer)
     table = f"{shown.TABLE}.map((row) => [row.className, ...[...row.cells].map((cell) => cell.textContent)])"
     for step, now in enumerate(wanted):
@@ -130,14 +130,14 @@ def walked(page, counts, name, text, answer):
 
 
 def marked(now, before):
-    """A row of the table with its class: one with the number of a gate, one that has changed, or another one."""
+    """A row of the table with its class: the number of a gate, a changed row, or another."""
     if len(now) == 1:
         return ["gate", *now]
     return ["changed", *now, before[1]] if now != before else ["", *now, ""]
 
 
 def wrong_answers(page, counts, answer):
-    """A schedule whose answer isn't the machine's isn't drawn, and the page says why."""
+    """A schedule whose answer differs from the machine's isn't drawn, and the page says why."""
     lines = answer.splitlines()
     wrong = {
         "another reply": ["\n".join(["open 1", *lines[1:]]), "the answer's line 1 says 'open 1', and the machine 'open 0'"],
@@ -154,7 +154,7 @@ def wrong_answers(page, counts, answer):
 
 
 def frame(page, counts, step, last):
-    """The frame is around the step's row, and what comes later is faded."""
+    """The step's row is framed, and later rows are faded."""
     row = "(at) => page.stepping.drawing.yOf(at)"
     number = "(box, name) => Number(page.stepping[box].getAttribute(name))"
     found = page.js(f"(({number}) ('now', 'y')) + (({number})('now', 'height')) / 2 - (({row})({step - 1}))")

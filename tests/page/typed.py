@@ -1,4 +1,4 @@
-"""What a reader does at the input: types, presses keys, writes behind comments, and scrolls a text with a refused line."""
+"""Tests what a reader does in the input: types, presses keys, writes after comments, and scrolls a text with a refused line."""
 
 LINE = 21
 # How often the page has run an input since.
@@ -13,7 +13,7 @@ RACE = "races 1\\nworld 1 1 atomic 0\\n0 live 0 / put 0 1\\nc kill\\n"
 
 
 def typing(page, counts):
-    """What is typed runs by itself, once, and isn't the example any more; Ctrl and Enter run it at once, and so does the button."""
+    """Typed text runs by itself, once, and is no longer the example; Ctrl-Enter runs it at once, and so does the button."""
     page.js("openExample('removal.races')")
     page.until(ANSWERED)
     page.js(f"{COUNT}; choose(page.outcomes[1], 3); find('input').focus(); find('input').setSelectionRange(0, 0)")
@@ -23,7 +23,7 @@ def typing(page, counts):
     counts.equal("what is typed is answered", page.js("[page.outcomes.length, page.outcome, find('steps').hidden]"), [4, 0, True])
     counts.equal("it is no example", page.js("[page.name ?? '', find('example').value, find('shows').textContent]"), ["", "", ""])
     counts.check("the link has it", page.js(f"{LINKED} === find('input').value"))
-    # Looked at with the edits, since a pause may be over where this program is slow.
+    # Checked together with the edits, since a pause may be over if this program is slow.
     edits = "for (const letter of 'abc') { find('input').value += `# ${letter}\\n`; find('input').dispatchEvent(new Event('input')); }"
     said = page.js(f"page.runs = []; {edits} [page.runs.length, find('status').textContent, page.isStale]")
     counts.equal("nothing is said before it runs", said, [0, "", True])
@@ -51,10 +51,10 @@ def by_hand(page, counts):
 
 
 def menu(page, counts):
-    """The menu leads to each example and to what it shows; a text of the reader's own stays behind it."""
+    """The menu opens each example and shows its answer; the reader's own text stays in the history."""
     page.js(f"named(undefined); open('{RACE}')")
     page.until(ANSWERED)
-    # No entry is ahead then.
+    # Then the history has no entry ahead.
     entries = page.js("history.pushState(history.state, '', location.href); history.length")
     page.js("find('example').value = 'late_try.gate'; find('example').dispatchEvent(new Event('change'))")
     page.until(f"page.kind === 'schedule' && {ANSWERED}")
@@ -71,7 +71,7 @@ def menu(page, counts):
 
 
 def behind_comments(page, counts):
-    """The first word that is in no comment says the kind."""
+    """The first word outside comments determines the kind."""
     head = "\\n# races 1\\n \\t# blkq 1\\n\\t\\n"
     texts = {
         "race": ("  races 1\\nworld 1 1 atomic 0\\n0 live 0\\n", "races 1\n"),
@@ -116,7 +116,7 @@ def marks(page, counts):
 
 
 def along(page, counts):
-    """The answer goes along where it is beside the text, and stays where it is below."""
+    """The answer scrolls with the text if it is beside it, and doesn't if it is below."""
     rows = "(() => { const row = find('rows').children[199].querySelector('.refused').getBoundingClientRect(); return row.top - find('refused-line').getBoundingClientRect().top; })()"
     page.look(1400, 900, "light")
     page.js(f"find('input').scrollTop = {100 * LINE}")

@@ -1,4 +1,4 @@
-"""The parts of a page in Markdown: its indented blocks, commands, links and tables."""
+"""Splits a page in Markdown into its indented blocks, commands, links and tables."""
 
 import os
 import re

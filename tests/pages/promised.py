@@ -1,4 +1,4 @@
-"""The names in the table of docs/PROOF.md, looked up in the sources: crates, functions with their clauses, types and definitions."""
+"""Looks up the names in the table of docs/PROOF.md in the sources: crates, functions with their clauses, types and definitions."""
 
 import os
 import re

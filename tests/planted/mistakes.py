@@ -1,9 +1,9 @@
-"""Planted mistakes: the form of their files, and their one reader.
+"""Reads the files of planted mistakes.
 
-A file of mistakes begins with a line on what they are mistakes in. A mistake begins with a line '## NAME'. Lines 'WORD: TEXT' follow. 'file:
-FILE' is the file of its pairs; without it that is the file of the mistake before. A pair is a line '--- old', the text that is there, a line
-'--- new', and the text in its place. A line '--- in FILE' before a pair names another file for it. With a line 'function: NAME' the old text
-is a pattern, which this function of C has once.
+The first line of such a file describes what the mistakes are in. A mistake begins with a line '## NAME', and lines 'WORD: TEXT' follow.
+'file: FILE' is the file to change; the default is that of the mistake before. A change is a line '--- old', the old text, a line '--- new', and
+the new text. A line '--- in FILE' before a change names another file for it. With a line 'function: NAME' the old text is a pattern that occurs
+once in this function of C.
 """
 
 import contextlib
@@ -13,11 +13,11 @@ from typing import NamedTuple
 
 
 class Bad(Exception):
-    """A mistake that can't be planted, and why."""
+    """A mistake that can't be planted, and the reason."""
 
 
 class Pair(NamedTuple):
-    """A text of a file, and the text in its place."""
+    """A text of a file, and its replacement."""
 
     file: str
     old: str

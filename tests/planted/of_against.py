@@ -1,5 +1,5 @@
-"""Mistakes in the right queue and in the right replayer of examples/against, and in the gate's machine under it. One of RUNS inputs (2,000) of the
-seed SEED (1) that tools/against makes has to be answered otherwise than by blkq."""
+"""Plants mistakes in the correct queue and replayer of examples/against, and in the machine of a gate that the replayer uses. Of RUNS inputs
+(2,000) that tools/against makes with the seed SEED (1), at least one has to be answered differently than by blkq."""
 
 import io
 import os
@@ -14,10 +14,10 @@ from counts import program_of
 ROOT = pathlib.Path(__file__).resolve().parents[2]
 EXAMPLES = ROOT / "examples/against"
 
-# The seconds of this process's own work that a mistake may take for an input.
+# The maximum processor time, in seconds, for a mistake on one input.
 PATIENCE = 5
 
-# The files of each program, what each is imported as, and what is mended in it first.
+# The files of each program, the name to import each as, and what to correct in it first.
 MENDED = (
     "if value < self.limits[name]:  # A request under way meets a higher limit as it meets this one.",
     "if self.depth == 0:",

@@ -1,5 +1,6 @@
-"""Mistakes in the kernel's percpu_ref, freeze and splitter. tests/linux/against has to find each within 100,000 calls, cut down to ten lines, or
-those of the file `races` in a race of up to four calls that begins on slots. The source is the first of Debian's that is installed."""
+"""Plants mistakes in the kernel's percpu_ref, freeze and splitter. tests/linux/against has to find each within 100,000 calls, cut down to ten
+lines; it has to find those of the file `races` in a race of up to four calls that begins on slots. The source is the first of Debian's that is
+installed."""
 
 import os
 import pathlib
@@ -20,7 +21,7 @@ CALLS, MOST_LINES = 100_000, 10
 
 
 def first_difference(orders):
-    """The first such race that comes out differently, and how."""
+    """The first such race with different outcomes, and the difference."""
     for race in races(1):
         if len(race.control) + sum(map(len, race.passes)) > 4:
             return None

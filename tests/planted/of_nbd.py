@@ -1,7 +1,7 @@
-"""Mistakes in the filter and the plugin, each of which a try of tests/nbd has to find.
+"""Plants mistakes in the filter and the plugin. A test of tests/nbd has to find each.
 
-A mistake has a line 'try: NAME' of the tries that its file of mistakes names, and a line 'of: plugin' if it is tried in the plugin. It is built
-over the queue's library that is installed in the folder QUEUE.
+A mistake has a line 'try: NAME' with the test that has to fail, in the file of tests/nbd with the name of the file of mistakes, and a line
+'of: plugin' if it is in the plugin. It is built with the queue's library that is installed in the folder QUEUE.
 """
 
 import contextlib
@@ -21,7 +21,7 @@ TIMES = 3
 def fails(served, file, name):
     """Whether a try fails, by what it looks for, and by which."""
     given = {**os.environ, "PYTHONDONTWRITEBYTECODE": "1", "WITHIN": "20"}
-    # The bindings of libnbd are those of Debian's Python.
+    # Only Debian's Python has the bindings of libnbd.
     command = ["/usr/bin/python3", TRIES / f"{file}.py", served, name]
     with subprocess.Popen(command, env=given, stderr=subprocess.PIPE, start_new_session=True) as run:
         try:

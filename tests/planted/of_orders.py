@@ -1,5 +1,5 @@
-"""Mistakes in the erased gate and queue and in their crates, which the tests of rust/orders have to find: the one that has the name of the file of
-mistakes, or another. They are planted in a copy over which that crate is built; gate_races stays as it is."""
+"""Plants mistakes in the erased gate and queue and in their crates. A test of rust/orders has to find each: the test with the name of the file of
+mistakes, or another. rust/orders is built over the changed copy; gate_races stays as it is."""
 
 import pathlib
 import re
@@ -11,14 +11,14 @@ from running import by_cargo
 
 ROOT = pathlib.Path(__file__).resolve().parents[2]
 RUST = ROOT / "rust"
-TESTS = ["gate", "queue", "waits", "whole", "whole_gate"]
+TESTS = ["gate", "queue", "waits", "biased", "whole", "whole_gate"]
 
 
 class Kind:
     MOST_JOBS = 1
 
     def __init__(self, work):
-        """A workspace of the crate alone, beside the sources that it includes; gate_races is that of this tree."""
+        """Makes a workspace of this crate and the sources that it includes. gate_races is that of this tree."""
         self.rust = work / "rust"
         for crate in ("orders", "percpu-gate", "freeze-queue", "blkq"):
             shutil.copytree(RUST / crate, self.rust / crate)

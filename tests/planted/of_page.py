@@ -1,4 +1,4 @@
-"""Mistakes in the page: in docs/try, in its heap and in how tools/page puts it together. A try of tests/page has to find each."""
+"""Plants mistakes in the page: in docs/try, in its heap, and in how tools/page assembles it. A test of tests/page has to find each."""
 
 import pathlib
 import shutil
@@ -18,9 +18,9 @@ from parts import PARTS as TRIES
 from parts import Setting, tried
 
 PARTS = as_file.PARTS
-# How long a try waits for what a right page shows sooner.
+# How many seconds a test waits for something that a correct page shows sooner.
 SECONDS = 20
-# The tries that are made first for each file of mistakes; the others follow, but for those of many inputs.
+# The tests to run first for each file of mistakes. The others follow, except those with many inputs.
 LOOKING = tuple(name for name in TRIES if name.startswith("looks"))
 FIRST = {
     "input": ("typed", "refusals", "by kind", "an old answer"),

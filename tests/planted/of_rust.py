@@ -1,5 +1,5 @@
-"""Mistakes in rust/freeze-queue and rust/percpu-gate. One of the crate's tests has to find each: by a wrong answer, by what compiles and should not,
-by an order of three threads' steps that goes wrong, by a report of the thread sanitizer, or by having no end, as of a wake that is lost."""
+"""Plants mistakes in rust/freeze-queue and rust/percpu-gate. A test of the crate has to find each: by a wrong answer, by code that compiles and
+should not, by an order of three threads' steps that fails, by a report of the thread sanitizer, or by hanging, as after a lost wake."""
 
 import pathlib
 import shutil
@@ -11,8 +11,9 @@ from running import Tests, by_cargo
 ROOT = pathlib.Path(__file__).resolve().parents[2]
 HOST = "x86_64-unknown-linux-gnu"
 # The tests of each crate, the quickest first.
-OF_QUEUE = ["life", "owned", "attacks", "values", "updates", "stay", "panics", "futures", "pool", "freezes", "waits", "moments", "in_flight", "removal", "wakers"]
-OF_GATE = ["life", "again", "values", "attacks"]
+OF_QUEUE = ["life", "errors", "owned", "lanes", "biased", "slots", "waking", "many", "attacks", "values", "updates", "panics", "futures", "pool", "freezes", "waits", "moments", "in_flight", "removal", "wakers",
+            "thread_ends", "refused_fence", "storm", "drawn_sizes"]
+OF_GATE = ["life", "again", "values", "attacks", "drawn_sizes"]
 REST = ["refused_memory", "guarded", "hammer", "model"]
 TESTS = {"freeze-queue": OF_QUEUE + REST, "percpu-gate": OF_GATE + REST}
 ORDERS = {"freeze-queue": "whole", "percpu-gate": "whole_gate"}

@@ -1,4 +1,4 @@
-"""Runs the tests of a copy."""
+"""Runs the tests of a copy, and notices those that hang."""
 
 import os
 import subprocess
@@ -8,14 +8,14 @@ NO_END = "no end: "
 
 
 class Tests:
-    """Tests that are run over one copy after another, and the seconds that each took when it first passed."""
+    """Tests to run on one copy after another, and the seconds that each took when it first passed."""
 
     def __init__(self, least):
         self.least, self.took = least, {}
 
     def fails(self, test, command, **how):
-        """How a test fails, '' or NO_END, or None if it passes. It has no end if it takes these seconds at least, and ten times as many as
-        it took."""
+        """Returns how a test fails ('' or NO_END), or None if it passes. A test hangs if it takes longer than `least` seconds plus ten times
+        what it took when it passed."""
         seconds, began = self.least + 10 * self.took.get(test, 30), time.monotonic()
         done = subprocess.run(["timeout", str(seconds), *command], capture_output=True, check=False, **how)
         if done.returncode:

@@ -1,4 +1,4 @@
-"""Questions about a race: drawn at random, and answered by what each outcome tells, from docs/races/FORMATS.md alone."""
+"""Draws random questions about a race, and answers them from its outcomes; written only from docs/races/FORMATS.md."""
 
 from typing import NamedTuple
 
@@ -23,14 +23,14 @@ class Question(NamedTuple):
         return f"ask {'never' if self.is_never else 'always'} {' and '.join(it.text for it in self.claims)}"
 
     def is_against(self, told):
-        """Whether an outcome that tells this is against it."""
+        """Whether an outcome with this account is against it."""
         lines, figures = lines_and_figures(told)
         answers = answers_of(lines)
         return all(it.holds(answers, figures) for it in self.claims) == self.is_never
 
 
 def answers_of(lines):
-    """What the calls of each actor were answered, by its name."""
+    """The answers to the calls of each actor, by its name."""
     found = {}
     for line in lines:
         actor, _, rest = line.partition(" ")
@@ -39,13 +39,13 @@ def answers_of(lines):
 
 
 def lasts(answers, race, gate):
-    """How many calls at the gate were told that they were the last."""
+    """The number of calls at the gate that returned that they were the last."""
     calls = calls_of(race)
     return sum(it in ("last", "refused last") for actor, told in answers.items() for it, (at, _) in zip(told, calls[actor]) if at == gate)
 
 
 def gate_of(draw, race):
-    """A gate, and what names it in front of a claim. The first one needs no name."""
+    """A gate, and its name before a claim. The first gate needs no name."""
     gate = draw.randrange(len(race.gates)) if isinstance(race, Gates) else 0
     return gate, f"@{gate + 1} " if gate or draw.random() < 0.1 else ""
 
@@ -65,13 +65,13 @@ def mark_claim(draw, race):
 
 
 def call_claim(draw, race, outcomes):
-    """A claim of a call that the race has; mostly of an answer that some outcome gives to it."""
+    """A claim about a call of the race; mostly about an answer that some outcome gives to it."""
     calls = [(str(actor), at) for actor, of_pass in enumerate(race.passes) for at in range(len(of_pass))]
     calls += [("c", at) for at in range(len(race.control))]
     actor, at = draw.choice(calls)
     told = sorted({it for told in outcomes for it in answers_of(lines_and_figures(told)[0])[actor][at : at + 1]})
     answer = draw.choice(told) if told and draw.random() < 0.9 else draw.choice(RARE)
-    # `not last` is an answer itself.
+    # `not last` is itself an answer.
     if answer == "last" or draw.random() < 0.7:
         return Claim(f"{actor}.{at + 1} {answer}", lambda answers, figures: answers[actor][at : at + 1] == [answer])
     return Claim(f"{actor}.{at + 1} not {answer}", lambda answers, figures: answers[actor][at : at + 1] != [answer])
@@ -85,7 +85,7 @@ def random_claim(draw, race, outcomes):
 
 
 def random_questions(draw, race, outcomes):
-    """Some questions about a race that has these outcomes."""
+    """Returns some questions about a race with these outcomes."""
     return [
         Question(draw.random() < 0.5, [random_claim(draw, race, outcomes) for _ in range(draw.choice((1, 1, 2, 3)))])
         for _ in range(draw.randrange(1, 5))
@@ -93,7 +93,7 @@ def random_questions(draw, race, outcomes):
 
 
 def counts_of(question, outcomes):
-    """How many outcomes are against a question, and how many steps lead to one of them at least, by what the search finds."""
+    """The number of outcomes that are against a question, and the fewest steps that lead to one of them, by the search."""
     steps = [steps for told, steps in outcomes.items() if question.is_against(told)]
     return len(steps), min(steps, default=None)
 

@@ -1,11 +1,11 @@
-"""A race of one gate on both gates, and what --beside prints of it, by the pages' searches of both."""
+"""Computes what --beside prints for a race, from the searches on both gates that were written from the pages."""
 
 from printed import outcomes_of
 from searched import all_outcomes, race_of, states_of, summary_of
 
 
 def on_both(text):
-    """The race of a text on this gate, and on Linux's percpu_ref, as texts. A percpu_ref has no guarded words."""
+    """Returns the race of a text on this gate, and on Linux's percpu_ref, as texts. A percpu_ref has no guarded words."""
     worlds = [it for it in text.splitlines() if it.startswith("world ")]
     words = worlds[0].split()
     own, linux = [it for it in words if it != "linux"], [*words[:5], "linux"]
@@ -13,12 +13,12 @@ def on_both(text):
 
 
 def both_states(text):
-    """How many states the program keeps in the larger of the two searches."""
+    """The number of states that the program keeps in the larger of the two searches."""
     return max(states_of(race_of(it)) for it in on_both(text))
 
 
 def in_shared_words(said):
-    """What the summary says, in the words that both gates have: on Linux's percpu_ref `resurrect` doesn't say what it found."""
+    """The summary in the words that both gates have: on Linux's percpu_ref `resurrect` doesn't say what it found."""
     *passes, control, end = said.split("; ")
     answers = control.removeprefix("c").strip().split(" / ")
     control = f"c {' / '.join('ok' if it in ('held', 'at zero') else it for it in answers)}".rstrip()
@@ -30,7 +30,7 @@ def said_of(told):
 
 
 def beside_of(text, written):
-    """What the program has to print, if `written` gives its outcomes of a text, by which they are numbered."""
+    """The output that is expected of the program; `written` returns its outcomes of a text, which determine their numbers."""
     texts = on_both(text)
     said = [{said_of(told) for told in all_outcomes(race_of(it))} for it in texts]
     lines, counts = ["beside 1"], []

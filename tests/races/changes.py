@@ -1,4 +1,4 @@
-"""Changes of a schedule on Linux's percpu_ref: most of them lead to a step that isn't taken."""
+"""Changes a schedule on Linux's percpu_ref. Most changes lead to a step that isn't taken."""
 
 from machines.walk import Walk, parted, step_of
 
@@ -23,7 +23,7 @@ def any_actor(draw, race):
 
 
 def too_early(race, steps):
-    """Each place in these steps at which an actor must wait, with the step that it can't take there."""
+    """Each index in these steps at which an actor must wait, with the step that it can't take there."""
     walk = Walk(race)
     for at, step in enumerate(steps):
         enabled = walk.enabled()

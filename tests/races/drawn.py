@@ -1,4 +1,4 @@
-"""Random races, of docs/races/FORMATS.md."""
+"""Draws random races (docs/races/FORMATS.md)."""
 
 from machines.gate import KILLS, ROOM
 from machines.race import Gates, LinuxRace, Race, calls_of
@@ -30,7 +30,7 @@ def waiting_call(draw):
 
 
 def resembling(draw, calls, slots):
-    """The same calls, with another slot or amount in one of them. They may be answered alike, and other references be held."""
+    """The same calls, with another slot or amount in one of them. They may have the same answers, while other references are held."""
     places = [at for at, call in enumerate(calls) if call[0] in ("try", "live", "get", "put")]
     if not places:
         return calls
@@ -42,7 +42,7 @@ def resembling(draw, calls, slots):
 
 
 def all_pass_calls(draw, slots, words):
-    """The calls of each pass. In more than half of the races several passes make equal calls, and in some they differ in a number alone."""
+    """The calls of each pass. In more than half of the races several passes make equal calls, and in some the calls differ only in a number."""
     passes = [pass_calls(draw, slots, words) for _ in range(draw.choice((1, 1, 1, 2, 2)))]
     if draw.random() < 0.75:
         passes += [draw.choice(passes) for _ in range(draw.choice((1, 1, 2)))]
@@ -56,7 +56,7 @@ PARTS = ("mark_dead", "close_next", "collect", "confirm", "drop_base")
 
 
 def control_calls(draw, slots, words):
-    """Some calls of a control; at times all parts of a kill, or some of them."""
+    """Some calls of a control; at times all or some parts of a kill."""
     if draw.random() < 0.25:
         parts = [part for part in PARTS for _ in range(slots if part == "close_next" else 1)]
         return [(part,) for part in parts if draw.random() < 0.9] + [(draw.choice(("reinit", "resurrect", "kill", "zero")),)]
@@ -80,7 +80,7 @@ def random_race(draw):
 
 
 def placed(draw, calls, gates):
-    """These calls, each at one of so many gates."""
+    """These calls, each at one of this many gates."""
     return tuple((draw.randrange(gates), call) for call in calls)
 
 
@@ -91,7 +91,7 @@ def random_gates(draw):
     return Gates(gates, tuple(placed(draw, calls, count) for calls in race.passes), placed(draw, race.control, count))
 
 
-# The calls of a pass and of the control that the kernel's code has. The first ones are drawn most often: more calls need a reference,
+# The calls of a pass and of the control that the kernel's code has. The first ones are drawn most often: the others mostly need a reference,
 # and most calls of the control a gate that was killed.
 LINUX_CALLS = ("put", "put", "live", "try", "get", "dying", "zero")
 LINUX_CONTROL = ("kill", "reinit", "resurrect", "atomic", "slots", "kill", "kill", "zero")
@@ -120,7 +120,7 @@ def kernel_race(draw):
 
 
 def with_call(draw, calls, call):
-    """The same calls, and mostly this one at some place."""
+    """The same calls, mostly with this one inserted."""
     at = draw.randrange(len(calls) + 1)
     return (*calls[:at], call, *calls[at:]) if draw.random() < 0.7 else calls
 

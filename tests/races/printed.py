@@ -1,4 +1,4 @@
-"""The outcomes of a race, as gate_races prints them: docs/races/FORMATS.md has the form."""
+"""Parses the outcomes of a race as gate_races prints them (docs/races/FORMATS.md)."""
 
 import re
 from typing import NamedTuple
@@ -9,17 +9,17 @@ LINUX_END = re.compile(r"# end (percpu|atomic|dead|atomic dead), count (\S+), co
 
 class Outcome(NamedTuple):
     told: tuple  # a line for each actor, and the figures of the end of each gate
-    schedule: list  # its lines, each step with its reply behind it
+    schedule: list  # its lines, each step followed by its reply
 
 
 def figures_of(line):
-    """Those of the line '# [@G] end MARK V front F kills K releases R held H' by which outcomes are told apart: all but V."""
+    """The figures of the line '# [@G] end MARK V front F kills K releases R held H' that distinguish outcomes: all except V."""
     words = line[line.index(" end ") :].split()
     return (words[1], *(int(words[at]) for at in (4, 6, 8, 10)))
 
 
 def linux_figures(schedule, lines):
-    """Those of the end on Linux's percpu_ref: it has no front, and its kills are those that lie behind the start and that returned."""
+    """The figures of the end on Linux's percpu_ref: it has no front, and its kills are those before the start and those that returned."""
     found = LINUX_END.fullmatch(schedule[-1])
     if not found:
         raise ValueError(schedule[-1])
@@ -30,13 +30,13 @@ def linux_figures(schedule, lines):
 
 
 def steps_of(schedule):
-    """How many steps it has, behind the lines of the version and of the worlds, and on Linux's percpu_ref behind those of the calls."""
+    """The number of steps after the lines of the version and of the worlds, and on Linux's percpu_ref after those of the calls."""
     begin = schedule.index("steps") + 1 if schedule[0] == "linux 1" else 1
     return sum(not line.startswith(("#", "world")) for line in schedule[begin:])
 
 
 def ends_of(schedule):
-    """The lines of the end, one for each world. That of the one gate has no number, and the others have those from 1 on."""
+    """The lines of the end, one for each world. That of a single gate has no number; those of several are numbered from 1."""
     count = sum(line.startswith("world") for line in schedule)
     ends = schedule[-count:]
     names = [f"# @{gate} end " for gate in range(1, count + 1)] if schedule[0] == "gates 1" else ["# end "]
@@ -46,7 +46,7 @@ def ends_of(schedule):
 
 
 def outcome_of(lines, number):
-    """An outcome; its first line says its number, and how many steps its schedule has."""
+    """Parses an outcome; its first line has its number, and the number of steps of its schedule."""
     head, begin = lines[0].split(), next(at for at, line in enumerate(lines) if line in HEADS)
     schedule = lines[begin:]
     deadlock = ["deadlock"] if any("waits for " in line for line in lines[1:begin]) else []
@@ -58,7 +58,7 @@ def outcome_of(lines, number):
 
 
 def at_gate(schedule, gate):
-    """The schedule of this gate alone, counted from 1, with the replies of its steps behind them, and its end."""
+    """The schedule of this one gate, counted from 1, with the reply after each step, and its end."""
     worlds, name = [line for line in schedule if line.startswith("world")], f"@{gate} "
     found, is_there = ["gate 1", worlds[gate - 1]], False
     for line in schedule:
@@ -73,14 +73,14 @@ def at_gate(schedule, gate):
 
 
 def parts_of(schedule):
-    """The schedules of the gates, as `blkq replay` reads them: for one gate the schedule as it is printed, and for Linux's none."""
+    """The schedules of the gates, as `blkq replay` reads them: for one gate the printed schedule, and for Linux's none."""
     if schedule[0] != "gates 1":
         return [schedule] if schedule[0] == "gate 1" else []
     return [at_gate(schedule, gate) for gate, _ in enumerate((it for it in schedule if it.startswith("world")), 1)]
 
 
 def outcomes_of(text):
-    """The outcomes of an answer, each of which is there once, the shorter schedules first."""
+    """The outcomes of an answer, each once, in the order of the length of their schedules."""
     first, *lines = text.splitlines()
     heads = [at for at, line in enumerate(lines) if line.startswith("outcome")]
     found = [outcome_of(lines[at:end], number) for number, (at, end) in enumerate(zip(heads, heads[1:]), 1)]
@@ -93,5 +93,5 @@ def outcomes_of(text):
 
 
 def counted(text):
-    """How many steps lead to each outcome, by what it tells."""
+    """The number of steps to each outcome, by its account."""
     return {it.told: steps_of(it.schedule) for it in outcomes_of(text)}

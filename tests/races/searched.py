@@ -1,12 +1,12 @@
 #!/usr/bin/env python3
-"""Finds all outcomes of a race by exhaustive search, from docs/GATE.md, docs/LINUX.md and docs/races/FORMATS.md alone.
+"""Finds all outcomes of a race by exhaustive search; written only from docs/GATE.md, docs/LINUX.md and docs/races/FORMATS.md.
 
 usage: tests/races/searched.py [--outcomes] FILE ..
 
-A line for each race: its file, the number of its outcomes, and how many steps lead to them at least, all told. With --outcomes each
-outcome, as docs/races/FORMATS.md has it, without its schedule. A FILE is a race that is right. The search goes through every moment, also
-where passes with equal calls have changed places. An outcome is what the calls have answered at an end, with the figures that the end of
-a replay tells but for the value. tests/races/rows/races.rows has these numbers of some races.
+It prints a line for each race: its file, the number of its outcomes, and the sum of the steps of their shortest schedules. With --outcomes it
+prints each outcome, as in docs/races/FORMATS.md, without its schedule. FILE has to be a correct race. The search goes through every moment, even
+those that differ only by an exchange of passes with equal calls. An outcome is the answers of the calls at an end, with the figures of the last
+line of a replay except the value. tests/races/rows/races.rows has these numbers for some races.
 """
 
 import pathlib
@@ -25,12 +25,12 @@ def search_of(race):
 
 
 def moments(race):
-    """Each moment, with how many steps lead to it at least, and whether nothing may come next."""
+    """Each moment, with the fewest steps that lead to it, and whether nothing may come next."""
     return search_of(race).moments(race)
 
 
 def told(moment, race):
-    """What an end tells: a line for each actor, and the figures of each gate."""
+    """The account of an end: a line for each actor, and the figures of each gate."""
     return search_of(race).told(moment, race)
 
 
@@ -40,19 +40,19 @@ def lines_and_figures(told):
 
 
 def summary_of(told):
-    """What --summary says of an outcome, behind its number."""
+    """The line of --summary for an outcome, after its number."""
     lines, figures = lines_and_figures(told)
     return "; ".join([*lines, *(f"{mark}, held {held}" for mark, *_, held in figures)])
 
 
 def states_of(race):
-    """How many states the program keeps of a race: on Linux's percpu_ref nothing changes places."""
+    """The number of states that the program keeps of a race: on Linux's percpu_ref nothing is exchanged."""
     kept = gate_calls.kept if search_of(race) is gate_calls else lambda moment, _: moment
     return len({kept(moment, race) for moment, _, _ in moments(race)})
 
 
 def all_outcomes(race, most=None):
-    """What each outcome tells, with how many steps lead to it at least; None of a race of more moments than these."""
+    """The account of each outcome, with the fewest steps that lead to it; None if the race has more than `most` moments."""
     found = {}
     for seen, (moment, steps, is_end) in enumerate(moments(race)):
         if seen == most:

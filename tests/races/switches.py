@@ -1,6 +1,6 @@
-"""The fewest switches of actor among the shortest schedules to each outcome of a race, by the pages alone.
+"""Finds the fewest switches of actor among the shortest schedules to each outcome of a race; written only from the pages.
 
-A step is a switch where the step before it is another actor's.
+A step is a switch if the step before it was taken by another actor.
 """
 
 from collections import deque
@@ -10,9 +10,9 @@ from printed import outcomes_of, steps_of
 
 
 def all_switches(race):
-    """What each outcome tells, with how many steps lead to it at least, and with how many switches among so few."""
+    """The account of each outcome, with the fewest steps that lead to it, and the fewest switches among that many steps."""
     turns, begin = searched.search_of(race).turns, searched.search_of(race).first(race)
-    # For each moment: how many steps lead to it at least, and by the actor of the last of them, the fewest switches.
+    # For each moment: the fewest steps that lead to it, and the fewest switches, by the actor of the last step.
     steps, fewest, left, found = {begin: 0}, {begin: {"": 0}}, deque([begin]), {}
     while left:
         moment = left.popleft()
@@ -31,18 +31,18 @@ def all_switches(race):
 
 
 def actor_of(line):
-    """Whose step a line of a schedule is, on Linux's percpu_ref maybe a callback's."""
+    """The actor of a line of a schedule; on Linux's percpu_ref it may be a callback."""
     words = line.split()
     return words[:2] if words[0] == "rcu" else words[1] if words[0].startswith("@") else words[0]
 
 
 def switches_of(schedule):
-    """How many switches a schedule has, as it is printed."""
+    """The number of switches in a printed schedule."""
     begin = schedule.index("steps") + 1 if schedule[0] == "linux 1" else 1
     actors = [actor_of(line) for line in schedule[begin:] if not line.startswith(("#", "world"))]
     return sum(one != other for one, other in zip(actors, actors[1:]))
 
 
 def switched(text):
-    """How many steps and how many switches the schedule of each outcome of an answer has, by what it tells."""
+    """The numbers of steps and of switches in the schedule of each outcome of an answer, by the outcome's account."""
     return {it.told: (steps_of(it.schedule), switches_of(it.schedule)) for it in outcomes_of(text)}

@@ -1,4 +1,4 @@
-"""A schedule on Linux's percpu_ref, as gate_races prints it, walked step by step by machines/walk.py."""
+"""Walks a schedule on Linux's percpu_ref, as gate_races prints it, step by step with machines/walk.py."""
 
 from drawn import text_of
 from machines.percpu_ref import told
@@ -6,11 +6,11 @@ from machines.walk import Walk, stage_of, step_of
 
 
 class Wrong(Exception):
-    """Why a schedule is none, or not the one that is printed."""
+    """Why a text isn't a schedule, or not the printed one."""
 
 
 def halves(lines):
-    """The lines of the steps, each with its reply behind it, and that of the end."""
+    """The lines of the steps, each followed by its reply, and that of the end."""
     *both, end = lines
     if len(both) % 2 or not all(it.startswith("# ") for it in (*both[1::2], end)):
         raise Wrong(f"lines that aren't steps with replies: {lines}")
@@ -18,12 +18,12 @@ def halves(lines):
 
 
 def head_of(race):
-    """The lines of a schedule of a race above its steps."""
+    """The lines before the steps in a schedule of a race."""
     return ["linux 1", *text_of(race).splitlines()[1:], "steps"]
 
 
 def walked(race, schedule):
-    """What the end of a schedule tells. Each of its lines has to be right, and nothing may come behind it."""
+    """The account of a schedule's end. Each line has to be right, and nothing may follow."""
     head = head_of(race)
     if schedule[: len(head)] != head:
         raise Wrong(f"{schedule[: len(head)]} and not {head}")
@@ -40,7 +40,7 @@ def walked(race, schedule):
 
 
 def replayed(race, numbered):
-    """What `gate_races --replay` writes of these steps, each with the number of its line: the replies, and the end or what is stuck."""
+    """The output of `gate_races --replay` for these steps with their line numbers: the replies, and the end or the stuck step."""
     walk, written = Walk(race), []
     for number, line in numbered:
         reply, why = walk.try_line(line)

@@ -1,4 +1,4 @@
-"""Rows whose inputs are too long to be written down: each is made, and so is its answer."""
+"""Makes rows whose inputs are too long to write down, with their answers."""
 
 from rows import Answer, Row
 

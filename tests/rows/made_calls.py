@@ -1,4 +1,4 @@
-"""Rows of calls that loops make: each is a name, the line of its gate or queue, and its calls with their answers."""
+"""Makes rows of calls with loops: each is a name, the line of its gate or queue, and its calls with their answers."""
 
 MOST = 65_534
 

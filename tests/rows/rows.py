@@ -1,19 +1,19 @@
 """Reads files of rows: inputs of the programs, each with its answer.
 
-The first line of a file that says something is `programs:`, with the words of each run, the program's name first, and `|` between
-two runs. Each row begins with `== NAME`. Its input follows, then a line that begins with `--`, and the answer:
+The first line of a file, after comments, is `programs:` with the arguments of each run, the program's name first, separated by
+`|`. Each row begins with `== NAME`. Its input follows, then a line that begins with `--`, and the answer:
 
     --                  the status is 0, and standard output has the lines below
     -- 3                the same with another status
     -- 2 line 1: ..     the same with this line on standard error
-    -- counts           of a race: its outcomes, and the steps that lead to them
-    -- line N           a table: each line below is `LINES => WHY`. LINES stand in the place of the line `...` of the input, with
-                        ` ; ` between two lines. The input is refused with `line N: WHY`, or is read if WHY is `read`
-    -- overlap          a table of scripts: `read`, or the line that tells the overlap
+    -- counts           for a race: the number of outcomes, and the sum of their steps
+    -- line N           a table: each line below is `LINES => WHY`. LINES, separated by ` ; `, replace the line `...` of the
+                        input, which is then refused with `line N: WHY`, or accepted if WHY is `read`
+    -- overlap          a table of scripts: `read`, or the line that reports the overlap
     -- last             a table of schedules: the last line of the answer
-    -- words            a table: `WORDS => ANSWER`, with the words behind the program's name, and what it writes, or `usage`
+    -- words            a table: `WORDS => ANSWER`, with the arguments, and what the program writes, or `usage`
 
-A line that begins with `%` is a comment, and so is one empty line before a row. `\\t`, `\\r`, `\\\\` and `\\xHH` stand for bytes, and a
+A line that begins with `%` is a comment; one empty line before a row is ignored. `\\t`, `\\r`, `\\\\` and `\\xHH` stand for bytes, and a
 `\\` at the end of a line for the end of the input.
 """
 

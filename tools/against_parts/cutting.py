@@ -1,4 +1,4 @@
-"""Cuts an input down to few lines, and its words to short ones, as long as something holds of it."""
+"""Cuts an input down to few lines and short words, as long as a condition still holds for it."""
 
 import time
 

@@ -1,4 +1,4 @@
-"""Programs that are given an input, and what they do with it within bounds of time and of output."""
+"""Runs a program on an input, with limits on its time and output."""
 
 import os
 import selectors

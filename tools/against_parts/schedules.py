@@ -1,4 +1,4 @@
-"""Random schedules, which follow the machine of a gate (tests/machines/gate.py), and at times end in a step that it refuses."""
+"""Draws random schedules. They follow the machine of a gate (tests/machines/gate.py), and sometimes end in a step that it refuses."""
 
 import copy
 

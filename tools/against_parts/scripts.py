@@ -1,4 +1,4 @@
-"""Random scripts, of docs/FORMATS.md's versions 1 and 2."""
+"""Draws random scripts of versions 1 and 2 (docs/FORMATS.md)."""
 
 from against_parts.spelling import once_in, text_of
 

@@ -1,4 +1,4 @@
-"""How the lines of an input are spelled: with odd blanks, line ends and numbers, and at times with a fault."""
+"""Spells the lines of an input, with odd blanks, line ends and numbers, and sometimes with a fault."""
 
 MOST_BYTES = 1_048_576
 

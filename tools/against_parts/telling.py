@@ -1,4 +1,4 @@
-"""What is said on standard output of a difference that was found, and on standard error meanwhile."""
+"""Prints a difference on standard output, and the progress on standard error."""
 
 import sys
 import threading

@@ -1,4 +1,4 @@
-"""Allocators that a value has and gives: in Rust each box has the one allocator, and none is given."""
+"""Removes the allocators that values keep and return: in Rust every box has the same allocator."""
 
 import re
 

@@ -1,4 +1,4 @@
-"""Cuts what is there for the prover alone: clauses, ghost items, its attributes, laws, and types that only these name."""
+"""Removes what only the prover needs: clauses, ghost items, its attributes, laws, and types that only these name."""
 
 import re
 
@@ -239,8 +239,19 @@ def cut_ghost_traits(sources, gone):
         for it in impls(s):
             if it.trait in empty:
                 s.cut_lines(item_start(s, it.keyword), it.end)
+    for s in sources:
+        cut_value_bounds(s)
     gone |= empty
-    return empty
+    return empty - kit.VALUE_TRAITS
+
+
+def cut_value_bounds(s):
+    """`T: Reference<K>` is `T`: what the trait says of a value is a fact, and no method."""
+    for name in kit.VALUE_TRAITS:
+        for i in s.words(name):
+            p, n = s.before(i), s.after(i)
+            if s.at(p, ":") and not s.at(s.before(p), ":") and s.at(n, "<"):
+                s.cut(p, s.angle(n))
 
 
 def cut_empty_modules(files):

@@ -1,4 +1,4 @@
-"""Comments stay, but for sentences on what contracts see, and links to what is gone."""
+"""Keeps comments, except sentences about what contracts see and links to removed items."""
 
 import re
 import textwrap

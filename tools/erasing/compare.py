@@ -1,4 +1,4 @@
-"""Holds rust/ against what the sources erase to: byte by byte if the rustfmt that laid it out is there, else by most tokens."""
+"""Compares rust/ with what the sources erase to: byte by byte if the same rustfmt is installed, otherwise by most tokens."""
 
 import os
 import re

@@ -1,4 +1,4 @@
-"""What `thiserror` derives is written out: an impl of Display, and one of Rust's Error."""
+"""Writes out what `thiserror` derives: an impl of Display, and one of Rust's Error."""
 
 import re
 

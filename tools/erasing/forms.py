@@ -1,4 +1,4 @@
-"""Forms that the sources have for the prover, and Rust says shorter; and what a package above its crate's own needs."""
+"""Shortens code that has its form for the prover; adds what a package above the crate's own needs."""
 
 from erasing.layout import ABOVE
 

@@ -1,4 +1,4 @@
-"""Cuts allocators and the handle of the runtime: parameters, fields and local names of their types, and what hands them on.
+"""Removes allocators and the handle of the runtime: parameters, fields and local names of their types, and the code that passes them on.
 
 Both are found by their types. In Rust there is one allocator, and waiting, threads and streams need no handle.
 """

@@ -1,4 +1,4 @@
-"""The lists of what the kit's library has and Rust's hasn't, and of what stands in its place."""
+"""Lists what the kit's library has and Rust's doesn't, and what replaces it."""
 
 # Of the prover.
 PROVER_ATTRIBUTES = {"tactic", "cycle"}
@@ -7,6 +7,16 @@ GHOST_TRAITS = RULE_TRAITS | {"Model"}
 # The parameters of these types that are there for rules alone, counted without lifetimes.
 # In Rust a box has the one allocator.
 RULE_PARAMETERS = {"Box": {1}, "Table": {0, 1, 2, 3, 4}, "Seat": {0, 1}, "Shared": {0, 1, 2, 3, 4}, "Pass": {1}, "RuledArrayQueue": {1, 2}}
+# Crates whose table is another stand-in than atomic_table's, and the parameters of it that are there for rules alone: it keeps the type of what
+# lies in its cells.
+TABLES = {"bias_lanes": "lane_table"}
+CELL_PARAMETERS = {"Table": {1, 2, 3, 4}, "Seat": {1}, "Shared": {1, 2, 3, 4}}
+# Crates whose atomic numbers are those of the table: rust/orders compiles them over its own.
+OWN_ATOMICS = {"biased_queue"}
+# Steps of owners of lanes, which are ordered by a heavy fence: by their rules, what the stand-in names them.
+ORDERED_STEPS = {"SaysBusy": "store_relaxed", "SaysIdle": "store_release", "Confirms": "load_acquire", "Stays": "load_acquire"}
+# Traits without a method whose types are values all the same.
+VALUE_TRAITS = {"Reference"}
 KIT_CRATES = {"atomic_table", "crossbeam_queue", "crossbeam_utils", "hex", "itoa", "memchr"}
 # Of the handle of the runtime: in Rust, waiting, threads and streams need none.
 HANDLE_TRAITS = {"Threads", "Wait", "Abort", "AllocGlobal", "Env", "Clock", "Print"}
@@ -14,7 +24,7 @@ HANDLE_TYPE = "HostRuntime"
 ALLOCATOR_TYPE = "Global"
 ALLOCATOR_TRAIT = "Allocator"
 # Arguments of the kit's calls that only rules read, or that stand for what is borrowed: counted in the source.
-GHOST_ARGUMENTS = {("Table", "of_words"): {2}, ("thread", "scope"): {0}}
+GHOST_ARGUMENTS = {("Table", "of_words"): {2}, ("Lanes", "new"): {2}, ("thread", "scope"): {0}}
 # Calls that ask for memory and return its refusal, by their names and numbers of arguments, and what stands for them: each is of
 # a trait that no other type has, so a call of another type's doesn't compile.
 REFUSABLE = {
@@ -34,6 +44,7 @@ REFUSABLE_WITH_ALLOCATOR = {
     ("Box", "new"): "try_from_value",
     ("Rc", "new"): "try_new",
     ("Arc", "new"): "try_new",
+    ("Parker", "new"): "try_new",
 }
 # Calls that ask for no memory, by the names that Rust has for them.
 PLAIN = {"push_reserved": "push", "push_back_reserved": "push_back"}
@@ -89,18 +100,19 @@ BRANDS = {"Brand", "Free"}
 NAMELESS = HANDLE_TRAITS | GHOST_TRAITS | BRANDS | {ALLOCATOR_TYPE, ALLOCATOR_TRAIT, HANDLE_TYPE, "Forever"}
 # Files in which each call of this name is of a method of the project, so that no trait is imported for it.
 OF_THE_PROJECT = {
-    ("run_desk", "desk", "try_push"),
+    ("in_flight", "table", "try_push"),
     ("linux_world", "told", "try_to_vec"),
     ("race_outcomes", "race_account", "try_to_vec"),
 }
 # Fields that only proofs read: (crate, type, field).
 READ_BY_PROOFS = {
     ("queue_core", "Tag", "hardware"),
-    ("blk_workers", "FinishedWorker", "receipts"),
+    ("blk_workers", "FinishedWorker", "acknowledgements"),
     ("blk_workers", "FinishedWorker", "tags"),
+    ("blk_workers", "Passed", "point"),
     ("race_search", "Placed", "number"),
-    ("run_queues", "Receipt", "seat"),
-    ("run_queues", "Receipt", "number"),
+    ("run_queues", "Acknowledgement", "seat"),
+    ("run_queues", "Acknowledgement", "number"),
     ("script_overlap", "Touched", "sectors"),
 }
 # Names that are bound to what an accessor reads, for proofs alone: (crate, file, name).

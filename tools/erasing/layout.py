@@ -1,4 +1,4 @@
-"""Where each erased file stands, its head, and its layout by rustfmt."""
+"""The path of each erased file, its head, and its layout by rustfmt."""
 
 import os
 import re
@@ -8,17 +8,17 @@ import tempfile
 # The crates of each package of rust/, the lowest first. `main` files become programs of their package.
 PACKAGES = {
     "percpu-gate": ["percpu_words", "percpu_core", "percpu_gate"],
-    "freeze-queue": ["queue_limits", "queue_core"],
+    "freeze-queue": ["queue_limits", "queue_core", "bias_lanes", "biased_queue"],
     "blkq": [
         "wait_queue", "freeze_queue", "line_text", "ram_disk", "script_meaning", "script_overlap", "blk_script", "run_queues",
-        "run_desk", "blk_workers", "gate_replay", "counted_io", "blkq_run", "blkq",
+        "in_flight", "blk_workers", "gate_replay", "counted_io", "blkq_run", "blkq",
     ],
     "gate-races": [
         "race_calls", "race_world", "race_search", "race_outcomes", "linux_world", "gates_world", "races_text", "races_run",
         "gate_races",
     ],
     "trials": ["uses", "play_calls"],
-    "c-memory": ["loose_box"],
+    "c-memory": ["loose_box", "c_answers"],
     "percpu-gate-c": ["percpu_gate_c"],
     "freeze-queue-c": ["freeze_queue_c"],
 }  # fmt: skip

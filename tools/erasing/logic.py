@@ -1,4 +1,4 @@
-"""What a clause says, as a tree, and in words.
+"""Parses a clause into a tree, and writes the tree in words.
 
 A tree is a tuple: ("name", path), ("number", digits), ("call", function, arguments), ("of", sign, left, right),
 ("each", name, body), ("some", name, body), or ("raw", text) where the reader gives up.

@@ -1,4 +1,4 @@
-"""What asks for memory and returns its refusal, where Rust's own calls would end the program: by lists in kit.py."""
+"""Rewrites calls that allocate and return a refusal, for which Rust's own calls would end the program, by the lists in kit.py."""
 
 from erasing import kit
 from erasing.shape import functions, impls

@@ -1,7 +1,7 @@
-"""Cuts type parameters that name something to the prover, and the handle of the runtime.
+"""Removes type parameters that only name something to the prover, and the handle of the runtime.
 
-A parameter whose bounds are all traits of the prover or of the handle is one, and so is any that is handed to, or comes
-from, such a parameter: that is found over all crates, by joining the places between which a parameter is handed on.
+These are the parameters whose bounds are all traits of the prover or of the handle, and every parameter that is passed to, or comes
+from, such a parameter. They are found over all crates, by joining the places between which a parameter is passed on.
 """
 
 from erasing import kit
@@ -57,6 +57,9 @@ class Parameters:
         for name, places in kit.RULE_PARAMETERS.items():
             for k in places:
                 self.joined.mark(("type", "kit", name, k))
+        for name, places in kit.CELL_PARAMETERS.items():
+            for k in places:
+                self.joined.mark(("type", "cells", name, k))
         for s in sources:
             for mention in self.mentions(s):
                 self._join(s, mention)
@@ -90,7 +93,7 @@ class Parameters:
         """The place of a type that a file names: of its own crate, of the one it imports it from, or of the kit."""
         crate = self.origin[id(s)].get(name)
         if crate in kit.KIT_CRATES or name == "Box":
-            return ("type", "kit", name)
+            return ("type", "cells" if s.crate in kit.TABLES and crate == "atomic_table" else "kit", name)
         crates = self.types.get(name, ())
         if s.crate in crates:
             return ("type", s.crate, name)
@@ -177,6 +180,15 @@ def cut_parts(s, opening, ghosts, parts):
 def origins(s):
     """The crate from which a file imports each name."""
     return {alias or path[-1]: path[0] for i, end in uses(s) for path, alias in leaves(s, i, end)}
+
+
+def name_ordered_steps(s):
+    """`shared.store::<SaysBusy>(..)` is `shared.store_relaxed(..)`: the step says its order."""
+    for rule, step in kit.ORDERED_STEPS.items():
+        for i in s.words(rule):
+            p = s.before(i)
+            if s.crate in kit.TABLES and s.at(p, "<") and s.at(s.before(p), ":"):
+                s.write(s.before(s.before(s.before(p))), step, "a step with an order")
 
 
 def cut_rule_arguments(s, ghosts):

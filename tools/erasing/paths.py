@@ -1,4 +1,4 @@
-"""Imports and paths: each crate is a module of `erased`, and what stands for the kit's library is one beside them."""
+"""Rewrites imports and paths: each crate becomes a module of `erased`, and so does the stand-in for the kit's library."""
 
 import re
 
@@ -37,6 +37,10 @@ class Places:
         """What a path of the sources is in Rust, or None where nothing stands for it."""
         if path[0] == "crate":
             return (*self.top(s), *self.within(s, path[1:]))
+        if path[0] == "atomic_table" and s.crate in kit.TABLES:
+            return (*self.root(s), kit.TABLES[s.crate], *path[1:])
+        if s.crate in kit.OWN_ATOMICS and path[:-1] == ("std", "sync", "atomic") and path[-1].startswith("Atomic"):
+            return (*self.root(s), path[-1])
         if path[0] in self.crates:
             return (*self.root(s), *path)
         if path in kit.STAND_INS:

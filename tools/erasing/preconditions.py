@@ -1,4 +1,4 @@
-"""What a function requires of its caller: a section of its documentation, and a `debug_assert!` where it is plain arithmetic."""
+"""Turns the preconditions of a function into a section of its documentation, and into `debug_assert!`s if they are plain arithmetic."""
 
 import os
 import re

@@ -1,4 +1,4 @@
-"""What a program asks of the runtime by its handle: loops that wait, streams, threads."""
+"""Rewrites what a program does with the handle of the runtime: waiting loops, streams, threads."""
 
 import re
 

@@ -1,4 +1,4 @@
-"""Where the items of a file begin and end: functions, types, impls, imports, and their type parameters."""
+"""Finds where the items of a file begin and end: functions, types, impls, imports, and their type parameters."""
 
 from erasing.source import BEFORE_AN_ITEM
 

@@ -1,4 +1,4 @@
-"""A source file as tokens, which rules cut and, at a few places, write."""
+"""A source file as tokens, which rules remove and, in a few places, write."""
 
 import re
 

@@ -1,4 +1,4 @@
-"""What only proofs read: parameters that no code names any more, and fields by a list."""
+"""Removes what only proofs read: parameters that no code names any more, and listed fields."""
 
 from erasing import kit
 from erasing.shape import functions, types

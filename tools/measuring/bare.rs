@@ -58,8 +58,8 @@ fn time_gate(threads: u32, count: u32) -> Result<(), Box<dyn Error>> {
         assert_eq!(pass.try_get_live(&erased, *slot), gate::Tried::Given);
         u32::from(pass.put(&erased, *slot, 1) == gate::Put::Last)
     });
-    let mut control = percpu_gate::Gate::new(threads, threads, percpu_gate::Start::Slots, [0; 8], Arc::new(|| {}))?;
-    let passes: Vec<_> = (0..threads).map(|slot| control.next_pass(slot)).collect::<Result<_, _>>()?;
+    let mut gate = percpu_gate::Gate::new(threads, threads, percpu_gate::Start::Slots, [0; 8], Arc::new(|| {}))?;
+    let passes: Vec<_> = (0..threads).map(|slot| gate.next_pass(slot)).collect::<Result<_, _>>()?;
     rounds.time("public crate", passes, |pass| {
         drop(pass.try_get_live().expect("the gate is live"));
         0

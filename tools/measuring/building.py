@@ -24,8 +24,9 @@ path = "{root}/tools/measuring/bare.rs"
 [dependencies]
 freeze-queue = {{ path = "{root}/rust/freeze-queue" }}
 percpu-gate = {{ path = "{root}/rust/percpu-gate" }}
-{crossbeam}
+{others}
 """
+OTHERS = {"crossbeam-utils": "0.8", "parking_lot": "0.12", "arc-swap": "1"}
 
 
 def run(*words, **more):
@@ -40,6 +41,11 @@ def cc(output, source, library, *more):
     run("cc", *flags, source, *(f"{out}/lib{it}.a" for it in library), *more, "-o", output)
 
 
+def has_header(name):
+    """Whether the compiler finds this header."""
+    return not subprocess.run(["cc", "-E", "-xc", "-"], input=f"#include <{name}>".encode(), capture_output=True, check=False).returncode
+
+
 def sizes(folder):
     wrapped = ",".join(f"--wrap={it}" for it in ("malloc", "calloc", "realloc", "posix_memalign", "free"))
     cc(f"{folder}/sizes", "c/tests/queue/sizes.c", ("freeze_queue", "percpu_gate"), f"-Wl,{wrapped}")
@@ -48,24 +54,25 @@ def sizes(folder):
 
 def loops(folder):
     """gate-speed and queue-speed from C, rust-speed and bare-speed from Rust, in a folder. The Rust programs have a package of their own
-    over the crates of rust/, which stay without dependencies: crossbeam comes from Debian's folder."""
-    has_urcu = not subprocess.run(["cc", "-E", "-xc", "-"], input=b"#include <urcu/urcu-memb.h>", capture_output=True, check=False).returncode
-    has_crossbeam = bool(glob.glob(f"{REGISTRY}/crossbeam-utils-*"))
+    over the crates of rust/, which stay without dependencies: others' crates come from Debian's folder."""
+    has_urcu, has_ck = has_header("urcu/urcu-memb.h"), has_header("ck_brlock.h")
+    has_others = all(glob.glob(f"{REGISTRY}/{it}-*") for it in OTHERS)
     for has, what in (
         (has_urcu, "liburcu (apt-get install liburcu-dev)"),
-        (has_crossbeam, "ShardedLock (apt-get install librust-crossbeam-utils-dev)"),
+        (has_ck, "ck_brlock (apt-get install libck-dev)"),
+        (has_others, "others' locks in Rust (apt-get install librust-crossbeam-utils-dev librust-parking-lot-dev librust-arc-swap-dev)"),
         (BENCH.exists(), "rounds from Rattle (tools/prove_below --with bench)"),
     ):
         if not has:
             print(f"skipped: {what}", file=sys.stderr)
     cc(f"{folder}/gate-speed", "c/tests/speed.c", ["percpu_gate"])
-    cc(f"{folder}/queue-speed", "c/tests/queue/speed.c", ["freeze_queue"], *(["-DWITH_URCU", "-lurcu-memb"] if has_urcu else []))
+    cc(f"{folder}/queue-speed", "c/tests/queue/speed.c", ["freeze_queue"], *["-DWITH_URCU", "-lurcu-memb"] * has_urcu, *["-DWITH_CK", "-lck"] * has_ck)
     package = pathlib.Path(folder, "package")
     (package / ".cargo").mkdir(parents=True, exist_ok=True)
     (package / ".cargo/config.toml").write_text(f'[source.crates-io]\nreplace-with = "debian"\n[source.debian]\ndirectory = "{REGISTRY}"\n')
-    features = 'default = ["crossbeam"]\ncrossbeam = ["dep:crossbeam-utils"]' if has_crossbeam else "crossbeam = []"
-    crossbeam = 'crossbeam-utils = { version = "0.8", optional = true }' if has_crossbeam else ""
-    (package / "Cargo.toml").write_text(PACKAGE.format(root=ROOT, features=features, crossbeam=crossbeam))
+    features = 'default = ["others"]\nothers = []' if has_others else "others = []"
+    others = "\n".join(f'{name} = "{version}"' for name, version in OTHERS.items()) if has_others else ""
+    (package / "Cargo.toml").write_text(PACKAGE.format(root=ROOT, features=features, others=others))
     run("cargo", "build", "-q", "--offline", "--release", "--target-dir", package / "target", cwd=package)
     for name in ("rust-speed", "bare-speed"):
         (package / "target/release" / name).rename(pathlib.Path(folder, name))

@@ -1,4 +1,4 @@
-"""Machines that have other work, to be timed on: one processor, and programs that do nothing but loop."""
+"""Times changes on busy machines: on one processor, and beside programs that only loop."""
 
 import ctypes
 import os

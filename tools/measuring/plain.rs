@@ -1,6 +1,6 @@
-//! A script run line by line on one thread, without a queue: the yardstick of `make measure WHAT=scripts`. It reads a script of
+//! Runs a script line by line on one thread, without a queue: the baseline of `make measure WHAT=scripts`. It reads a script of
 //! version 1 from standard input, with the lines that scripts.py writes, and writes what `blkq run` writes. It is plain Rust as
-//! one would write it without a proof: any other script makes it panic, and two requests that overlap end it with status 3.
+//! one would write it without a proof: any other script makes it panic, and overlapping requests end it with status 3.
 
 use std::io::{Read, Write};
 

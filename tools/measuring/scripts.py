@@ -1,5 +1,5 @@
-"""The scripts that `make measure WHAT=scripts` runs: their kinds, and the text of one. Each has a disk of 4,096 sectors, and ends its
-spans by `stat`, so that no two of its requests overlap."""
+"""Makes the scripts of `make measure WHAT=scripts`, by kind. Each has a disk of 4,096 sectors, and ends its spans with `stat`, so
+that no two of its requests overlap."""
 
 import random
 

@@ -96,8 +96,8 @@ fn sum_of(limits: &Limits) -> u32 {
 }
 
 fn time_gate(words: Words) -> Result<(), Box<dyn Error>> {
-    let mut control = Gate::new(words.threads, words.threads, Start::Slots, [0; 8], Arc::new(|| {}))?;
-    let mut passes: Vec<Pass> = (0..words.threads).map(|slot| control.next_pass(slot)).collect::<Result<_, _>>()?;
+    let mut gate = Gate::new(words.threads, words.threads, Start::Slots, [0; 8], Arc::new(|| {}))?;
+    let mut passes: Vec<Pass> = (0..words.threads).map(|slot| gate.next_pass(slot)).collect::<Result<_, _>>()?;
     let tries = |pass: &mut Pass| {
         drop(pass.try_get_live().expect("the gate is live"));
         0
@@ -116,25 +116,31 @@ fn time_queue(words: Words) -> Result<(), Box<dyn Error>> {
     let change = |limits| queue.freeze().expect("the queue is there").set(limits).expect("these limits are allowed");
     let enters = |tag: &mut Tag| sum_of(queue.enter(tag).expect("the queue is there").limits());
     time_changes("queue from Rust", words, &mut tags, each(enters), change);
-    time_changes("queue from Rust that stays", words, &mut tags, |tag, count| stay(&queue, tag, count), change);
     Ok(())
 }
 
-/// So many requests of a tag that stays entered between them, with the limits that are known.
-fn stay(queue: &Queue, tag: &mut Tag, count: u32) {
-    let (mut left, mut sum) = (count, 0_u32);
-    while left > 0 {
-        let mut request = queue.enter(tag).expect("the queue is there");
-        let known = sum_of(request.limits());
-        while left > 0 {
-            left -= 1;
-            sum = sum.wrapping_add(black_box(known));
-            let Ok(same) = request.stay() else { break };
-            request = same;
-        }
-    }
-    black_box(sum);
+/// Others' locks and pointers, from Debian's packages.
+#[cfg(feature = "others")]
+fn time_others(words: Words) {
+    use arc_swap::ArcSwap;
+    use crossbeam_utils::sync::ShardedLock;
+    let lock = ShardedLock::new(LIMITS);
+    let mut readers = vec![&lock; words.threads as usize];
+    let reads = |lock: &mut &ShardedLock<Limits>| sum_of(&lock.read().expect("nobody panics"));
+    let change = |limits| *lock.write().expect("nobody panics") = limits;
+    time_changes("ShardedLock of crossbeam", words, &mut readers, each(reads), change);
+    let lock = parking_lot::RwLock::new(LIMITS);
+    let mut readers = vec![&lock; words.threads as usize];
+    let reads = |lock: &mut &parking_lot::RwLock<Limits>| sum_of(&lock.read());
+    time_changes("RwLock of parking_lot", words, &mut readers, each(reads), |limits| *lock.write() = limits);
+    let shared = ArcSwap::from_pointee(LIMITS);
+    let mut readers = vec![&shared; words.threads as usize];
+    let reads = |shared: &mut &ArcSwap<Limits>| sum_of(&shared.load());
+    time_changes("arc-swap", words, &mut readers, each(reads), |limits| shared.store(Arc::new(limits)));
 }
+
+#[cfg(not(feature = "others"))]
+const fn time_others(_words: Words) {}
 
 fn time_locks(words: Words) {
     let lock = RwLock::new(LIMITS);
@@ -142,15 +148,7 @@ fn time_locks(words: Words) {
     let reads = |lock: &mut &RwLock<Limits>| sum_of(&lock.read().expect("nobody panics"));
     let change = |limits| *lock.write().expect("nobody panics") = limits;
     time_changes("RwLock of std", words, &mut readers, each(reads), change);
-    #[cfg(feature = "crossbeam")]
-    {
-        use crossbeam_utils::sync::ShardedLock;
-        let lock = ShardedLock::new(LIMITS);
-        let mut readers = vec![&lock; words.threads as usize];
-        let reads = |lock: &mut &ShardedLock<Limits>| sum_of(&lock.read().expect("nobody panics"));
-        let change = |limits| *lock.write().expect("nobody panics") = limits;
-        time_changes("ShardedLock of crossbeam", words, &mut readers, each(reads), change);
-    }
+    time_others(words);
     let shared = Arc::new(LIMITS);
     let mut clones = vec![shared; words.threads as usize];
     let copies = |shared: &mut Arc<Limits>| {

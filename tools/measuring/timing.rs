@@ -1,4 +1,4 @@
-//! Rounds on several threads at once, timed by the clock.
+//! Times rounds on several threads at once by the clock.
 
 use std::hint::black_box;
 use std::sync::Barrier;

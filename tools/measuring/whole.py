@@ -1,4 +1,4 @@
-"""Whole programs, timed by hyperfine."""
+"""Times whole programs with hyperfine."""
 
 import json
 import pathlib

@@ -1,4 +1,4 @@
-"""The crates of a repository, as its crates.txt lists them."""
+"""Reads the crates of a repository from its crates.txt."""
 
 import os
 import re
@@ -49,7 +49,7 @@ def crates_of(root):
 
     def add(name, above):
         if name in above:
-            sys.exit(f"crates.txt has {name} depend on itself")
+            sys.exit(f"crates.txt: {name} depends on itself")
         if name in lines and name not in found:
             line = lines[name]
             for it in line.libraries:
@@ -58,6 +58,6 @@ def crates_of(root):
 
     for name in lines:
         if not re.fullmatch(r"\w+", name):
-            sys.exit(f"crates.txt: {name} is no name of a crate")
+            sys.exit(f"crates.txt: {name} isn't the name of a crate")
         add(name, ())
     return list(found.values())

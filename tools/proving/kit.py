@@ -1,8 +1,8 @@
-"""The kit's prover, and the locks on crates' folders.
+"""Calls the kit's prover, and locks the folders of crates.
 
-rt has no command that builds a library of its statements alone, or that checks a copy of a crate over libraries elsewhere. So the
-prover `rattle` is called here, with flags that its help describes, on the files of the kit in PLACES. A kit that lacks one of them
-is named in a message; `rt ci` needs none of these tools.
+rt has no command that builds a library of statements only, or that checks a copy of a crate over libraries elsewhere. So this
+calls the prover `rattle`, with flags that its help describes, on the files of the kit in PLACES. If a kit lacks one of them, a
+message names the kit and the file. `rt ci` needs none of these tools.
 """
 
 import fcntl
@@ -35,7 +35,7 @@ TARGET = "x86_64-unknown-linux-gnu"
 def kit():
     """The kit whose rt is on the PATH."""
     if not shutil.which("rt"):
-        sys.exit("the command rt of the Rattle kit is not on the PATH")
+        sys.exit("rt, the command of the Rattle kit, is not on the PATH (docs/RATTLE.md)")
     found = Kit()
     found.require()
     return found

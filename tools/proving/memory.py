@@ -1,4 +1,4 @@
-"""The memory that is left."""
+"""Reads how much memory is free."""
 
 import re
 

@@ -1,9 +1,9 @@
-"""What is proved of a repository's crates, and built of what is proved: a library in out/rlib of the crate's folder, a program or
+"""Keeps track of which crates are proved, and of what is built from them: a library in out/rlib of the crate's folder, a program or
 an archive in out/.
 
-A library is built of its statements alone, as rt ci builds it: a check above it then reads the statements and not the proofs,
-which are some thirty times as much. rt check and rt lib keep the proofs too, so that an edit proves again only what changed.
-Libraries that rt has built are used, after rt lib has brought them up to date.
+A library is built from statements only, as rt ci builds it. A check above it then reads the statements and not the proofs,
+which are some thirty times as large. rt check and rt lib keep the proofs too, so that an edit proves again only what changed.
+Libraries that rt has built are used after rt lib has brought them up to date.
 """
 
 import hashlib

@@ -1,5 +1,5 @@
-"""A schedule as lanes: one for each actor, its steps in order with their replies; what each holds and owes shaded; beside
-them the words of each gate, with what they hold between the steps. The release is marked."""
+"""Draws a schedule as lanes, one for each actor, with its steps and their replies. Shading shows what an actor holds and owes. Next to
+the lanes are the words of each gate, with their values between the steps. The release is marked."""
 
 import re
 

@@ -1,5 +1,5 @@
-"""A schedule and its answer, read and compared: of one gate or several by the machine of tests/machines/gate.py, and of Linux's
-percpu_ref by that of tests/machines/walk.py."""
+"""Reads a schedule and its answer, and checks the answer: for gates with the machine of tests/machines/gate.py, and for Linux's
+percpu_ref with that of tests/machines/walk.py."""
 
 import re
 from itertools import takewhile

@@ -1,4 +1,4 @@
-"""What a picture shows of a gate, or of Linux's percpu_ref, between two steps: its words, and what each actor holds and owes there."""
+"""Computes what a picture shows between two steps of a gate or of Linux's percpu_ref: its words, and what each actor holds and owes."""
 
 from typing import NamedTuple
 

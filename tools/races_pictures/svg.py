@@ -1,6 +1,6 @@
-"""A page of SVG: boxes, lines and text in a font whose letters are all of one width, so that the width of a text is known
-from its length alone. `textLength` keeps it that wide where the reader's font is another. Colours are named by what they
-are for, once for a light page and once for a dark one; the page has a ground of its own, so that it is readable on any."""
+"""Writes a page of SVG: boxes, lines and text. The font is monospaced, so that the width of a text follows from its length, and
+`textLength` keeps that width if the reader has another font. Colours are named by their purpose, once for a light and once for a dark
+page. The page has its own background, so that it is readable anywhere."""
 
 from xml.sax.saxutils import escape
 

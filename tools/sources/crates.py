@@ -1,4 +1,4 @@
-"""The lines of a crates.txt."""
+"""Reads the lines of a crates.txt."""
 
 import os
 from typing import NamedTuple

@@ -1,5 +1,5 @@
-"""What the sources of a crate name: its functions with the labels of their contracts, its types, and its definitions. The
-texts are read line by line, as `rt fmt` lays them out."""
+"""Finds the names in the sources of a crate: functions with the labels of their contracts, types, and definitions. Reads the
+texts line by line, in the layout of `rt fmt`."""
 
 import os
 import re

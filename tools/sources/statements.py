@@ -1,7 +1,7 @@
-"""What a crate's files state to the crates above it: types, constants, the signatures and contracts of functions that others
-may call, and the definitions of specs/. Bodies, proofs, comments and private functions are no part of it. The texts are read
-line by line, as `rt fmt` lays them out; what isn't recognized stays, so that a sum over statements may change too often and
-never too seldom."""
+"""Extracts what a crate states to the crates above it: types, constants, the signatures and contracts of functions that others
+may call, and the definitions of specs/. Bodies, proofs, comments and private functions are left out. The texts are read
+line by line, in the layout of `rt fmt`. Unrecognized lines stay, so that a sum over statements changes rather too often than too
+seldom."""
 
 import functools
 import os

@@ -1,4 +1,4 @@
-"""Edits as their files say them, and the texts of a crate with edits made."""
+"""Reads the files of edits, and applies edits to the texts of a crate."""
 
 import os
 import re

@@ -1,5 +1,5 @@
-"""The functions of a crate's sources: where each stands, and where the files of its proof do. The texts are read line by line, as
-`rt fmt` lays them out."""
+"""Finds the functions of a crate's sources, and the files of their proofs. Reads the texts line by line, in the layout of
+`rt fmt`."""
 
 import os
 import re

@@ -1,4 +1,4 @@
-"""The kit's prover, run on copies of a crate over the libraries that are proved in the repository."""
+"""Runs the kit's prover on copies of a crate, over the libraries that are proved in the repository."""
 
 import os
 import shutil

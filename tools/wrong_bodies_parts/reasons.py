@@ -1,4 +1,4 @@
-"""What the prover says where it refuses a function, and whether that speaks of a contract."""
+"""Reads why the prover refuses a function, and decides whether the reason is about a contract."""
 
 import enum
 import re

@@ -1,5 +1,5 @@
-"""The file of the crates whose wrong bodies were all seen refused, with the sum under which they were. tools/wrong_bodies alone
-writes it."""
+"""Reads and writes tests/edits/refused: the crates whose wrong bodies were all refused, with the sum for which they were. Only
+tools/wrong_bodies writes that file."""
 
 import fcntl
 import os

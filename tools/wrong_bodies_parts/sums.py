@@ -1,6 +1,6 @@
-"""The sum under which the wrong bodies of a crate are refused: over all that decides what the prover says of them, and that isn't
-the machine's. Better words change none: comments and empty lines of sources and edits, and comments and docstrings of the code that judges.
-Neither does another kit whose logic and statements are the same."""
+"""Computes the sum for which the wrong bodies of a crate are refused: over everything that decides what the prover says about them, except
+the machine. Comments and empty lines of sources and edits don't change it, and neither do comments and docstrings of the code that judges,
+or another kit with the same logic and statements."""
 
 import functools
 import hashlib

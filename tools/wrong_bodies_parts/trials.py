@@ -1,4 +1,4 @@
-"""Tries the edits of one crate, many in one check, and says of each what refused it."""
+"""Tries the edits of one crate, many in one check, and reports for each what refused it."""
 
 import sys
 import time

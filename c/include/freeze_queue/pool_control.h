@@ -1,29 +1,27 @@
-/* The list of tags in flight, filling, emptying, and the end. A part of freeze_queue_pool.h, which includes it. */
+/* The list of tags in flight, filling, emptying, and the end: bodies of calls of freeze_queue_pool.h, which includes this file. */
 #ifndef FREEZE_QUEUE_POOL_H
 #error "include freeze_queue_pool.h"
 #endif
 #ifndef FREEZE_QUEUE_POOL_CONTROL_H
 #define FREEZE_QUEUE_POOL_CONTROL_H
 
-/* ---- Looked into ---- */
+/* ---- Tags in flight ---- */
 
-/* Notes from now on, or no longer, when each tag is taken, by which hint and by which thread. From any thread. */
-FREEZE_QUEUE_INLINE void freeze_queue_pool_watch(freeze_queue_pool *pool, bool watched)
+FREEZE_QUEUE_CALL void freeze_queue_pool_watch(freeze_queue_pool *of, bool watched)
 {
+    freeze_queue_pool_state *pool = freeze_queue_pool_state_of(of);
     __atomic_store_n(&pool->watched_since, watched ? freeze_queue_pool_clock() : 0, __ATOMIC_SEQ_CST);
 }
 
-/* Writes the tags that are out into a list with room for some, and returns how many are out. The call looks at one tag
- * after another. It may miss a request that begins or ends meanwhile, or mix it up with the next request of its tag. Beside
- * freeze_queue_pool_end it lists only what the end waits for. Linux: the list busy of debugfs. */
-FREEZE_QUEUE_INLINE uint32_t freeze_queue_pool_in_flight(freeze_queue_pool *pool, freeze_queue_taken *list, uint32_t room)
+FREEZE_QUEUE_CALL uint32_t freeze_queue_pool_in_flight(freeze_queue_pool *of, freeze_queue_taken *list, uint32_t room)
 {
+    freeze_queue_pool_state *pool = freeze_queue_pool_state_of(of);
     const uint64_t watched = __atomic_load_n(&pool->watched_since, __ATOMIC_SEQ_CST);
     uint32_t out = 0;
     const uint32_t count = __atomic_load_n(&pool->count, __ATOMIC_RELAXED);
     if (count == 0)
         return 0; /* a pool that isn't filled has no lock */
-    pthread_mutex_lock(&pool->lock); /* under which an end takes tags */
+    freeze_queue_locks(&pool->lock); /* under which an end takes tags */
     for (uint32_t place = 0; place < count; place++) {
         freeze_queue_pooled *pooled = &pool->tags[place];
         uint64_t since = __atomic_load_n(&pooled->since, __ATOMIC_RELAXED);
@@ -47,8 +45,8 @@ FREEZE_QUEUE_INLINE uint32_t freeze_queue_pool_in_flight(freeze_queue_pool *pool
 
 /* ---- Internal: filled and emptied ---- */
 
-/* Allocates the words and the places of count tags, none of them out; false without memory. */
-static inline bool freeze_queue_pool_makes(freeze_queue_pool *pool, uint32_t count)
+/* Allocates the words and the places of count tags, none of them out; returns false without memory. */
+static inline bool freeze_queue_pool_makes(freeze_queue_pool_state *pool, uint32_t count)
 {
     void *at = NULL;
     uint32_t bits = 0;
@@ -71,20 +69,20 @@ static inline bool freeze_queue_pool_makes(freeze_queue_pool *pool, uint32_t cou
     }
     return true;
 }
-static inline void freeze_queue_pool_frees(freeze_queue_pool *pool)
+static inline void freeze_queue_pool_frees(freeze_queue_pool_state *pool)
 {
     free(pool->words);
     pool->words = NULL;
     pool->tags = NULL;
 }
 
-/* Gives the first count tags of a pool back to the queue, the last of them first, until one is refused. A tag that was
- * given back keeps its mark, as if it were out, so a pool that keeps the others doesn't give it. */
-static inline uint32_t freeze_queue_pool_return(freeze_queue_pool *pool, freeze_queue_freezer *freezer, uint32_t *count)
+/* Gives the tags of the places below *taken back to the queue, the last first, until the queue refuses one. A tag that was given
+ * back is marked as out, so a pool that keeps the other tags doesn't give it. */
+static inline freeze_queue_answer freeze_queue_pool_return(freeze_queue_pool_state *pool, uint32_t *taken)
 {
-    for (; *count > 0; --*count) {
-        freeze_queue_pooled *pooled = &pool->tags[*count - 1];
-        uint32_t answer = freeze_queue_give_tag_back(freezer, &pooled->tag);
+    for (; *taken > 0; --*taken) {
+        freeze_queue_pooled *pooled = &pool->tags[*taken - 1];
+        freeze_queue_answer answer = freeze_queue_waits_give_tag_back(pool->waits, &pooled->tag);
         if (answer != FREEZE_QUEUE_OK)
             return answer;
         *pooled->word |= pooled->mark;
@@ -92,8 +90,8 @@ static inline uint32_t freeze_queue_pool_return(freeze_queue_pool *pool, freeze_
     return FREEZE_QUEUE_OK;
 }
 
-/* Whether a tag is out. Under the lock: a call that cleared a mark under it has returned from it. */
-static inline bool freeze_queue_pool_is_out(freeze_queue_pool *pool)
+/* Whether a tag is out. Call it under the lock: a call that cleared a mark under the lock has released it by then. */
+static inline bool freeze_queue_pool_is_out(freeze_queue_pool_state *pool)
 {
     bool is_out = false;
     for (uint32_t place = 0; place < pool->count; place++)
@@ -101,72 +99,87 @@ static inline bool freeze_queue_pool_is_out(freeze_queue_pool *pool)
     return is_out;
 }
 
+/* Makes the lock and the condition of a pool; if one is refused, makes neither and returns false. */
+static inline bool freeze_queue_pool_makes_lock(freeze_queue_pool_state *pool)
+{
+    if (freeze_queue_new_lock(&pool->lock) != 0)
+        return false;
+    if (freeze_queue_new_condition(&pool->given_back) == 0)
+        return true;
+    pthread_mutex_destroy(&pool->lock);
+    return false;
+}
+
+/* Destroys what freeze_queue_pool_fill made, except the tags, and closes the event. */
+static inline void freeze_queue_pool_goes(freeze_queue_pool_state *pool)
+{
+#if defined(__linux__)
+    if (pool->event >= 0)
+        close(pool->event);
+#endif
+    pool->event = -1;
+    pthread_cond_destroy(&pool->given_back);
+    pthread_mutex_destroy(&pool->lock);
+    freeze_queue_pool_frees(pool);
+}
+
 /* ---- Filled and emptied ---- */
 
-/* Allocates a pool that isn't filled; NULL without memory. */
-FREEZE_QUEUE_MUST_USE FREEZE_QUEUE_INLINE freeze_queue_pool *freeze_queue_pool_new(void)
+FREEZE_QUEUE_CALL freeze_queue_pool *freeze_queue_pool_new(void)
 {
     return (freeze_queue_pool *)calloc(1, sizeof(freeze_queue_pool));
 }
 
-/* Fills a pool with 1 to 1,023 tags of a queue. Its memory: 128 bytes for each tag, and up to 4 KiB for the marks. ERR_OPEN
- * if it is filled, ERR_BAD_SIZE, ERR_NO_MEMORY also if a mutex or a condition variable is refused, and the refusals of next_tag. After a
- * refusal the queue has its tags back. */
-FREEZE_QUEUE_MUST_USE FREEZE_QUEUE_INLINE uint32_t freeze_queue_pool_fill(freeze_queue_pool *pool,
-                                                                          freeze_queue_freezer *freezer, uint32_t count)
+FREEZE_QUEUE_CALL freeze_queue_answer freeze_queue_pool_fill(freeze_queue_pool *of, freeze_queue_waits *waits, uint32_t count)
 {
-    uint32_t answer = FREEZE_QUEUE_OK, given = 0;
+    freeze_queue_pool_state *pool = freeze_queue_pool_state_of(of);
+    freeze_queue_answer answer = FREEZE_QUEUE_OK;
+    uint32_t given = 0;
     if (pool->count > 0 || pool->is_ending)
         return FREEZE_QUEUE_ERR_OPEN;
     if (count < 1 || count > FREEZE_QUEUE_MOST_TAGS)
         return FREEZE_QUEUE_ERR_BAD_SIZE;
     if (!freeze_queue_pool_makes(pool, count))
         return FREEZE_QUEUE_ERR_NO_MEMORY;
+    pool->waits = waits;
     for (; given < count; given++)
-        if ((answer = freeze_queue_next_tag(freezer, &pool->tags[given].tag)) != FREEZE_QUEUE_OK)
+        if ((answer = freeze_queue_waits_next_tag(waits, &pool->tags[given].tag)) != FREEZE_QUEUE_OK)
             break;
-    if (answer == FREEZE_QUEUE_OK && pthread_mutex_init(&pool->lock, NULL) != 0)
+    if (answer == FREEZE_QUEUE_OK && !freeze_queue_pool_makes_lock(pool))
         answer = FREEZE_QUEUE_ERR_NO_MEMORY;
-    else if (answer == FREEZE_QUEUE_OK && freeze_queue_new_condition(&pool->given_back) != 0) {
-        pthread_mutex_destroy(&pool->lock);
-        answer = FREEZE_QUEUE_ERR_NO_MEMORY;
-    }
     if (answer != FREEZE_QUEUE_OK) {
-        uint32_t returned = freeze_queue_pool_return(pool, freezer, &given);
+        freeze_queue_answer returned = freeze_queue_pool_return(pool, &given);
         freeze_queue_pool_frees(pool);
         return returned == FREEZE_QUEUE_OK ? answer : returned;
     }
     pool->waiting = pool->is_ending = 0;
+    pool->is_armed = false;
+    pool->event = -1;
     pool->count = count;
     return FREEZE_QUEUE_OK;
 }
 
-/* Gives all tags of a pool back to their queue, while no thread takes any. Then the pool's memory may be freed, also right
- * after another thread gave the last tag back. ERR_CLOSED if it isn't filled, ERR_TAGS_OUT if some are out, and the
- * refusals of give_tag_back: then the pool keeps the tags that weren't given back. */
-FREEZE_QUEUE_MUST_USE FREEZE_QUEUE_INLINE uint32_t freeze_queue_pool_empty(freeze_queue_pool *pool,
-                                                                           freeze_queue_freezer *freezer)
+FREEZE_QUEUE_CALL freeze_queue_answer freeze_queue_pool_empty(freeze_queue_pool *of)
 {
+    freeze_queue_pool_state *pool = freeze_queue_pool_state_of(of);
     if (pool->count == 0)
         return FREEZE_QUEUE_ERR_CLOSED;
-    pthread_mutex_lock(&pool->lock);
+    freeze_queue_locks(&pool->lock);
     bool is_out = freeze_queue_pool_is_out(pool);
     pthread_mutex_unlock(&pool->lock);
     if (is_out)
         return FREEZE_QUEUE_ERR_TAGS_OUT;
-    uint32_t answer = freeze_queue_pool_return(pool, freezer, &pool->count);
+    freeze_queue_answer answer = freeze_queue_pool_return(pool, &pool->count);
     if (answer != FREEZE_QUEUE_OK)
         return answer;
-    pthread_cond_destroy(&pool->given_back);
-    pthread_mutex_destroy(&pool->lock);
-    freeze_queue_pool_frees(pool);
+    freeze_queue_pool_goes(pool);
     return FREEZE_QUEUE_OK;
 }
 
 /* ---- Internal: the end ---- */
 
-/* Takes the tag of a place for the end, or marks its word as awaited, and returns whether it has the tag. Under the lock. A
- * tag that the end has is taken with no marks, and so it isn't listed. */
+/* Takes the tag of a place for the end, or marks its word as awaited, and returns whether it took the tag. Call it under the
+ * lock. For a tag that the end took, marks is 0, so that it isn't listed. */
 static inline bool freeze_queue_pool_takes_place(freeze_queue_pooled *pooled)
 {
     const uint64_t mark = pooled->mark;
@@ -182,9 +195,9 @@ static inline bool freeze_queue_pool_takes_place(freeze_queue_pooled *pooled)
     return false;
 }
 
-/* Takes each tag for the end as it comes back, and waits until no call sleeps. Returns how many tags it has when all are
- * back, or at the deadline. Under the lock. */
-static inline uint32_t freeze_queue_pool_takes_all(freeze_queue_pool *pool, const struct timespec *deadline)
+/* Takes each tag for the end as it comes back, and waits until no call sleeps, or until the deadline. Returns how many tags it
+ * took. Call it under the lock. */
+static inline uint32_t freeze_queue_pool_takes_all(freeze_queue_pool_state *pool, const struct timespec *deadline)
 {
     uint32_t taken = 0;
     for (bool in_time = true; taken < pool->count || pool->waiting > 0;) {
@@ -198,51 +211,89 @@ static inline uint32_t freeze_queue_pool_takes_all(freeze_queue_pool *pool, cons
     return taken;
 }
 
+/* Puts the tags of the places below taken back into a pool that doesn't end. Call it under the lock. */
+static inline void freeze_queue_pool_keeps(freeze_queue_pool_state *pool, uint32_t taken)
+{
+    for (uint32_t place = 0; place < taken; place++)
+        __atomic_fetch_and(pool->tags[place].word, ~pool->tags[place].mark, __ATOMIC_SEQ_CST);
+    pool->is_ending = 0;
+}
+
 /* ---- The end ---- */
 
-/* Waits until each tag is back and no call waits for one, and gives the tags back to the queue of waits: OK. Meanwhile a
- * call that waits for a tag returns NULL, and so does each later one. Mark the queue dying first: else a request may wait
- * for a thaw with its tag. After OK no call of freeze_queue_pool_give is inside. Destroy or free the pool once no thread
- * takes tags. ERR_CLOSED if it isn't filled; ERR_TIMED_OUT leaves it filled. */
-FREEZE_QUEUE_MUST_USE FREEZE_QUEUE_INLINE uint32_t freeze_queue_pool_end(freeze_queue_pool *pool, freeze_queue_waits *waits,
-                                                                         const struct timespec *deadline)
+FREEZE_QUEUE_CALL freeze_queue_answer freeze_queue_pool_end(freeze_queue_pool *of, const struct timespec *deadline)
 {
-    if (pool->count == 0)
+    freeze_queue_pool_state *pool = freeze_queue_pool_state_of(of);
+    if (!freeze_queue_is_deadline(deadline))
+        return FREEZE_QUEUE_ERR_BAD_DEADLINE;
+    if (__atomic_load_n(&pool->count, __ATOMIC_RELAXED) == 0)
         return FREEZE_QUEUE_ERR_CLOSED;
-    pthread_mutex_lock(&pool->lock);
+    freeze_queue_locks(&pool->lock);
+    const bool is_ended_by_another = pool->is_ending;
     pool->is_ending = 1;
-    pthread_cond_broadcast(&pool->given_back);
+    if (is_ended_by_another)
+        pthread_mutex_unlock(&pool->lock);
+    if (is_ended_by_another)
+        return FREEZE_QUEUE_ERR_IN_USE;
+    freeze_queue_pool_shows(pool);
     uint32_t taken = freeze_queue_pool_takes_all(pool, deadline);
-    bool in_time = taken == pool->count && pool->waiting == 0;
-    for (uint32_t place = 0; place < taken && !in_time; place++)
-        __atomic_fetch_and(pool->tags[place].word, ~pool->tags[place].mark, __ATOMIC_SEQ_CST);
-    pool->is_ending = in_time;
-    pthread_mutex_unlock(&pool->lock);
+    const bool in_time = taken == pool->count && pool->waiting == 0;
     if (!in_time)
-        return FREEZE_QUEUE_ERR_TIMED_OUT;
-    for (; taken > 0; __atomic_store_n(&pool->count, --taken, __ATOMIC_RELAXED)) {
-        uint32_t answer = freeze_queue_waits_give_tag_back(waits, &pool->tags[taken - 1].tag);
-        if (answer != FREEZE_QUEUE_OK)
-            return answer;
+        freeze_queue_pool_keeps(pool, taken);
+    pthread_mutex_unlock(&pool->lock);
+    freeze_queue_answer answer = in_time ? FREEZE_QUEUE_OK : FREEZE_QUEUE_ERR_TIMED_OUT;
+    for (; in_time && taken > 0; __atomic_store_n(&pool->count, --taken, __ATOMIC_RELAXED))
+        if ((answer = freeze_queue_waits_give_tag_back(pool->waits, &pool->tags[taken - 1].tag)) != FREEZE_QUEUE_OK)
+            break;
+    if (in_time && taken > 0) {
+        freeze_queue_locks(&pool->lock);
+        freeze_queue_pool_keeps(pool, taken);
+        pthread_mutex_unlock(&pool->lock);
     }
+    return answer;
+}
+
+FREEZE_QUEUE_CALL freeze_queue_answer freeze_queue_pool_destroy(freeze_queue_pool *of)
+{
+    freeze_queue_pool_state *pool = freeze_queue_pool_state_of(of);
+    if (pool->count > 0)
+        return FREEZE_QUEUE_ERR_OPEN;
+    if (pool->is_ending)
+        freeze_queue_pool_goes(pool);
+    pool->is_ending = 0;
     return FREEZE_QUEUE_OK;
 }
 
-/* Destroys a pool that has ended, once no thread takes its tags or lists them: then it may be filled again. The second call
- * destroys and frees a pool of freeze_queue_pool_new that was emptied or has ended. */
-FREEZE_QUEUE_INLINE void freeze_queue_pool_destroy(freeze_queue_pool *pool)
+FREEZE_QUEUE_CALL freeze_queue_answer freeze_queue_pool_free(freeze_queue_pool *of)
 {
-    if (!pool->is_ending)
-        return;
-    pthread_cond_destroy(&pool->given_back);
-    pthread_mutex_destroy(&pool->lock);
-    freeze_queue_pool_frees(pool);
-    pool->is_ending = 0;
+    freeze_queue_answer answer = freeze_queue_pool_destroy(of);
+    if (answer == FREEZE_QUEUE_OK)
+        free(of);
+    return answer;
 }
-FREEZE_QUEUE_INLINE void freeze_queue_pool_free(freeze_queue_pool *pool)
+
+/* ---- The event ---- */
+
+FREEZE_QUEUE_CALL freeze_queue_answer freeze_queue_pool_open_event(freeze_queue_pool *of)
 {
-    freeze_queue_pool_destroy(pool);
-    free(pool);
+    freeze_queue_pool_state *pool = freeze_queue_pool_state_of(of);
+    if (pool->count == 0)
+        return FREEZE_QUEUE_ERR_CLOSED;
+    if (pool->event >= 0)
+        return FREEZE_QUEUE_ERR_OPEN;
+#if defined(__linux__)
+    pool->event = eventfd(1, EFD_NONBLOCK | EFD_CLOEXEC);
+    pool->event_of = getpid();
+#else
+    errno = ENOSYS;
+#endif
+    return pool->event >= 0 ? FREEZE_QUEUE_OK : FREEZE_QUEUE_ERR_NO_EVENT;
+}
+
+FREEZE_QUEUE_CALL int freeze_queue_pool_event(freeze_queue_pool *of)
+{
+    freeze_queue_pool_state *pool = freeze_queue_pool_state_of(of);
+    return pool->count > 0 ? pool->event : -1;
 }
 
 #endif

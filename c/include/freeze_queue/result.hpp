@@ -6,12 +6,21 @@
 
 #include <chrono>
 #include <cstdint>
+#include <cstdio>
+#include <cstdlib>
 #include <limits>
 #include <optional>
 #include <ratio>
 #include <utility>
+#ifdef FREEZE_QUEUE_THROWS
+#include <stdexcept>
+#define FREEZE_QUEUE_FORM throwing
+#else
+#define FREEZE_QUEUE_FORM plain
+#endif
 
-namespace freeze_queue {
+namespace blkq {
+inline namespace FREEZE_QUEUE_FORM { /* files of both forms may be linked; a value of one can't be passed to the other */
 
 /* Why a call was refused: the numbers of freeze_queue.h. */
 enum class Error : std::uint32_t {
@@ -41,25 +50,77 @@ enum class Error : std::uint32_t {
     bad_mode = FREEZE_QUEUE_ERR_BAD_MODE,
     bad_range = FREEZE_QUEUE_ERR_BAD_RANGE,
     tag_not_out = FREEZE_QUEUE_ERR_TAG_NOT_OUT,
+    bad_deadline = FREEZE_QUEUE_ERR_BAD_DEADLINE,
+    bad_return = FREEZE_QUEUE_ERR_BAD_RETURN,
+    in_update = FREEZE_QUEUE_ERR_IN_UPDATE,
+    no_event = FREEZE_QUEUE_ERR_NO_EVENT,
 };
 
-/* A text for an error, in a few words. */
-inline const char *text(Error error) noexcept { return freeze_queue_text(static_cast<std::uint32_t>(error)); }
+/* Returns a short text for an error. */
+inline const char *text(Error error) noexcept { return freeze_queue_text(static_cast<freeze_queue_answer>(error)); }
+
+#ifdef FREEZE_QUEUE_THROWS
+/* What Result::value throws. */
+class Refused : public std::runtime_error {
+  public:
+    explicit Refused(Error error) : std::runtime_error(text(error)), error_(error) {}
+    Error error() const noexcept { return error_; }
+
+  private:
+    Error error_;
+};
+#endif
+
+namespace internal {
+
+/* Ends the program with a message if a precondition doesn't hold. */
+inline void needs(bool holds, const char *misuse) noexcept
+{
+    if (holds)
+        return;
+    std::fprintf(stderr, "freeze_queue.hpp: %s\n", misuse);
+    std::abort();
+}
+
+/* Throws if FREEZE_QUEUE_THROWS is defined, and otherwise ends the program with the error's text. */
+[[noreturn]] inline void refuse(Error error)
+{
+#ifdef FREEZE_QUEUE_THROWS
+    throw Refused(error);
+#else
+    needs(false, text(error));
+    std::abort();
+#endif
+}
+
+} // namespace internal
 
 /* How a live queue counts. */
 enum class Mode : std::uint32_t { slots = FREEZE_QUEUE_MODE_SLOTS, atomic = FREEZE_QUEUE_MODE_ATOMIC };
 
-/* Limits, in sectors; 0 is the default of each but hardware. */
+/* Limits, in sectors; 0 is the default of each, except hardware. */
 using Limits = freeze_queue_limits;
 
-/* A value, or the error for which there is none. A Result without a value converts to false. */
+/* A value, or the error that explains its absence. A Result without a value converts to false. Then * and -> end the program;
+ * value() throws Refused if FREEZE_QUEUE_THROWS is defined, and otherwise ends the program too. */
 template <class T> class [[nodiscard]] Result {
   public:
     Result(T value) noexcept : value_(std::move(value)) {}
     Result(Error error) noexcept : error_(error) {}
     explicit operator bool() const noexcept { return value_.has_value(); }
-    T &operator*() noexcept { return *value_; }
-    T *operator->() noexcept { return &*value_; }
+    T &operator*() noexcept { return *operator->(); }
+    T *operator->() noexcept
+    {
+        internal::needs(value_.has_value(), "a Result without a value is used");
+        return &*value_;
+    }
+    T &value() &
+    {
+        if (!value_)
+            internal::refuse(error_);
+        return *value_;
+    }
+    T value() && { return std::move(value()); }
     Error error() const noexcept { return error_; }
 
   private:
@@ -67,12 +128,17 @@ template <class T> class [[nodiscard]] Result {
     Error error_ = Error::closed;
 };
 
-/* Done, or the error for which it wasn't. */
+/* Success, or the error of a call that was refused. */
 template <> class [[nodiscard]] Result<void> {
   public:
     Result() noexcept = default;
     Result(Error error) noexcept : error_(error) {}
     explicit operator bool() const noexcept { return !error_; }
+    void value() const
+    {
+        if (error_)
+            internal::refuse(*error_);
+    }
     Error error() const noexcept { return error_.value_or(Error::closed); }
 
   private:
@@ -81,7 +147,7 @@ template <> class [[nodiscard]] Result<void> {
 
 namespace internal {
 
-/* A duration in nanoseconds, rounded up. Below 0, and where it is no number, it is 0. The greatest is some 292 years. */
+/* A duration in nanoseconds, rounded up. A negative duration and NaN are 0. The maximum is about 292 years. */
 template <class Rep, class Period> std::int64_t nanoseconds(std::chrono::duration<Rep, Period> time) noexcept
 {
     const long double exact = std::chrono::duration<long double, std::nano>(time).count();
@@ -95,8 +161,8 @@ template <class Rep, class Period> std::int64_t nanoseconds(std::chrono::duratio
 
 } // namespace internal
 
-/* A time until which a call waits: none, a time of std::chrono::steady_clock, or a duration from now on. The greatest is
- * some 292 years, also for one that is farther. */
+/* A deadline: none, a time of std::chrono::steady_clock, or a duration from now. Deadlines beyond about 292 years are shortened
+ * to that. */
 class Deadline {
   public:
     Deadline() noexcept = default;
@@ -124,5 +190,6 @@ class Deadline {
     bool has_ = false;
 };
 
-} // namespace freeze_queue
+} // namespace FREEZE_QUEUE_FORM
+} // namespace blkq
 #endif

@@ -18,70 +18,72 @@ static inline void *percpu_gate_order_of_control(percpu_gate_control *control)
 {
     return &percpu_gate_orders[percpu_gate_control_number(control) % 256];
 }
-static inline uint32_t percpu_gate_acquires(bool sees, void *order, uint32_t answer)
+static inline percpu_gate_answer percpu_gate_acquires(bool sees, void *order, percpu_gate_answer answer)
 {
     if (sees)
         __tsan_acquire(order);
     return answer;
 }
 
-PERCPU_GATE_MUST_USE static inline uint32_t percpu_gate_ordered_try_get(percpu_gate_pass *pass, uint32_t slot)
+PERCPU_GATE_MUST_USE static inline percpu_gate_answer percpu_gate_ordered_try_get(percpu_gate_pass *pass, uint32_t slot)
 {
     void *order = percpu_gate_order_of_pass(pass);
-    uint32_t answer = percpu_gate_try_get(pass, slot);
+    percpu_gate_answer answer = percpu_gate_try_get(pass, slot);
     return percpu_gate_acquires(answer == PERCPU_GATE_OK || answer == PERCPU_GATE_NOT_GIVEN_LAST, order, answer);
 }
-PERCPU_GATE_MUST_USE static inline uint32_t percpu_gate_ordered_try_get_live(percpu_gate_pass *pass, uint32_t slot)
+PERCPU_GATE_MUST_USE static inline percpu_gate_answer percpu_gate_ordered_try_get_live(percpu_gate_pass *pass, uint32_t slot)
 {
     void *order = percpu_gate_order_of_pass(pass);
-    uint32_t answer = percpu_gate_try_get_live(pass, slot);
+    percpu_gate_answer answer = percpu_gate_try_get_live(pass, slot);
     return percpu_gate_acquires(answer == PERCPU_GATE_OK || answer == PERCPU_GATE_NOT_GIVEN_LAST, order, answer);
 }
-PERCPU_GATE_MUST_USE static inline uint32_t percpu_gate_ordered_put(percpu_gate_pass *pass, uint32_t slot, uint32_t n)
+PERCPU_GATE_MUST_USE static inline percpu_gate_answer percpu_gate_ordered_put(percpu_gate_pass *pass, uint32_t slot, uint32_t n)
 {
     void *order = percpu_gate_order_of_pass(pass);
     __tsan_release(order);
-    uint32_t answer = percpu_gate_put(pass, slot, n);
+    percpu_gate_answer answer = percpu_gate_put(pass, slot, n);
     return percpu_gate_acquires(answer == PERCPU_GATE_LAST, order, answer);
 }
 static inline bool percpu_gate_ordered_is_zero(percpu_gate_pass *pass)
 {
     void *order = percpu_gate_order_of_pass(pass);
     bool yes = percpu_gate_is_zero(pass);
-    return percpu_gate_acquires(yes, order, yes);
+    (void)percpu_gate_acquires(yes, order, PERCPU_GATE_OK);
+    return yes;
 }
-PERCPU_GATE_MUST_USE static inline uint32_t percpu_gate_ordered_kill(percpu_gate_control *control)
+PERCPU_GATE_MUST_USE static inline percpu_gate_answer percpu_gate_ordered_kill(percpu_gate_control *control)
 {
     void *order = percpu_gate_order_of_control(control);
     __tsan_release(order);
-    uint32_t answer = percpu_gate_kill(control);
+    percpu_gate_answer answer = percpu_gate_kill(control);
     return percpu_gate_acquires(answer == PERCPU_GATE_LAST, order, answer);
 }
-PERCPU_GATE_MUST_USE static inline uint32_t percpu_gate_ordered_drop_base(percpu_gate_control *control)
+PERCPU_GATE_MUST_USE static inline percpu_gate_answer percpu_gate_ordered_drop_base(percpu_gate_control *control)
 {
     void *order = percpu_gate_order_of_control(control);
     __tsan_release(order);
-    uint32_t answer = percpu_gate_drop_base(control);
+    percpu_gate_answer answer = percpu_gate_drop_base(control);
     return percpu_gate_acquires(answer == PERCPU_GATE_LAST, order, answer);
 }
 static inline bool percpu_gate_ordered_control_is_zero(percpu_gate_control *control)
 {
     void *order = percpu_gate_order_of_control(control);
     bool yes = percpu_gate_control_is_zero(control);
-    return percpu_gate_acquires(yes, order, yes);
+    (void)percpu_gate_acquires(yes, order, PERCPU_GATE_OK);
+    return yes;
 }
-PERCPU_GATE_MUST_USE static inline uint32_t percpu_gate_ordered_reinit(percpu_gate_control *control)
+PERCPU_GATE_MUST_USE static inline percpu_gate_answer percpu_gate_ordered_reinit(percpu_gate_control *control)
 {
     void *order = percpu_gate_order_of_control(control);
     __tsan_release(order);
-    uint32_t answer = percpu_gate_reinit(control);
+    percpu_gate_answer answer = percpu_gate_reinit(control);
     return percpu_gate_acquires(answer == PERCPU_GATE_OK, order, answer);
 }
-PERCPU_GATE_MUST_USE static inline uint32_t percpu_gate_ordered_resurrect(percpu_gate_control *control)
+PERCPU_GATE_MUST_USE static inline percpu_gate_answer percpu_gate_ordered_resurrect(percpu_gate_control *control)
 {
     void *order = percpu_gate_order_of_control(control);
     __tsan_release(order);
-    uint32_t answer = percpu_gate_resurrect(control);
+    percpu_gate_answer answer = percpu_gate_resurrect(control);
     return percpu_gate_acquires(answer == PERCPU_GATE_WAS_AT_ZERO, order, answer);
 }
 

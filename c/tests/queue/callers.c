@@ -9,6 +9,7 @@
 #include "freeze_queue_waits.h"
 
 #include <ctype.h>
+#include <pthread.h>
 #include <stdio.h>
 #include <stdlib.h>
 #include <string.h>
@@ -19,7 +20,7 @@
 
 /* Each name of the header, its number, which programs keep, and words of what it says, which tell it from each other. */
 #define NAMED(name, number, words) {#name, FREEZE_QUEUE_##name, number, words}
-static const struct { const char *name; uint32_t is, number; const char *words; } answers[] = {
+static const struct { const char *name; freeze_queue_answer is; uint32_t number; const char *words; } answers[] = {
     NAMED(OK, 0, "done"), NAMED(LAST, 1, "done, and"), NAMED(NOT_ENTERED, 2, "isn't entered"),
     NAMED(NOT_ENTERED_LAST, 3, "isn't entered, and"), NAMED(DRAINED, 4, "drained already"),
     NAMED(LIVE_AGAIN, 5, "live again"), NAMED(ERR_DEPTH_FULL, 17, "1000"), NAMED(ERR_NOT_FROZEN, 18, "isn't frozen"),
@@ -30,10 +31,12 @@ static const struct { const char *name; uint32_t is, number; const char *words; 
     NAMED(ERR_TIMED_OUT, 30, "deadline"), NAMED(ERR_DYING, 31, "dying"),
     NAMED(ERR_CLOSED, 32, "closed"), NAMED(ERR_OPEN, 33, "is open"),
     NAMED(ERR_BAD_SLOT, 34, "no such slot"), NAMED(ERR_BAD_SIZE, 35, "slots or tags"), NAMED(ERR_NO_MEMORY, 36, "memory"),
-    NAMED(ERR_IN_USE, 37, "in use"), NAMED(ERR_OTHER_QUEUE, 38, "another queue"), NAMED(ERR_NO_TAG, 39, "was given out"),
+    NAMED(ERR_IN_USE, 37, "has waits"), NAMED(ERR_OTHER_QUEUE, 38, "another queue"), NAMED(ERR_NO_TAG, 39, "was given out"),
     NAMED(ERR_ALREADY_ENTERED, 48, "has entered"), NAMED(ERR_TAG_NOT_ENTERED, 49, "hasn't entered"),
     NAMED(ERR_BAD_MODE, 50, "no such mode"), NAMED(ERR_BAD_RANGE, 51, "2^33"),
-    NAMED(ERR_TAG_NOT_OUT, 52, "back already"),
+    NAMED(ERR_TAG_NOT_OUT, 52, "back already"), NAMED(ERR_BAD_DEADLINE, 53, "nanoseconds"),
+    NAMED(ERR_BAD_RETURN, 54, "1 to 15"), NAMED(ERR_IN_UPDATE, 55, "waits for the update"),
+    NAMED(ERR_NO_EVENT, 56, "descriptor"),
 };
 
 /* A text fits into a line of a log, behind a colon. */
@@ -57,12 +60,12 @@ static void answers_are_named(void)
         TELLS(freeze_queue_is_refused(answers[i].is), i >= 6);
         TELLS(freeze_queue_is_misuse(answers[i].is), i >= 18);
     }
-    TELLS(is_plain(freeze_queue_text(UINT32_MAX)) && is_plain(freeze_queue_text(6)), true);
+    TELLS(is_plain(freeze_queue_text((freeze_queue_answer)UINT32_MAX)) && is_plain(freeze_queue_text((freeze_queue_answer)6)), true);
 }
 
 /* ---- By the first page alone: the freezer under a lock of the caller's own ---- */
 
-static freeze_queue_freezer freezer;
+static freeze_queue freezer;
 static freeze_queue_limits limits = {64, 8, 0, 1};
 static pthread_mutex_t own = PTHREAD_MUTEX_INITIALIZER;
 static pthread_cond_t told = PTHREAD_COND_INITIALIZER, live = PTHREAD_COND_INITIALIZER;
@@ -88,7 +91,8 @@ static void wakes(pthread_cond_t *who)
 static uint32_t enters(struct caller *me)
 {
     for (;;) {
-        uint32_t depth = 1, answer = freeze_queue_try_enter(&me->tag, me->number);
+        uint32_t depth = 1;
+        freeze_queue_answer answer = freeze_queue_try_enter(&me->tag, me->number);
         if (freeze_queue_is_drained(answer))
             wakes(&told);
         if (answer != FREEZE_QUEUE_NOT_ENTERED && answer != FREEZE_QUEUE_NOT_ENTERED_LAST)
@@ -119,7 +123,7 @@ static void *submits(void *of)
     while (!__atomic_load_n(&over, __ATOMIC_RELAXED)) {
         me->wrong += enters(me) != FREEZE_QUEUE_OK;
         sends(me);
-        uint32_t answer = freeze_queue_leave(&me->tag, me->number);
+        freeze_queue_answer answer = freeze_queue_leave(&me->tag, me->number);
         me->wrong += freeze_queue_is_refused(answer);
         if (freeze_queue_is_drained(answer))
             wakes(&told);
@@ -183,7 +187,7 @@ static void *submits_and_waits(void *of)
     struct caller *me = (struct caller *)of;
     while (!__atomic_load_n(&over, __ATOMIC_RELAXED)) {
         struct timespec soon = freeze_queue_deadline(50000);
-        uint32_t answer = freeze_queue_waits_enter(&waits, &me->tag, me->number, me->number ? NULL : &soon);
+        freeze_queue_answer answer = freeze_queue_waits_enter(&waits, &me->tag, me->number, me->number ? NULL : &soon);
         if (answer == FREEZE_QUEUE_ERR_TIMED_OUT && me->number == 0)
             continue;
         me->wrong += answer != FREEZE_QUEUE_OK;
@@ -206,7 +210,7 @@ static void *freezes_and_waits(void *of)
         next.max = 1 + (uint32_t)i % 64;
         next.chunk = 4 * next.max;
         pthread_mutex_lock(&each[me->number]);
-        uint32_t answer = freeze_queue_waits_freeze(&waits, i % 2 ? NULL : &soon);
+        freeze_queue_answer answer = freeze_queue_waits_freeze(&waits, i % 2 ? NULL : &soon);
         if (answer == FREEZE_QUEUE_OK) {
             me->wrong += !freeze_queue_waits_is_drained(&waits);
             me->wrong += freeze_queue_waits_set(&waits, &next) != FREEZE_QUEUE_OK;

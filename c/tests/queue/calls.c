@@ -5,7 +5,7 @@
 #include "../row.h"
 #include <stdlib.h>
 
-static freeze_queue_freezer freezer;
+static freeze_queue freezer;
 static freeze_queue_tag tags[FREEZE_QUEUE_MOST_TAGS];
 static uint32_t hardware;
 
@@ -151,6 +151,6 @@ int main(void)
     int status = answers_row(make_queue, ask);
     for (size_t at = 0; at < FREEZE_QUEUE_MOST_TAGS; at++)
         freeze_queue_free_tag(&tags[at]);
-    freeze_queue_free_freezer(&freezer);
+    freeze_queue_free(&freezer);
     return status;
 }

@@ -1,6 +1,7 @@
 /* Deadlines so near and so far as there are: each lies as many nanoseconds from now as was asked, and one that is
  * centuries away doesn't pass. */
 #define _POSIX_C_SOURCE 200809L
+#include "inline.h"
 #include <stdbool.h>
 #include <stdio.h>
 #include <stdlib.h>
@@ -16,6 +17,7 @@ static int shows(clockid_t clock, struct timespec *at)
 }
 #define clock_gettime shows
 #include "freeze_queue_pool.h"
+#include "takes_waiting.h"
 #include "../is.h"
 
 #define IS(call, want) is(#call, call, FREEZE_QUEUE_##want, __LINE__)
@@ -61,7 +63,7 @@ static void carries_a_second(void)
     stands = NULL;
 }
 
-static freeze_queue_freezer freezer;
+static freeze_queue freezer;
 static freeze_queue_waits waits;
 static freeze_queue_pool pool;
 static freeze_queue_tag *inside;
@@ -120,7 +122,7 @@ static void waits_until(struct timespec far)
     end(thread);
     IS(freeze_queue_waits_leave(&waits, inside, 0), OK);
     thread = begin(gives);
-    TELLS(freeze_queue_pool_take_waiting(&pool, 0, &far) == inside, true);
+    TELLS(takes_waiting(&pool, 0, &far) == inside, true);
     end(thread);
     freeze_queue_pool_give(&pool, inside);
 }
@@ -140,12 +142,12 @@ int main(void)
     lies_there(UINT64_MAX - 999999999, 18446744072, 709551616);
     lies_there(UINT64_MAX, 18446744073, 709551615);
     if (freeze_queue_new(&freezer, &limits, 1, 1) || freeze_queue_waits_init(&waits, &freezer) ||
-        freeze_queue_pool_fill(&pool, &freezer, 1))
+        freeze_queue_pool_fill(&pool, &waits, 1))
         return 1;
     waits_until(freeze_queue_deadline(UINT64_MAX));
     waits_until(freeze_queue_deadline(UINT64_MAX - 999999999));
     waits_until(freeze_queue_deadline((uint64_t)1 << 63));
-    IS(freeze_queue_pool_empty(&pool, &freezer), OK);
+    IS(freeze_queue_pool_empty(&pool), OK);
     IS(freeze_queue_remove(&freezer, &last), OK);
     freeze_queue_waits_destroy(&waits);
     printf("%s\n", failures ? "FAILED" : "as far as asked");

@@ -6,6 +6,7 @@
 #include "freeze_queue_waits.h"
 #include "../moment.h"
 
+#include <pthread.h>
 #include <stdio.h>
 #include <stdlib.h>
 
@@ -13,7 +14,7 @@ enum { THREADS = 4 };
 
 /* What a life has, in one block. */
 struct life {
-    freeze_queue_freezer freezer;
+    freeze_queue freezer;
     freeze_queue_waits waits;
     freeze_queue_tag tags[THREADS];
     uint32_t next; /* the tag of the thread that comes next */

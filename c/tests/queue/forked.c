@@ -21,22 +21,22 @@ static int child(freeze_queue_waits *waits)
 int main(void)
 {
     const freeze_queue_limits limits = {.hardware = 64};
-    freeze_queue_freezer freezer = {0};
+    freeze_queue freezer = {0};
     freeze_queue_waits waits;
     int status = 1;
     if (freeze_queue_new(&freezer, &limits, 1, 1) || freeze_queue_waits_init(&waits, &freezer) ||
         freeze_queue_waits_open_events(&waits))
         return 2;
-    bool stays = fcntl(waits.live_event, F_GETFD) == FD_CLOEXEC && fcntl(waits.drained_event, F_GETFD) == FD_CLOEXEC;
+    bool stays = fcntl(freeze_queue_waits_live_event(&waits), F_GETFD) == FD_CLOEXEC && fcntl(freeze_queue_waits_drained_event(&waits), F_GETFD) == FD_CLOEXEC;
     pid_t forked = fork();
     if (forked == 0)
         _exit(child(&waits));
     bool went_well = waitpid(forked, &status, 0) == forked && status == 0;
-    bool as_before = is_readable(waits.live_event) && !is_readable(waits.drained_event);
-    bool goes_on = freeze_queue_waits_freeze(&waits, NULL) == FREEZE_QUEUE_OK && is_readable(waits.drained_event) &&
-                   !is_readable(waits.live_event);
+    bool as_before = is_readable(freeze_queue_waits_live_event(&waits)) && !is_readable(freeze_queue_waits_drained_event(&waits));
+    bool goes_on = freeze_queue_waits_freeze(&waits, NULL) == FREEZE_QUEUE_OK && is_readable(freeze_queue_waits_drained_event(&waits)) &&
+                   !is_readable(freeze_queue_waits_live_event(&waits));
     freeze_queue_waits_destroy(&waits);
-    freeze_queue_free_freezer(&freezer);
+    freeze_queue_free(&freezer);
     bool all = stays && went_well && as_before && goes_on;
     printf("%s\n", all ? "the parent's events stay" : "FAILED");
     return !all;

@@ -12,7 +12,7 @@
 
 enum { TAGS = 63 };
 
-static freeze_queue_freezer freezer;
+static freeze_queue freezer;
 static freeze_queue_tag tags[TAGS]; /* the first is in */
 static atomic_long begun, ended;    /* queues */
 
@@ -48,7 +48,7 @@ static void one_queue(long turn)
     need(freeze_queue_poll_drained(&freezer), "not drained");
     wait_for(&ended, turn);
     freeze_queue_free_tag(&tags[0]);
-    freeze_queue_free_freezer(&freezer);
+    freeze_queue_free(&freezer);
 }
 
 int main(int argc, char **argv)

@@ -17,7 +17,7 @@ struct queue {
     uint64_t kills, releases;
 };
 
-struct tag { struct queue *queue; bool entered; };
+struct tag { struct queue *queue; bool entered, biased; };
 
 #include "own_calls.h"
 
@@ -27,7 +27,7 @@ static struct queue *locked(struct queue *queue)
     return queue;
 }
 
-static uint32_t unlocked(struct queue *queue, uint32_t answer)
+static freeze_queue_answer unlocked(struct queue *queue, freeze_queue_answer answer)
 {
     pthread_mutex_unlock(&queue->lock);
     return answer;
@@ -55,7 +55,7 @@ static bool tells(struct queue *queue)
     return queue->told = true;
 }
 
-static uint32_t refusal_of(const freeze_queue_limits *limits)
+static freeze_queue_answer refusal_of(const freeze_queue_limits *limits)
 {
     uint32_t physical = limits->physical ? limits->physical : 1;
     if (limits->hardware < 1 || limits->hardware > FREEZE_QUEUE_MOST_HARDWARE)
@@ -77,9 +77,9 @@ static freeze_queue_limits in_full(const freeze_queue_limits *limits)
     return full;
 }
 
-uint32_t freeze_queue_new_numbered(freeze_queue_freezer *freezer, const struct queue_number *number,
+freeze_queue_answer freeze_queue_new_numbered(freeze_queue *freezer, const struct queue_number *number,
                                    const freeze_queue_limits *limits, uint32_t slots, uint32_t tags);
-uint32_t freeze_queue_new_numbered(freeze_queue_freezer *freezer, const struct queue_number *number,
+freeze_queue_answer freeze_queue_new_numbered(freeze_queue *freezer, const struct queue_number *number,
                                    const freeze_queue_limits *limits, uint32_t slots, uint32_t tags)
 {
     if (freezer->is_open)
@@ -94,11 +94,11 @@ uint32_t freeze_queue_new_numbered(freeze_queue_freezer *freezer, const struct q
         return FREEZE_QUEUE_ERR_NO_MEMORY;
     *queue = (struct queue){.number = *number, .limits = in_full(limits), .slots = slots, .waiting = tags, .shares = 1};
     pthread_mutex_init(&queue->lock, NULL);
-    *freezer = (freeze_queue_freezer){.is_open = true, .at = queue};
+    *freezer = (freeze_queue){.is_open = true, .at = queue};
     return FREEZE_QUEUE_OK;
 }
 
-uint32_t freeze_queue_next_tag(freeze_queue_freezer *freezer, freeze_queue_tag *tag)
+freeze_queue_answer freeze_queue_next_tag(freeze_queue *freezer, freeze_queue_tag *tag)
 {
     if (!freezer->is_open)
         return FREEZE_QUEUE_ERR_CLOSED;
@@ -127,15 +127,15 @@ void freeze_queue_free_tag(freeze_queue_tag *tag)
     *tag = (freeze_queue_tag){0};
 }
 
-void freeze_queue_free_freezer(freeze_queue_freezer *freezer)
+void freeze_queue_free_freezer(freeze_queue *freezer)
 {
     if (!freezer->is_open)
         return;
     let_go(freezer->at);
-    *freezer = (freeze_queue_freezer){0};
+    *freezer = (freeze_queue){0};
 }
 
-uint32_t freeze_queue_give_tag_back(freeze_queue_freezer *freezer, freeze_queue_tag *tag)
+freeze_queue_answer freeze_queue_give_tag_back(freeze_queue *freezer, freeze_queue_tag *tag)
 {
     if (!freezer->is_open || !tag->is_open)
         return FREEZE_QUEUE_ERR_CLOSED;
@@ -152,7 +152,7 @@ uint32_t freeze_queue_give_tag_back(freeze_queue_freezer *freezer, freeze_queue_
     return FREEZE_QUEUE_OK;
 }
 
-uint32_t freeze_queue_remove(freeze_queue_freezer *freezer, freeze_queue_final *last)
+freeze_queue_answer freeze_queue_remove(freeze_queue *freezer, freeze_queue_final *last)
 {
     if (!freezer->is_open)
         return FREEZE_QUEUE_ERR_CLOSED;
@@ -180,12 +180,12 @@ uint64_t freeze_queue_tag_number(freeze_queue_tag *tag)
     return tag->is_open ? ((struct tag *)tag->at)->queue->number.drawn : 0;
 }
 
-uint64_t freeze_queue_freezer_number(freeze_queue_freezer *freezer)
+uint64_t freeze_queue_number(freeze_queue *freezer)
 {
     return freezer->is_open ? ((struct queue *)freezer->at)->number.drawn : 0;
 }
 
-static uint32_t enter(freeze_queue_tag *handle, uint32_t slot, bool frozen_too)
+static freeze_queue_answer enter(freeze_queue_tag *handle, uint32_t slot, bool frozen_too)
 {
     if (!handle->is_open)
         return FREEZE_QUEUE_ERR_CLOSED;
@@ -202,10 +202,19 @@ static uint32_t enter(freeze_queue_tag *handle, uint32_t slot, bool frozen_too)
     return unlocked(queue, FREEZE_QUEUE_OK);
 }
 
-uint32_t freeze_queue_try_enter(freeze_queue_tag *tag, uint32_t slot) { return enter(tag, slot, false); }
-uint32_t freeze_queue_try_enter_frozen(freeze_queue_tag *tag, uint32_t slot) { return enter(tag, slot, true); }
+freeze_queue_answer freeze_queue_try_enter(freeze_queue_tag *handle, uint32_t slot)
+{
+    freeze_queue_answer answer = enter(handle, slot, false);
+    struct tag *tag = handle->at;
+    if (answer != FREEZE_QUEUE_NOT_ENTERED || !tag->biased)
+        return answer;
+    tag->biased = false;
+    return FREEZE_QUEUE_NOT_ENTERED_LAST;
+}
+freeze_queue_answer freeze_queue_look_in(freeze_queue_tag *tag, uint32_t slot);
+freeze_queue_answer freeze_queue_look_in(freeze_queue_tag *tag, uint32_t slot) { return enter(tag, slot, true); }
 
-uint32_t freeze_queue_leave(freeze_queue_tag *handle, uint32_t slot)
+freeze_queue_answer freeze_queue_leave(freeze_queue_tag *handle, uint32_t slot)
 {
     if (!handle->is_open)
         return FREEZE_QUEUE_ERR_CLOSED;
@@ -220,21 +229,16 @@ uint32_t freeze_queue_leave(freeze_queue_tag *handle, uint32_t slot)
     return unlocked(queue, tells(queue) ? FREEZE_QUEUE_LAST : FREEZE_QUEUE_OK);
 }
 
-uint32_t freeze_queue_stay(freeze_queue_tag *handle, uint32_t slot)
+/* A biased tag counts as others do. Its next try says so, if it is refused. */
+freeze_queue_answer freeze_queue_leave_biased(freeze_queue_tag *handle, uint32_t slot)
 {
-    struct tag *tag = handle->at;
-    if (handle->is_open && tag->entered && slot < tag->queue->slots) {
-        bool live = locked(tag->queue)->depth == 0;
-        unlocked(tag->queue, 0);
-        if (live)
-            return FREEZE_QUEUE_OK;
-    }
-    uint32_t answer = freeze_queue_leave(handle, slot);
-    return answer == FREEZE_QUEUE_LAST ? FREEZE_QUEUE_NOT_ENTERED_LAST
-           : answer == FREEZE_QUEUE_OK ? FREEZE_QUEUE_NOT_ENTERED : answer;
+    freeze_queue_answer answer = freeze_queue_leave(handle, slot);
+    if (!freeze_queue_is_refused(answer))
+        ((struct tag *)handle->at)->biased = true;
+    return answer;
 }
 
-uint32_t freeze_queue_limits_of(freeze_queue_tag *handle, freeze_queue_limits *limits)
+freeze_queue_answer freeze_queue_limits_of(freeze_queue_tag *handle, freeze_queue_limits *limits)
 {
     if (!handle->is_open)
         return FREEZE_QUEUE_ERR_CLOSED;
@@ -245,7 +249,7 @@ uint32_t freeze_queue_limits_of(freeze_queue_tag *handle, freeze_queue_limits *l
     return unlocked(tag->queue, FREEZE_QUEUE_OK);
 }
 
-uint32_t freeze_queue_start_freeze(freeze_queue_freezer *freezer, uint32_t *depth)
+freeze_queue_answer freeze_queue_start_freeze(freeze_queue *freezer, uint32_t *depth)
 {
     if (!freezer->is_open)
         return FREEZE_QUEUE_ERR_CLOSED;
@@ -261,7 +265,7 @@ uint32_t freeze_queue_start_freeze(freeze_queue_freezer *freezer, uint32_t *dept
     return unlocked(queue, drained(queue) ? FREEZE_QUEUE_DRAINED : FREEZE_QUEUE_OK);
 }
 
-bool freeze_queue_poll_drained(freeze_queue_freezer *freezer)
+bool freeze_queue_poll_drained(freeze_queue *freezer)
 {
     if (!freezer->is_open)
         return false;
@@ -269,7 +273,7 @@ bool freeze_queue_poll_drained(freeze_queue_freezer *freezer)
     return unlocked(queue, drained(queue));
 }
 
-uint32_t freeze_queue_set(freeze_queue_freezer *freezer, const freeze_queue_limits *limits)
+freeze_queue_answer freeze_queue_set(freeze_queue *freezer, const freeze_queue_limits *limits)
 {
     if (!freezer->is_open)
         return FREEZE_QUEUE_ERR_CLOSED;
@@ -287,7 +291,7 @@ uint32_t freeze_queue_set(freeze_queue_freezer *freezer, const freeze_queue_limi
     return unlocked(queue, FREEZE_QUEUE_OK);
 }
 
-uint32_t freeze_queue_thaw(freeze_queue_freezer *freezer, uint32_t *depth)
+freeze_queue_answer freeze_queue_thaw(freeze_queue *freezer, uint32_t *depth)
 {
     if (!freezer->is_open)
         return FREEZE_QUEUE_ERR_CLOSED;
@@ -298,14 +302,14 @@ uint32_t freeze_queue_thaw(freeze_queue_freezer *freezer, uint32_t *depth)
     return unlocked(queue, *depth == 0 ? FREEZE_QUEUE_LIVE_AGAIN : FREEZE_QUEUE_OK);
 }
 
-uint32_t freeze_queue_mode(freeze_queue_freezer *freezer, uint32_t mode)
+freeze_queue_answer freeze_queue_mode(freeze_queue *freezer, uint32_t mode)
 {
     if (!freezer->is_open)
         return FREEZE_QUEUE_ERR_CLOSED;
     return mode > FREEZE_QUEUE_MODE_ATOMIC ? FREEZE_QUEUE_ERR_BAD_MODE : FREEZE_QUEUE_OK;
 }
 
-uint32_t freeze_queue_depth(freeze_queue_freezer *freezer, uint32_t *depth)
+freeze_queue_answer freeze_queue_depth(freeze_queue *freezer, uint32_t *depth)
 {
     if (!freezer->is_open)
         return FREEZE_QUEUE_ERR_CLOSED;
@@ -313,7 +317,7 @@ uint32_t freeze_queue_depth(freeze_queue_freezer *freezer, uint32_t *depth)
     return unlocked(freezer->at, FREEZE_QUEUE_OK);
 }
 
-uint32_t freeze_queue_limits_in_force(freeze_queue_freezer *freezer, freeze_queue_limits *limits)
+freeze_queue_answer freeze_queue_limits_in_force(freeze_queue *freezer, freeze_queue_limits *limits)
 {
     if (!freezer->is_open)
         return FREEZE_QUEUE_ERR_CLOSED;
@@ -321,7 +325,7 @@ uint32_t freeze_queue_limits_in_force(freeze_queue_freezer *freezer, freeze_queu
     return unlocked(freezer->at, FREEZE_QUEUE_OK);
 }
 
-uint32_t freeze_queue_first_piece(const freeze_queue_limits *limits, uint64_t start, uint32_t count, uint32_t *piece)
+freeze_queue_answer freeze_queue_first_piece(const freeze_queue_limits *limits, uint64_t start, uint32_t count, uint32_t *piece)
 {
     uint32_t refusal = refusal_of(limits);
     if (refusal)

@@ -21,7 +21,7 @@ static struct submitter {
     atomic_ulong turns; /* with order, so that who has seen one end may write what it read */
 } submitters[MOST];
 
-static freeze_queue_freezer freezer;
+static freeze_queue freezer;
 static freeze_queue_limits setting = {.hardware = 64, .max = 64, .chunk = 0, .physical = 1}; /* plain */
 static long freeze, all_served, threads;   /* freeze: plain, written before each, and read by who is told of its drain */
 static atomic_bool over;                   /* relaxed: it orders nothing */

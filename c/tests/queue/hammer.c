@@ -4,7 +4,9 @@
  * the queue reads the counts and writes the setting. Words: freezes, submitters, tags (fewer than submitters: these wait for
  * one), freezers. */
 #define _POSIX_C_SOURCE 200809L
+#include "inline.h"
 #include "freeze_queue_pool.h"
+#include "takes_waiting.h"
 #include "../need.h"
 
 #include <stdio.h>
@@ -12,7 +14,7 @@
 
 enum { MOST = 8, MOST_FREEZERS = 2 };
 
-static freeze_queue_freezer freezer;
+static freeze_queue freezer;
 static freeze_queue_waits waits;
 static freeze_queue_pool pool;
 static freeze_queue_limits setting = {.hardware = 64, .max = 64, .chunk = 0, .physical = 1}; /* plain */
@@ -41,7 +43,7 @@ static void *submit(void *of)
     struct submitter *me = of;
     freeze_queue_limits limits;
     for (long turn = 0; !__atomic_load_n(&over, __ATOMIC_RELAXED); turn++) {
-        freeze_queue_tag *tag = freeze_queue_pool_take_waiting(&pool, me->number, NULL);
+        freeze_queue_tag *tag = takes_waiting(&pool, me->number, NULL);
         if (enters(me, tag, turn)) {
             need(freeze_queue_limits_of(tag, &limits) == FREEZE_QUEUE_OK, "limits");
             need(limits.max == setting.max && limits.chunk == setting.chunk, "another setting");
@@ -57,7 +59,7 @@ static void *submit(void *of)
 /* While the queue is drained: the counts are read, and a setting is made. Under the lock, since two threads freeze. */
 static void change(uint32_t max)
 {
-    pthread_mutex_lock(&waits.lock);
+    pthread_mutex_lock(&IN_WAITS->lock);
     for (int i = 0; i < MOST; i++) {
         all_served += submitters[i].served;
         submitters[i].served = 0;
@@ -65,7 +67,7 @@ static void change(uint32_t max)
     setting.max = max;
     setting.chunk = 4 * max;
     need(freeze_queue_set(&freezer, &setting) == FREEZE_QUEUE_OK, "a set");
-    pthread_mutex_unlock(&waits.lock);
+    pthread_mutex_unlock(&IN_WAITS->lock);
 }
 
 static void *freeze(void *of)
@@ -116,9 +118,9 @@ int main(int argc, char **argv)
     freezes = (argc > 1 ? atol(argv[1]) : 10000) / freezers;
     need(freeze_queue_new(&freezer, &setting, (uint32_t)threads, tags) == FREEZE_QUEUE_OK, "no queue");
     need(freeze_queue_set(&freezer, &setting) == FREEZE_QUEUE_ERR_NOT_FROZEN, "a set while live");
-    need(freeze_queue_waits_init(&waits, &freezer) == 0 && freeze_queue_pool_fill(&pool, &freezer, tags) == 0, "no waits");
+    need(freeze_queue_waits_init(&waits, &freezer) == 0 && freeze_queue_pool_fill(&pool, &waits, tags) == 0, "no waits");
     run(threads);
-    need(freeze_queue_pool_empty(&pool, &freezer) == FREEZE_QUEUE_OK, "tags are out");
+    need(freeze_queue_pool_empty(&pool) == FREEZE_QUEUE_OK, "tags are out");
     need(freeze_queue_remove(&freezer, &last) == FREEZE_QUEUE_OK, "no removal");
     freeze_queue_waits_destroy(&waits);
     for (long i = 0; i < threads; i++) {

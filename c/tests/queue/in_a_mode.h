@@ -6,7 +6,7 @@
 #define IS(call, want) is(#call, call, FREEZE_QUEUE_##want, __LINE__)
 
 /* Brings a queue into a mode, and freezes it so often, with the last of its three tags in, and the first if asked for. */
-static void is_in_a_mode(freeze_queue_freezer *freezer, freeze_queue_tag *tags, uint32_t mode, uint32_t freezes, bool is_in)
+static void is_in_a_mode(freeze_queue *freezer, freeze_queue_tag *tags, uint32_t mode, uint32_t freezes, bool is_in)
 {
     uint32_t depth;
     IS(freeze_queue_mode(freezer, mode), OK);

@@ -9,7 +9,7 @@
 enum { ROUNDS = 12345 };
 
 static const freeze_queue_limits limits = {.hardware = 8, .max = 3, .chunk = 0, .physical = 1};
-static freeze_queue_freezer freezer;
+static freeze_queue freezer;
 static freeze_queue_tag tags[3];
 static freeze_queue_final last;
 static uint32_t depth;
@@ -220,7 +220,7 @@ static void freed_handles(uint32_t mode, bool is_in, uint32_t freezes)
     freeze_queue_free_tag(&tags[0]);
     TELLS(words_changed(), 1);
     keep_all();
-    freeze_queue_free_freezer(&freezer);
+    freeze_queue_free(&freezer);
     TELLS(words_changed(), 1);
     freeze_queue_free_tag(&tags[1]);
     freeze_queue_free_tag(&tags[2]);
@@ -240,7 +240,7 @@ static void the_same_mode_again(uint32_t mode, uint32_t freezes)
     IS(freeze_queue_mode(&freezer, mode), OK);
     TELLS(words_changed(), 0);
     freeze_queue_free_tag(&tags[0]);
-    freeze_queue_free_freezer(&freezer);
+    freeze_queue_free(&freezer);
 }
 
 int main(void)

@@ -1,12 +1,13 @@
 /* A refused entering that is the last step of a drain (NOT_ENTERED_LAST) wakes those who wait for the drain, as it seldom
  * does in a race: here the try lets the last tag leave before it answers. */
 #define _POSIX_C_SOURCE 200809L
+#include "inline.h"
 #include "freeze_queue.h"
 
 #include <stdio.h>
 #include <stdlib.h>
 
-static freeze_queue_freezer freezer;
+static freeze_queue freezer;
 static freeze_queue_tag inside, outside;
 
 /* What of both is told LAST is told to the try. */
@@ -49,7 +50,7 @@ int main(void)
     printf("%s\n", freeze_queue_text(frozen));
     freeze_queue_free_tag(&inside);
     freeze_queue_free_tag(&outside);
-    freeze_queue_free_freezer(&freezer);
+    freeze_queue_free(&freezer);
     freeze_queue_waits_destroy(&waits);
     return frozen != FREEZE_QUEUE_OK;
 }

@@ -12,7 +12,7 @@ enum { MANY_FREEZES = 100000, MANY_QUEUES = 1000000 };
 /* A slot's word is this where it is open and nothing is counted on it. */
 static const uint64_t EMPTY = (uint64_t)1 << 32;
 
-static freeze_queue_freezer freezer;
+static freeze_queue freezer;
 static freeze_queue_tag tag, other;
 static freeze_queue_final last;
 static uint32_t depth;
@@ -138,7 +138,7 @@ static void freed_at_each_depth(void)
         for (uint32_t i = 0; i < freezes; i++)
             IS(freeze_queue_start_freeze(&freezer, &depth), OK);
         keep_all();
-        freeze_queue_free_freezer(&freezer);
+        freeze_queue_free(&freezer);
         TELLS(words_changed(), 1);
         freeze_queue_free_tag(&tag);
         TELLS(blocks_now(), 0);

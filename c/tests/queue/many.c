@@ -6,7 +6,7 @@
 #include <stdio.h>
 #include <stdlib.h>
 
-static freeze_queue_freezer freezer;
+static freeze_queue freezer;
 static freeze_queue_tag tags[FREEZE_QUEUE_MOST_TAGS];
 static long turn;
 

@@ -22,16 +22,15 @@ static void is_unwritten(int line)
 
 static void closed_handles(void)
 {
-    freeze_queue_freezer freezer = {0};
+    freeze_queue freezer = {0};
     freeze_queue_tag tag = {0};
     IS(freeze_queue_next_tag(&freezer, &tag), ERR_CLOSED);
     IS(freeze_queue_give_tag_back(&freezer, &tag), ERR_CLOSED);
     IS(freeze_queue_remove(&freezer, &last), ERR_CLOSED);
     TELLS(freeze_queue_tag_number(&tag), 0);
-    TELLS(freeze_queue_freezer_number(&freezer), 0);
+    TELLS(freeze_queue_number(&freezer), 0);
     IS(freeze_queue_try_enter(&tag, 0), ERR_CLOSED);
     IS(freeze_queue_try_enter_frozen(&tag, 0), ERR_CLOSED);
-    IS(freeze_queue_stay(&tag, 0), ERR_CLOSED);
     IS(freeze_queue_leave(&tag, 0), ERR_CLOSED);
     IS(freeze_queue_limits_of(&tag, &told), ERR_CLOSED);
     IS(freeze_queue_start_freeze(&freezer, &number), ERR_CLOSED);
@@ -43,7 +42,7 @@ static void closed_handles(void)
     IS(freeze_queue_depth(&freezer, &number), ERR_CLOSED);
     IS(freeze_queue_limits_in_force(&freezer, &told), ERR_CLOSED);
     freeze_queue_free_tag(&tag);
-    freeze_queue_free_freezer(&freezer);
+    freeze_queue_free(&freezer);
     is_unwritten(__LINE__);
 }
 
@@ -67,19 +66,19 @@ static void default_limits(void)
 {
     const freeze_queue_limits asked = {.hardware = 24};
     freeze_queue_limits given = {7, 7, 7, 7};
-    freeze_queue_freezer freezer = {0};
+    freeze_queue freezer = {0};
     IS(freeze_queue_new(&freezer, &asked, 1, 1), OK);
     IS(freeze_queue_limits_in_force(&freezer, &given), OK);
     TELLS(given.hardware == 24 && given.max == 24 && given.chunk == 0 && given.physical == 1, true);
     IS(freeze_queue_first_piece(&asked, 7, 100, &number), OK);
     TELLS(number, 24);
     number = 7;
-    freeze_queue_free_freezer(&freezer);
+    freeze_queue_free(&freezer);
 }
 
-static void refused_limits(freeze_queue_freezer *freezer)
+static void refused_limits(freeze_queue *freezer)
 {
-    freeze_queue_freezer closed = {0};
+    freeze_queue closed = {0};
     for (int i = 0; i < WRONG; i++) {
         TELLS(freeze_queue_new(&closed, &wrong[i].limits, 0, 1024), wrong[i].want);
         TELLS(freeze_queue_set(freezer, &wrong[i].limits), wrong[i].want);
@@ -96,33 +95,28 @@ static void refused_limits(freeze_queue_freezer *freezer)
     number = 7;
 }
 
-static void a_tag(freeze_queue_freezer *freezer, freeze_queue_tag *tag)
+static void a_tag(freeze_queue *freezer, freeze_queue_tag *tag)
 {
     IS(freeze_queue_try_enter(tag, 2), ERR_BAD_SLOT);
     IS(freeze_queue_try_enter_frozen(tag, UINT32_MAX), ERR_BAD_SLOT);
     IS(freeze_queue_leave(tag, 2), ERR_BAD_SLOT);
     IS(freeze_queue_leave(tag, 0), ERR_TAG_NOT_ENTERED);
-    IS(freeze_queue_stay(tag, 2), ERR_BAD_SLOT);
-    IS(freeze_queue_stay(tag, 0), ERR_TAG_NOT_ENTERED);
     IS(freeze_queue_limits_of(tag, &told), ERR_TAG_NOT_ENTERED);
     IS(freeze_queue_try_enter(tag, 1), OK);
     IS(freeze_queue_try_enter(tag, 0), ERR_ALREADY_ENTERED);
     IS(freeze_queue_try_enter_frozen(tag, 0), ERR_ALREADY_ENTERED);
     IS(freeze_queue_try_enter(tag, 2), ERR_BAD_SLOT);
     IS(freeze_queue_leave(tag, 2), ERR_BAD_SLOT);
-    IS(freeze_queue_stay(tag, 2), ERR_BAD_SLOT);
-    IS(freeze_queue_stay(tag, 0), OK);
     IS(freeze_queue_give_tag_back(freezer, tag), ERR_ALREADY_ENTERED);
     TELLS(tag->is_open, true);
     is_unwritten(__LINE__);
     IS(freeze_queue_leave(tag, 0), OK);
     IS(freeze_queue_leave(tag, 0), ERR_TAG_NOT_ENTERED);
-    IS(freeze_queue_stay(tag, 0), ERR_TAG_NOT_ENTERED);
     IS(freeze_queue_try_enter_frozen(tag, 0), OK);
     IS(freeze_queue_leave(tag, 1), OK);
 }
 
-static void set_and_look(freeze_queue_freezer *freezer, uint32_t max)
+static void set_and_look(freeze_queue *freezer, uint32_t max)
 {
     const freeze_queue_limits limits = {8, max, 5, 2};
     IS(freeze_queue_set(freezer, &limits), OK);
@@ -134,7 +128,7 @@ static void set_and_look(freeze_queue_freezer *freezer, uint32_t max)
 }
 
 /* A freeze with a tag in, one more on it, and a look under a freeze. */
-static void a_freeze(freeze_queue_freezer *freezer, freeze_queue_tag *tag, freeze_queue_tag *other)
+static void a_freeze(freeze_queue *freezer, freeze_queue_tag *tag, freeze_queue_tag *other)
 {
     IS(freeze_queue_set(freezer, &plain), ERR_NOT_FROZEN);
     IS(freeze_queue_thaw(freezer, &number), ERR_NOT_FROZEN);
@@ -165,7 +159,7 @@ static void a_freeze(freeze_queue_freezer *freezer, freeze_queue_tag *tag, freez
 }
 
 /* A freeze that is thawed with a tag in: of it nobody is told. */
-static void a_thaw_in_between(freeze_queue_freezer *freezer, freeze_queue_tag *tag)
+static void a_thaw_in_between(freeze_queue *freezer, freeze_queue_tag *tag)
 {
     IS(freeze_queue_try_enter(tag, 0), OK);
     IS(freeze_queue_start_freeze(freezer, &number), OK);
@@ -192,7 +186,7 @@ static void numbers(void)
 {
     static const char *const none = "no answer of a queue";
     for (uint32_t n = 0; n <= 80; n++) {
-        bool is_answer = n <= 5 || (n >= 17 && n <= 21) || (n >= 25 && n <= 31) || (n >= 32 && n <= 39) || (n >= 48 && n <= 52);
+        bool is_answer = n <= 5 || (n >= 17 && n <= 21) || (n >= 25 && n <= 31) || (n >= 32 && n <= 39) || (n >= 48 && n <= 56);
         TELLS(freeze_queue_is_misuse(n), n >= 32);
         TELLS(freeze_queue_is_refused(n), n >= 16);
         TELLS(freeze_queue_is_drained(n), n == 1 || n == 3 || n == 4);
@@ -202,15 +196,15 @@ static void numbers(void)
     }
 }
 
-static void two_queues(freeze_queue_freezer *freezer, freeze_queue_tag *tag)
+static void two_queues(freeze_queue *freezer, freeze_queue_tag *tag)
 {
-    freeze_queue_freezer other = {0};
+    freeze_queue other = {0};
     freeze_queue_tag others = {0};
     freeze_queue_final left;
     IS(freeze_queue_new(&other, &plain, 512, 1023), OK);
-    TELLS(freeze_queue_freezer_number(&other) > freeze_queue_freezer_number(freezer), true);
+    TELLS(freeze_queue_number(&other) > freeze_queue_number(freezer), true);
     IS(freeze_queue_next_tag(&other, &others), OK);
-    TELLS(freeze_queue_tag_number(&others), freeze_queue_freezer_number(&other));
+    TELLS(freeze_queue_tag_number(&others), freeze_queue_number(&other));
     IS(freeze_queue_give_tag_back(freezer, &others), ERR_OTHER_QUEUE);
     IS(freeze_queue_give_tag_back(&other, tag), ERR_OTHER_QUEUE);
     IS(freeze_queue_try_enter(&others, 511), OK);
@@ -224,7 +218,7 @@ static void two_queues(freeze_queue_freezer *freezer, freeze_queue_tag *tag)
     TELLS(other.is_open, false);
 }
 
-static void ends(freeze_queue_freezer *freezer, freeze_queue_tag *tag, freeze_queue_tag *other)
+static void ends(freeze_queue *freezer, freeze_queue_tag *tag, freeze_queue_tag *other)
 {
     IS(freeze_queue_remove(freezer, &last), ERR_TAGS_OUT);
     is_unwritten(__LINE__);
@@ -243,7 +237,7 @@ static void ends(freeze_queue_freezer *freezer, freeze_queue_tag *tag, freeze_qu
 
 int main(void)
 {
-    freeze_queue_freezer freezer = {0};
+    freeze_queue freezer = {0};
     freeze_queue_tag tag = {0}, other = {0}, none = {0};
     closed_handles();
     numbers();

@@ -1,9 +1,8 @@
 /* Random calls on one thread, right ones and wrong ones, on a few queues: each answer, and each value that is written,
  * is what a model of plain numbers says. Words: the seed, and how many calls. */
 #include "freeze_queue.h"
+#include "../random_calls.h"
 
-#include <stdio.h>
-#include <stdlib.h>
 #include <string.h>
 
 enum { FREEZERS = 3, TAGS = 12, QUEUES = 1 << 16, UNWRITTEN = 12345 };
@@ -16,26 +15,8 @@ struct queue {
 
 static struct queue queues[QUEUES];
 static struct queue *next_queue = queues;
-static struct { freeze_queue_freezer handle; struct queue *queue; } freezers[FREEZERS];
+static struct { freeze_queue handle; struct queue *queue; } freezers[FREEZERS];
 static struct { freeze_queue_tag handle; struct queue *queue; bool entered; } tags[TAGS];
-static uint64_t seed;
-static long calls;
-
-static uint32_t any_below(uint32_t n)
-{
-    seed = seed * 6364136223846793005u + 1442695040888963407u;
-    return (uint32_t)(seed >> 33) % n;
-}
-
-static void is(uint64_t answer, uint64_t want, const char *what)
-{
-    if (answer == want)
-        return;
-    fprintf(stderr, "call %ld: %s is %lu, not %lu\n", calls, what, (unsigned long)answer, (unsigned long)want);
-    exit(1);
-}
-
-#define IS(value, want) is(value, want, #value)
 
 static void are(const freeze_queue_limits *limits, const freeze_queue_limits *want)
 {
@@ -111,7 +92,7 @@ static void make(uint32_t f)
     if (want)
         return;
     *next_queue = (struct queue){.slots = slots, .waiting = out, .limits = kept(limits)};
-    next_queue->number = freeze_queue_freezer_number(&freezers[f].handle);
+    next_queue->number = freeze_queue_number(&freezers[f].handle);
     IS(next_queue->number > (next_queue == queues ? 0 : next_queue[-1].number), true); /* no other queue has it */
     freezers[f].queue = next_queue++;
 }
@@ -181,7 +162,7 @@ static void enter(uint32_t t, bool frozen_too)
     tags[t].entered = true;
 }
 
-/* What leave and stay refuse; FREEZE_QUEUE_OK if nothing. */
+/* What leave refuses; FREEZE_QUEUE_OK if nothing. */
 static uint32_t refused_of_entered(uint32_t t, uint32_t slot)
 {
     const struct queue *q = tags[t].queue;
@@ -203,20 +184,6 @@ static void leave(uint32_t t)
         q->releases += want;
     }
     IS(freeze_queue_leave(&tags[t].handle, slot), want);
-}
-
-static void stay(uint32_t t)
-{
-    struct queue *q = tags[t].queue;
-    uint32_t slot = some_slot(q);
-    uint32_t want = refused_of_entered(t, slot);
-    if (!want && q->depth > 0) {
-        tags[t].entered = false;
-        q->entered--;
-        want = drained(q) ? FREEZE_QUEUE_NOT_ENTERED_LAST : FREEZE_QUEUE_NOT_ENTERED;
-        q->releases += drained(q);
-    }
-    IS(freeze_queue_stay(&tags[t].handle, slot), want);
 }
 
 static void look(uint32_t t)
@@ -278,7 +245,7 @@ static void ask(uint32_t f)
     uint32_t want = q ? FREEZE_QUEUE_OK : FREEZE_QUEUE_ERR_CLOSED, depth = UNWRITTEN, mode = any_below(3);
     freeze_queue_limits limits = unwritten;
     IS(freeze_queue_poll_drained(&freezers[f].handle), q && drained(q));
-    IS(freeze_queue_freezer_number(&freezers[f].handle), q ? q->number : 0);
+    IS(freeze_queue_number(&freezers[f].handle), q ? q->number : 0);
     IS(freeze_queue_depth(&freezers[f].handle, &depth), want);
     IS(depth, q ? q->depth : UNWRITTEN);
     IS(freeze_queue_limits_in_force(&freezers[f].handle, &limits), want);
@@ -329,7 +296,7 @@ static void cut(void)
 static void let_go(uint32_t f, uint32_t t)
 {
     if (any_below(2)) {
-        freeze_queue_free_freezer(&freezers[f].handle);
+        freeze_queue_free(&freezers[f].handle);
         freezers[f].queue = NULL;
     } else {
         freeze_queue_free_tag(&tags[t].handle); /* entered, it stays so for ever, and it is out for ever */
@@ -339,7 +306,7 @@ static void let_go(uint32_t f, uint32_t t)
 
 static void call(uint32_t f, uint32_t t)
 {
-    switch (any_below(33)) {
+    switch (any_below(30)) {
     case 0: case 1: make(f); break;
     case 2: case 3: case 4: give(f, t); break;
     case 5: case 6: take_back(f, t); break;
@@ -353,7 +320,6 @@ static void call(uint32_t f, uint32_t t)
     case 25: case 26: set(f); break;
     case 27: ask(f); break;
     case 28: cut(); break;
-    case 29: case 30: case 31: stay(t); break;
     default: if (any_below(20) == 0) let_go(f, t);
     }
 }
@@ -372,7 +338,7 @@ int main(int argc, char **argv)
     for (int i = 0; i < TAGS; i++)
         freeze_queue_free_tag(&tags[i].handle);
     for (int i = 0; i < FREEZERS; i++)
-        freeze_queue_free_freezer(&freezers[i].handle);
+        freeze_queue_free(&freezers[i].handle);
     printf("%ld calls, %ld queues\n", calls, (long)(next_queue - queues));
     return 0;
 }

@@ -1,4 +1,4 @@
-/* All orders of two to four threads at the waits (orders.h): entering that waits, staying, freezes that nest, changes, a
+/* All orders of two to four threads at the waits (orders.h): entering that waits, freezes that nest, changes, a
  * queue that dies, and its end. Prints for each play how many orders and states it went through. */
 #include "orders_queue.h"
 
@@ -11,7 +11,7 @@ static void at_the_last_depth(void) { begin_at(FREEZE_QUEUE_MOST_DEPTH - 1); }
 static void is_live(void)
 {
     NEED(the_queue()->depth == 0 && the_queue()->entered == 0);
-    NEED(waits.inside == 0);
+    NEED(IN_WAITS->inside == 0);
 }
 
 static void submits(int me)
@@ -42,20 +42,6 @@ static void freezes_while_two_submit(int me)
     NEED(freeze_queue_waits_thaw(&waits) == FREEZE_QUEUE_LIVE_AGAIN);
 }
 
-/* A busy thread stays between its requests, and makes room for a freeze. */
-static void stays_beside_a_freeze(int me)
-{
-    if (me == 2) {
-        NEED(freeze_queue_waits_freeze(&waits, NULL) == FREEZE_QUEUE_OK);
-        NEED(freeze_queue_waits_thaw(&waits) == FREEZE_QUEUE_LIVE_AGAIN);
-        return;
-    }
-    NEED(freeze_queue_waits_enter(&waits, &tags[me], (uint32_t)me, NULL) == FREEZE_QUEUE_OK);
-    uint32_t answer = freeze_queue_waits_stay(&waits, &tags[me], (uint32_t)me, NULL);
-    NEED(answer == FREEZE_QUEUE_OK || answer == FREEZE_QUEUE_LIVE_AGAIN);
-    NEED(freeze_queue_waits_leave(&waits, &tags[me], (uint32_t)me) == FREEZE_QUEUE_OK);
-}
-
 static void looks_in(int me)
 {
     if (me == 0) {
@@ -66,7 +52,7 @@ static void looks_in(int me)
     } else {
         uint32_t answer = freeze_queue_try_enter_frozen(&tags[2], 2);
         if (freeze_queue_is_drained(answer))
-            freeze_queue_waits_tell(&waits);
+            freeze_queue_waits_notify(&waits);
         if (answer == FREEZE_QUEUE_OK)
             NEED(freeze_queue_waits_leave(&waits, &tags[2], 2) == FREEZE_QUEUE_OK);
     }
@@ -110,11 +96,13 @@ static void freezes_for_a_while(int me)
 
 static uint32_t adds_to_max(freeze_queue_limits *limits, void *by)
 {
+    step(__LINE__); /* others go on while it runs */
     limits->max += *(uint32_t *)by;
     return FREEZE_QUEUE_OK;
 }
 static uint32_t adds_to_chunk(freeze_queue_limits *limits, void *by)
 {
+    step(__LINE__);
     limits->chunk += *(uint32_t *)by;
     return FREEZE_QUEUE_OK;
 }
@@ -127,6 +115,37 @@ static void nothing_is_lost(void)
 {
     is_live();
     NEED(the_queue()->limits.max == 8 + 1 + 3 && the_queue()->limits.chunk == 8 + 2);
+}
+
+/* An update beside a thread that freezes, sets and thaws by calls of its own: none of both is lost. */
+static void updates_beside_a_set(int me)
+{
+    const freeze_queue_limits limits = {.hardware = 64, .max = 20, .chunk = 8};
+    uint32_t by = 1;
+    if (me == 0) {
+        NEED(freeze_queue_waits_update(&waits, adds_to_max, &by, NULL) == FREEZE_QUEUE_OK);
+        return;
+    }
+    NEED(freeze_queue_waits_freeze(&waits, NULL) == FREEZE_QUEUE_OK);
+    NEED(freeze_queue_waits_set(&waits, &limits) == FREEZE_QUEUE_OK);
+    NEED(!freeze_queue_is_refused(freeze_queue_waits_thaw(&waits)));
+}
+static void the_set_is_in_force(void)
+{
+    is_live();
+    NEED(the_queue()->limits.max == 20 || the_queue()->limits.max == 21);
+}
+
+/* Updates with a deadline, and a request. */
+static void updates_for_a_while(int me)
+{
+    uint32_t by = 1, answer;
+    if (me == 2) {
+        submits(2);
+        return;
+    }
+    answer = freeze_queue_waits_update(&waits, adds_to_max, &by, me == 0 ? &soon : NULL);
+    NEED(answer == FREEZE_QUEUE_OK || (me == 0 && answer == FREEZE_QUEUE_ERR_TIMED_OUT));
 }
 
 /* ---- A queue that dies, and ends ---- */
@@ -142,7 +161,7 @@ static void dies(int me)
         NEED(freeze_queue_waits_thaw(&waits) == FREEZE_QUEUE_ERR_NOT_FROZEN);
     }
 }
-static void is_dead(void) { NEED(the_queue()->depth == 1 && waits.inside == 0); }
+static void is_dead(void) { NEED(the_queue()->depth == 1 && IN_WAITS->inside == 0); }
 
 /* No room for one more freeze: the mark is refused, and nobody is told that the queue dies. */
 static void no_room(void) { begin_at(FREEZE_QUEUE_MOST_DEPTH); }
@@ -153,7 +172,7 @@ static void cant_die(int me)
     else
         NEED(freeze_queue_waits_mark_dying(&waits) == FREEZE_QUEUE_ERR_DEPTH_FULL);
 }
-static void is_as_it_was(void) { NEED(the_queue()->depth == FREEZE_QUEUE_MOST_DEPTH && !waits.is_dying); }
+static void is_as_it_was(void) { NEED(the_queue()->depth == FREEZE_QUEUE_MOST_DEPTH && !IN_WAITS->is_dying); }
 
 /* After the end its caller may free waits. */
 static void ends_for_good(void)
@@ -254,12 +273,13 @@ int main(void)
 {
     explore("two wait for a thaw", 3, frozen, thaws_what_waits, is_live);
     explore("a freeze while two submit", 3, live, freezes_while_two_submit, is_live);
-    explore("two stay beside a freeze", 3, live, stays_beside_a_freeze, is_live);
     explore("a look into a frozen queue", 3, live, looks_in, is_live);
     explore("a change beside a freeze", 3, live, changes_beside_a_freeze, is_live);
     explore("freezes at the greatest depth", 3, at_the_last_depth, freezes_at_the_last_depth, is_at_the_last_depth);
     explore("a freeze with a deadline", 3, live, freezes_for_a_while, is_live);
     explore("three updates", 3, live, updates, nothing_is_lost);
+    explore("an update beside a set", 2, live, updates_beside_a_set, the_set_is_in_force);
+    explore("updates with a deadline", 3, live, updates_for_a_while, is_live);
     explore("two are answered that the queue dies", 3, frozen, dies, is_dead);
     explore("a mark that is refused", 2, no_room, cant_die, is_as_it_was);
     explore("a queue ends", 3, live, ends, has_ended);

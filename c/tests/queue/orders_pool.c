@@ -1,6 +1,7 @@
 /* All orders of two to four threads at a pool of tags (orders.h): tags that are waited for, and a pool that ends or is emptied,
  * whose memory is gone then. Prints for each play how many orders and states it went through. */
 #include "orders_queue.h"
+#include "takes_waiting.h"
 
 static freeze_queue_pool pool;
 
@@ -12,15 +13,15 @@ static void fill(uint32_t count)
         if (freeze_queue_give_tag_back(&freezer, &tags[i]))
             abort();
     memset(&pool, 0, sizeof pool);
-    if (freeze_queue_pool_fill(&pool, &freezer, count))
+    if (freeze_queue_pool_fill(&pool, &waits, count))
         abort();
-    for (uint32_t i = 0; i <= pool.last; i++)
-        watch(&pool.words[i].marks, sizeof pool.words[i].marks);
+    for (uint32_t i = 0; i <= IN_POOL->last; i++)
+        watch(&IN_POOL->words[i].marks, sizeof IN_POOL->words[i].marks);
     for (uint32_t i = 0; i < count; i++)
-        watch(&pool.tags[i].marks, sizeof pool.tags[i].marks);
-    watch(&pool.waiting, sizeof pool.waiting);
-    watch(&pool.is_ending, sizeof pool.is_ending);
-    watch(&pool.count, sizeof pool.count);
+        watch(&IN_POOL->tags[i].marks, sizeof IN_POOL->tags[i].marks);
+    watch(&IN_POOL->waiting, sizeof IN_POOL->waiting);
+    watch(&IN_POOL->is_ending, sizeof IN_POOL->is_ending);
+    watch(&IN_POOL->count, sizeof IN_POOL->count);
 }
 static void one_tag(void) { fill(1); }
 static void two_tags(void) { fill(2); }
@@ -30,22 +31,22 @@ static freeze_queue_tag *third;
 static void two_in_a_word(void)
 {
     fill(3);
-    if ((third = freeze_queue_pool_take(&pool, 1)) != &pool.tags[1].tag || pool.tags[0].word != pool.tags[2].word)
+    if ((third = freeze_queue_pool_take(&pool, 1)) != &IN_POOL->tags[1].tag || IN_POOL->tags[0].word != IN_POOL->tags[2].word)
         abort();
 }
 
 static void takes_and_gives(int me)
 {
-    freeze_queue_tag *tag = freeze_queue_pool_take_waiting(&pool, (uint32_t)me, NULL);
+    freeze_queue_tag *tag = takes_waiting(&pool, (uint32_t)me, NULL);
     NEED(tag != NULL);
     entered++;
     NEED(freeze_queue_pool_give(&pool, tag) == FREEZE_QUEUE_OK);
 }
-static void all_are_back(void) { NEED(entered == thread_count && pool.waiting == 0); }
+static void all_are_back(void) { NEED(entered == thread_count && IN_POOL->waiting == 0); }
 
 static void takes_for_a_while(int me)
 {
-    freeze_queue_tag *tag = freeze_queue_pool_take_waiting(&pool, 0, me == 0 ? &soon : NULL);
+    freeze_queue_tag *tag = takes_waiting(&pool, 0, me == 0 ? &soon : NULL);
     NEED(tag != NULL || me == 0);
     if (tag != NULL)
         NEED(freeze_queue_pool_give(&pool, tag) == FREEZE_QUEUE_OK);
@@ -57,7 +58,7 @@ static void both_out(void)
 {
     two_tags();
     for (uint32_t i = 0; i < 2; i++)
-        if ((out[i] = freeze_queue_pool_take(&pool, i)) != &pool.tags[i].tag)
+        if ((out[i] = freeze_queue_pool_take(&pool, i)) != &IN_POOL->tags[i].tag)
             abort();
 }
 /* The same of two tags whose marks share a word. */
@@ -65,7 +66,7 @@ static void both_out_of_a_word(void)
 {
     two_in_a_word();
     for (uint32_t i = 0; i < 2; i++)
-        if ((out[i] = freeze_queue_pool_take(&pool, 2 * i)) != &pool.tags[2 * i].tag)
+        if ((out[i] = freeze_queue_pool_take(&pool, 2 * i)) != &IN_POOL->tags[2 * i].tag)
             abort();
     if (freeze_queue_pool_give(&pool, third))
         abort();
@@ -73,8 +74,8 @@ static void both_out_of_a_word(void)
 /* The same after a call has waited for a tag in vain, which the words still say. */
 static void are_awaited(void)
 {
-    for (uint32_t i = 0; i <= pool.last; i++)
-        pool.words[i].marks |= FREEZE_QUEUE_POOL_AWAITED;
+    for (uint32_t i = 0; i <= IN_POOL->last; i++)
+        IN_POOL->words[i].marks |= FREEZE_QUEUE_POOL_AWAITED;
 }
 static void both_out_and_awaited(void)
 {
@@ -93,7 +94,7 @@ static void a_pool_ends(int me)
         gives_the_last(me);
         return;
     }
-    NEED(freeze_queue_pool_end(&pool, &waits, NULL) == FREEZE_QUEUE_OK);
+    NEED(freeze_queue_pool_end(&pool, NULL) == FREEZE_QUEUE_OK);
     freeze_queue_pool_destroy(&pool);
 }
 static void a_pool_is_emptied(int me)
@@ -102,7 +103,7 @@ static void a_pool_is_emptied(int me)
         gives_the_last(me);
         return;
     }
-    uint32_t answer = freeze_queue_pool_empty(&pool, &freezer);
+    uint32_t answer = freeze_queue_pool_empty(&pool);
     NEED(answer == FREEZE_QUEUE_OK || answer == FREEZE_QUEUE_ERR_TAGS_OUT);
 }
 /* Both tags are given back twice; one of the two givings is refused. */
@@ -114,6 +115,19 @@ static void given_twice(int me)
 }
 static void each_is_back_once(void) { NEED(entered == 2); }
 
+/* Two threads end the pool: one does, and the other returns. */
+static void two_end_a_pool(int me)
+{
+    if (me < 2) {
+        gives_the_last(me);
+        return;
+    }
+    uint32_t answer = freeze_queue_pool_end(&pool, NULL);
+    NEED(answer == FREEZE_QUEUE_OK || answer == FREEZE_QUEUE_ERR_IN_USE || answer == FREEZE_QUEUE_ERR_CLOSED);
+    entered += answer == FREEZE_QUEUE_OK;
+}
+static void one_has_ended_it(void) { NEED(entered == 1 && IN_POOL->count == 0); }
+
 /* A thread waits for a tag while the pool ends, and gets none or gives it back. */
 static void a_pool_ends_with_a_waiter(int me)
 {
@@ -121,15 +135,15 @@ static void a_pool_ends_with_a_waiter(int me)
     if (me < 2)
         gives_the_last(me);
     else if (me == 2)
-        NEED(freeze_queue_pool_end(&pool, &waits, NULL) == FREEZE_QUEUE_OK);
-    else if ((tag = freeze_queue_pool_take_waiting(&pool, 0, NULL)) != NULL)
+        NEED(freeze_queue_pool_end(&pool, NULL) == FREEZE_QUEUE_OK);
+    else if ((tag = takes_waiting(&pool, 0, NULL)) != NULL)
         NEED(freeze_queue_pool_give(&pool, tag) == FREEZE_QUEUE_OK);
 }
 /* Two threads wait for the one tag when the pool ends. */
 static void one_out(void)
 {
     one_tag();
-    if ((out[0] = freeze_queue_pool_take(&pool, 0)) != &pool.tags[0].tag)
+    if ((out[0] = freeze_queue_pool_take(&pool, 0)) != &IN_POOL->tags[0].tag)
         abort();
 }
 static void a_pool_ends_while_two_wait(int me)
@@ -138,8 +152,8 @@ static void a_pool_ends_while_two_wait(int me)
     if (me == 0)
         gives_the_last(me);
     else if (me == 1)
-        NEED(freeze_queue_pool_end(&pool, &waits, NULL) == FREEZE_QUEUE_OK);
-    else if ((tag = freeze_queue_pool_take_waiting(&pool, 0, NULL)) != NULL)
+        NEED(freeze_queue_pool_end(&pool, NULL) == FREEZE_QUEUE_OK);
+    else if ((tag = takes_waiting(&pool, 0, NULL)) != NULL)
         NEED(freeze_queue_pool_give(&pool, tag) == FREEZE_QUEUE_OK);
 }
 static void nothing(void) {}
@@ -159,6 +173,7 @@ int main(void)
     explore("a pool is emptied, of a word", 3, both_out_of_a_word, a_pool_is_emptied, nothing);
     explore("a pool is emptied after a wait", 3, both_out_and_awaited, a_pool_is_emptied, nothing);
     explore("a pool is emptied after a wait, of a word", 3, both_out_of_an_awaited_word, a_pool_is_emptied, nothing);
+    explore("two end a pool", 4, both_out, two_end_a_pool, one_has_ended_it);
     explore("a pool ends while a thread waits", 4, both_out, a_pool_ends_with_a_waiter, nothing);
     explore("a pool ends while a thread waits, of a word", 4, both_out_of_a_word, a_pool_ends_with_a_waiter, nothing);
     explore("a pool ends while two wait", 4, one_out, a_pool_ends_while_two_wait, nothing);

@@ -3,6 +3,7 @@
 #ifndef ORDERS_QUEUE_H
 #define ORDERS_QUEUE_H
 #define _GNU_SOURCE
+#include "inline.h"
 #include <stddef.h>
 #include <stdlib.h>
 
@@ -52,16 +53,6 @@ static uint32_t tries(freeze_queue_tag *tag, uint32_t slot, bool frozen_too, int
     return (uint32_t)saw(tells(queue) ? FREEZE_QUEUE_NOT_ENTERED_LAST : FREEZE_QUEUE_NOT_ENTERED);
 }
 
-/* Staying looks once, and leaves by a step of its own. */
-static uint32_t stays(freeze_queue_tag *tag, uint32_t slot, int line)
-{
-    step(line);
-    if (((struct tag *)tag->at)->queue->depth == 0)
-        return (uint32_t)saw(FREEZE_QUEUE_OK);
-    step(line);
-    return (uint32_t)saw(freeze_queue_stay(tag, slot));
-}
-
 static uint64_t saw_limits(uint32_t answer, const freeze_queue_limits *limits)
 {
     if (answer == FREEZE_QUEUE_OK)
@@ -78,19 +69,23 @@ static void opens_gate(void)
             locks[place_of(&gates[i])].owner = -1;
 }
 
+/* A thread that sleeps has begun its call too. */
+#undef pthread_cond_wait
+#define pthread_cond_wait(on, lock) (opens_gate(), ordered_sleep(on, lock, false, __LINE__))
+
 /* The freezer of a call, whose queue wasn't removed. */
-static freeze_queue_freezer *still_there(freeze_queue_freezer *of)
+static freeze_queue *still_there(freeze_queue *of)
 {
     if (!of->is_open)
         fail("a call is made of a queue that was removed");
     return of;
 }
 
+#include "own_calls.h"
 #define OF_QUEUE(call) (step(__LINE__), (uint32_t)saw(call))
 #define OF_FREEZER(of) (opens_gate(), still_there(of))
 #define freeze_queue_try_enter(tag, slot) tries(tag, slot, false, __LINE__)
 #define freeze_queue_try_enter_frozen(tag, slot) tries(tag, slot, true, __LINE__)
-#define freeze_queue_stay(tag, slot) stays(tag, slot, __LINE__)
 #define freeze_queue_leave(tag, slot) OF_QUEUE(freeze_queue_leave(tag, slot))
 #define freeze_queue_start_freeze(of, depth) OF_QUEUE(freeze_queue_start_freeze(OF_FREEZER(of), depth))
 #define freeze_queue_poll_drained(of) (bool)OF_QUEUE(freeze_queue_poll_drained(OF_FREEZER(of)))
@@ -107,7 +102,7 @@ static freeze_queue_freezer *still_there(freeze_queue_freezer *of)
 #undef posix_memalign
 #undef free
 
-static freeze_queue_freezer freezer;
+static freeze_queue freezer;
 static freeze_queue_waits waits;
 static freeze_queue_tag tags[3];
 static const struct timespec soon = {1, 0};
@@ -129,7 +124,8 @@ static void begin_at(uint32_t depth)
     const freeze_queue_limits limits = {.hardware = 64, .max = 8, .chunk = 8};
     const struct queue_number number = {1, 1};
     taken = 0;
-    freezer = (freeze_queue_freezer){0};
+    freezer = (freeze_queue){0};
+    memset(&waits, 0, sizeof waits);
     if (freeze_queue_new_numbered(&freezer, &number, &limits, 4, 3) || freeze_queue_waits_init(&waits, &freezer))
         abort();
     for (int i = 0; i < 3; i++) {
@@ -141,7 +137,8 @@ static void begin_at(uint32_t depth)
     the_queue()->told = depth > 0;
     the_queue()->kills = the_queue()->releases = depth > 0;
     entered = 0;
-    watch(&waits.inside, sizeof waits.inside + sizeof waits.is_dying);
+    watch(&IN_WAITS->inside, sizeof IN_WAITS->inside + sizeof IN_WAITS->is_dying);
+    watch(&IN_WAITS->sets, sizeof *IN_WAITS - offsetof(freeze_queue_waits_state, sets));
     watch(&the_queue()->limits, sizeof(struct queue) - offsetof(struct queue, limits));
     watch(&entered, sizeof entered);
 }

@@ -13,7 +13,7 @@ static const freeze_queue_limits first = {.hardware = 64, .max = 32, .chunk = 24
 
 static void sizes(void)
 {
-    HANDLE_IS_LAID_OUT(freeze_queue_freezer);
+    HANDLE_IS_LAID_OUT(freeze_queue);
     HANDLE_IS_LAID_OUT(freeze_queue_tag);
     IS(sizeof(freeze_queue_limits), 16);
     IS(offsetof(freeze_queue_limits, hardware), 0);
@@ -41,7 +41,7 @@ static void is_whole(const struct room *room, int line)
     is("after", room->after, 0xa5a5a5a5a5a5a5a5u, line);
 }
 
-static void limits(freeze_queue_freezer *freezer, freeze_queue_tag *tag)
+static void limits(freeze_queue *freezer, freeze_queue_tag *tag)
 {
     struct room room;
     uint32_t depth = 0;
@@ -89,7 +89,7 @@ static void pieces(void)
 
 int main(void)
 {
-    freeze_queue_freezer freezer = {0};
+    freeze_queue freezer = {0};
     freeze_queue_tag tag[3] = {{0}, {0}, {0}};
     struct { uint64_t before; freeze_queue_final last; uint64_t after; } room;
     sizes();

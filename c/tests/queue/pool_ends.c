@@ -3,7 +3,9 @@
  * freeze_queue_pool_end, or by freeze_queue_pool_empty once no tag is out, and its memory is freed at once: a call that is
  * still inside is told by the sanitizers. Words: how many lives. */
 #define _POSIX_C_SOURCE 200809L
+#include "inline.h"
 #include "freeze_queue_pool.h"
+#include "takes_waiting.h"
 #include "../moment.h"
 
 #include <stdio.h>
@@ -11,7 +13,7 @@
 
 enum { TAGS = 3, WAITERS = 2 };
 
-static freeze_queue_freezer freezer;
+static freeze_queue freezer;
 static freeze_queue_waits waits;
 static freeze_queue_pool *pool;
 static uint32_t here, wrong;
@@ -41,7 +43,7 @@ static void *takes(void *unused)
 {
     freeze_queue_tag *tag;
     (void)unused;
-    while ((tag = freeze_queue_pool_take_waiting(pool, 1, NULL)) != NULL)
+    while ((tag = takes_waiting(pool, 1, NULL)) != NULL)
         need(freeze_queue_pool_give(pool, tag) == FREEZE_QUEUE_OK);
     return NULL;
 }
@@ -51,7 +53,7 @@ static void begins(long number)
     const freeze_queue_limits limits = {.hardware = 64};
     pool = freeze_queue_pool_new();
     if (pool == NULL || freeze_queue_new(&freezer, &limits, 1, TAGS) || freeze_queue_waits_init(&waits, &freezer) ||
-        freeze_queue_pool_fill(pool, &freezer, TAGS))
+        freeze_queue_pool_fill(pool, &waits, TAGS))
         exit(2);
     if (number % 2)
         need(freeze_queue_waits_freeze(&waits, NULL) == FREEZE_QUEUE_OK);
@@ -73,9 +75,9 @@ static void ends_at_once(void)
         if (pthread_create(&waiters[i], NULL, takes, NULL) != 0)
             exit(2);
     need(freeze_queue_waits_mark_dying(&waits) == FREEZE_QUEUE_OK);
-    uint32_t answer = freeze_queue_pool_end(pool, &waits, &now);
+    uint32_t answer = freeze_queue_pool_end(pool, &now);
     if (answer == FREEZE_QUEUE_ERR_TIMED_OUT)
-        answer = freeze_queue_pool_end(pool, &waits, NULL);
+        answer = freeze_queue_pool_end(pool, NULL);
     need(answer == FREEZE_QUEUE_OK);
     for (int i = 0; i < WAITERS; i++)
         pthread_join(waiters[i], NULL);
@@ -87,9 +89,7 @@ static void ends_when_empty(void)
     uint32_t answer;
     need(freeze_queue_waits_mark_dying(&waits) == FREEZE_QUEUE_OK);
     for (long asked = 1;; asked++) {
-        pthread_mutex_lock(&waits.lock);
-        answer = freeze_queue_pool_empty(pool, &freezer);
-        pthread_mutex_unlock(&waits.lock);
+        answer = freeze_queue_pool_empty(pool);
         if (answer != FREEZE_QUEUE_ERR_TAGS_OUT)
             break;
         if (asked % 8 == 0)

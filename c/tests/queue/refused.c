@@ -21,26 +21,27 @@ static bool is_as_made(const final *last) { return last->limits.max == 3; }
 /* A pool that is refused a tag gives back those that it was given. */
 static int fills(void)
 {
-    freeze_queue_freezer freezer = {0};
+    freeze_queue freezer = {0};
     static freeze_queue_pool pool;
+    static freeze_queue_waits waits;
     freeze_queue_final last;
-    if (freeze_queue_new(&freezer, &limits, 2, 3))
+    if (freeze_queue_new(&freezer, &limits, 2, 3) || freeze_queue_waits_init(&waits, &freezer))
         return 1;
     long allow = 0;
     for (uint32_t answer = FREEZE_QUEUE_ERR_NO_MEMORY; answer != FREEZE_QUEUE_OK; allow++) {
         allowed = allow;
-        answer = freeze_queue_pool_fill(&pool, &freezer, 3);
+        answer = freeze_queue_pool_fill(&pool, &waits, 3);
         allowed = -1;
         if (answer != FREEZE_QUEUE_OK && answer != FREEZE_QUEUE_ERR_NO_MEMORY)
             return 2;
     }
-    return allow < 3 || freeze_queue_pool_empty(&pool, &freezer) || freeze_queue_remove(&freezer, &last);
+    return allow < 3 || freeze_queue_pool_empty(&pool) || freeze_queue_waits_end(&waits, &last, NULL);
 }
 
 /* A tag that is freed is out for ever, and one that was entered holds each drain off. */
 static int freed_tags(void)
 {
-    freeze_queue_freezer freezer = {0};
+    freeze_queue freezer = {0};
     freeze_queue_tag tag = {0};
     freeze_queue_final last;
     uint32_t depth;
@@ -52,7 +53,7 @@ static int freed_tags(void)
         return 2;
     if (freeze_queue_remove(&freezer, &last) != FREEZE_QUEUE_ERR_TAGS_OUT || !freezer.is_open)
         return 3;
-    freeze_queue_free_freezer(&freezer);
+    freeze_queue_free(&freezer);
     return freeze_queue_remove(&freezer, &last) != FREEZE_QUEUE_ERR_CLOSED;
 }
 

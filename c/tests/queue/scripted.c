@@ -2,11 +2,13 @@
  * after each call, and that the freezer's calls are made under the lock, while who enters a live queue or leaves it takes
  * none. */
 #define _POSIX_C_SOURCE 200809L
+#include "inline.h"
 #include "freeze_queue.h"
+#include "own_calls.h"
 #include "readable.h"
 #include "scripted.h"
 
-static freeze_queue_freezer freezer;
+static freeze_queue freezer;
 static freeze_queue_tag tags[3];
 static long freezes;        /* how often one was begun */
 static uint32_t set_refuses; /* what the next set answers, in place of setting; 0: it sets */
@@ -14,14 +16,14 @@ static bool is_last;        /* the next try that is refused lets the first tag l
 static uint32_t tried_on;   /* the slot of the last try */
 
 /* The freezer's calls, under the lock alone. */
-static freeze_queue_freezer *under_lock(freeze_queue_freezer *of, long freeze)
+static freeze_queue *under_lock(freeze_queue *of, long freeze)
 {
     need(locked != NULL, "a call of the freezer is made without the lock");
     freezes += freeze;
     return of;
 }
 
-static uint32_t sets_or_not(freeze_queue_freezer *of, const freeze_queue_limits *limits)
+static uint32_t sets_or_not(freeze_queue *of, const freeze_queue_limits *limits)
 {
     uint32_t refused = set_refuses;
     set_refuses = 0;
@@ -57,8 +59,8 @@ static freeze_queue_limits limits = {.hardware = 64, .max = 8, .chunk = 0, .phys
 /* What both events show. */
 static void shows(bool live, bool drained, int line)
 {
-    is("the live event", is_readable(waits.live_event), live, line);
-    is("the drained event", is_readable(waits.drained_event), drained, line);
+    is("the live event", is_readable(freeze_queue_waits_live_event(&waits)), live, line);
+    is("the drained event", is_readable(freeze_queue_waits_drained_event(&waits)), drained, line);
 }
 
 #define SHOWS(live, drained) shows(live, drained, __LINE__)
@@ -114,7 +116,7 @@ static void freezes_too(void)
 static void thaws_untold(void)
 {
     uint32_t depth;
-    locked = &waits.lock;
+    locked = &IN_WAITS->lock;
     IS(freeze_queue_thaw(&freezer, &depth), LIVE_AGAIN);
     locked = NULL;
 }
@@ -128,12 +130,9 @@ static void nobody_waits(void)
     long before = locks;
     IS(freeze_queue_waits_enter(&waits, &tags[0], 0, NULL), OK);
     IS(freeze_queue_waits_try_enter(&waits, &tags[1], 1), OK);
-    IS(freeze_queue_waits_stay(&waits, &tags[0], 0, NULL), OK);
     IS(freeze_queue_waits_leave(&waits, &tags[0], 0), OK);
     IS(freeze_queue_waits_leave(&waits, &tags[1], 1), OK);
     IS(freeze_queue_waits_leave(&waits, &tags[1], 1), ERR_TAG_NOT_ENTERED);
-    IS(freeze_queue_waits_stay(&waits, &tags[1], 1, NULL), ERR_TAG_NOT_ENTERED);
-    IS(freeze_queue_waits_stay(&waits, &tags[1], 9, NULL), ERR_BAD_SLOT);
     IS(freeze_queue_waits_enter(&waits, &tags[0], 9, NULL), ERR_BAD_SLOT);
     TELLS(locks - before, 0);
     SHOWS(true, false);
@@ -209,25 +208,6 @@ static void waits_for_the_thaw(void)
     before_lock = thaws;
     acts(NULL, NULL, NULL);
     IS(freeze_queue_waits_enter(&waits, &tags[0], 0, NULL), OK);
-    leaves(0, false);
-}
-
-/* A tag that stays leaves for a freeze. Where it is the last it locks to tell that, and each waits for the thaw under one lock. */
-static void stays_until_a_freeze(void)
-{
-    IS(freeze_queue_waits_enter(&waits, &tags[0], 0, NULL), OK);
-    IS(freeze_queue_waits_enter(&waits, &tags[1], 1, NULL), OK);
-    IS(freeze_queue_waits_begin_freeze(&waits), OK);
-    SHOWS(false, false);
-    acts(NULL, NULL, NULL);
-    long before = locks;
-    IS(freeze_queue_waits_stay(&waits, &tags[1], 1, &soon), ERR_TIMED_OUT);
-    TELLS(locks - before, 1);
-    SHOWS(false, false);
-    acts(thaws_and_freezes, thaws, NULL);
-    IS(freeze_queue_waits_stay(&waits, &tags[0], 1, NULL), LIVE_AGAIN);
-    TELLS(have_acted(), true);
-    TELLS(tried_on, 1);
     leaves(0, false);
 }
 
@@ -352,15 +332,15 @@ static void the_greatest_depth(void)
 /* The events of a queue show its own state, beside another. */
 static void another_queue(void)
 {
-    freeze_queue_freezer other = {0};
+    freeze_queue other = {0};
     freeze_queue_waits others;
     freeze_queue_final last;
     TELLS(freeze_queue_new(&other, &limits, 1, 1) || freeze_queue_waits_init(&others, &other), false);
     TELLS(freeze_queue_waits_open_events(&others), 0);
-    TELLS(is_readable(others.live_event), true);
+    TELLS(is_readable(freeze_queue_waits_live_event(&others)), true);
     begins_a_freeze();
     IS(freeze_queue_waits_begin_freeze(&others), DRAINED);
-    TELLS(is_readable(others.live_event), false);
+    TELLS(is_readable(freeze_queue_waits_live_event(&others)), false);
     thaws();
     IS(freeze_queue_waits_end(&others, &last, NULL), OK);
 }
@@ -382,7 +362,6 @@ int main(void)
     thaws_after_the_drain();
     two_wait_for_the_drain();
     waits_for_the_thaw();
-    stays_until_a_freeze();
     is_frozen_before_the_next_try();
     deadlines_pass();
     changes();

@@ -99,6 +99,10 @@ static int scripted_wake(pthread_cond_t *on, bool all)
     return 0;
 }
 
+/* Which thread acts: a function of an update is called by the first. */
+static int who;
+static pthread_t scripted_self(void) { return (pthread_t)who; }
+
 /* Nobody woke it, and yet it wakes. */
 static void wakes_by_itself(void) { asleep->woken = true; }
 
@@ -114,6 +118,7 @@ static int told_at_the_end(void)
 #define FREEZE_QUEUE_LOOK 0
 #endif
 
+#define pthread_self scripted_self
 #define pthread_mutex_lock scripted_lock
 #define pthread_mutex_unlock scripted_unlock
 #define pthread_cond_wait(on, lock) scripted_sleep(on, lock, NULL)

@@ -1,16 +1,17 @@
 /* The end of a queue, and changes of one field, by a script on one thread (scripted.h): each wake, each look, and what is
  * done under the lock. */
 #define _POSIX_C_SOURCE 200809L
+#include "inline.h"
 #include "freeze_queue.h"
 #include "readable.h"
 #include "scripted.h"
 
 #include <fcntl.h>
 
-static freeze_queue_freezer freezer;
+static freeze_queue freezer;
 
 /* The freezer's calls, under the lock alone. */
-static freeze_queue_freezer *under_lock(freeze_queue_freezer *of)
+static freeze_queue *under_lock(freeze_queue *of)
 {
     need(locked != NULL, "a call of the freezer is made without the lock");
     return of;
@@ -80,7 +81,7 @@ static void waiting_calls_are_answered(void)
     acts(second_is_answered, dies, NULL);
     IS(freeze_queue_waits_enter(&waits, &tags[0], 0, NULL), ERR_DYING);
     TELLS(have_acted() && freeze_queue_waits_is_dying(&waits), true);
-    TELLS(is_readable(waits.live_event) && is_readable(waits.drained_event), true);
+    TELLS(is_readable(freeze_queue_waits_live_event(&waits)) && is_readable(freeze_queue_waits_drained_event(&waits)), true);
     acts(NULL, NULL, NULL);
     IS(freeze_queue_waits_enter(&waits, &tags[2], 1, NULL), ERR_DYING);
     IS(freeze_queue_waits_enter(&waits, &tags[2], 1, &soon), ERR_DYING);
@@ -117,7 +118,7 @@ static void ends_with_the_last_tag(void)
 /* The last tag comes back while the end sleeps, and nobody has notified it by its deadline: it looks once more. */
 static void third_is_back_untold(void)
 {
-    locked = &waits.lock;
+    locked = &IN_WAITS->lock;
     IS(freeze_queue_give_tag_back(&freezer, &tags[2]), OK);
     locked = NULL;
 }
@@ -153,18 +154,14 @@ static void a_freeze_holds_the_end_off(void)
     TELLS(have_acted(), true);
 }
 
-/* A tag that would stay in a dying queue leaves. A freeze leaves both events readable, and the end closes them. */
-static void who_stays_is_answered(void)
+/* A freeze of a dying queue leaves both events readable, and the end closes them. */
+static void a_freeze_of_a_dying_queue(void)
 {
     begins();
-    const int event = waits.live_event;
-    IS(freeze_queue_waits_enter(&waits, &tags[0], 0, NULL), OK);
+    const int event = freeze_queue_waits_live_event(&waits);
     dies();
-    acts(NULL, NULL, NULL);
-    IS(freeze_queue_waits_stay(&waits, &tags[0], 0, NULL), ERR_DYING);
-    IS(freeze_queue_waits_leave(&waits, &tags[0], 0), ERR_TAG_NOT_ENTERED);
     IS(freeze_queue_waits_begin_freeze(&waits), DRAINED);
-    TELLS(is_readable(waits.live_event) && is_readable(waits.drained_event), true);
+    TELLS(is_readable(freeze_queue_waits_live_event(&waits)) && is_readable(freeze_queue_waits_drained_event(&waits)), true);
     thaws_one();
     first_is_back();
     second_is_back();
@@ -182,7 +179,7 @@ static void the_greatest_depth(void)
     acts(NULL, NULL, NULL);
     IS(freeze_queue_waits_mark_dying(&waits), ERR_DEPTH_FULL);
     IS(freeze_queue_waits_end(&waits, &last, NULL), ERR_DEPTH_FULL);
-    TELLS(fcntl(waits.live_event, F_GETFD), FD_CLOEXEC); /* still open */
+    TELLS(fcntl(freeze_queue_waits_live_event(&waits), F_GETFD), FD_CLOEXEC); /* still open */
     TELLS(freeze_queue_waits_is_dying(&waits), false);
     IS(freeze_queue_waits_enter(&waits, &tags[0], 0, &soon), ERR_TIMED_OUT);
     for (uint32_t depth = 1; depth < FREEZE_QUEUE_MOST_DEPTH; depth++)
@@ -194,7 +191,7 @@ static void the_greatest_depth(void)
 
 static uint32_t doubles_chunk(freeze_queue_limits *limits, void *argument)
 {
-    need(locked == &waits.lock, "limits change without the lock");
+    need(locked == NULL, "a function is called under the lock");
     limits->chunk = limits->chunk ? 2 * limits->chunk : 1;
     return *(uint32_t *)argument;
 }
@@ -207,6 +204,13 @@ static uint32_t adds_to_max(freeze_queue_limits *limits, void *argument)
 }
 
 static uint32_t answer_of_all = FREEZE_QUEUE_OK;
+
+static void ends_the_turn(void)
+{
+    locked = &IN_WAITS->lock;
+    freeze_queue_waits_ends_turn(IN_WAITS);
+    locked = NULL;
+}
 
 static void fields_change(void)
 {
@@ -223,19 +227,100 @@ static void fields_change(void)
     TELLS(limits_now().chunk == 1 && depth_now() == 0, true);
 }
 
-/* Two changes wait for one drain: the second reads what the first has set. */
-static void leaves_and_doubles(void)
+/* What other threads get while the function of an update runs: a change and an update wait for their turn, a set is done, and
+ * then the function is called again. */
+static int runs;
+static uint32_t others_go_on(freeze_queue_limits *limits, void *argument)
 {
-    first_leaves();
-    IS(freeze_queue_waits_update(&waits, doubles_chunk, &answer_of_all, NULL), OK);
+    freeze_queue_limits other = {.hardware = 64, .max = 10};
+    if (runs++ > 0)
+        return doubles_chunk(limits, argument);
+    who = 1;
+    IS(freeze_queue_waits_change(&waits, &other, &soon), ERR_TIMED_OUT);
+    IS(freeze_queue_waits_update(&waits, adds_to_max, NULL, &soon), ERR_TIMED_OUT);
+    IS(freeze_queue_waits_try_enter(&waits, &tags[1], 0), NOT_ENTERED);
+    IS(freeze_queue_waits_enter(&waits, &tags[1], 0, &soon), ERR_TIMED_OUT);
+    TELLS(freeze_queue_waits_is_drained(&waits), true);
+    other.max = 65;
+    IS(freeze_queue_waits_set(&waits, &other), ERR_ABOVE_HARDWARE);
+    other.max = 11;
+    IS(freeze_queue_waits_set(&waits, &other), OK);
+    IS(freeze_queue_waits_destroy(&waits), ERR_IN_USE);
+    who = 0;
+    limits->max = 63; /* of a call whose limits were set anew: forgotten */
+    return FREEZE_QUEUE_OK;
 }
-static void two_changes(void)
+static void others_go_on_beside_a_function(void)
 {
-    acts(leaves_and_doubles, NULL, NULL);
+    acts(first_leaves, NULL, NULL);
+    IS(freeze_queue_waits_update(&waits, others_go_on, &answer_of_all, NULL), OK);
+    TELLS(have_acted() && runs == 2, true);
+    TELLS(limits_now().max == 11 && limits_now().chunk == 1 && limits_now().physical == 1, true);
+    TELLS(depth_now() == 0 && is_readable(freeze_queue_waits_live_event(&waits)), true);
     IS(freeze_queue_waits_update(&waits, doubles_chunk, &answer_of_all, NULL), OK);
-    TELLS(have_acted(), true);
+    IS(freeze_queue_waits_update(&waits, doubles_chunk, &answer_of_all, NULL), OK);
     TELLS(limits_now().chunk, 4);
-    TELLS(depth_now() == 0 && is_readable(waits.live_event), true);
+}
+
+/* A function whose limits are set anew by another thread isn't called again after the deadline. */
+static uint32_t is_set_anew(freeze_queue_limits *limits, void *argument)
+{
+    who = 1;
+    IS(freeze_queue_waits_set(&waits, limits), OK);
+    who = 0;
+    return *(uint32_t *)argument;
+}
+static void a_function_is_set_anew_for_a_while(void)
+{
+    const struct timespec passed = {0, 1};
+    IS(freeze_queue_waits_update(&waits, is_set_anew, &answer_of_all, &passed), ERR_TIMED_OUT);
+    TELLS(limits_now().chunk == 4 && depth_now() == 0, true);
+}
+
+/* What the function of an update may not do, since it would wait for itself; and numbers that it may not return. */
+static uint32_t waits_for_itself(freeze_queue_limits *limits, void *argument)
+{
+    freeze_queue_final final;
+    IS(freeze_queue_waits_update(&waits, doubles_chunk, argument, NULL), ERR_IN_UPDATE);
+    IS(freeze_queue_waits_change(&waits, limits, NULL), ERR_IN_UPDATE);
+    IS(freeze_queue_waits_set(&waits, limits), ERR_IN_UPDATE);
+    IS(freeze_queue_waits_end(&waits, &final, NULL), ERR_IN_UPDATE);
+    TELLS(depth_now() == 1 && limits_now().chunk == 4 && !freeze_queue_waits_is_dying(&waits), true);
+    limits->max = 9;
+    return FREEZE_QUEUE_OK;
+}
+static void functions_are_refused(void)
+{
+    IS(freeze_queue_waits_update(&waits, waits_for_itself, &answer_of_all, NULL), OK);
+    TELLS(limits_now().max, 9);
+    for (uint32_t answer = 1; answer < 18; answer++) {
+        uint32_t want = answer < 16 ? (uint32_t)FREEZE_QUEUE_ERR_BAD_RETURN : answer;
+        TELLS(freeze_queue_waits_update(&waits, doubles_chunk, &answer, NULL), want);
+        TELLS(limits_now().chunk == 4 && depth_now() == 0, true);
+    }
+}
+
+/* Two updates wait for their turn, and each gets it. */
+static void second_updates(void)
+{
+    who = 1;
+    IS(freeze_queue_waits_update(&waits, adds_to_max, NULL, &soon), ERR_TIMED_OUT);
+    who = 0;
+}
+static void updates_wait_for_their_turn(void)
+{
+    IS(freeze_queue_waits_enter(&waits, &tags[0], 0, NULL), OK);
+    acts(second_updates, first_leaves, NULL);
+    IS(freeze_queue_waits_update(&waits, adds_to_max, NULL, NULL), OK);
+    TELLS(limits_now().max == 10 && depth_now() == 0, true);
+    IN_WAITS->is_changing = true; /* another has the turn */
+    acts(NULL, NULL, NULL);
+    IS(freeze_queue_waits_update(&waits, adds_to_max, NULL, &soon), ERR_TIMED_OUT);
+    IS(freeze_queue_waits_change(&waits, &(freeze_queue_limits){.hardware = 64}, &soon), ERR_TIMED_OUT);
+    TELLS(depth_now() == 0 && IN_WAITS->is_changing, true);
+    acts(wakes_by_itself, ends_the_turn, NULL);
+    IS(freeze_queue_waits_update(&waits, adds_to_max, NULL, NULL), OK);
+    TELLS(have_acted() && limits_now().max == 11 && !IN_WAITS->is_changing, true);
 }
 
 /* A dying queue changes as a live one, also by a call that sleeps while the queue is marked. */
@@ -260,10 +345,13 @@ int main(void)
     ends_with_the_last_tag();
     the_end_looks_after_its_deadline();
     a_freeze_holds_the_end_off();
-    who_stays_is_answered();
+    a_freeze_of_a_dying_queue();
     the_greatest_depth();
     fields_change();
-    two_changes();
+    others_go_on_beside_a_function();
+    a_function_is_set_anew_for_a_while();
+    functions_are_refused();
+    updates_wait_for_their_turn();
     a_dying_queue_changes();
     for (int i = 0; i < 3; i++)
         IS(freeze_queue_waits_give_tag_back(&waits, &tags[i]), OK);

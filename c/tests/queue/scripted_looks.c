@@ -2,10 +2,11 @@
  * drain. The clock is the test's, so each look is counted. */
 #define _POSIX_C_SOURCE 200809L
 #define FREEZE_QUEUE_LOOK 1000
+#include "inline.h"
 #include "freeze_queue.h"
 #include "scripted.h"
 
-static freeze_queue_freezer freezer;
+static freeze_queue freezer;
 static freeze_queue_tag tag;
 static struct timespec clock_now; /* what was read last */
 static long tick = 300;           /* each reading is so many nanoseconds later */
@@ -40,7 +41,7 @@ static int sleeps_for_the_lock(pthread_mutex_t *lock)
 }
 
 /* Another thread leaves before a look: it can't tell that before the lock is released. */
-static bool looks_for_the_drain(freeze_queue_freezer *of)
+static bool looks_for_the_drain(freeze_queue *of)
 {
     need(locked != NULL, "a call of the freezer is made without the lock");
     need(++looks < 1000, "looks for ever");
@@ -156,6 +157,9 @@ int main(void)
     if (freeze_queue_new(&freezer, &limits, 1, 1) || freeze_queue_waits_init(&waits, &freezer))
         return 1;
     IS(freeze_queue_waits_next_tag(&waits, &tag), OK);
+    /* No tag is biased, and none asks the clock for that. */
+    freeze_queue_waits_state_of(&waits)->unbiased_until = UINT64_MAX;
+    tag.reserved.words[1] = (void *)(UINTPTR_MAX - 1);
     for (long at = 2; at < 6; at++)
         sees_the_drain(at);
     sleeps_after(3, 5, 0);

@@ -101,7 +101,7 @@ static void kills(uint32_t slots)
 static void freezes(uint32_t slots)
 {
     const freeze_queue_limits limits = {.hardware = 8};
-    freeze_queue_freezer freezer = {0};
+    freeze_queue freezer = {0};
     uint32_t depth;
     need(freeze_queue_new(&freezer, &limits, slots, 1) == FREEZE_QUEUE_OK, "no queue");
     for (long turn = 0; turn < turns; turn++) {
@@ -112,7 +112,7 @@ static void freezes(uint32_t slots)
         second[turn] = now() - between;
         first[turn] = between - began;
     }
-    freeze_queue_free_freezer(&freezer);
+    freeze_queue_free(&freezer);
     tells_times("freeze", slots);
 }
 
@@ -121,7 +121,7 @@ static size_t bytes(uint32_t slots, uint32_t count)
 {
     static freeze_queue_tag tags[FREEZE_QUEUE_MOST_TAGS];
     const freeze_queue_limits limits = {.hardware = 8};
-    freeze_queue_freezer freezer = {0};
+    freeze_queue freezer = {0};
     size_t before = heap;
     need(freeze_queue_new(&freezer, &limits, slots, count) == FREEZE_QUEUE_OK, "no queue");
     for (uint32_t i = 0; i < count; i++)
@@ -129,7 +129,7 @@ static size_t bytes(uint32_t slots, uint32_t count)
     size_t taken = heap - before;
     for (uint32_t i = 0; i < count; i++)
         freeze_queue_free_tag(&tags[i]);
-    freeze_queue_free_freezer(&freezer);
+    freeze_queue_free(&freezer);
     TELLS(heap, before);
     return taken;
 }
@@ -142,9 +142,9 @@ static void memory_grows_by_what_is_asked_for(void)
         const uint32_t slots = sizes[i][0], tags = sizes[i][1];
         const size_t taken = bytes(slots, tags), want = (slots - 1) * LINE + (tags - 1) * tag;
         printf("bytes,%u,%u,%zu\n", slots, tags, taken);
-        TELLS(taken + tags / 8 >= least + want && taken <= least + want + 8 * tags + 64, true);
+        TELLS(taken + tags / 8 + 64 >= least + want && taken <= least + want + 8 * tags + 64, true); /* 64: between blocks that are aligned */
     }
-    TELLS(least <= OTHER + 2 * LINE + tag && tag <= 1024, true);
+    TELLS(least <= OTHER + 2 * LINE + tag && tag <= 1280, true);
 }
 
 int main(int count, char **given)

@@ -1,10 +1,13 @@
-/* Times a round of the queue (enter, read the limits, leave; or stay with the limits that are known) and a change of its
- * limits, beside the bare steps in C and beside other guards of the same limits. speed THREADS ROUNDS CHANGES prints a line for each form,
- * 'queue,FORM,THREADS,NANOSECONDS': the nanoseconds of a round by the clock. Of a form whose limits can change a second line
- * follows, 'change,FORM,THREADS,MEDIAN,NINETY_NINTH,NANOSECONDS': the microseconds of a change under load, with a pause of
- * 100 microseconds before each, and the nanoseconds of a round meanwhile. liburcu is there with -DWITH_URCU -lurcu-memb. */
+/* Times a round of the queue (enter, read the limits, leave) and a change of its limits, beside the bare steps in C and
+ * beside other guards of the same limits. speed THREADS ROUNDS CHANGES prints a line for each form,
+ * 'queue,FORM,THREADS,NANOSECONDS': the nanoseconds of a round by the clock. Of a form whose limits can change a second
+ * line follows, 'change,FORM,THREADS,MEDIAN,NINETY_NINTH,NANOSECONDS': the microseconds of a change under load, with a
+ * pause of 100 microseconds before each, and the nanoseconds of a round meanwhile. liburcu is there with -DWITH_URCU
+ * -lurcu-memb, and Concurrency Kit's lock for many readers with -DWITH_CK -lck. */
 #define _GNU_SOURCE
 #include "freeze_queue_pool.h"
+#include "freeze_queue/lane.h"
+#include "own_calls.h"
 
 #include "../timing.h"
 #include <linux/membarrier.h>
@@ -13,6 +16,9 @@
 #include <unistd.h>
 #ifdef WITH_URCU
 #include <urcu/urcu-memb.h>
+#endif
+#ifdef WITH_CK
+#include <ck_brlock.h>
 #endif
 
 enum { BATCH = 1024, PAUSE = 100000, MOST_CHANGES = 1000000 };
@@ -25,8 +31,8 @@ static struct { _Alignas(128) freeze_queue_tag tag; } tags[MOST_THREADS];
 static struct { _Alignas(128) struct limits limits; } guarded;
 static struct { _Alignas(128) atomic_bool frozen; } asymmetric;
 static struct { _Alignas(128) pthread_rwlock_t lock; } readers = {PTHREAD_RWLOCK_INITIALIZER};
-static freeze_queue_freezer freezer, of_pool;
-static freeze_queue_waits waits;
+static freeze_queue freezer, of_pool;
+static freeze_queue_waits waits, waits_of_pool;
 static freeze_queue_pool pool;
 static atomic_ulong sink; /* so that no load is left out */
 
@@ -67,6 +73,32 @@ static uint64_t at_the_queue(uint32_t number, long count)
     return sum;
 }
 
+static uint64_t with_a_bias(uint32_t number, long count)
+{
+    freeze_queue_tag *tag = &tags[number].tag;
+    uint64_t sum = 0;
+    for (long i = 0; i < count; i++) {
+        need(freeze_queue_try_enter(tag, number) == FREEZE_QUEUE_OK, "not entered");
+        sum += limits_under(tag);
+        need(freeze_queue_leave_biased(tag, number) == FREEZE_QUEUE_OK, "not left");
+    }
+    return sum;
+}
+
+static uint64_t in_place(uint32_t number, long count)
+{
+    freeze_queue_tag *tag = &tags[number].tag;
+    freeze_queue_limits limits;
+    uint64_t sum = 0;
+    for (long i = 0; i < count; i++) {
+        need(freeze_queue_inline_try_enter(tag, number) == FREEZE_QUEUE_OK, "not entered");
+        need(freeze_queue_inline_limits_of(tag, &limits) == FREEZE_QUEUE_OK, "no limits");
+        sum += (uint64_t)limits.max + limits.chunk + limits.physical;
+        need(freeze_queue_inline_leave_biased(tag, number) == FREEZE_QUEUE_OK, "not left");
+    }
+    return sum;
+}
+
 static uint64_t by_waits(uint32_t number, long count)
 {
     freeze_queue_tag *tag = &tags[number].tag;
@@ -76,23 +108,6 @@ static uint64_t by_waits(uint32_t number, long count)
         sum += limits_under(tag);
         need(!freeze_queue_is_refused(freeze_queue_waits_leave(&waits, tag, number)), "not left");
     }
-    return sum;
-}
-
-/* Entered once, and asked to stay after each request. */
-static uint64_t that_stays(uint32_t number, long count)
-{
-    freeze_queue_tag *tag = &tags[number].tag;
-    uint64_t sum = 0;
-    uint32_t answer = freeze_queue_waits_enter(&waits, tag, number, NULL);
-    for (uint64_t limits = limits_under(tag); count > 0; count--) {
-        sum += limits;
-        answer = freeze_queue_waits_stay(&waits, tag, number, NULL);
-        if (answer != FREEZE_QUEUE_OK)
-            limits = limits_under(tag);
-    }
-    need(!freeze_queue_is_refused(answer), "not entered");
-    need(!freeze_queue_is_refused(freeze_queue_waits_leave(&waits, tag, number)), "not left");
     return sum;
 }
 
@@ -117,6 +132,33 @@ static uint64_t under_the_lock(uint32_t number, long count)
         need(pthread_rwlock_rdlock(&readers.lock) == 0, "no lock");
         sum += three_loads(&guarded.limits);
         need(pthread_rwlock_unlock(&readers.lock) == 0, "no unlock");
+    }
+    return sum;
+}
+
+/* BRAVO (Dice and Kogan, 2019) over a lock: readers of a biased lock say in a word of their own that they read. A change takes the bias away, and
+ * for nine times as long as that took the lock stays unbiased. */
+static struct { _Alignas(128) atomic_bool is_biased; _Atomic double until; pthread_rwlock_t lock; } bravo = {true, 0, PTHREAD_RWLOCK_INITIALIZER};
+
+static uint64_t by_bravo(uint32_t number, long count)
+{
+    _Atomic uint64_t *mine = &in[number].count;
+    uint64_t sum = 0;
+    for (long i = 0; i < count; i++) {
+        if (atomic_load(&bravo.is_biased)) {
+            atomic_exchange(mine, 1);
+            bool is_in = atomic_load(&bravo.is_biased);
+            if (is_in)
+                sum += three_loads(&guarded.limits);
+            atomic_store_explicit(mine, 0, memory_order_release);
+            if (is_in)
+                continue;
+        }
+        need(pthread_rwlock_rdlock(&bravo.lock) == 0, "no lock");
+        if (!atomic_load(&bravo.is_biased) && now() >= atomic_load(&bravo.until))
+            atomic_store(&bravo.is_biased, true);
+        sum += three_loads(&guarded.limits);
+        need(pthread_rwlock_unlock(&bravo.lock) == 0, "no unlock");
     }
     return sum;
 }
@@ -156,6 +198,21 @@ static void change_under_lock(uint32_t max)
     need(pthread_rwlock_unlock(&readers.lock) == 0, "no unlock");
 }
 
+static void change_by_bravo(uint32_t max)
+{
+    need(pthread_rwlock_wrlock(&bravo.lock) == 0, "no lock");
+    if (atomic_load(&bravo.is_biased)) {
+        double began = now();
+        atomic_store(&bravo.is_biased, false);
+        for (uint32_t i = 0; i < threads; i++)
+            while (atomic_load(&in[i].count))
+                sched_yield();
+        atomic_store(&bravo.until, now() + 9 * (now() - began));
+    }
+    atomic_store(&guarded.limits.max, max);
+    need(pthread_rwlock_unlock(&bravo.lock) == 0, "no unlock");
+}
+
 static void change_by_membarrier(uint32_t max)
 {
     atomic_store(&asymmetric.frozen, true);
@@ -193,20 +250,50 @@ static void change_by_urcu(uint32_t max)
 }
 #endif
 
+#ifdef WITH_CK
+static ck_brlock_t big = CK_BRLOCK_INITIALIZER;
+static struct { _Alignas(128) ck_brlock_reader_t reader; } seats[MOST_THREADS];
+
+static uint64_t by_ck(uint32_t number, long count)
+{
+    uint64_t sum = 0;
+    ck_brlock_read_register(&big, &seats[number].reader);
+    for (long i = 0; i < count; i++) {
+        ck_brlock_read_lock(&big, &seats[number].reader);
+        sum += three_loads(&guarded.limits);
+        ck_brlock_read_unlock(&seats[number].reader);
+    }
+    ck_brlock_read_unregister(&big, &seats[number].reader);
+    return sum;
+}
+
+static void change_by_ck(uint32_t max)
+{
+    ck_brlock_write_lock(&big);
+    atomic_store(&guarded.limits.max, max);
+    ck_brlock_write_unlock(&big);
+}
+#endif
+
 static const struct form {
     const char *name;
     uint64_t (*round_on)(uint32_t number, long count);
     void (*change)(uint32_t max);
 } forms[] = {
     {"queue from C", at_the_queue, NULL},
+    {"queue from C with a bias", with_a_bias, NULL},
+    {"queue from C inline", in_place, NULL},
     {"queue from C by the waits", by_waits, change_queue},
-    {"queue from C that stays", that_stays, change_queue},
     {"queue from C by a pool", by_the_pool, NULL},
     {"the bare steps in C", bare_steps, NULL},
     {"a bare count with membarrier", by_membarrier, change_by_membarrier},
 #ifdef WITH_URCU
     {"liburcu (memb)", by_urcu, change_by_urcu},
 #endif
+#ifdef WITH_CK
+    {"ck_brlock", by_ck, change_by_ck},
+#endif
+    {"BRAVO over pthread_rwlock", by_bravo, change_by_bravo},
     {"pthread_rwlock", under_the_lock, change_under_lock},
 };
 
@@ -282,7 +369,8 @@ static void make(void)
     need(freeze_queue_new(&freezer, &limits, threads, threads) == FREEZE_QUEUE_OK, "no queue");
     need(freeze_queue_new(&of_pool, &limits, threads, FREEZE_QUEUE_MOST_TAGS) == FREEZE_QUEUE_OK, "no queue");
     need(freeze_queue_waits_init(&waits, &freezer) == 0, "no waits");
-    need(freeze_queue_pool_fill(&pool, &of_pool, FREEZE_QUEUE_MOST_TAGS) == FREEZE_QUEUE_OK, "no pool");
+    need(freeze_queue_waits_init(&waits_of_pool, &of_pool) == FREEZE_QUEUE_OK, "no waits");
+    need(freeze_queue_pool_fill(&pool, &waits_of_pool, FREEZE_QUEUE_MOST_TAGS) == FREEZE_QUEUE_OK, "no pool");
     for (uint32_t i = 0; i < threads; i++)
         need(freeze_queue_next_tag(&freezer, &tags[i].tag) == FREEZE_QUEUE_OK, "no tag");
     need(syscall(SYS_membarrier, MEMBARRIER_CMD_REGISTER_PRIVATE_EXPEDITED, 0, 0) == 0, "no membarrier");

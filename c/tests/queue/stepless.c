@@ -9,7 +9,7 @@
 enum { SLOTS = 4 };
 
 static const freeze_queue_limits limits = {.hardware = 8, .max = 3};
-static freeze_queue_freezer freezer;
+static freeze_queue freezer;
 static freeze_queue_tag tags[3], closed;
 
 static void comes_in(int t) { IS(freeze_queue_try_enter(&tags[t], 0), OK); }
@@ -36,18 +36,17 @@ static void questions(uint32_t freezes)
     TELLS(STEPLESS(freeze_queue_limits_of(&tags[2], &read)), FREEZE_QUEUE_OK);
     TELLS(STEPLESS(freeze_queue_poll_drained(&freezer)), false);
     TELLS(STEPLESS(freeze_queue_first_piece(&limits, 0, 9, &piece)), FREEZE_QUEUE_OK);
-    TELLS(STEPLESS(freeze_queue_tag_number(&tags[2])) == STEPLESS(freeze_queue_freezer_number(&freezer)), true);
+    TELLS(STEPLESS(freeze_queue_tag_number(&tags[2])) == STEPLESS(freeze_queue_number(&freezer)), true);
 }
 
 static void refused_calls(uint32_t mode, bool is_in)
 {
     freeze_queue_final last;
-    freeze_queue_freezer other = {0};
+    freeze_queue other = {0};
     TELLS(STEPLESS(freeze_queue_try_enter(&tags[1], SLOTS)), FREEZE_QUEUE_ERR_BAD_SLOT);
     TELLS(STEPLESS(freeze_queue_try_enter_frozen(&tags[1], SLOTS)), FREEZE_QUEUE_ERR_BAD_SLOT);
     TELLS(STEPLESS(freeze_queue_try_enter(&tags[2], 0)), FREEZE_QUEUE_ERR_ALREADY_ENTERED);
     TELLS(STEPLESS(freeze_queue_try_enter_frozen(&tags[2], 0)), FREEZE_QUEUE_ERR_ALREADY_ENTERED);
-    TELLS(STEPLESS(freeze_queue_stay(&tags[1], 0)), FREEZE_QUEUE_ERR_TAG_NOT_ENTERED);
     TELLS(STEPLESS(freeze_queue_leave(&tags[1], 0)), FREEZE_QUEUE_ERR_TAG_NOT_ENTERED);
     TELLS(STEPLESS(freeze_queue_leave(&tags[2], SLOTS)), FREEZE_QUEUE_ERR_BAD_SLOT);
     TELLS(STEPLESS(freeze_queue_next_tag(&freezer, &closed)), FREEZE_QUEUE_ERR_NO_TAG);
@@ -69,7 +68,7 @@ static uint64_t frees_tag(int t)
 
 static uint64_t frees_freezer(void)
 {
-    freeze_queue_free_freezer(&freezer);
+    freeze_queue_free(&freezer);
     return freezer.is_open;
 }
 

@@ -17,7 +17,7 @@ static struct submitter {
     long rounds;
 } submitters[THREADS];
 
-static freeze_queue_freezer freezer;
+static freeze_queue freezer;
 static freeze_queue_limits setting = {.hardware = 64, .max = 64, .chunk = 0, .physical = 1};
 static atomic_int running = THREADS;
 static atomic_ulong told;

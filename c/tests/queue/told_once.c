@@ -21,7 +21,7 @@ static struct caller {
     uint64_t told[2];         /* by LAST, and by NOT_ENTERED_LAST */
 } callers[TRIERS + 1];
 
-static freeze_queue_freezer freezer;
+static freeze_queue freezer;
 static atomic_bool over;
 
 /* Waits for the next freeze; false where there is none. */

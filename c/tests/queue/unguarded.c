@@ -10,7 +10,7 @@
 #include <stdio.h>
 #include <string.h>
 
-static freeze_queue_freezer freezer;
+static freeze_queue freezer;
 static freeze_queue_tag tags[2];
 int plain;                /* written with no order to who reads it; not static, so that each compiler reads it there */
 static atomic_bool is_in; /* both relaxed: they order nothing */

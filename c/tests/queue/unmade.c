@@ -1,6 +1,7 @@
-/* Each thing that waits and a pool are made of is refused in turn: the errno of the refusal is answered, and what was made
- * before is ended. Each condition looks at CLOCK_MONOTONIC. */
+/* Each thing that waits and a pool are made of is refused in turn: the call is refused, and what was made before is
+ * ended. Each condition looks at CLOCK_MONOTONIC. */
 #define _POSIX_C_SOURCE 200809L
+#include "inline.h"
 #include "freeze_queue.h"
 #include "readable.h"
 
@@ -58,7 +59,7 @@ static int takes_block(void **at, size_t alignment, size_t size)
     return makes(ENOMEM) ? ENOMEM : posix_memalign(at, alignment, size);
 }
 
-static void *takes_memory(size_t size) { return makes(ENOMEM) ? NULL : malloc(size); }
+static void *takes_memory(size_t count, size_t size) { return makes(ENOMEM) ? NULL : calloc(count, size); }
 
 static void lets_go(void *at)
 {
@@ -80,7 +81,7 @@ static bool never_waits(int event) { return (fcntl(event, F_GETFL) & O_NONBLOCK)
 #define eventfd opens
 #define close(event) ends(close(event))
 #define posix_memalign takes_block
-#define malloc takes_memory
+#define calloc takes_memory
 #define free lets_go
 #include "freeze_queue_pool.h"
 
@@ -96,48 +97,43 @@ static void is(const char *what, int64_t value, int64_t want, int line)
 
 #define TELLS(value, want) is(#value, value, want, __LINE__)
 
-static freeze_queue_freezer freezer;
+static freeze_queue freezer;
 static freeze_queue_waits waits;
 static freeze_queue_pool pool;
 
-/* What waits are made of, in any order: a mutex, and three conditions of three steps each. */
+/* What waits are made of, in any order: a mutex, and four conditions of three steps each. */
 static void waits_are_made(void)
 {
-    int refusals[4] = {0}; /* of mutexes, of attributes, of clocks, of conditions */
-    for (int allow = 0; allow < 10; allow++) {
+    for (int allow = 0; allow < 13; allow++) {
         allowed = allow;
-        int refused = freeze_queue_waits_init(&waits, &freezer);
+        TELLS(freeze_queue_waits_init(&waits, &freezer), FREEZE_QUEUE_ERR_NO_MEMORY);
         TELLS(made, 0);
         TELLS(allowed, -1);
-        refusals[0] += refused == EAGAIN;
-        refusals[1] += refused == ENOMEM;
-        refusals[2] += refused == EINVAL;
-        refusals[3] += refused == EBUSY;
+        TELLS(freeze_queue_waits_destroy(&waits), FREEZE_QUEUE_ERR_CLOSED);
     }
-    TELLS(refusals[0] == 1 && refusals[1] == 3 && refusals[2] == 3 && refusals[3] == 3, true);
-    allowed = 10;
+    allowed = 13;
     monotonic = 0;
     TELLS(freeze_queue_waits_init(&waits, &freezer), 0);
     TELLS(allowed, 0);
-    TELLS(monotonic, 3);
-    TELLS(made, 4);
+    TELLS(monotonic, 4);
+    TELLS(made, 5);
 }
 
 /* Waits that are allocated: one more that may be refused, and no pointer to what isn't made. */
 static void waits_are_allocated(void)
 {
-    for (int allow = 0; allow < 11; allow++) {
+    for (int allow = 0; allow < 14; allow++) {
         allowed = allow;
         TELLS(freeze_queue_waits_new(&freezer) == NULL, true);
         TELLS(made, 0);
     }
-    allowed = 11;
+    allowed = 14;
     freeze_queue_waits *allocated = freeze_queue_waits_new(&freezer);
-    TELLS(allocated != NULL && allowed == 0 && made == 5, true);
+    TELLS(allocated != NULL && allowed == 0 && made == 6, true);
     if (allocated == NULL)
         return;
-    freeze_queue_waits_destroy(allocated);
-    freeze_queue_waits_free(allocated);
+    TELLS(freeze_queue_waits_destroy(allocated), FREEZE_QUEUE_OK);
+    TELLS(freeze_queue_waits_free(allocated), FREEZE_QUEUE_OK);
     TELLS(made, 0);
 }
 
@@ -145,16 +141,19 @@ static void events_are_opened(void)
 {
     for (allowed = 0; allowed < 2;) {
         int allow = allowed;
-        TELLS(freeze_queue_waits_open_events(&waits), EMFILE);
-        TELLS(made, 4);
-        TELLS(waits.live_event == -1 && waits.drained_event == -1, true);
+        TELLS(freeze_queue_waits_open_events(&waits), FREEZE_QUEUE_ERR_NO_EVENT);
+        TELLS(errno, EMFILE);
+        TELLS(made, 5);
+        TELLS(freeze_queue_waits_live_event(&waits) == -1 && freeze_queue_waits_drained_event(&waits) == -1, true);
         allowed = allow + 1;
     }
     TELLS(freeze_queue_waits_open_events(&waits), 0);
-    TELLS(waits.live_event >= 0 && waits.drained_event >= 0, true);
-    TELLS(stays_here(waits.live_event) && stays_here(waits.drained_event), true);
-    TELLS(never_waits(waits.live_event) && never_waits(waits.drained_event), true);
-    TELLS(made, 6);
+    TELLS(freeze_queue_waits_live_event(&waits) >= 0 && freeze_queue_waits_drained_event(&waits) >= 0, true);
+    TELLS(stays_here(freeze_queue_waits_live_event(&waits)) && stays_here(freeze_queue_waits_drained_event(&waits)), true);
+    TELLS(never_waits(freeze_queue_waits_live_event(&waits)) && never_waits(freeze_queue_waits_drained_event(&waits)), true);
+    TELLS(made, 7);
+    TELLS(freeze_queue_waits_open_events(&waits), FREEZE_QUEUE_ERR_OPEN);
+    TELLS(made, 7);
     freeze_queue_waits_destroy(&waits);
     TELLS(made, 0);
 }
@@ -164,14 +163,14 @@ static void an_event_has_the_number_0(void)
 {
     int input = fcntl(0, F_DUPFD_CLOEXEC, 3);
     for (int before = 0; before < 2; before++) {
-        allowed = 12;
+        allowed = 15;
         events_before_0 = before;
         TELLS(freeze_queue_waits_init(&waits, &freezer), 0);
         TELLS(freeze_queue_waits_open_events(&waits), 0);
-        TELLS(waits.live_event == 0 || waits.drained_event == 0, true);
-        TELLS(is_readable(waits.live_event) && !is_readable(waits.drained_event), true);
+        TELLS(freeze_queue_waits_live_event(&waits) == 0 || freeze_queue_waits_drained_event(&waits) == 0, true);
+        TELLS(is_readable(freeze_queue_waits_live_event(&waits)) && !is_readable(freeze_queue_waits_drained_event(&waits)), true);
         TELLS(freeze_queue_waits_begin_freeze(&waits), FREEZE_QUEUE_DRAINED);
-        TELLS(!is_readable(waits.live_event) && is_readable(waits.drained_event), true);
+        TELLS(!is_readable(freeze_queue_waits_live_event(&waits)) && is_readable(freeze_queue_waits_drained_event(&waits)), true);
         TELLS(freeze_queue_waits_thaw(&waits), FREEZE_QUEUE_LIVE_AGAIN);
         freeze_queue_waits_destroy(&waits);
         TELLS(made, 0);
@@ -184,11 +183,14 @@ static void an_event_has_the_number_0(void)
 static void a_pool_is_filled(void)
 {
     freeze_queue_tag tag = {0};
+    allowed = 13;
+    TELLS(freeze_queue_waits_init(&waits, &freezer), FREEZE_QUEUE_OK);
+    made = 0;
     for (int allow = 0; allow < 5; allow++) {
         allowed = allow;
-        TELLS(freeze_queue_pool_fill(&pool, &freezer, 2), FREEZE_QUEUE_ERR_NO_MEMORY);
+        TELLS(freeze_queue_pool_fill(&pool, &waits, 2), FREEZE_QUEUE_ERR_NO_MEMORY);
         TELLS(made, 0);
-        TELLS(pool.count, 0);
+        TELLS(IN_POOL->count, 0);
         for (int i = 0; i < 2; i++) { /* the queue has all tags back */
             TELLS(freeze_queue_next_tag(&freezer, &tag), FREEZE_QUEUE_OK);
             TELLS(freeze_queue_give_tag_back(&freezer, &tag), FREEZE_QUEUE_OK);
@@ -196,11 +198,13 @@ static void a_pool_is_filled(void)
     }
     allowed = 5;
     monotonic = 0;
-    TELLS(freeze_queue_pool_fill(&pool, &freezer, 2), FREEZE_QUEUE_OK);
+    TELLS(freeze_queue_pool_fill(&pool, &waits, 2), FREEZE_QUEUE_OK);
     TELLS(allowed, 0);
     TELLS(monotonic, 1);
-    TELLS(freeze_queue_pool_empty(&pool, &freezer), FREEZE_QUEUE_OK);
+    TELLS(freeze_queue_pool_empty(&pool), FREEZE_QUEUE_OK);
     TELLS(made, 0);
+    made = 5;
+    TELLS(freeze_queue_waits_destroy(&waits), FREEZE_QUEUE_OK);
 }
 
 int main(void)

@@ -4,6 +4,7 @@
 #define _POSIX_C_SOURCE 200809L
 #include "freeze_queue_waits.h"
 
+#include <pthread.h>
 #include <sched.h>
 #include <stdio.h>
 #include <stdlib.h>
@@ -11,7 +12,7 @@
 
 enum { THREADS = 4 };
 
-static freeze_queue_freezer freezer;
+static freeze_queue freezer;
 static freeze_queue_waits waits;
 static long changes;
 static bool apart;
@@ -70,6 +71,6 @@ int main(int count, char **words)
     bool lost = freeze_queue_waits_limits(&waits, &limits) != FREEZE_QUEUE_OK || limits.max != want || limits.chunk != want;
     printf("max %u chunk %u, wanted %u %u%s\n", limits.max, limits.chunk, want, want, lost || wrong ? ": FAILED" : "");
     freeze_queue_waits_destroy(&waits);
-    freeze_queue_free_freezer(&freezer);
+    freeze_queue_free(&freezer);
     return lost ? 3 : wrong != 0;
 }

@@ -1,6 +1,7 @@
 /* Waiting at a queue, call by call: deadlines that pass and that don't, nested freezes by several threads, two queues
  * frozen together, and the events. What is waited for comes about 20 milliseconds later, on another thread. */
 #define _POSIX_C_SOURCE 200809L
+#include "inline.h"
 #include "freeze_queue_waits.h"
 #include "../is.h"
 #include "readable.h"
@@ -15,7 +16,7 @@ static const uint64_t SOON = 20000000, LONG = 600000000000; /* nanoseconds: LONG
 static freeze_queue_limits limits = {.hardware = 64, .max = 8, .chunk = 0, .physical = 1};
 
 static struct queue {
-    freeze_queue_freezer freezer;
+    freeze_queue freezer;
     freeze_queue_waits waits;
     freeze_queue_tag tags[3];
 } queues[2];
@@ -117,10 +118,10 @@ static void freezes_with_deadlines(struct queue *queue)
 static uint32_t first_leaves_untold(struct queue *queue)
 {
     struct timespec past_it = freeze_queue_deadline(2 * SOON);
-    pthread_mutex_lock(&queue->waits.lock);
+    pthread_mutex_lock(&freeze_queue_waits_state_of(&queue->waits)->lock);
     uint32_t answer = freeze_queue_leave(&queue->tags[0], 0);
     while (clock_nanosleep(CLOCK_MONOTONIC, TIMER_ABSTIME, &past_it, NULL)) {}
-    pthread_mutex_unlock(&queue->waits.lock);
+    pthread_mutex_unlock(&freeze_queue_waits_state_of(&queue->waits)->lock);
     return answer;
 }
 
@@ -190,45 +191,19 @@ static void nested(struct queue *queue)
     IS(freeze_queue_waits_leave(&queue->waits, &queue->tags[1], 0), OK);
 }
 
-static uint32_t first_stays(struct queue *queue) { return freeze_queue_waits_stay(&queue->waits, &queue->tags[0], 1, NULL); }
-
-/* A tag stays in a live queue. In a frozen one it leaves, and as the last wakes who freezes; then it waits for the thaw, or has
- * left where that is late. */
-static void stays(struct queue *queue)
-{
-    struct later freezing, staying;
-    struct timespec past = {0, 0}, late = freeze_queue_deadline(LONG);
-    IS(freeze_queue_waits_stay(&queue->waits, &queue->tags[0], 0, NULL), ERR_TAG_NOT_ENTERED);
-    IS(freeze_queue_waits_enter(&queue->waits, &queue->tags[0], 0, NULL), OK);
-    IS(freeze_queue_waits_stay(&queue->waits, &queue->tags[0], 9, NULL), ERR_BAD_SLOT);
-    IS(freeze_queue_waits_stay(&queue->waits, &queue->tags[0], 0, &past), OK);
-    begin(&freezing, queue, freezes, 0);
-    while (depth_of(queue) < 1) {}
-    begin(&staying, queue, first_stays, SOON);
-    IS(answer_of(&freezing), OK);
-    IS(freeze_queue_waits_thaw(&queue->waits), LIVE_AGAIN);
-    IS(answer_of(&staying), LIVE_AGAIN);
-    TELLS(has_passed(&late), false);
-    IS(freeze_queue_waits_enter(&queue->waits, &queue->tags[1], 1, NULL), OK);
-    IS(freeze_queue_waits_begin_freeze(&queue->waits), OK);
-    IS(freeze_queue_waits_stay(&queue->waits, &queue->tags[1], 1, &past), ERR_TIMED_OUT); /* not the last */
-    TELLS(freeze_queue_waits_is_drained(&queue->waits), false);
-    IS(freeze_queue_waits_stay(&queue->waits, &queue->tags[0], 0, &past), ERR_TIMED_OUT);
-    TELLS(freeze_queue_waits_is_drained(&queue->waits), true);
-    IS(freeze_queue_waits_leave(&queue->waits, &queue->tags[0], 0), ERR_TAG_NOT_ENTERED);
-    IS(freeze_queue_waits_thaw(&queue->waits), LIVE_AGAIN);
-}
-
-/* The calls of waits whose freezer is closed. */
+/* The calls of waits whose queue was removed. */
 static void closed(void)
 {
     struct queue none = {.freezer = {0}};
+    freeze_queue_final last;
     uint32_t depth = 7;
     freeze_queue_limits told = {7, 7, 7, 7};
-    TELLS((uint64_t)freeze_queue_waits_init(&none.waits, &none.freezer), 0);
+    IS(freeze_queue_waits_init(&none.waits, &none.freezer), ERR_CLOSED);
+    IS(freeze_queue_new(&none.freezer, &limits, 1, 1), OK);
+    IS(freeze_queue_waits_init(&none.waits, &none.freezer), OK);
+    IS(freeze_queue_remove(&none.freezer, &last), OK);
     IS(freeze_queue_waits_enter(&none.waits, &none.tags[0], 0, NULL), ERR_CLOSED);
     IS(freeze_queue_waits_leave(&none.waits, &none.tags[0], 0), ERR_CLOSED);
-    IS(freeze_queue_waits_stay(&none.waits, &none.tags[0], 0, NULL), ERR_CLOSED);
     IS(freeze_queue_waits_freeze(&none.waits, NULL), ERR_CLOSED);
     IS(freeze_queue_waits_begin_freeze(&none.waits), ERR_CLOSED);
     IS(freeze_queue_waits_set(&none.waits, &limits), ERR_CLOSED);
@@ -239,7 +214,7 @@ static void closed(void)
     IS(freeze_queue_waits_limits(&none.waits, &told), ERR_CLOSED);
     TELLS(freeze_queue_waits_is_drained(&none.waits), false);
     TELLS(depth == 7 && told.max == 7, true);
-    freeze_queue_waits_destroy(&none.waits);
+    IS(freeze_queue_waits_destroy(&none.waits), OK);
 }
 
 static void changes(struct queue *queue)
@@ -278,25 +253,25 @@ static void events(struct queue *queue)
     freeze_queue_waits *waits = &queue->waits;
     struct later later;
     TELLS((uint64_t)freeze_queue_waits_open_events(waits), 0);
-    TELLS(is_readable(waits->live_event), true);
-    TELLS(is_readable(waits->drained_event), false);
+    TELLS(is_readable(freeze_queue_waits_live_event(waits)), true);
+    TELLS(is_readable(freeze_queue_waits_drained_event(waits)), false);
     IS(freeze_queue_waits_enter(waits, &queue->tags[0], 0, NULL), OK);
     IS(freeze_queue_waits_begin_freeze(waits), OK);
-    TELLS(is_readable(waits->live_event), false);
-    TELLS(is_readable(waits->drained_event), false);
+    TELLS(is_readable(freeze_queue_waits_live_event(waits)), false);
+    TELLS(is_readable(freeze_queue_waits_drained_event(waits)), false);
     IS(freeze_queue_waits_try_enter(waits, &queue->tags[1], 0), NOT_ENTERED);
     begin(&later, queue, first_leaves, SOON);
-    TELLS(is_readable_within(waits->drained_event, LONG / 1000000), true);
+    TELLS(is_readable_within(freeze_queue_waits_drained_event(waits), LONG / 1000000), true);
     IS(answer_of(&later), OK);
     TELLS(freeze_queue_waits_is_drained(waits), true);
     IS(freeze_queue_waits_begin_freeze(waits), DRAINED);
     IS(freeze_queue_waits_thaw(waits), OK);
-    TELLS(is_readable(waits->drained_event), true);
-    TELLS(is_readable(waits->live_event), false);
+    TELLS(is_readable(freeze_queue_waits_drained_event(waits)), true);
+    TELLS(is_readable(freeze_queue_waits_live_event(waits)), false);
     begin(&later, queue, thaws, SOON);
-    TELLS(is_readable_within(waits->live_event, LONG / 1000000), true);
+    TELLS(is_readable_within(freeze_queue_waits_live_event(waits), LONG / 1000000), true);
     IS(answer_of(&later), LIVE_AGAIN);
-    TELLS(is_readable(waits->drained_event), false);
+    TELLS(is_readable(freeze_queue_waits_drained_event(waits)), false);
     IS(freeze_queue_waits_try_enter(waits, &queue->tags[1], 0), OK);
     IS(freeze_queue_waits_leave(waits, &queue->tags[1], 0), OK);
 }
@@ -357,7 +332,6 @@ int main(int argc, char **argv)
     enters_with_deadlines(&queues[0]);
     nested(&queues[0]);
     looks_after_the_deadline(&queues[0]);
-    stays(&queues[0]);
     closed();
     changes(&queues[0]);
 #if defined(__linux__)

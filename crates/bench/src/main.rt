@@ -1,9 +1,10 @@
 //! Times rounds of the gate and of the queue, and changes of the queue's limits beside them, from Rattle.
 //!
-//! `bench THREADS ROUNDS CHANGES` prints a line `gate,ROUNDS,NANOSECONDS,0`. For a queue that its threads leave after each request, and
-//! then for one in which they stay, it prints a line `WHAT,ROUNDS,NANOSECONDS,SUM` without changes, a line `change,NANOSECONDS` for
-//! each change, and a line `WHAT,ROUNDS,NANOSECONDS,SUM` for the requests beside them. All threads begin at once, and the
-//! nanoseconds are from the first one's begin to the last one's end. SUM is of the limits that the requests had, so they were read.
+//! `bench THREADS ROUNDS CHANGES` prints a line `gate,ROUNDS,NANOSECONDS,0`. For a queue that its threads leave after each request,
+//! and then for a queue in which they stay, it prints a line `WHAT,ROUNDS,NANOSECONDS,SUM` without changes, a line
+//! `change,NANOSECONDS` for each change, and a line `WHAT,ROUNDS,NANOSECONDS,SUM` for the requests during the changes. All threads
+//! begin at once. The nanoseconds are from when the first thread begins until the last one ends. SUM adds up the limits of the
+//! requests, so that they are read.
 #![tactic(auto)]
 
 ghost use Rattle.std.specs.Prelude.{◌≡◌, ◌<◌, ◌≤◌, All, IfSome, false};
@@ -26,15 +27,15 @@ use thiserror::Error;
 use uses::change_limits;
 
 const HARDWARE: u32 = 64;
-/// The requests between two looks at whether the changes are over.
+/// Number of requests between two looks at whether the changes are over.
 const BATCH: u32 = 1_024;
 
-/// The handles of the machine that the measures use.
+/// The handles of the machine that the measurements use.
 trait Host: Threads + Wait + Sync + Clock + Print + Env + AllocGlobal {}
 
 impl<R: Threads + Wait + Sync + Clock + Print + Env + AllocGlobal> Host for R {}
 
-/// Why there are no times.
+/// Why there are no measurements.
 #[derive(Debug, Drop, Error)]
 enum Fault {
     #[error("usage: bench THREADS ROUNDS CHANGES, up to 63 threads")]
@@ -47,7 +48,7 @@ enum Fault {
     System(#[from] io::Error),
 }
 
-/// The rounds that threads went through, from the first thread's begin to the last one's end.
+/// The number of rounds of all threads, and the times when the first thread began and the last one ended.
 #[derive(Drop)]
 struct Rounds {
     count: u64,
@@ -89,7 +90,7 @@ fn print_rounds(
     Ok(())
 }
 
-/// Tries for a live gate, and puts the reference that a try is given.
+/// Makes rounds. Each tries for a reference of a live gate, and puts it.
 #[inline(never)]
 fn through_gate(gate: &Gate<0>, mut pass: Pass<0>, slot: u32, rounds: u32)
     requires own { pass.gate ≡ gate.now }
@@ -103,7 +104,7 @@ fn through_gate(gate: &Gate<0>, mut pass: Pass<0>, slot: u32, rounds: u32)
     }
 }
 
-/// Times the rounds of a gate, on threads each of which has a pass and a slot of its own.
+/// Times the rounds of a gate, on threads that each have a pass and a slot.
 fn time_gate(rt: &impl Host, threads: u32, rounds: u32) -> Result<(), Fault>
     requires threads { (1 ≤ threads) × (threads ≤ 63) }
 {
@@ -136,12 +137,12 @@ fn time_gate(rt: &impl Host, threads: u32, rounds: u32) -> Result<(), Fault>
     print_rounds(rt, "gate", of_threads)
 }
 
-/// The sum of the limits: a request reads each.
+/// Returns the sum of the limits, so that a request reads each of them.
 fn sum_of(limits: Limits) -> u64 {
     u64::from(limits.max()) + u64::from(limits.chunk()) + u64::from(limits.physical())
 }
 
-/// Makes requests: each enters, reads the limits and leaves. Returns the sum of all limits.
+/// Makes requests that each enter, read the limits and leave. Returns the sum of all limits.
 #[inline(never)]
 fn leave_each(rt: &impl Host, queue: &BlockQueue, tag: &mut Tag, slot: u32, rounds: u32) -> u64
     requires own { tag.old.queue ≡ queue.now }
@@ -158,8 +159,8 @@ fn leave_each(rt: &impl Host, queue: &BlockQueue, tag: &mut Tag, slot: u32, roun
     sum
 }
 
-/// Makes requests with a tag that stays entered between them. The limits are read once, and again where the tag has entered
-/// again. Returns the sum of all limits.
+/// Makes requests with a tag that stays entered between them. The limits are read once, and again each time that the tag has
+/// entered again. Returns the sum of all limits.
 #[inline(never)]
 fn stay_for_each(rt: &impl Host, queue: &BlockQueue, tag: &mut Tag, slot: u32, rounds: u32) -> u64
     requires own { tag.old.queue ≡ queue.now }
@@ -180,7 +181,7 @@ fn stay_for_each(rt: &impl Host, queue: &BlockQueue, tag: &mut Tag, slot: u32, r
     sum
 }
 
-/// How threads go through a queue: in batches of requests, until the changes are over.
+/// How threads make requests to a queue: in batches, until the changes are over.
 #[derive(Drop)]
 struct Course {
     stays: bool,
@@ -189,7 +190,7 @@ struct Course {
     is_over: AtomicBool,
 }
 
-/// Goes through the batches of one thread.
+/// Makes the batches of one thread.
 fn through_queue(
     rt: &impl Host,
     queue: &BlockQueue,
@@ -246,7 +247,7 @@ fn time_changes(
     Ok(())
 }
 
-/// Goes through the requests on threads each of which has a tag and a slot of its own.
+/// Makes the requests on threads that each have a tag and a slot.
 fn through_all(
     rt: &impl Host,
     queue: &BlockQueue,
@@ -266,7 +267,7 @@ fn through_all(
     thread::map_vec(rt, tags, &run)
 }
 
-/// Times batches of requests on each thread, and the changes beside them. With no changes there is one batch.
+/// Times batches of requests on each thread, and the changes beside them. Without changes there is one batch.
 fn time_queue(
     rt: &impl Host,
     stays: bool,
@@ -305,7 +306,7 @@ fn time_queue(
     print_rounds(rt, if stays { "stays" } else { "leaves" }, went?)
 }
 
-/// A number from 1 to `most`.
+/// Returns a number from 1 to `most`.
 fn number(text: &str, most: u32) -> Option<u32>
     ensures { IfSome result (λ number. (1 ≤ number) × (number ≤ most)) }
 {
@@ -313,7 +314,7 @@ fn number(text: &str, most: u32) -> Option<u32>
     (1 <= number && number <= most).then_some(number)
 }
 
-/// Does as the words after the program's name ask.
+/// Does what the arguments ask for.
 fn run(rt: &impl Host) -> Result<(), Fault> {
     let words: Vec<String> = env::args(rt)?.skip(1).collect(rt.alloc())?;
     let [threads, rounds, changes] = words.as_slice() else {

@@ -9,12 +9,12 @@ use Rattle.blk_script.specs.Answer.{IsText}
 use Rattle.script_meaning.specs.Meaning.{State, start_of, IsReply, IsReplyTo, IsAnswered, AreReplies, after, after_lines}
 use Rattle.script_meaning.specs.Script.{Meant}
 use Rattle.script_meaning.specs.Taken.{outcome}
-use Rattle.script_meaning.specs.declared.outcome.Outcome.{Outcome}
-use Rattle.script_meaning.specs.declared.outcome.Outcome.TheVariants.{Accepted, Drained, Replied}
+use Rattle.script_meaning.specs.declared.reply.Outcome.{Outcome}
+use Rattle.script_meaning.specs.declared.reply.Outcome.TheVariants.{Accepted, Drained, Replied}
 use Rattle.blk_script.specs.Texts.{reply_line, disk_line}
-use Rattle.script_meaning.specs.declared.line.Line.{Line}
-use Rattle.script_meaning.specs.declared.line.What.{What}
-use Rattle.script_meaning.specs.declared.line.What.TheVariants.{Read, Write}
+use Rattle.script_meaning.specs.declared.script.Line.{Line}
+use Rattle.script_meaning.specs.declared.script.What.{What}
+use Rattle.script_meaning.specs.declared.script.What.TheVariants.{Read, Write}
 use Rattle.script_meaning.specs.declared.reply.Reply.{Reply}
 use Rattle.script_meaning.specs.declared.reply.Reply.TheVariants.{Data, Written}
 

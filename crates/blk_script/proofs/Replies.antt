@@ -10,7 +10,7 @@ use Rattle.script_meaning.specs.Script.{Meant}
 use Rattle.script_meaning.specs.Meaning.{State, start_of}
 use Rattle.blk_script.specs.Texts.{reply_line, disk_line}
 use Rattle.script_meaning.proofs.Positions.{after_lines-push}
-use Rattle.script_meaning.specs.declared.line.Line.{Line}
+use Rattle.script_meaning.specs.declared.script.Line.{Line}
 use Rattle.script_meaning.specs.declared.reply.Reply.{Reply}
 
 -- from the state `first`, the lines were replied to by this text, and left the state `last`

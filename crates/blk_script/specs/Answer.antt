@@ -8,7 +8,7 @@ use Rattle.script_meaning.specs.Meaning.{start_of}
 use Rattle.blk_script.specs.Texts.{reply_line, disk_line}
 use Rattle.script_meaning.specs.declared.reply.Reply.{Reply}
 
--- the text is the lines of the replies, one after another, and then the line of the disk as it is in the end
+-- the text is the lines of the replies, one after another, and then the line of the disk as the script leaves it
 pub record IsText (script : Meant) (text : List ℕ) : Type 0 where
   pub replies : List (ℕ × Reply)
   pub runs : List (ℕ × ℕ)

@@ -4,14 +4,14 @@ use Rattle.std.specs.Str.{bytes_eq}
 use Rattle.line_text.specs.Hex.{hex_bytes}
 use Rattle.line_text.specs.Numbers.{◌>>=◌, number_in}
 use Rattle.line_text.specs.Words.{no_words, one_word, two_words, three_words}
-use Rattle.blk_script.specs.declared.grammar.DiskLine.{DiskLine}
-use Rattle.percpu_words.specs.declared.mode.Mode.TheVariants.{Atomic, Slots}
+use Rattle.blk_script.specs.declared.parser.DiskLine.{DiskLine}
+use Rattle.script_meaning.specs.declared.script.Mode.TheVariants.{Atomic, Slots}
 use Rattle.line_text.specs.declared.fault.Why.{Why}
 use Rattle.line_text.specs.declared.fault.Why.TheVariants.{NoVersion, NoDisk, UnknownWord}
-use Rattle.script_meaning.specs.declared.line.What.{What}
-use Rattle.script_meaning.specs.declared.version.Version.{Version}
-use Rattle.script_meaning.specs.declared.version.Version.TheVariants.{One, Two}
-use Rattle.script_meaning.specs.declared.line.What.TheVariants.{Read, Write, Freeze, Thaw, SetMax, SetChunk, SetPhysical, SetMode, Stat, Remove}
+use Rattle.script_meaning.specs.declared.script.What.{What}
+use Rattle.script_meaning.specs.declared.script.Version.{Version}
+use Rattle.script_meaning.specs.declared.script.Version.TheVariants.{One, Two}
+use Rattle.script_meaning.specs.declared.script.What.TheVariants.{Read, Write, Freeze, Thaw, SetMax, SetChunk, SetPhysical, SetMode, Stat, Remove}
 
 -- a write repeats 1 to 64 bytes
 abbrev pub pattern_of : List ℕ → Result (List ℕ) Why

@@ -1,5 +1,5 @@
--- Parsing and Grammar: which script a text means. Texts: the line of each reply. Answer: what a run on one thread writes. Closed and Machine are of the
--- code behind that run.
+-- Parsing and Grammar: which script a text means. Texts: the line of each reply. Answer: what a run on one thread writes. Closed and Machine: for the code of
+-- that run.
 pub mod Answer
 pub mod Closed
 pub mod Grammar

@@ -1,7 +1,7 @@
--- Which script a text means, or which fault it has.
+-- The script that a text means, or its first fault.
 use Rattle.std.specs.Prelude.{ℕ, List, [], ◌∷◌, Result, Ok}
 use Rattle.blk_script.specs.Grammar.{version_of, disk_of, what_of}
-use Rattle.blk_script.specs.declared.grammar.DiskLine.{DiskLine}
+use Rattle.blk_script.specs.declared.parser.DiskLine.{DiskLine}
 use Rattle.line_text.specs.Answers.{at_line}
 use Rattle.line_text.specs.Numbers.{◌>>=◌}
 use Rattle.line_text.specs.Statements.{Unread, unread, first_or, after_first}
@@ -9,11 +9,11 @@ use Rattle.line_text.specs.declared.fault.ParseFault.{ParseFault}
 use Rattle.line_text.specs.declared.fault.Why.{Why}
 use Rattle.line_text.specs.declared.fault.Why.TheVariants.{NoVersion, NoDisk}
 use Rattle.script_meaning.specs.Script.{Meant}
-use Rattle.script_meaning.specs.declared.line.Line.{Line}
-use Rattle.script_meaning.specs.declared.line.What.{What}
-use Rattle.script_meaning.specs.declared.version.Version.{Version}
+use Rattle.script_meaning.specs.declared.script.Line.{Line}
+use Rattle.script_meaning.specs.declared.script.What.{What}
+use Rattle.script_meaning.specs.declared.script.Version.{Version}
 
--- what the words of a line ask, where it has any
+-- what the words of a line ask, if it has any
 abbrev pub said_by : Version → Result (List (List ℕ)) Why → Result What Why
 said_by version words = words >>= what_of version
 
@@ -25,11 +25,11 @@ further_lines version (said ∷ more) =
     further_lines version more >>= λ lines.
     Ok (record { number = said.0; what = what } ∷ lines)
 
--- the first line that says something has to be that of the version
+-- the first line that isn't empty or a comment has to name the version
 abbrev pub version_in : Unread → Result Version ParseFault
 version_in text = first_or NoVersion text >>= λ said. at_line said.0 (version_of said.1)
 
--- and the next one that of the disk
+-- and the next one the disk
 abbrev pub disk_in : Unread → Result DiskLine ParseFault
 disk_in text = first_or NoDisk text >>= λ said. at_line said.0 (disk_of said.1)
 

@@ -3,8 +3,8 @@ use Rattle.std.specs.Prelude.{ℕ, ◌++◌, List, [], ◌∷◌, map, codes, de
 use Rattle.std.specs.List.{join_with_byte}
 use Rattle.hex.specs.Hex.{encode_lower}
 use Rattle.line_text.specs.Named.{named}
-use Rattle.percpu_words.specs.declared.mode.Mode.{Mode}
-use Rattle.percpu_words.specs.declared.mode.Mode.TheVariants.{Atomic, Slots}
+use Rattle.script_meaning.specs.declared.script.Mode.{Mode}
+use Rattle.script_meaning.specs.declared.script.Mode.TheVariants.{Atomic, Slots}
 use Rattle.script_meaning.specs.declared.reply.Stat.{Stat as Counts}
 use Rattle.script_meaning.specs.declared.reply.Reply.{Reply}
 use Rattle.script_meaning.specs.declared.reply.Reply.TheVariants.{Data, Written, Done, Depth, NotFrozen, DepthFull, Again, PastEnd, Invalid, Stat as Told, Removed, Gone}
@@ -29,7 +29,7 @@ mode_name Slots = codes "slots"
 unfoldable pub named_mode : List ℕ → Mode → List ℕ
 named_mode name mode = name ++ mode_name mode
 
--- the sectors of a physical block, where they are told
+-- the sectors of a physical block, if they are reported
 unfoldable pub physical_text : Option ℕ → List ℕ
 physical_text None = []
 physical_text (Some size) = named (codes " physical ") size

@@ -14,7 +14,7 @@ use script_meaning::{
 };
 use std::alloc::Global;
 
-/// The queue and its disk, as one thread has them that takes a script line by line.
+/// The queue and its disk, as one thread keeps them while it takes a script line by line.
 #[derive(Drop)]
 pub(crate) struct Machine {
     pub(crate) queue: QueueState,
@@ -22,7 +22,7 @@ pub(crate) struct Machine {
     ghost whole: { length disk ≡ queue.sectors },
 }
 
-// The pieces of a request under the limits in force.
+// Returns the pieces of a request under the limits in force.
 fn pieces(alloc: Global, limits: &Limits, request: Request) -> Result<PieceLengths, ScriptFault>
     ensures pieces { IfOk result (λ pieces. IsSplit limits.now request.start request.count pieces) }
     ensures fault { IfErr result (λ fault. fault ≡ ScriptFault.Memory) }
@@ -64,7 +64,7 @@ impl Machine {
         })
     }
 
-    // Makes the sectors first and installs them last, so that a refusal of memory leaves the disk as it was.
+    // Makes the sectors first and installs them last, so that the disk is unchanged if memory is refused.
     fn write(
         &mut self,
         alloc: Global,
@@ -86,7 +86,7 @@ impl Machine {
         Ok(Reply::Written { pieces })
     }
 
-    /// Replies to a line. On `Memory`, the only fault, the queue and its disk are as before.
+    /// Replies to a line. `Memory` is the only fault; then the queue and its disk are unchanged.
     pub(crate) fn reply(&mut self, alloc: Global, what: &What) -> Result<Reply, ScriptFault>
         requires room { counted self.old.queue + 1 < 2 ^ 64 }
         ensures reply { IfOk result (IsReply (state_of self.old) what.now) }

@@ -2,19 +2,18 @@
 ghost use Rattle.std.specs.Prelude.{◌≡◌, ◌++◌, ◌∷◌, [], ◌<◌, ℕ, List, OnOk, OnErr, IfOk, IfErr, codes, decimal};
 ghost use Rattle.hex.specs.Hex.{encode_lower};
 ghost use Rattle.line_text.specs.Named.{named};
-ghost use Rattle.blk_script.specs.Closed.{HasGrown};
+ghost use Rattle.blk_script.specs.Closed.{HasGrown, IsClosed, closed_text};
 ghost use Rattle.blk_script.specs.Texts.{pieces_text, run_text, runs_text, named_mode, physical_text, counts_text, reply_text, reply_line, disk_line};
 ghost use Rattle.ram_disk.specs.Runs.{IsRuns};
 ghost use Rattle.ram_disk.specs.Sector.{bytes_of};
 ghost use Rattle.script_meaning.specs.declared.reply.Reply.TheVariants.{Data};
 
-use crate::sector_runs::push_sectors;
 use line_text::{ScriptFault, push_hex, push_named, push_number, push_text};
-use ram_disk::{Disk, Sector};
+use ram_disk::{Disk, SECTOR_BYTES, Sector, add_sector};
 use script_meaning::{Mode, Reply, Stat};
 use std::alloc::{AllocError, Global};
 
-// The two digits of a byte.
+// Returns the two digits of a byte.
 fn hex_digits(byte: u8) -> [u8; 2]
     ensures { result ≡ encode_lower (byte ∷ []) }
 {
@@ -23,7 +22,7 @@ fn hex_digits(byte: u8) -> [u8; 2]
     digits
 }
 
-// Appends a run that is shorter than ten bytes, as most are where there are many, in one step.
+// Appends a run of fewer than ten bytes in one step. If there are many runs, most are that short.
 fn push_short_run(out: &mut Vec<u8>, byte: u8, count: u8) -> Result<(), AllocError>
     requires { count < 10 }
     ensures ok { OnOk result (out.new.items ≡ out.old.items ++ run_text (byte, count)) }
@@ -34,7 +33,7 @@ fn push_short_run(out: &mut Vec<u8>, byte: u8, count: u8) -> Result<(), AllocErr
 }
 
 /// Appends a run.
-pub(crate) fn push_run(out: &mut Vec<u8>, run: (u8, u64)) -> Result<(), AllocError>
+fn push_run(out: &mut Vec<u8>, run: (u8, u64)) -> Result<(), AllocError>
     ensures ok { OnOk result (out.new.items ≡ out.old.items ++ run_text run) }
     ensures err { OnErr result (HasGrown out.old.items out.new.items) }
 {
@@ -60,7 +59,7 @@ fn push_pieces(out: &mut Vec<u8>, pieces: &[u32]) -> Result<(), AllocError>
 }
 
 /// Appends runs.
-pub(crate) fn push_runs(out: &mut Vec<u8>, runs: &[(u8, u64)]) -> Result<(), AllocError>
+fn push_runs(out: &mut Vec<u8>, runs: &[(u8, u64)]) -> Result<(), AllocError>
     ensures ok { OnOk result (out.new.items ≡ out.old.items ++ runs_text runs.now) }
     ensures err { OnErr result (HasGrown out.old.items out.new.items) }
 {
@@ -145,11 +144,10 @@ pub(crate) fn push_line(out: &mut Vec<u8>, number: u32, reply: &Reply) -> Result
     push_text(out, "\n")
 }
 
-/// Room for the line of most replies, in bytes: it is taken once, and the line doesn't grow out of smaller rooms.
+/// Room for the line of most replies, in bytes. It is taken once, so that the line doesn't grow out of smaller rooms.
 const USUAL_LINE: usize = 24;
 
-/// The line of a reply to the script's line of this number, its line feed included. `Memory` is the only
-/// refusal.
+/// Returns the line of a reply to the script's line of this number, with its line feed. `Memory` is the only fault.
 pub fn render(alloc: Global, number: u32, reply: &Reply) -> Result<Vec<u8>, ScriptFault>
     ensures line { IfOk result (λ line. line.items ≡ reply_line (number, reply.now)) }
     ensures fault { IfErr result (λ fault. fault ≡ ScriptFault.Memory) }
@@ -159,8 +157,8 @@ pub fn render(alloc: Global, number: u32, reply: &Reply) -> Result<Vec<u8>, Scri
     Ok(line)
 }
 
-/// The line of a read's reply to the script's line of this number, its line feed included: the lengths of its pieces, and the
-/// runs of the sectors that it found. `Memory` is the only refusal.
+/// Returns the line of a read's reply to the script's line of this number, with its line feed: the lengths of its pieces, and the
+/// runs of the sectors that it found. `Memory` is the only fault.
 pub fn render_read(
     alloc: Global,
     number: u32,
@@ -181,7 +179,7 @@ pub fn render_read(
     Ok(line)
 }
 
-// Appends the line of a disk, or a part of it where memory is refused.
+// Appends the line of a disk, or a part of the line if memory is refused.
 fn push_disk_line(out: &mut Vec<u8>, alloc: Global, disk: &Disk) -> Result<(), ScriptFault>
     ensures line { OnOk result ((runs : List (ℕ × ℕ)) × IsRuns runs (bytes_of disk.now) × (out.new.items ≡ out.old.items ++ disk_line runs)) }
     ensures err { OnErr result (HasGrown out.old.items out.new.items) }
@@ -193,7 +191,7 @@ fn push_disk_line(out: &mut Vec<u8>, alloc: Global, disk: &Disk) -> Result<(), S
     Ok(())
 }
 
-/// Appends the line of a disk, its line feed included. `Memory` is the only refusal, and leaves the text as it was.
+/// Appends the line of a disk, with its line feed. `Memory` is the only fault; then the text is unchanged.
 pub fn push_disk(out: &mut Vec<u8>, alloc: Global, disk: &Disk) -> Result<(), ScriptFault>
     ensures line { OnOk result ((runs : List (ℕ × ℕ)) × IsRuns runs (bytes_of disk.now) × (out.new.items ≡ out.old.items ++ disk_line runs)) }
     ensures err { OnErr result (out.new.items ≡ out.old.items) }
@@ -207,7 +205,7 @@ pub fn push_disk(out: &mut Vec<u8>, alloc: Global, disk: &Disk) -> Result<(), Sc
     pushed
 }
 
-/// The line of a disk, its line feed included. `Memory` is the only refusal.
+/// Returns the line of a disk, with its line feed. `Memory` is the only fault.
 pub fn render_disk(alloc: Global, disk: &Disk) -> Result<Vec<u8>, ScriptFault>
     ensures line { IfOk result (λ line. (runs : List (ℕ × ℕ)) × IsRuns runs (bytes_of disk.now) × (line.items ≡ disk_line runs)) }
     ensures fault { IfErr result (λ fault. fault ≡ ScriptFault.Memory) }
@@ -215,4 +213,53 @@ pub fn render_disk(alloc: Global, disk: &Disk) -> Result<Vec<u8>, ScriptFault>
     let mut line = Vec::new(alloc);
     push_disk(&mut line, alloc, disk)?;
     Ok(line)
+}
+
+// This many sectors have fewer than 2^64 bytes. No memory holds as many owners of sectors.
+const MOST_SECTORS: usize = usize::MAX / SECTOR_BYTES;
+
+// Appends runs, each followed by a comma.
+fn push_closed(out: &mut Vec<u8>, runs: &[(u8, u64)]) -> Result<(), AllocError>
+    ensures ok { OnOk result (out.new.items ≡ out.old.items ++ closed_text runs.now) }
+    ensures err { OnErr result (HasGrown out.old.items out.new.items) }
+{
+    for run in runs {
+        push_run(out, *run)?;
+        push_text(out, ",")?;
+    }
+    Ok(())
+}
+
+// Appends all runs except the last, which stays, since what follows may make it longer.
+fn close(out: &mut Vec<u8>, runs: &mut Vec<(u8, u64)>) -> Result<(), AllocError>
+    ensures ok { OnOk result (IsClosed out.old.items out.new.items runs.old.items runs.new.items) }
+    ensures err { OnErr result (HasGrown out.old.items out.new.items) }
+{
+    let Some(last) = runs.pop() else {
+        return Ok(());
+    };
+    push_closed(out, runs)?;
+    runs.clear();
+    runs.push_reserved(last);
+    Ok(())
+}
+
+/// Appends the maximal runs of these sectors' bytes, or a part of their text if memory is refused. `Memory` is the only fault.
+fn push_sectors(out: &mut Vec<u8>, alloc: Global, sectors: &[Sector]) -> Result<(), ScriptFault>
+    ensures text { OnOk result ((runs : List (ℕ × ℕ)) × IsRuns runs (bytes_of sectors.now) × (out.new.items ≡ out.old.items ++ runs_text runs)) }
+    ensures err { OnErr result (HasGrown out.old.items out.new.items) }
+    ensures fault { IfErr result (λ fault. fault ≡ ScriptFault.Memory) }
+{
+    if sectors.len() > MOST_SECTORS {
+        return Err(ScriptFault::Memory);
+    }
+    let mut runs = Vec::new(alloc);
+    for sector in sectors {
+        let Ok(()) = add_sector(&mut runs, sector) else {
+            return Err(ScriptFault::Memory);
+        };
+        close(out, &mut runs)?;
+    }
+    push_runs(out, &runs)?;
+    Ok(())
 }

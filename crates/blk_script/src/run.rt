@@ -8,8 +8,8 @@ use line_text::ScriptFault;
 use script_meaning::Script;
 use std::alloc::Global;
 
-/// What a script's run on one thread writes: a line for each line that asks something, and then the disk's.
-/// Requests that overlap are done in the order of their lines. `Memory` is the only refusal.
+/// Returns what a script's run on one thread writes: a line for each line that asks something, and then the line of the disk.
+/// Requests that overlap are done in the order of their lines. `Memory` is the only fault.
 pub fn run_alone(alloc: Global, script: &Script) -> Result<Vec<u8>, ScriptFault>
     ensures text { IfOk result (λ text. IsText script.now text.items) }
     ensures fault { IfErr result (λ fault. fault ≡ ScriptFault.Memory) }

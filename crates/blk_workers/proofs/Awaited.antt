@@ -8,14 +8,14 @@ use Rattle.run_queues.specs.Parts.{CollectorFacts}
 use Rattle.run_queues.proofs.Increasing.{one_at_itself, times_append}
 use Rattle.script_meaning.specs.Requests.{accepted_at, accepted_before}
 use Rattle.script_meaning.specs.Script.{Meant}
-use Rattle.script_meaning.specs.declared.request.Request.{Request}
+use Rattle.script_meaning.specs.declared.reply.Request.{Request}
 use Rattle.script_meaning.proofs.Numbers.{in_order}
 use Rattle.blk_workers.specs.Progress.{AreAwaited, HasTakenCompletion, IsCollecting}
-use Rattle.run_desk.specs.Desk.{is_owed}
-use Rattle.run_desk.specs.Requests.{IsAcceptedAt}
-use Rattle.run_desk.specs.declared.desk.Desk.{Desk}
-use Rattle.run_desk.proofs.Places.{count_push_none, count_push_some, count_set, owed_push, owed_at, owed_set_other}
-use Rattle.run_desk.proofs.Numbering.{before_grows}
+use Rattle.in_flight.specs.Table.{is_owed}
+use Rattle.in_flight.specs.Requests.{IsAcceptedAt}
+use Rattle.in_flight.specs.declared.table.InFlightTable.{InFlightTable}
+use Rattle.in_flight.proofs.Places.{count_push_none, count_push_some, count_set, owed_push, owed_at, owed_set_other}
+use Rattle.in_flight.proofs.Numbering.{before_grows}
 
 -- a request whose number is below the count before a position stands before it
 stands_before : (script : Meant) (number position here : ℕ) → IsAcceptedAt script number position → number < accepted_before script here → position < here
@@ -49,7 +49,7 @@ same_but_collected first second third xs once again =
     again ∙ ap (λ (k : CollectorFacts). record k { collected = xs }) once ∙ ap (λ (numbers : List ℕ). record first { collected = numbers }) (sym (ap (λ (k : CollectorFacts). k.collected) again))
 
 -- a completion is collected and taken, and more may be
-pub collects_on : (script : Meant) (completions : TableId) (before after : Desk) (first second : CollectorFacts) (number : ℕ) → IsCollecting script completions before first
+pub collects_on : (script : Meant) (completions : TableId) (before after : InFlightTable) (first second : CollectorFacts) (number : ℕ) → IsCollecting script completions before first
     → second ≡ record first { collected = first.collected ++ number ∷ [] } → HasTakenCompletion script number before after → IsCollecting script completions after second
 collects_on script completions before after first second number collecting is taken = record {
   stands = taken.stands;

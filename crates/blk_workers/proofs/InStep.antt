@@ -6,14 +6,14 @@ use Rattle.queue_limits.specs.declared.limits.TheConstants.{CHUNK_LIMIT}
 use Rattle.freeze_queue.specs.Queue.{FreezerFacts}
 use Rattle.script_meaning.specs.Queue.{Queue}
 use Rattle.script_meaning.specs.Taken.{request_counted, request_taken, limits_taken, taken_there, taken, outcome, queue_after}
-use Rattle.script_meaning.specs.declared.line.What.{What}
-use Rattle.script_meaning.specs.declared.line.What.TheVariants.{Read, Write, Freeze, Thaw, SetMax, SetChunk, SetPhysical, SetMode, Stat, Remove}
-use Rattle.script_meaning.specs.declared.outcome.Outcome.{Outcome}
-use Rattle.script_meaning.specs.declared.outcome.Outcome.TheVariants.{Accepted, Drained, Replied}
+use Rattle.script_meaning.specs.declared.script.What.{What}
+use Rattle.script_meaning.specs.declared.script.What.TheVariants.{Read, Write, Freeze, Thaw, SetMax, SetChunk, SetPhysical, SetMode, Stat, Remove}
+use Rattle.script_meaning.specs.declared.reply.Outcome.{Outcome}
+use Rattle.script_meaning.specs.declared.reply.Outcome.TheVariants.{Accepted, Drained, Replied}
 use Rattle.script_meaning.specs.declared.queue_state.TheConstants.{DEPTH_LIMIT}
 use Rattle.script_meaning.specs.declared.reply.Reply.{Reply}
 use Rattle.script_meaning.specs.declared.reply.Reply.TheVariants.{Done, Depth, NotFrozen, DepthFull, Again, PastEnd, Invalid, Gone}
-use Rattle.script_meaning.specs.declared.request.Request.{Request}
+use Rattle.script_meaning.specs.declared.reply.Request.{Request}
 use Rattle.blk_workers.specs.Following.{IsFrozenFor, IsInStep, IsNear, depth_of, once_frozen, one_nearer}
 
 -- ---- one step of a depth

@@ -3,10 +3,10 @@ use Rattle.std.proofs.Common.{◌≡◌, ◌∙◌, sym, ap, subst, ℕ, List, l
 use Rattle.std.proofs.Math.Seq.{take-length}
 use Rattle.script_meaning.specs.Meaning.{after_lines, start_of}
 use Rattle.script_meaning.specs.Script.{Meant}
-use Rattle.run_desk.specs.Desk.{AreJoined, IsUpTo, Stands, joined, owed_count}
+use Rattle.in_flight.specs.Table.{AreJoined, IsUpTo, Stands, joined, owed_count}
 use Rattle.blk_workers.specs.Progress.{IsRun}
-use Rattle.run_desk.proofs.Desks.{all_there}
-use Rattle.run_desk.proofs.Ends.{are_joined}
+use Rattle.in_flight.proofs.Tables.{all_there}
+use Rattle.in_flight.proofs.Ends.{are_joined}
 
 pub run_ended : (script : Meant) (replies : List (Option (List ℕ))) (disk : List (List ℕ)) (text : List ℕ) → Stands script replies disk → length replies ≡ length script.lines → owed_count replies ≡ 0
     → text ≡ joined replies → IsRun script text disk

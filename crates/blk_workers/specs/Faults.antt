@@ -1,4 +1,4 @@
--- What a clause says of a fault.
+-- The numbers of a run's faults.
 use Rattle.std.specs.Prelude.{ℕ}
 use Rattle.blk_workers.specs.declared.fault.RunFault.{RunFault}
 use Rattle.blk_workers.specs.declared.fault.RunFault.TheVariants.{Memory, Thread}

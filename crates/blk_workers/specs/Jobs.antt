@@ -1,35 +1,38 @@
--- What a worker is handed for a request.
+-- What a worker receives for a request, and what it hands back.
 use Rattle.std.specs.Prelude.{◌≡◌, ℕ, true, List, Some}
 use Rattle.queue_limits.specs.Bounds.{Bounds}
 use Rattle.script_meaning.specs.Script.{Meant}
 use Rattle.freeze_queue.specs.AtTheGate.{AreInForce}
-use Rattle.freeze_queue.specs.Queue.{QueueFacts, TagFacts, after_asking, after_leaving}
+use Rattle.freeze_queue.specs.Readings.{AskSteps}
+use Rattle.freeze_queue.specs.Queue.{QueueFacts, TagFacts, come_to, after_asking, after_leaving}
+use Rattle.percpu_gate.specs.Steps.{PutSteps}
 use Rattle.percpu_core.specs.declared.view.PassView.{PassView}
 use Rattle.percpu_gate.specs.declared.tried.Put.{Put}
 use Rattle.atomic_table.specs.Seated.{TableId}
-use Rattle.run_queues.specs.Parts.{DutyFacts}
-use Rattle.run_desk.specs.Requests.{IsAcceptedAt, IsDue}
+use Rattle.run_queues.specs.Parts.{TokenFacts}
+use Rattle.in_flight.specs.Requests.{IsAcceptedAt, IsDue}
 
--- a request on its way to a worker: the duty to tell its completion, which has its number among the accepted ones, the position of its line, the tag that entered for it, and the sectors
--- that it finds
+-- a request on its way to a worker: the token to report its completion, which has its number among the accepted ones; the position of its line; the tag that
+-- entered for it; and the sectors that it finds
 pub record JobFacts : Type 0 where
-  pub duty : DutyFacts
+  pub token : TokenFacts
   pub position : ℕ
   pub tag : TagFacts
   pub found : List (List ℕ)
 
--- its duty is that of the run's completions, its line is the accepted request of its number, its tag is entered in the queue and was told the limits in force at its line, and it finds what a single thread finds there
+-- its token is of the run's completions, its line is the accepted request of its number, its tag is entered in the queue and has read the limits in force at
+-- its line, and it finds what a single thread finds there
 pub record IsJob (script : Meant) (queue : QueueFacts) (completions : TableId) (job : JobFacts) : Type 0 where
   pub own : job.tag.queue ≡ queue
   pub entered : job.tag.entered ≡ true
   pub limits : Bounds
   pub told : job.tag.limits ≡ Some limits
-  pub may_tell : job.duty.queue ≡ completions
-  pub numbered : IsAcceptedAt script job.duty.number job.position
+  pub may_tell : job.token.queue ≡ completions
+  pub numbered : IsAcceptedAt script job.token.number job.position
   pub due : IsDue script job.position limits job.found
 
--- A worker read the limits under the request's tag: at a moment of its call, at which the tag's seat knew what it did as the request was drawn, those in
--- force were the ones due to it
+-- a worker read the limits under the request's tag: at a moment of its call, when the tag's seat knew what it knew as the request was drawn, the limits in
+-- force were those due to the request
 pub record IsReadUnderItsTag (script : Meant) (job : JobFacts) : Type 0 where
   pub limits : Bounds
   pub in_force : AreInForce job.tag.queue.gate job.tag.queue.hardware job.tag.seat limits
@@ -40,23 +43,25 @@ pub record DoneFacts : Type 0 where
   pub number : ℕ
   pub tag : TagFacts
 
--- and once its completion is told: what is left of the duty
+-- the same once its completion is reported: what is left of the token, and its tag
 pub record CompletedFacts : Type 0 where
-  pub receipt : DutyFacts
+  pub acknowledgement : TokenFacts
   pub tag : TagFacts
 
--- between two moments a tag asked for the limits, and did nothing else: it neither left nor entered
+-- between two moments a tag only asked for the limits: it neither left nor entered
 pub record HasOnlyAsked (old new : TagFacts) : Type 0 where
   pub limits : Bounds
   pub seat : PassView
-  pub asked : new ≡ after_asking limits seat old
+  pub asked : new ≡ come_to new.steps (after_asking limits seat old)
+  pub steps : AskSteps old.steps new.steps
 
--- it left once, and did nothing else
-pub record HasOnlyLeft (old new : TagFacts) : Type 0 where
+-- between two moments a tag left once, on this slot, and did nothing else
+pub record HasOnlyLeft (slot : ℕ) (old new : TagFacts) : Type 0 where
   pub last : Put
-  pub left : new ≡ after_leaving last old
+  pub left : new ≡ come_to new.steps (after_leaving last old)
+  pub steps : PutSteps slot 1 last old.steps new.steps
 
--- what comes back of a request: its number, and the position of its line
+-- what comes back for a request: its number, and the position of its line
 pub record CompletionFacts : Type 0 where
   pub number : ℕ
   pub position : ℕ

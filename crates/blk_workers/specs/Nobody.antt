@@ -1,9 +1,9 @@
--- What a run is named by where none has picked its names.
+-- Placeholders for the names of a run, where no run has picked them.
 use Rattle.std.specs.Prelude.{[]}
 use Rattle.percpu_core.specs.declared.start.Start.TheVariants.{Atomic}
 use Rattle.freeze_queue.specs.Queue.{QueueFacts}
 use Rattle.script_meaning.specs.Script.{Meant}
-use Rattle.script_meaning.specs.declared.version.Version.TheVariants.{One}
+use Rattle.script_meaning.specs.declared.script.Version.TheVariants.{One}
 
 abbrev pub no_queue : QueueFacts
 no_queue = record {

@@ -7,7 +7,7 @@ pub record Sizes : Type 0 where
   pub slots : ℕ
   pub tags : ℕ
 
--- at least one of each, and at most so many
+-- at least one of each, and at most the maximum
 pub record AreWithin (sizes : Sizes) : Type 0 where
   pub a_worker : 1 ≤ sizes.workers
   pub workers : sizes.workers ≤ MOST_WORKERS

@@ -1,4 +1,4 @@
-//! Why a run answers nothing.
+//! Why a run fails.
 ghost use Rattle.std.specs.Prelude.{◌≡◌};
 ghost use Rattle.blk_workers.specs.Faults.{number_of};
 
@@ -6,20 +6,20 @@ use freeze_queue::Memory;
 use std::alloc::AllocError;
 use thiserror::Error;
 
-/// Why a run answers nothing. The threads that it started have ended, and nothing else is handed out.
+/// Why a run fails. The threads that it started have ended, and nothing else is returned.
 #[derive(Clone, Copy, Debug, PartialEq, Eq, Error)]
 pub enum RunFault {
     /// Memory was refused, or the script has 2^32 lines or more.
     #[error("memory")]
     Memory,
-    /// The start of a thread was refused.
+    /// A thread couldn't be started.
     #[error("thread")]
     Thread,
 }
 
 impl RunFault {
-    /// The fault's number, from 1 in the order of declaration. No crate here asks for it: it is for callers who tell faults by
-    /// numbers.
+    /// Returns the fault's number, counted from 1 in order of declaration. No crate here calls this; it is for callers that
+    /// identify faults by number.
     pub fn number(&self) -> u8
         ensures { result ≡ number_of self.now }
     {

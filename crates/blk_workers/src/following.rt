@@ -1,15 +1,17 @@
 //! How the queue's freezer follows a script.
 ghost use Rattle.std.specs.Prelude.{◌≡◌, ℕ, ◌+◌, ◌<◌, ◌≤◌, ◌^◌, true};
-ghost use Rattle.blk_workers.specs.Following.{IsInStep, IsNear, once_frozen, one_nearer};
+ghost use Rattle.blk_workers.specs.Following.{IsInStep, IsNear, once_frozen, one_nearer, queue_mode};
 ghost use Rattle.blk_workers.specs.Progress.{IsFollowing};
+ghost use Rattle.freeze_queue.specs.Queue.{after_mode};
 
-use freeze_queue::{BlockQueue, Freezer};
+use freeze_queue::{BlockQueue, Freezer, Mode};
 use queue_limits::Limits;
-use script_meaning::QueueState;
+use script_meaning::{Mode as ScriptMode, QueueState};
 use std::sync::Wait;
 
-/// Freezes the queue and waits until it is drained, where it isn't frozen, and so drained, already. A gate is killed 2^40 times at
-/// most (`percpu_core`, `KILL_LIMIT`).
+/// Freezes the queue and waits until it is drained. Does nothing if the queue is frozen already, because it is drained then.
+///
+/// A gate can be killed 2^40 times at most (`percpu_core`, `KILL_LIMIT`).
 pub(crate) fn freeze<R: Wait>(rt: &R, freezer: &mut Freezer, queue: &BlockQueue)
     requires own { freezer.old.queue ≡ queue.now }
     requires drained { 0 < freezer.old.depth → freezer.old.drained ≡ true }
@@ -25,7 +27,7 @@ pub(crate) fn freeze<R: Wait>(rt: &R, freezer: &mut Freezer, queue: &BlockQueue)
     prove!(frozen.is_ok());
 }
 
-// Sets the limits of a frozen queue, which is drained, where they differ: to set looks at the gate and stores each limit.
+// Sets the limits of a frozen, drained queue if they differ. `set` would look at the gate and store each limit anyway.
 fn set_limits(freezer: &mut Freezer, queue: &BlockQueue, limits: Limits)
     requires own { (freezer.old.queue ≡ queue.now) × (limits.hardware ≡ queue.now.hardware) }
     requires drained { (0 < freezer.old.depth) × (freezer.old.drained ≡ true) }
@@ -40,8 +42,8 @@ fn set_limits(freezer: &mut Freezer, queue: &BlockQueue, limits: Limits)
     }
 }
 
-// Brings the depth of a frozen queue one step nearer to this one. One is enough: where the depth is 0 a drain adds one, a line
-// changes the script's by one at most, and each line that isn't an accepted request is followed, as is each drain before an
+// Brings the depth of a frozen queue one step closer to `depth`. One step is enough: a drain adds one if the depth is 0, and a line
+// changes the script's depth by one at most. Each line that isn't an accepted request is followed, and so is each drain before an
 // ordered request. 1,000 is the script's `DEPTH_LIMIT` and the freezer's `MOST_DEPTH`.
 fn step_to(freezer: &mut Freezer, queue: &BlockQueue, depth: u32)
     requires own { (freezer.old.queue ≡ queue.now) × (0 < freezer.old.depth) }
@@ -61,7 +63,17 @@ fn step_to(freezer: &mut Freezer, queue: &BlockQueue, depth: u32)
     }
 }
 
-/// Brings the queue into step with the script's: to its mode, and a frozen one to its limits and its depth, so that each freeze
+// Returns the queue's mode for a script's mode.
+fn queue_mode(mode: ScriptMode) -> Mode
+    ensures { result ≡ queue_mode mode }
+{
+    match mode {
+        ScriptMode::Atomic => Mode::Atomic,
+        ScriptMode::Slots => Mode::Slots,
+    }
+}
+
+/// Brings the queue into step with the script's queue: sets its mode and, if it is frozen, its limits and its depth. So each freeze
 /// and thaw of the script is one of the queue. A queue that the script removed stays frozen.
 pub(crate) fn follow(freezer: &mut Freezer, queue: &BlockQueue, state: &QueueState)
     requires own { freezer.old.queue ≡ queue.now }
@@ -71,10 +83,12 @@ pub(crate) fn follow(freezer: &mut Freezer, queue: &BlockQueue, state: &QueueSta
     ensures follows { (kills : ℕ) → IsFollowing queue.now kills freezer.old → IsFollowing queue.now kills freezer.new }
     ensures kills { freezer.new.kills ≡ freezer.old.kills }
     ensures in_step { IsInStep state.now freezer.new }
+    // Setting the mode that is in force moves no count (`after_mode`).
+    ensures live { freezer.old.depth ≡ 0 → freezer.new ≡ after_mode (queue_mode state.now.mode) freezer.old }
 {
-    freezer.mode(queue, state.mode());
-    // A live queue has the script's limits and its depth, 0, already: a line that changes either drains first, or comes under a
-    // freeze, and so finds the queue frozen here.
+    freezer.mode(queue, queue_mode(state.mode()));
+    // A live queue already has the script's limits and its depth, 0. A line that changes either drains first or comes under a
+    // freeze, so the queue is frozen by then.
     if freezer.depth() == 0 {
         return;
     }

@@ -1,27 +1,30 @@
-//! What a worker is handed for a request, and what it hands back.
+//! What a worker receives for a request, and what it hands back.
 ghost use Rattle.std.specs.Prelude.{◌≡◌, ◌<◌, true, false, IfOk};
-ghost use Rattle.run_desk.specs.Requests.{IsAcceptedAt, IsAnswerTo};
+ghost use Rattle.in_flight.specs.Requests.{IsAcceptedAt, IsAnswerTo};
 ghost use Rattle.blk_workers.specs.Jobs.{HasOnlyAsked, HasOnlyLeft, IsJob, IsReadUnderItsTag};
+ghost use Rattle.blk_workers.specs.Points.{at_point};
+ghost use Rattle.blk_workers.specs.declared.points.Point.TheVariants.{Entered, Drawn, Answered};
 
 use crate::naming::{QueueName, Run};
+use crate::points::Passed;
 use freeze_queue::{BlockQueue, Tag};
+use in_flight::{Answer, UniformSectors, answer_to};
 use ram_disk::Sector;
-use run_desk::{Answer, UniformSectors, answer_to};
-use run_queues::{CompletionQueue, Duty, Numbered, Receipt};
+use run_queues::{Acknowledgement, CompletionQueue, CompletionToken, Numbered};
 use script_meaning::Script;
 use std::alloc::{AllocError, Global};
 use std::marker::{Model, PhantomData};
 use std::sync::Wait;
 
-/// A request on its way to a worker: the duty to tell its completion, the position of its line, and the tag that
-/// entered the queue for it, with the sectors that a read finds.
+/// A request on its way to a worker: the token to report its completion, the position of its line, the tag that entered the queue
+/// for it, and the sectors that a read finds.
 ///
-/// The type keeps that the duty is one of the run's completions, that the line is the accepted request of its
-/// number, that the tag is entered in the run's queue and was told the limits in force at the line, and that the
-/// sectors are those that a single thread finds there. It carries no limits: the worker reads them under the tag.
+/// Invariant: the token is one of the run's completions, the line is the accepted request of the token's number, the tag is entered
+/// in the run's queue and has read the limits in force at the line, and the sectors are those that a single thread finds there. The
+/// job carries no limits: the worker reads them under the tag.
 #[derive(Drop)]
 pub(crate) struct Job<J: Run, C: QueueName> {
-    duty: Duty<Completion<J>>,
+    token: CompletionToken<Completion<J>>,
     position: usize,
     tag: Box<Tag>,
     found: Vec<Sector>,
@@ -33,23 +36,26 @@ impl<J: Run, C: QueueName> Model for Job<J, C> {
 
     ghost Value = { JobFacts };
 
-    ghost view = { λ j. record { duty = j.duty; position = j.position; tag = j.tag.value; found = j.found.items } };
+    ghost view = { λ j. record { token = j.token; position = j.position; tag = j.tag.value; found = j.found.items } };
 
-    ghost invariant = { λ j. IsJob J.script J.queue C.id (record { duty = j.duty; position = j.position; tag = j.tag.value; found = j.found.items }) };
+    ghost invariant = { λ j. IsJob J.script J.queue C.id (record { token = j.token; position = j.position; tag = j.tag.value; found = j.found.items }) };
 }
 
 impl<J: Run, C: QueueName> Job<J, C> {
+    /// Makes the job of a request that has passed [`Point::Entered`](crate::Point).
     pub(crate) fn new(
-        duty: Duty<Completion<J>>,
+        entered: Passed,
+        token: CompletionToken<Completion<J>>,
         position: usize,
         tag: Box<Tag>,
         found: Vec<Sector>,
     ) -> Job<J, C>
-        requires { IsJob J.script J.queue C.id (record { duty = duty; position = position; tag = tag.value; found = found.items }) }
-        ensures { result.duty ≡ duty }
+        requires job { IsJob J.script J.queue C.id (record { token = token; position = position; tag = tag.value; found = found.items }) }
+        requires point { entered ≡ at_point token.number Entered }
+        ensures { result.token ≡ token }
     {
         Job {
-            duty,
+            token,
             position,
             tag,
             found,
@@ -57,11 +63,13 @@ impl<J: Run, C: QueueName> Job<J, C> {
         }
     }
 
-    /// Does the request: reads the limits under its tag, cuts the pieces, and makes the line of its reply and the
-    /// sectors that a write leaves. Contracts see once more that the request is an accepted one of the script: by that a worker's list
-    /// has room for its number.
+    /// Does the request: reads the limits under its tag, cuts the pieces, and makes the line of its reply and the sectors that a
+    /// write leaves.
+    ///
+    /// The contract repeats that the request is an accepted one of the script, so a worker's list has room for its number.
     pub(crate) fn done(
         self,
+        drawn: Passed,
         alloc: Global,
         uniform: &UniformSectors,
         queue: &BlockQueue,
@@ -69,13 +77,14 @@ impl<J: Run, C: QueueName> Job<J, C> {
     ) -> DoneJob<J, C>
         requires queue { queue.now ≡ J.queue }
         requires script { script.now ≡ J.script }
-        ensures request { IsAcceptedAt J.script self.duty.number self.position }
-        ensures number { result.number ≡ self.duty.number }
+        requires point { drawn ≡ at_point self.token.number Drawn }
+        ensures request { IsAcceptedAt J.script self.token.number self.position }
+        ensures number { result.number ≡ self.token.number }
         ensures stays { HasOnlyAsked self.tag result.tag }
         ensures read { IsReadUnderItsTag J.script self }
     {
         let Job {
-            duty,
+            token,
             position,
             mut tag,
             found,
@@ -83,10 +92,10 @@ impl<J: Run, C: QueueName> Job<J, C> {
         } = self;
         let limits = queue.limits(&mut tag);
         let answer = answer_to(alloc, uniform, script, position, limits, &found);
-        let completion = Completion::new(duty.number(), position, answer);
+        let completion = Completion::new(token.number(), position, answer);
         DoneJob {
             tag,
-            duty,
+            token,
             completion,
             of: PhantomData,
         }
@@ -94,18 +103,18 @@ impl<J: Run, C: QueueName> Job<J, C> {
 }
 
 impl<J: Run, C: QueueName> Numbered for Job<J, C> {
-    ghost number = { λ j. j.duty.number };
+    ghost number = { λ j. j.token.number };
 
-    /// The request's number among the accepted ones.
+    /// Returns the request's number among the accepted ones.
     fn number(&self) -> u32 {
-        self.duty.number()
+        self.token.number()
     }
 }
 
-/// What comes back of a request: its number, the position of its line, and its answer.
+/// What comes back for a request: its number, the position of its line, and its answer.
 ///
-/// The type keeps that the line at the position is the accepted request of this number, and that the answer is that
-/// of a single thread to it, unless the worker was refused memory.
+/// Invariant: the line at the position is the accepted request of this number, and the answer is a single thread's answer to it,
+/// unless the worker was refused memory.
 #[derive(Drop)]
 pub(crate) struct Completion<J: Run> {
     number: u32,
@@ -117,7 +126,7 @@ pub(crate) struct Completion<J: Run> {
 impl<J: Run> Model for Completion<J> {
     ghost use Rattle.std.specs.Prelude.{IfOk};
     ghost use Rattle.blk_workers.specs.Jobs.{CompletionFacts};
-    ghost use Rattle.run_desk.specs.Requests.{IsAcceptedAt, IsAnswerTo};
+    ghost use Rattle.in_flight.specs.Requests.{IsAcceptedAt, IsAnswerTo};
 
     ghost Value = { CompletionFacts };
 
@@ -129,7 +138,7 @@ impl<J: Run> Model for Completion<J> {
 impl<J: Run> Numbered for Completion<J> {
     ghost number = { λ c. c.number };
 
-    /// The request's number among the accepted ones.
+    /// Returns the request's number among the accepted ones.
     fn number(&self) -> u32 {
         self.number
     }
@@ -149,7 +158,7 @@ impl<J: Run> Completion<J> {
         }
     }
 
-    /// The position of the request's line, and its answer, unless the worker was refused memory.
+    /// Returns the position of the request's line, and its answer unless the worker was refused memory.
     pub(crate) fn into_parts(self) -> (usize, Result<Answer, AllocError>)
         ensures position { result.0 ≡ self.position }
         ensures request { IsAcceptedAt J.script self.number self.position }
@@ -159,11 +168,12 @@ impl<J: Run> Completion<J> {
     }
 }
 
-/// A tag that isn't entered, free for the next request. The type keeps that, and that it is of the run's queue. Contracts
+/// A tag that isn't entered, free for the next request. Invariant: it isn't entered, and it is a tag of the run's queue. Contracts
 /// see the tag.
 #[derive(Drop)]
 pub(crate) struct FreeTag<J: Run> {
-    // Boxed: a tag has 128 unused bytes about its gate's pass, which by value would be copied through two queues.
+    // Boxed: a tag has 128 unused bytes around its gate's pass, which would be copied through two queues if it were passed by
+    // value.
     tag: Box<Tag>,
     of: PhantomData<J>,
 }
@@ -180,7 +190,7 @@ impl<J: Run> Model for FreeTag<J> {
 }
 
 impl<J: Run> FreeTag<J> {
-    /// A free tag, of a tag of the run's queue that isn't entered.
+    /// Makes a free tag from a tag of the run's queue that isn't entered.
     pub(crate) fn new(tag: Box<Tag>) -> FreeTag<J>
         requires own { tag.value.queue ≡ J.queue }
         requires out { tag.value.entered ≡ false }
@@ -200,13 +210,15 @@ impl<J: Run> FreeTag<J> {
     }
 }
 
-/// A request that is done: its tag is still entered, and its completion still to be told. It is told first, since what
-/// it becomes by that is the one way to its tag: so once the queue is drained each completion is in its queue, and whoever
-/// collects them all then waits for no worker. Contracts see its number and its tag.
+/// A request that is done: its tag is still entered, and its completion is still to be reported. Contracts see its number and its
+/// tag.
+///
+/// The completion is reported first, since only the `CompletedJob` that this returns gives the tag. So once the queue is drained,
+/// each completion is in its queue, and the thread that collects them all waits for no worker.
 #[derive(Drop)]
 pub(crate) struct DoneJob<J: Run, C: QueueName> {
     tag: Box<Tag>,
-    duty: Duty<Completion<J>>,
+    token: CompletionToken<Completion<J>>,
     completion: Completion<J>,
     of: PhantomData<C>,
 }
@@ -217,42 +229,42 @@ impl<J: Run, C: QueueName> Model for DoneJob<J, C> {
 
     ghost Value = { DoneFacts };
 
-    ghost view = { λ j. record { number = j.duty.number; tag = j.tag.value } };
+    ghost view = { λ j. record { number = j.token.number; tag = j.tag.value } };
 
-    ghost invariant = { λ j. (j.tag.value.queue ≡ J.queue) × (j.tag.value.entered ≡ true) × (j.duty.queue ≡ C.id) × (j.completion.number ≡ j.duty.number) };
+    ghost invariant = { λ j. (j.tag.value.queue ≡ J.queue) × (j.tag.value.entered ≡ true) × (j.token.queue ≡ C.id) × (j.completion.number ≡ j.token.number) };
 }
 
 impl<J: Run, C: QueueName> DoneJob<J, C> {
-    /// Tells the completion.
+    /// Reports the completion.
     pub(crate) fn tell<R: Wait>(
         self,
         rt: &R,
         completions: &CompletionQueue<Completion<J>>,
     ) -> CompletedJob<J, C>
         requires own { completions.now.id ≡ C.id }
-        ensures number { result.receipt.number ≡ self.number }
+        ensures number { result.acknowledgement.number ≡ self.number }
         ensures stays { result.tag ≡ self.tag }
     {
         let DoneJob {
             tag,
-            duty,
+            token,
             completion,
             of: _,
         } = self;
-        let receipt = completions.tell(rt, duty, completion);
+        let acknowledgement = completions.tell(rt, token, completion);
         CompletedJob {
             tag,
-            receipt,
+            acknowledgement,
             of: PhantomData,
         }
     }
 }
 
-/// A request whose completion is told, and whose tag is still entered. Contracts see its receipt and its tag.
+/// A request whose completion is reported, and whose tag is still entered. Contracts see its acknowledgement and its tag.
 #[derive(Drop)]
 pub(crate) struct CompletedJob<J: Run, C: QueueName> {
     tag: Box<Tag>,
-    receipt: Receipt<Completion<J>>,
+    acknowledgement: Acknowledgement<Completion<J>>,
     of: PhantomData<C>,
 }
 
@@ -262,26 +274,32 @@ impl<J: Run, C: QueueName> Model for CompletedJob<J, C> {
 
     ghost Value = { CompletedFacts };
 
-    ghost view = { λ j. record { receipt = j.receipt; tag = j.tag.value } };
+    ghost view = { λ j. record { acknowledgement = j.acknowledgement; tag = j.tag.value } };
 
-    ghost invariant = { λ j. (j.tag.value.queue ≡ J.queue) × (j.tag.value.entered ≡ true) × (j.receipt.queue ≡ C.id) };
+    ghost invariant = { λ j. (j.tag.value.queue ≡ J.queue) × (j.tag.value.entered ≡ true) × (j.acknowledgement.queue ≡ C.id) };
 }
 
 impl<J: Run, C: QueueName> CompletedJob<J, C> {
-    /// Leaves the queue on a slot, once, and shows that the completion was told.
-    pub(crate) fn leave(self, queue: &BlockQueue, slot: u32) -> (FreeTag<J>, Receipt<Completion<J>>)
+    /// Leaves the queue once, on this slot. Returns the tag, and the acknowledgement, which shows that the completion was reported.
+    pub(crate) fn leave(
+        self,
+        answered: Passed,
+        queue: &BlockQueue,
+        slot: u32,
+    ) -> (FreeTag<J>, Acknowledgement<Completion<J>>)
         requires queue { queue.now ≡ J.queue }
         requires slot { slot < J.queue.gate.slots }
+        requires point { answered ≡ at_point self.acknowledgement.number Answered }
         ensures own { result.1.queue ≡ C.id }
-        ensures number { result.1.number ≡ self.receipt.number }
-        ensures left { HasOnlyLeft self.tag result.0 }
+        ensures number { result.1.number ≡ self.acknowledgement.number }
+        ensures left { HasOnlyLeft slot self.tag result.0 }
     {
         let CompletedJob {
             mut tag,
-            receipt,
+            acknowledgement,
             of: _,
         } = self;
         let _last = queue.leave(&mut tag, slot);
-        (FreeTag::new(tag), receipt)
+        (FreeTag::new(tag), acknowledgement)
     }
 }

@@ -1,8 +1,8 @@
-//! Which run it is, and which of its queues.
+//! The names of a run and of its queues.
 
 use std::marker::Brand;
 
-/// A run: its script, and its queue. It names both for the types of what its threads hand to one another.
+/// A run, by its script and its queue. It names both for the types of what its threads hand to one another.
 pub(crate) trait Run {
     ghost use Rattle.script_meaning.specs.Script.{Meant};
     ghost use Rattle.freeze_queue.specs.Queue.{QueueFacts};
@@ -12,8 +12,8 @@ pub(crate) trait Run {
     ghost queue: { QueueFacts };
 }
 
-// `Brand` is the kit's type for such names: a function is proved for every name, and the proof of a call `f::<Brand, ..>`
-// picks one (the `ghosts` of proofs/running/*/Invariants.antt). All three calls do, so what stands here counts nowhere.
+// `Brand` is the kit's type for such names: a function is proved for every name, and the proof of a call `f::<Brand, ..>` picks one
+// (the `ghosts` of proofs/running/*/Invariants.antt). All three calls do, so nothing depends on the values here.
 impl Run for Brand {
     ghost use Rattle.blk_workers.specs.Nobody.{no_script, no_queue};
 
@@ -22,15 +22,14 @@ impl Run for Brand {
     ghost queue = { no_queue };
 }
 
-/// A queue by which the threads of a run hand something on. It is made once the run has its name, so it has a name
-/// of its own.
+/// A queue through which the threads of a run hand something on. It is made once the run has its name, so it has a name of its own.
 pub(crate) trait QueueName {
     ghost use Rattle.atomic_table.specs.Seated.{TableId};
 
     ghost id: { TableId };
 }
 
-// Likewise.
+// As for `Run`.
 impl QueueName for Brand {
     ghost use Rattle.run_queues.specs.Nobody.{no_table};
 
@@ -46,7 +45,7 @@ pub(crate) trait QueueNames {
     ghost free_tags: { TableId };
 }
 
-// Likewise.
+// As for `Run`.
 impl QueueNames for Brand {
     ghost use Rattle.run_queues.specs.Nobody.{no_table};
 

@@ -1,24 +1,24 @@
-//! A script's run on several threads.
+//! A script's run on several threads, and its result.
 ghost use Rattle.std.specs.Prelude.{◌≡◌, ◌≤◌, IfOk, length, map};
 ghost use Rattle.script_overlap.specs.Overlap.{HasNoOverlap};
 ghost use Rattle.run_queues.specs.Parts.{none_counted};
-ghost use Rattle.blk_workers.specs.Halls.{HasQueues, IsHall};
+ghost use Rattle.blk_workers.specs.Contexts.{HasQueues, IsContext};
 ghost use Rattle.blk_workers.specs.Progress.{AreDrawn, AreFreeTags, AreNewCompletions, AreNewEnds, IsAt, IsNewQueue, IsRanBy, IsRun, Suits};
 
 use crate::config::Config;
+use crate::context::{Queues, RunContext};
 use crate::fault::RunFault;
-use crate::hall::{Hall, Queues};
 use crate::handing::Ends;
 use crate::job::Completion;
 use crate::naming::{QueueName, QueueNames, Run};
-use crate::ran::Ran;
-use crate::stall::Stall;
+use crate::points::Stall;
 use crate::submitter::Submitter;
-use crate::team::{drawers, with_workers};
+use crate::team::{consumers, with_workers};
 use freeze_queue::{BlockQueue, NewQueue, Tag};
+use in_flight::UniformSectors;
 use queue_limits::Limits;
-use run_desk::UniformSectors;
-use run_queues::{Collector, CompletionQueue, Shelf};
+use ram_disk::Disk;
+use run_queues::{Collector, CompletionQueue};
 use script_meaning::Script;
 use script_overlap::Checked;
 use std::alloc::Global;
@@ -26,7 +26,19 @@ use std::marker::Brand;
 use std::sync::Wait;
 use std::thread::Threads;
 
-/// What the caller gave: the runtime, the allocator, the script, the shape of the run, and what holds it at its points.
+/// The result of a run, and which requests each worker drew.
+#[derive(Drop)]
+pub struct Ran {
+    /// The lines of the replies, in the script's order.
+    pub replies: Vec<u8>,
+    /// The disk that the script leaves.
+    pub disk: Disk,
+    /// One list for each worker, in unspecified order: the numbers of the requests that it drew, counted from 0 among the accepted
+    /// ones in the script's order.
+    pub drawn: Vec<Vec<u32>>,
+}
+
+/// The caller's inputs: the runtime, the allocator, the script, the shape of the run, and the stall.
 #[derive(Drop)]
 struct Inputs<'a, R, S> {
     rt: &'a R,
@@ -36,8 +48,8 @@ struct Inputs<'a, R, S> {
     stall: &'a S,
 }
 
-// Starts the workers and leads them to the end. Contracts see three names by now, each taken once the thing is made: that of the run
-// in `run_checked`, those of its queues in `run_as` and `run_on`.
+// Starts the workers and leads them to the end. The types have three names by now, each taken once the thing was made: the run's in
+// `run_checked`, those of its queues in `run_as` and `run_on`.
 fn run_in<
     J: Run + Send + Sync,
     C: QueueName + Send + Sync,
@@ -50,7 +62,7 @@ fn run_in<
     submitter: Submitter,
     mut ends: Ends<J, C>,
 ) -> Result<Ran, RunFault>
-    requires hall { IsHall J.script J.queue inputs.now.checked.now queues.now.queue }
+    requires context { IsContext J.script J.queue inputs.now.checked.now queues.now.queue }
     requires queues { HasQueues L.requests C.id L.free_tags queues.now.requests queues.now.completions queues.now.free_tags }
     requires start { IsAt J.script J.queue 0 submitter }
     requires ends { AreNewEnds L.requests C.id 0 ends.source ends.collector }
@@ -59,25 +71,23 @@ fn run_in<
     ensures ran { IfOk result (IsRanBy J.script inputs.now.config.workers) }
 {
     let workers = inputs.config.workers();
-    let stations = Shelf::new(inputs.alloc, workers as usize)?;
     let uniform = UniformSectors::of(inputs.alloc, inputs.checked.script())?;
-    let hall = Hall::<J, C, L, _, _>::new(
+    let context = RunContext::<J, C, L, _, _>::new(
         inputs.rt,
         inputs.alloc,
         inputs.checked,
         inputs.stall,
         queues,
-        &stations,
         &uniform,
     );
-    // One place more than there are numbers to draw: a draw makes sure of one before it takes an end mark too.
+    // One place more than there are numbers to draw: a draw reserves a place before it takes an end mark too.
     let numbers_each = inputs.checked.accepted() + 1;
-    let drawers = drawers(&hall, &mut ends.source, workers, numbers_each)?;
-    let (submitter, source) = with_workers(&hall, submitter, ends, drawers)?;
-    submitter.into_ran(hall.requests.finish(source))
+    let consumers = consumers(&context, &mut ends.source, workers, numbers_each)?;
+    let (led, source) = with_workers(&context, submitter, ends, consumers, workers as usize);
+    led?.into_ran(context.requests.finish(source))
 }
 
-// Makes the queues of requests and of free tags, and goes on. Contracts see a run whose types name its queue of completions.
+// Makes the queues of requests and of free tags, and goes on. The types name the run's queue of completions by now.
 fn run_on<J: Run + Send + Sync, C: QueueName + Send + Sync, R: Threads + Wait + Sync, S: Stall>(
     inputs: &Inputs<'_, R, S>,
     queue: BlockQueue,
@@ -105,13 +115,12 @@ fn run_on<J: Run + Send + Sync, C: QueueName + Send + Sync, R: Threads + Wait + 
         source,
         collector,
         taker,
-        small: 0,
     };
     run_in::<J, C, Brand, _, _>(inputs, &queues, submitter, ends)
 }
 
-// Makes the queue of completions and the submitter, and goes on: `parts` are the new queue, its freezer and its tags. Contracts see a
-// run whose types name its script and its queue.
+// Makes the queue of completions and the submitter, and goes on: `parts` are the new queue, its freezer and its tags. The types
+// name the run's script and its queue by now.
 fn run_as<J: Run + Send + Sync, R: Threads + Wait + Sync, S: Stall>(
     inputs: &Inputs<'_, R, S>,
     parts: NewQueue,
@@ -122,19 +131,21 @@ fn run_as<J: Run + Send + Sync, R: Threads + Wait + Sync, S: Stall>(
     ensures ran { IfOk result (IsRanBy J.script inputs.now.config.workers) }
 {
     let (queue, freezer, tags) = parts;
-    // No more are under way (`hand_over`), so no thread waits to tell one.
+    // No more completions than this are to come at a time (`hand_over`), so no thread waits to report one.
     let room = tags.len() + 1;
     let (completions, collector) = CompletionQueue::new(inputs.alloc, room)?;
     let submitter = Submitter::new(inputs.alloc, inputs.checked.script(), freezer)?;
     run_on::<J, Brand, _, _>(inputs, queue, tags, completions, collector, submitter)
 }
 
-/// Runs a checked script on as many workers as the config says, whose replies and disk are those of a single thread.
+/// Runs a checked script on the config's number of workers, with the replies and the disk of a single thread.
 ///
-/// The calling thread submits the requests and collects their answers, the workers do them. `Memory` where memory
-/// was refused, and `Thread` where the start of a thread was, before any request is submitted. Where a worker is
-/// refused memory, requests are submitted until its completion is collected. When the run answers, the workers that
-/// were started have ended. A script of 2^32 lines or more is refused as `Memory`: its requests' numbers have no room.
+/// The calling thread submits the requests and collects their answers, and the workers do them. When this returns, the workers that
+/// were started have ended.
+///
+/// Returns `Memory` if memory was refused. If a worker is refused memory, requests are submitted until its completion is collected.
+/// A script of 2^32 lines or more is refused as `Memory` too, because its requests couldn't be numbered. Returns `Thread` if a
+/// thread couldn't be started, before any request is submitted.
 pub fn run_checked<R: Threads + Wait + Sync, S: Stall>(
     rt: &R,
     alloc: Global,
@@ -149,7 +160,7 @@ pub fn run_checked<R: Threads + Wait + Sync, S: Stall>(
     if script.lines().len() >= 1 << 32 {
         return Err(RunFault::Memory);
     }
-    // A script's hardware is in range, and these are the limits that the script's queue starts with.
+    // A script's hardware is in range. These are the limits that the script's queue starts with.
     let Ok(limits) = Limits::start(script.hw()) else {
         unreachable!()
     };
@@ -164,8 +175,8 @@ pub fn run_checked<R: Threads + Wait + Sync, S: Stall>(
     run_as::<Brand, _, _>(&inputs, parts)
 }
 
-/// Runs a script of which no two requests overlap, as [`check`](script_overlap::check) tells: [`run_checked`] of what a check
-/// decides, with the same answers.
+/// Runs a script in which no two requests overlap, as [`check`](script_overlap::check) reports. Checks the script, and returns what
+/// [`run_checked`] returns.
 pub fn run<R: Threads + Wait + Sync, S: Stall>(
     rt: &R,
     alloc: Global,
@@ -179,7 +190,7 @@ pub fn run<R: Threads + Wait + Sync, S: Stall>(
 {
     match Checked::of(alloc, script) {
         Ok(checked) => run_checked(rt, alloc, &checked, config, stall),
-        // No two requests overlap, so only memory can be refused.
+        // No two requests overlap, so the check fails only if memory is refused.
         Err(_) => Err(RunFault::Memory),
     }
 }

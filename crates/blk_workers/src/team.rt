@@ -1,47 +1,196 @@
-//! The workers of a run: how they are started, led, ended and waited for.
-ghost use Rattle.std.specs.Prelude.{◌≡◌, ◌+◌, ◌-◌, ◌<◌, ◌≤◌, ◌↔◌, [], All, IfErr, IfOk, IfSome, IsErrOf, OnErr, OnOk, length, vec_capacity};
-ghost use Rattle.run_queues.specs.Parts.{none_counted};
-ghost use Rattle.run_queues.specs.Requests.{all_parts};
+//! The workers of a run: what each does, and how they are started, led, ended and joined.
+ghost use Rattle.std.specs.Prelude.{◌≡◌, ◌+◌, ◌<◌, ◌^◌, true, length, ◌-◌, ◌≤◌, ◌↔◌, All, IfErr, IfOk, IsErrOf, OnOk};
 ghost use Rattle.script_meaning.specs.Requests.{accepted_in_all};
-ghost use Rattle.blk_workers.specs.Progress.{AreBack, AreNewEnds, AreOut, AreAtStart, HasCounted, IsAt, IsEnd, IsLed, IsNewDrawer};
+ghost use Rattle.in_flight.specs.Requests.{IsAcceptedAt};
+ghost use Rattle.run_queues.specs.Parts.{one_more, none_counted};
+ghost use Rattle.blk_workers.specs.Progress.{HasCounted, IsNewConsumer, AreBack, AreNewEnds, IsAt, IsEnd};
+ghost use Rattle.run_queues.specs.Requests.{all_parts};
 
+use crate::context::RunContext;
 use crate::fault::RunFault;
-use crate::hall::Hall;
 use crate::handing::Ends;
-use crate::job::Job;
+use crate::job::{Completion, FreeTag, Job};
 use crate::naming::{QueueName, QueueNames, Run};
-use crate::stall::Stall;
+use crate::points::{Stall, pass_answered, pass_drawn};
 use crate::submitter::Submitter;
-use crate::worker::{FinishedWorker, work};
-use run_queues::{Drawer, Source};
+use run_queues::{Acknowledgement, Consumer, Numbered, PutCount, Source};
 use std::alloc::AllocError;
+use std::marker::{Model, PhantomData};
 use std::sync::Wait;
 use std::thread;
-use std::thread::{JoinHandle, Scope, Threads};
+use std::thread::{JoinHandle, Threads};
 
-/// The right to draw for each worker, with room for so many numbers in the list of what it draws. Each takes one part of the
-/// source's.
-pub(crate) fn drawers<J: Run, C: QueueName, L: QueueNames, R, S>(
-    hall: &Hall<'_, J, C, L, R, S>,
+/// The number of acknowledgements that a worker has, all of completions of this run. Only the number is kept, and contracts see it.
+/// An acknowledgement is taken by value and can't be copied, so none counts twice. `FinishedWorker::new` requires as many as the
+/// worker drew, so `work` leaves no completion unreported. Nothing else reads the number.
+#[derive(Drop)]
+struct AcknowledgementCount<J: Run, C: QueueName> {
+    count: usize,
+    of: PhantomData<(J, C)>,
+}
+
+impl<J: Run, C: QueueName> Model for AcknowledgementCount<J, C> {
+    ghost use Rattle.std.specs.Prelude.{ℕ};
+
+    ghost Value = { ℕ };
+
+    ghost view = { λ r. r.count };
+}
+
+impl<J: Run, C: QueueName> AcknowledgementCount<J, C> {
+    /// No acknowledgements yet.
+    fn new() -> AcknowledgementCount<J, C>
+        ensures { result ≡ 0 }
+    {
+        AcknowledgementCount {
+            count: 0,
+            of: PhantomData,
+        }
+    }
+
+    /// Takes one more acknowledgement.
+    fn add(&mut self, acknowledgement: Acknowledgement<Completion<J>>)
+        requires own { acknowledgement.queue ≡ C.id }
+        requires room { self.old + 1 < 2 ^ 64 }
+        ensures { self.new ≡ self.old + 1 }
+    {
+        drop(acknowledgement);
+        self.count += 1;
+    }
+}
+
+/// What a worker hands back: the right to draw, once it has taken an end mark, reported as many completions as it drew requests,
+/// and put back as many tags.
+#[derive(Drop)]
+struct FinishedWorker<J: Run, C: QueueName, L: QueueNames> {
+    consumer: Consumer<Job<J, C>>,
+    acknowledgements: AcknowledgementCount<J, C>,
+    tags: PutCount<FreeTag<J>>,
+    of: PhantomData<L>,
+}
+
+impl<J: Run, C: QueueName, L: QueueNames> Model for FinishedWorker<J, C, L> {
+    ghost use Rattle.std.specs.Prelude.{◌≡◌, true, length};
+    ghost use Rattle.run_queues.specs.Parts.{ConsumerFacts};
+    ghost use Rattle.blk_workers.specs.Progress.{HasCounted};
+
+    ghost Value = { ConsumerFacts };
+
+    ghost view = { λ w. w.consumer };
+
+    ghost invariant = { λ w. (w.consumer.queue ≡ L.requests) × (w.consumer.drained ≡ true) × (w.acknowledgements ≡ length w.consumer.drawn) × HasCounted L.free_tags (length w.consumer.drawn) w.tags };
+}
+
+impl<J: Run, C: QueueName, L: QueueNames> FinishedWorker<J, C, L> {
+    fn new(
+        consumer: Consumer<Job<J, C>>,
+        acknowledgements: AcknowledgementCount<J, C>,
+        tags: PutCount<FreeTag<J>>,
+    ) -> FinishedWorker<J, C, L>
+        requires own { consumer.queue ≡ L.requests }
+        requires drained { consumer.drained ≡ true }
+        requires told { acknowledgements ≡ length consumer.drawn }
+        requires put_back { HasCounted L.free_tags (length consumer.drawn) tags }
+    {
+        FinishedWorker {
+            consumer,
+            acknowledgements,
+            tags,
+            of: PhantomData,
+        }
+    }
+
+    /// Returns the right to draw, with the list of what was drawn.
+    fn into_consumer(self) -> Consumer<Job<J, C>>
+        ensures own { result.queue ≡ L.requests }
+        ensures drained { result.drained ≡ true }
+    {
+        self.consumer
+    }
+}
+
+// Does a request. Once its completion is reported, the tag leaves on this worker's slot and goes back to the submitter, which is
+// counted. The contract repeats that the request is an accepted one, so `work` knows that the list has room for its number.
+fn serve<J: Run, C: QueueName, L: QueueNames, R: Wait, S: Stall>(
+    context: &RunContext<'_, J, C, L, R, S>,
+    slot: u32,
+    tags: &mut PutCount<FreeTag<J>>,
+    job: Job<J, C>,
+) -> Acknowledgement<Completion<J>>
+    requires slot { slot < J.queue.gate.slots }
+    requires tags { tags.old.queue ≡ L.free_tags }
+    requires room { tags.old.count + 1 < 2 ^ 64 }
+    ensures tag { tags.new ≡ one_more tags.old }
+    ensures request { IsAcceptedAt J.script job.token.number job.position }
+    ensures told { (result.queue ≡ C.id) × (result.number ≡ job.token.number) }
+{
+    let number = job.number();
+    let drawn = pass_drawn(context.stall, number, &job);
+    let done = job.done(
+        drawn,
+        context.alloc,
+        context.uniform,
+        context.queue,
+        context.checked.script(),
+    );
+    let completed = done.tell(context.rt, context.completions);
+    let answered = pass_answered(context.stall, number, &completed);
+    let (tag, acknowledgement) = completed.leave(answered, context.queue, slot);
+    context.free_tags.put(context.rt, tags, tag);
+    acknowledgement
+}
+
+/// Does requests until it takes an end mark. The list has room for the number of each accepted request and one place more, since
+/// the draw of the end mark reserves one too. So no draw asks for memory.
+fn work<J: Run, C: QueueName, L: QueueNames, R: Wait, S: Stall>(
+    context: &RunContext<'_, J, C, L, R, S>,
+    slot: u32,
+    mut consumer: Consumer<Job<J, C>>,
+) -> FinishedWorker<J, C, L>
+    requires slot { slot < J.queue.gate.slots }
+    requires consumer { IsNewConsumer L.requests (accepted_in_all J.script + 1) consumer }
+{
+    let mut acknowledgements = AcknowledgementCount::new();
+    let mut tags = context.free_tags.put_count();
+    for _ in context.rt.forever() {
+        let Ok(drawn) = context.requests.draw(context.rt, &mut consumer) else {
+            unreachable!()
+        };
+        let Some(job) = drawn else {
+            return FinishedWorker::new(consumer, acknowledgements, tags);
+        };
+        acknowledgements.add(serve(context, slot, &mut tags, job));
+    }
+    unreachable!()
+}
+
+/// Returns the right to draw for each worker, with room for `numbers_each` numbers in the list of what it draws. Each takes one
+/// part of the source's.
+pub(crate) fn consumers<J: Run, C: QueueName, L: QueueNames, R, S>(
+    context: &RunContext<'_, J, C, L, R, S>,
     source: &mut Source<Job<J, C>>,
     workers: u32,
     numbers_each: usize,
-) -> Result<Vec<Drawer<Job<J, C>>>, AllocError>
+) -> Result<Vec<Consumer<Job<J, C>>>, AllocError>
     requires own { source.old.queue ≡ L.requests }
     requires parts { source.old.parts ≡ all_parts }
-    ensures drawers { IfOk result (λ ds. (length ds.items ≡ workers) × All (IsNewDrawer L.requests numbers_each) ds.items) }
+    ensures consumers { IfOk result (λ ds. (length ds.items ≡ workers) × All (IsNewConsumer L.requests numbers_each) ds.items) }
     ensures source { OnOk result (source.new ≡ record source.old { parts = all_parts - workers }) }
 {
-    let mut drawers = Vec::with_capacity(hall.alloc, workers as usize)?;
+    let mut consumers = Vec::with_capacity(context.alloc, workers as usize)?;
     for _worker in 0..workers {
-        drawers.push(hall.requests.drawer(hall.alloc, source, numbers_each)?)?;
+        consumers.push(
+            context
+                .requests
+                .consumer(context.alloc, source, numbers_each)?,
+        )?;
     }
-    Ok(drawers)
+    Ok(consumers)
 }
 
-// Puts an end mark for each worker that was started.
+// Pushes an end mark for each worker that was started.
 fn push_end_marks<J: Run, C: QueueName, L: QueueNames, R: Wait, S>(
-    hall: &Hall<'_, J, C, L, R, S>,
+    context: &RunContext<'_, J, C, L, R, S>,
     source: &mut Source<Job<J, C>>,
     started: usize,
 )
@@ -49,146 +198,59 @@ fn push_end_marks<J: Run, C: QueueName, L: QueueNames, R: Wait, S>(
     ensures source { source.new ≡ record source.old { marks = source.old.marks + started } }
 {
     for _worker in 0..started {
-        hall.requests.end(hall.rt, source);
+        context.requests.end(context.rt, source);
     }
 }
 
-// Waits for workers that were ended. `_source` is for the contract alone: an end mark was pushed by it for each of them. What a
-// thread hands back is let go only where it is joined: the scope would wait too, but leak it, which `tests/sweeps/refusals` would see.
-fn dismiss<J: Run, C: QueueName, L: QueueNames, R: Threads>(
-    rt: &R,
-    _source: &Source<Job<J, C>>,
-    started: &mut Vec<JoinHandle<FinishedWorker<J, C, L>>>,
-)
-    requires ended { _source.now.marks ≡ length started.old.items }
-    ensures { started.new.items ≡ [] }
-{
-    while let Some(worker) = started.pop() {
-        drop(worker.join(rt));
-    }
-}
-
-// Submits and collects while so many workers work, and ends them. Where that fails, it waits for them too, by the handles in
-// `started`, which it empties only then.
-fn lead<J: Run, C: QueueName, L: QueueNames, R: Threads + Wait, S: Stall>(
-    hall: &Hall<'_, J, C, L, R, S>,
+// Submits and collects while `workers` workers run, and pushes an end mark for each, even if submitting fails.
+fn lead<J: Run, C: QueueName, L: QueueNames, R: Wait, S: Stall>(
+    context: &RunContext<'_, J, C, L, R, S>,
     mut submitter: Submitter,
     ends: &mut Ends<J, C>,
-    started: &mut Vec<JoinHandle<FinishedWorker<J, C, L>>>,
     workers: usize,
 ) -> Result<Submitter, RunFault>
     requires ends { AreNewEnds L.requests C.id workers ends.old.source ends.old.collector }
     requires start { IsAt J.script J.queue 0 submitter }
     requires tags { ends.old.taker ≡ none_counted L.free_tags }
-    requires started { length started.old.items ≡ workers }
     ensures end { IfOk result (IsEnd J.script) }
     ensures source { ends.new.source ≡ record ends.old.source { pushed = ends.new.source.pushed; marks = workers } }
     ensures pushed { OnOk result (ends.new.source.pushed ≡ accepted_in_all J.script) }
-    ensures started { OnOk result (started.new.items ≡ started.old.items) }
     ensures tags { OnOk result (HasCounted L.free_tags (accepted_in_all J.script) ends.new.taker) }
     ensures memory { IfErr result (λ fault. fault ≡ RunFault.Memory) }
-    ensures dismissed { OnErr result (started.new.items ≡ []) }
 {
-    let submitted = submitter.submit_all(hall, ends);
-    push_end_marks(hall, &mut ends.source, workers);
-    match submitted {
-        Ok(()) => Ok(submitter),
-        Err(why) => {
-            dismiss(hall.rt, &ends.source, started);
-            Err(why)
-        }
-    }
-}
-
-// Waits for the workers, which were ended, and takes back their right to draw with what they drew. There is a place for each
-// list (`AreOut`), so none is refused and no worker is left unjoined.
-fn gather<J: Run, C: QueueName, L: QueueNames, R: Threads, S>(
-    hall: &Hall<'_, J, C, L, R, S>,
-    source: &mut Source<Job<J, C>>,
-    started: &mut Vec<JoinHandle<FinishedWorker<J, C, L>>>,
-)
-    requires out { AreOut L.requests (length started.old.items) source.old }
-    ensures back { AreBack L.requests (length started.old.items) source.new }
-    ensures pushed { source.new.pushed ≡ source.old.pushed }
-    ensures ended { source.new.marks ≡ source.old.marks }
-    ensures joined { started.new.items ≡ [] }
-{
-    while let Some(worker) = started.pop() {
-        let back = worker.join(hall.rt);
-        let taken_back = hall.requests.gather(source, back.into_drawer());
-        prove!(taken_back.is_ok());
-    }
-}
-
-// Starts a worker for each of these rights to draw, on one slot after the other. They are fewer where the start of a
-// thread is refused. The list comes in empty, with room for all: once a thread runs, no memory is asked for its handle.
-fn start<
-    'scope,
-    'env,
-    J: Run + Send + Sync + 'env,
-    C: QueueName + Send + Sync + 'env,
-    L: QueueNames + Send + Sync + 'env,
-    R: Threads + Wait + Sync,
-    S: Stall,
->(
-    scope: &'scope Scope<'scope, &'env ()>,
-    hall: &'env Hall<'env, J, C, L, R, S>,
-    mut drawers: Vec<Drawer<Job<J, C>>>,
-    mut started: Vec<JoinHandle<FinishedWorker<J, C, L>>>,
-) -> Vec<JoinHandle<FinishedWorker<J, C, L>>>
-    requires drawers { All (IsNewDrawer L.requests (accepted_in_all J.script + 1)) drawers.items }
-    requires room { (length started.items ≡ 0) × (length drawers.items ≤ vec_capacity started) }
-    ensures few { length result.items ≤ length drawers.items }
-{
-    let slots = hall.queue.slots();
-    let mut slot = 0;
-    while let Some(drawer) = drawers.pop() {
-        let Ok(worker) = scope.spawn(
-            move || -> FinishedWorker<J, C, L>
-                requires slot { slot < J.queue.gate.slots }
-                requires drawer { IsNewDrawer L.requests (accepted_in_all J.script + 1) drawer }
-            { work(hall, slot, drawer) },
-        ) else {
-            break;
-        };
-        started.push_reserved(worker);
-        slot = (slot + 1) % slots;
-    }
-    started
-}
-
-// Submits and collects while the workers work that were started, ends each of them, also where the run fails, and takes back what
-// they drew. `Thread` where fewer were started than there are to be: then they are ended at once. 32 is `MOST_WORKERS`
-// (`AreDrawers` has the same number). Any number below `all_parts`, which is 2^32, would do: the source has to keep a part
-// (`AreOut`).
-fn lead_and_gather<J: Run, C: QueueName, L: QueueNames, R: Threads + Wait, S: Stall>(
-    hall: &Hall<'_, J, C, L, R, S>,
-    submitter: Submitter,
-    ends: &mut Ends<J, C>,
-    started: &mut Vec<JoinHandle<FinishedWorker<J, C, L>>>,
-    workers: usize,
-) -> Result<Submitter, RunFault>
-    requires start { IsAt J.script J.queue 0 submitter }
-    requires ends { AreNewEnds L.requests C.id workers ends.old.source ends.old.collector }
-    requires tags { ends.old.taker ≡ none_counted L.free_tags }
-    requires some { (0 < workers) × (workers ≤ 32) }
-    requires started { length started.old.items ≤ workers }
-    ensures led { IfOk result (λ led. IsLed J.script L.requests workers led ends.new.source) }
-    ensures thread { IsErrOf result RunFault.Thread ↔ length started.old.items < workers }
-    ensures ended { ends.new.source.marks ≡ length started.old.items }
-    ensures joined { started.new.items ≡ [] }
-{
-    if started.len() < workers {
-        push_end_marks(hall, &mut ends.source, started.len());
-        dismiss(hall.rt, &ends.source, started);
-        return Err(RunFault::Thread);
-    }
-    let submitter = lead(hall, submitter, ends, started, workers)?;
-    gather(hall, &mut ends.source, started);
+    let submitted = submitter.submit_all(context, ends);
+    push_end_marks(context, &mut ends.source, workers);
+    submitted?;
     Ok(submitter)
 }
 
-/// Starts the workers, submits and collects, ends them, and takes back what they drew.
+// Joins a worker, for which there is an end mark, and takes back its right to draw with what it drew. There is a place for its
+// list.
+fn join<J: Run, C: QueueName, L: QueueNames, R: Threads, S>(
+    context: &RunContext<'_, J, C, L, R, S>,
+    source: &mut Source<Job<J, C>>,
+    worker: JoinHandle<FinishedWorker<J, C, L>>,
+)
+    requires own { source.old.queue ≡ L.requests }
+    requires parts { 0 < source.old.parts }
+    requires room { length source.old.lists < source.old.room }
+    ensures back { source.new ≡ record source.old { parts = source.old.parts + 1; drained = true; lists = source.new.lists; room = source.new.room } }
+    ensures lists { length source.new.lists ≡ length source.old.lists + 1 }
+    ensures room { source.old.room ≤ source.new.room }
+{
+    let finished = worker.join(context.rt);
+    let taken_back = context.requests.gather(source, finished.into_consumer());
+    prove!(taken_back.is_ok());
+}
+
+// How a run ended, and the right to push, with the lists of the workers that are back.
+type Led<J, C> = (Result<Submitter, RunFault>, Source<Job<J, C>>);
+
+/// Starts a worker for each of these rights to draw, one per level of recursion. The levels above have started the rest of the
+/// `workers`. The innermost level submits and collects, and ends the workers. Each level joins its worker and takes back what it
+/// drew, even if the run fails. Returns `Thread` if a worker couldn't be started; then those that were started are ended at once.
+///
+/// 32 is `MOST_WORKERS`. Any number below `all_parts`, which is 2^32, would do: the source has to keep a part.
 pub(crate) fn with_workers<
     J: Run + Send + Sync,
     C: QueueName + Send + Sync,
@@ -196,31 +258,57 @@ pub(crate) fn with_workers<
     R: Threads + Wait + Sync,
     S: Stall,
 >(
-    hall: &Hall<'_, J, C, L, R, S>,
+    context: &RunContext<'_, J, C, L, R, S>,
     submitter: Submitter,
     mut ends: Ends<J, C>,
-    drawers: Vec<Drawer<Job<J, C>>>,
-) -> Result<(Submitter, Source<Job<J, C>>), RunFault>
-    requires ready { AreAtStart J.script J.queue L.requests C.id (length drawers.items) submitter ends.source ends.collector drawers.items }
+    mut consumers: Vec<Consumer<Job<J, C>>>,
+    workers: usize,
+) -> Led<J, C>
+    requires start { IsAt J.script J.queue 0 submitter }
+    requires ends { AreNewEnds L.requests C.id workers ends.source ends.collector }
     requires tags { ends.taker ≡ none_counted L.free_tags }
-    ensures led { IfOk result (λ led. IsLed J.script L.requests (length drawers.items) led.0 led.1) }
+    requires consumers { All (IsNewConsumer L.requests (accepted_in_all J.script + 1)) consumers.items }
+    requires left { length consumers.items ≤ workers }
+    requires few { workers ≤ 32 }
+    ensures end { IfOk result.0 (IsEnd J.script) }
+    ensures pushed { OnOk result.0 (result.1.pushed ≡ accepted_in_all J.script) }
+    ensures back { AreBack workers (length consumers.items) ends.source result.1 }
+    ensures thread { IsErrOf result.0 RunFault.Thread ↔ result.1.marks < workers }
 {
-    let workers = drawers.len();
-    let no_handles: Vec<JoinHandle<FinishedWorker<J, C, L>>> = Vec::with_capacity(
-        hall.alloc, workers,
-    )?;
     thread::scope(
         thread::scope_env(),
-        hall.rt,
-        move |scope| -> Result<(Submitter, Source<Job<J, C>>), RunFault>
-            requires ready { AreAtStart J.script J.queue L.requests C.id workers submitter ends.source ends.collector drawers.items }
+        context.rt,
+        move |scope| -> Led<J, C>
+            requires start { IsAt J.script J.queue 0 submitter }
+            requires ends { AreNewEnds L.requests C.id workers ends.source ends.collector }
             requires tags { ends.taker ≡ none_counted L.free_tags }
-            requires room { (length no_handles.items ≡ 0) × (workers ≤ vec_capacity no_handles) }
-            ensures led { IfOk result (λ led. IsLed J.script L.requests workers led.0 led.1) }
+            requires consumers { All (IsNewConsumer L.requests (accepted_in_all J.script + 1)) consumers.items }
+            requires left { length consumers.items ≤ workers }
+            requires few { workers ≤ 32 }
+            ensures end { IfOk result.0 (IsEnd J.script) }
+            ensures pushed { OnOk result.0 (result.1.pushed ≡ accepted_in_all J.script) }
+            ensures back { AreBack workers (length consumers.items) ends.source result.1 }
+            ensures thread { IsErrOf result.0 RunFault.Thread ↔ result.1.marks < workers }
         {
-            let mut started = start(scope, hall, drawers, no_handles);
-            let submitter = lead_and_gather(hall, submitter, &mut ends, &mut started, workers)?;
-            Ok((submitter, ends.source))
+            let started = workers - consumers.len();
+            let Some(consumer) = consumers.pop() else {
+                let led = lead(context, submitter, &mut ends, workers);
+                return (led, ends.source);
+            };
+            // The submitter's slot is 0. No worker has it if there are more slots than workers.
+            let slot = (started as u32 + 1) % context.queue.slots();
+            let Ok(worker) = scope.spawn(
+                move || -> FinishedWorker<J, C, L>
+                    requires slot { slot < J.queue.gate.slots }
+                    requires consumer { IsNewConsumer L.requests (accepted_in_all J.script + 1) consumer }
+                { work(context, slot, consumer) },
+            ) else {
+                push_end_marks(context, &mut ends.source, started);
+                return (Err(RunFault::Thread), ends.source);
+            };
+            let (led, mut source) = with_workers(context, submitter, ends, consumers, workers);
+            join(context, &mut source, worker);
+            (led, source)
         },
     )
 }

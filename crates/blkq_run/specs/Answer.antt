@@ -1,4 +1,4 @@
--- What the program answers to an input: a text, or the fault that the input is refused for.
+-- What the program answers to an input: a text, or the fault for which the input is refused.
 use Rattle.std.specs.Prelude.{◌≡◌, ℕ, List, Result, Ok, Err}
 use Rattle.blk_script.specs.Answer.{IsText}
 use Rattle.script_overlap.specs.Overlap.{HasNoOverlap, IsReported}
@@ -8,8 +8,8 @@ use Rattle.line_text.specs.declared.fault.ParseFault.{ParseFault}
 use Rattle.blkq_run.specs.declared.fault.Fault.{Fault}
 use Rattle.blkq_run.specs.declared.fault.Fault.TheVariants.{Parse, Overlap}
 
--- an input that means no script is refused for its fault, a script whose requests overlap for its first overlap, and any other
--- script is answered with the text of its run on one thread
+-- an input that means no script is refused for its fault, and a script whose requests overlap for its first overlap; for any other script the answer is the
+-- text of its run on one thread
 abbrev pub IsAnswerTo : Result Meant ParseFault → Result (List ℕ) Fault → Type 0
 IsAnswerTo (Ok script) (Ok text) = HasNoOverlap script × IsText script text
 IsAnswerTo (Ok script) (Err (Overlap pair)) = IsReported script pair

@@ -3,11 +3,11 @@ use Rattle.std.specs.Prelude.{◌≡◌, ◌⊎◌, ℕ, List, [], ◌∷◌, co
 use Rattle.line_text.specs.Numbers.{number_in}
 use Rattle.blk_workers.specs.Sizes.{Sizes, AreWithin}
 
--- a word spells a number of 32 bits as a script spells its numbers
+-- a word spells a number of 32 bits, as numbers are spelled in a script
 abbrev pub Spells : List ℕ → ℕ → Type 0
 Spells word number = number_in 0 4294967295 word ≡ Ok number
 
--- the sizes of a run that names none
+-- the sizes of a run for which none are given
 abbrev pub usual : Sizes
 usual = record { workers = 4; slots = 8; tags = 16 }
 

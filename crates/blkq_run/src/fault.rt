@@ -1,4 +1,4 @@
-//! Why a run answers nothing, or not all.
+//! Why a run has no output, or only a part of it.
 ghost use Rattle.std.specs.Prelude.{◌≡◌};
 ghost use Rattle.blkq_run.specs.Faults.{number_of, status_of};
 
@@ -7,13 +7,13 @@ use counted_io::{InputFault, WriteFault};
 use line_text::{Overlap, ParseFault, ScriptFault};
 use thiserror::Error;
 
-/// Why a run answers nothing, or not all of its answer.
+/// Why a run has no output, or only a part of it.
 #[derive(Clone, Copy, Debug, PartialEq, Eq, Error)]
 pub enum Fault {
     /// Memory was refused.
     #[error("memory")]
     Memory,
-    /// The start of a thread was refused.
+    /// A thread couldn't be started.
     #[error("thread")]
     Thread,
     /// The reader failed.
@@ -22,10 +22,10 @@ pub enum Fault {
     /// The writer failed.
     #[error("write")]
     Write {
-        /// How many bytes of the answer went out before, from its first on.
+        /// How many bytes of the output were written before the failure.
         written: u64,
     },
-    /// The input is no script.
+    /// The input isn't a script.
     #[error("{0}")]
     Parse(ParseFault),
     /// Two requests of the script overlap.
@@ -34,7 +34,7 @@ pub enum Fault {
 }
 
 impl Fault {
-    /// The fault's number, from 1 in the order of declaration.
+    /// Returns the fault's number, counted from 1 in order of declaration.
     pub fn number(&self) -> u8
         ensures { result ≡ number_of self.now }
     {
@@ -48,8 +48,7 @@ impl Fault {
         }
     }
 
-    /// The status that the program ends with: 2 where the input is no script, 3 where requests overlap, and
-    /// else 4.
+    /// Returns the exit status of the program: 2 if the input isn't a script, 3 if requests overlap, otherwise 4.
     pub fn status(&self) -> u8
         ensures { result ≡ status_of self.now }
     {

@@ -1,4 +1,4 @@
-//! What holds of the answers to inputs, apart from the code.
+//! Laws of the answers to inputs, apart from the code.
 ghost use Rattle.std.specs.Prelude.{◌≡◌, ℕ, List, Result};
 ghost use Rattle.blkq_run.specs.Answer.{IsAnswer};
 ghost use Rattle.blkq_run.specs.declared.fault.Fault.{Fault};
@@ -7,7 +7,7 @@ use crate::run::MOST_READ;
 use blk_script::{one_first_overlap, one_text};
 use blk_workers::{MOST_SLOTS, MOST_TAGS, MOST_WORKERS};
 
-/// The greatest sizes of a run, and the most bytes that are read, as numbers: the other public clauses name them. The
+/// The maximum sizes of a run and the maximum number of bytes read, as numbers; the other public clauses use their names. The
 /// contract is the law; the function does nothing.
 pub fn sizes_in_numbers()
     ensures workers { MOST_WORKERS ≡ 32 }

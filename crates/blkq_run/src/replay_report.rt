@@ -1,4 +1,4 @@
-//! A replay, told as a status.
+//! The exit status of a replay.
 ghost use Rattle.counted_io.specs.Failures.{IsFourIfBroken};
 ghost use Rattle.counted_io.specs.Reading.{TakesUpTo};
 ghost use Rattle.blkq_run.specs.Statuses.{TellsReplay};
@@ -10,11 +10,11 @@ use gate_replay::Replayed;
 use std::alloc::Global;
 use std::io::{Read, Write};
 
-/// The status where a step of the schedule wasn't enabled.
+/// Exit status if a step of the schedule wasn't enabled.
 const STUCK: u8 = 3;
 
-/// Replays the schedule that `reader` has, and tells the program's status, with a line to `errors` where there
-/// was a fault. A replay that ends at a step that isn't enabled is no fault: its last line says so.
+/// Replays the schedule that `reader` has and returns the exit status; writes a line to `errors` if there was a fault. If a replay
+/// ends at a step that isn't enabled, its last line says so; that isn't a fault.
 pub(crate) fn replay_reported<R: Read, W: Write, E: Write>(
     alloc: Global,
     reader: &mut Counted<R>,

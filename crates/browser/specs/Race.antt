@@ -5,6 +5,6 @@ use Rattle.races_run.specs.Answer.{IsAnswer}
 use Rattle.races_run.specs.declared.request.Request.TheVariants.{Written}
 use Rattle.races_text.specs.declared.writing.Form.TheVariants.{Outcomes}
 
--- the input means no race, and this is the line of its first fault
+-- the input is no race, and this is the line of its first fault
 abbrev pub IsRefusedAt : List ℕ → ℕ → Type 0
 IsRefusedAt input line = (fault : ParseFault) × IsAnswer (Written Outcomes) input (Err fault) × (line ≡ fault.line)

@@ -9,8 +9,8 @@ use Rattle.line_text.specs.declared.fault.ScriptFault.TheVariants.{Memory, Parse
 use Rattle.script_meaning.specs.Script.{Meant}
 use Rattle.script_overlap.specs.Overlap.{HasNoOverlap, IsReported}
 
--- an input that means no script is refused for its fault, and a script whose requests overlap for its first overlap; any other
--- script is answered with the text of its run on one thread; a refusal of memory may replace each
+-- an input that is no script is refused with its fault, and a script whose requests overlap with its first overlap; the answer to any other
+-- script is the text of its run on one thread. Each answer may be replaced by a refusal of memory
 abbrev pub IsAnswerTo : Result Meant ParseFault → Result (List ℕ) ScriptFault → Type 0
 IsAnswerTo meant (Err Memory) = Unit {0}
 IsAnswerTo (Ok script) (Ok text) = HasNoOverlap script × IsText script text
@@ -26,7 +26,7 @@ IsAnswer input answer = IsAnswerTo (meaning_of input) answer
 abbrev pub IsAnsweredBy : List ℕ → (List ℕ → Type 0) → Type 0
 IsAnsweredBy input P = (text : List ℕ) × IsAnswer input (Ok text) × P text
 
--- the input means no script, and this is the line of its first fault
+-- the input is no script, and this is the line of its first fault
 abbrev pub IsRefusedAt : List ℕ → ℕ → Type 0
 IsRefusedAt input line = (fault : ParseFault) × IsAnswer input (Err (Parse fault)) × (line ≡ fault.line)
 

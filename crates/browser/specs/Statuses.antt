@@ -1,4 +1,4 @@
--- The statuses, and what a fault is reported as.
+-- The status and the line with which a fault is reported.
 use Rattle.std.specs.Prelude.{ℕ}
 use Rattle.line_text.specs.declared.fault.ScriptFault.{ScriptFault}
 use Rattle.line_text.specs.declared.fault.ScriptFault.TheVariants.{Memory, Parse, Overlap}
@@ -9,7 +9,7 @@ status_of (Parse fault) = 2
 status_of (Overlap pair) = 3
 status_of Memory = 4
 
--- the line of a fault, and 0 for one of no line
+-- the line of a fault, or 0 if it has none
 abbrev pub line_of : ScriptFault → ℕ
 line_of (Parse fault) = fault.line
 line_of (Overlap pair) = pair.line

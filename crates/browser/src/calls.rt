@@ -1,7 +1,7 @@
 //! The calls of the page.
 //!
-//! Each has `room` for the answer and writes the answer's length to `size`: a page whose room was too short calls again with more.
-//! It writes to `line` the line of a fault, and else 0.
+//! Each call writes the text of its answer to `room`, as much as fits, and the text's length to `size`. If the room is too short, the
+//! page calls again with more. Each call writes the line of a fault to `line`, or 0 if there is none.
 ghost use Rattle.std.specs.Prelude.{◌≡◌, ◌≢◌, [], ◌∷◌, Contains};
 ghost use Rattle.browser.specs.Handed.{Hands};
 ghost use Rattle.browser.specs.Race as race;
@@ -20,9 +20,9 @@ use gate_replay::{Replayed, replay_text};
 use races_run::{Fault, Form, NoWatch, Request, outcomes_text};
 use std::alloc::Global;
 
-/// Answers a script, as it runs on one thread.
+/// Runs a script on one thread, and writes the text of its answer.
 ///
-/// Status 0 comes with the answer's text; 2 if the input is no script, and 3 if requests overlap, with the fault's line; 4 if
+/// Returns status 0 with this text; 2 if the input is no script, or 3 if requests overlap, each with the fault's line; 4 if
 /// memory is refused.
 #[unsafe(no_mangle)]
 pub extern "C" fn browser_script(
@@ -54,7 +54,7 @@ pub extern "C" fn browser_script(
 
 /// Replays a schedule.
 ///
-/// Status 0 comes with the text of a replay that took every step, and 3 with the text of one that stopped at a step that isn't
+/// Returns status 0 with the text of a replay that took every step, or 3 with the text of a replay that stopped at a step that isn't
 /// enabled; 2 if the input is no schedule, with the fault's line; 4 if memory is refused.
 #[unsafe(no_mangle)]
 pub extern "C" fn browser_replay(
@@ -87,9 +87,9 @@ pub extern "C" fn browser_replay(
     }
 }
 
-/// Answers a race with all its outcomes, whatever it asks.
+/// Finds all outcomes of a race, whatever its questions are.
 ///
-/// Status 0 comes with the text of the outcomes; 2 if the input is no race, with the fault's line; 4 if memory is refused.
+/// Returns status 0 with the text of the outcomes; 2 if the input is no race, with the fault's line; 4 if memory is refused.
 #[unsafe(no_mangle)]
 pub extern "C" fn browser_race(
     alloc: Global,

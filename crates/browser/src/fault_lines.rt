@@ -1,4 +1,4 @@
-//! A fault for the page: its status, its line, and the text that the program has for it.
+//! A fault for the page: its status, its line, and the program's text for it.
 ghost use Rattle.std.specs.Prelude.{◌≡◌};
 ghost use Rattle.browser.specs.Statuses.{line_of, status_of};
 
@@ -27,7 +27,7 @@ pub(crate) fn status_of(fault: &ScriptFault) -> u32
     }
 }
 
-/// The line of a fault, from 1; 0 if it is of no line.
+/// The line of a fault, from 1; 0 if the fault has no line.
 pub(crate) fn line_of(fault: &ScriptFault) -> u32
     ensures { result ≡ line_of fault.now }
 {
@@ -38,12 +38,12 @@ pub(crate) fn line_of(fault: &ScriptFault) -> u32
     }
 }
 
-// The program's line on standard error for a fault.
+// The line that the program writes to standard error for a fault.
 fn text_of<F: Display>(alloc: Global, fault: &F) -> Result<String, AllocError> {
     format!(in alloc; "{fault}")
 }
 
-/// Hands a fault's text to the page, and returns its length: 0 if memory is refused for the text.
+/// Writes a fault's text to the page's room, and returns its length, or 0 if memory is refused for the text.
 pub(crate) fn hand_fault<F: Display>(alloc: Global, fault: &F, room: &mut [u8]) -> usize {
     match text_of(alloc, fault) {
         Ok(text) => hand(text.as_bytes(), room),

@@ -1,8 +1,8 @@
-//! How a text gets into the page's room.
+//! Copying a text to the page's room.
 ghost use Rattle.std.specs.Prelude.{◌≡◌, length};
 ghost use Rattle.browser.specs.Handed.{filled};
 
-/// Copies a text to the room, as far as the room goes, and returns the length of the whole text.
+/// Copies a text to the room, as much as fits, and returns the length of the whole text.
 pub(crate) fn hand(text: &[u8], room: &mut [u8]) -> usize
     ensures length { result ≡ length text.now }
     ensures room { room.new ≡ filled text.now room.old }

@@ -6,7 +6,7 @@ use blk_script::{check, parse, run_alone};
 use line_text::ScriptFault;
 use std::alloc::Global;
 
-/// The text that a script's run on one thread writes, or the fault for which it is refused.
+/// Returns the text that a script's run on one thread writes, or the fault for which the script is refused.
 #[tactic(auto, unfolding(crate::specs::Script::IsAnswer))]
 pub(crate) fn script_text(alloc: Global, input: &[u8]) -> Result<Vec<u8>, ScriptFault>
     ensures text { IfOk result (λ text. IsAnswer input.now (Ok text.items)) }

@@ -6,7 +6,7 @@ use Rattle.std.proofs.KnownBytes.{Consumes-trans, Consumes-nil, Consumes-kept}
 use Rattle.std.specs.Io.KnownBytes.{Consumes, IsAtEnd, Keeps}
 use Rattle.counted_io.specs.Reading.{LosesUpTo}
 
--- where the reader is left as it was, nothing was taken
+-- if the reader is unchanged, nothing was taken
 pub LosesUpTo-none : (a b : Option (List ℕ)) (most : ℕ) → Keeps a b → LosesUpTo a b most
 LosesUpTo-none a b most kept = ([], Consumes-kept a a b [] (Consumes-nil a) kept, omega arith)
 

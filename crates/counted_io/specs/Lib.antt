@@ -1,4 +1,4 @@
--- Tally: what contracts see of a `Counted`. Failures: how it counts. Reading, Writing: what is taken from a reader, and goes out to a writer.
+-- Tally: what contracts see of a `Counted`. Failures: how it counts. Reading, Writing: what is taken from a reader, and what is written to a writer.
 -- InputFault: the numbers of the faults of reading.
 pub mod Failures
 pub mod InputFault

@@ -1,4 +1,4 @@
--- What reading takes from a `Counted` reader. `left` tells the bytes that a reader has left, where they are known.
+-- What reading takes from a `Counted` reader. `left` has the bytes that a reader has left, if they are known.
 use Rattle.std.specs.Prelude.{ℕ, ◌≤◌, List, Option, IfSome, length}
 use Rattle.std.specs.Io.KnownBytes.{Consumes}
 use Rattle.counted_io.specs.Tally.{Tally}
@@ -7,7 +7,7 @@ use Rattle.counted_io.specs.Tally.{Tally}
 abbrev pub IfKnown : {R : Type 0} → (R → Option (List ℕ)) → Tally R → (List ℕ → Type 0) → Type 0
 IfKnown left reader P = IfSome (left reader.inner) P
 
--- the bytes that are left are those that there were without the first ones, and these are at most so many
+-- the bytes that are left are the earlier ones without the first of them, which are at most this many
 abbrev pub LosesUpTo : Option (List ℕ) → Option (List ℕ) → ℕ → Type 0
 LosesUpTo old new most = (taken : List ℕ) × Consumes old new taken × (length taken ≤ most)
 

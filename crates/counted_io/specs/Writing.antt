@@ -1,4 +1,4 @@
--- What a `Counted` writer took. `held` tells the bytes that a writer holds, where they are known.
+-- What a `Counted` writer took. `held` has the bytes that a writer holds, if they are known.
 use Rattle.std.specs.Prelude.{ℕ, ◌<◌, List, Option, length, take}
 use Rattle.std.specs.Io.KnownBytes.{Appends, Keeps}
 use Rattle.counted_io.specs.Tally.{Tally}

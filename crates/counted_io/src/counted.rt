@@ -2,24 +2,26 @@
 ghost use Rattle.std.specs.Prelude.{◌≡◌, if◌then◌else◌, is_err};
 ghost use Rattle.std.specs.Io.{ReadsAtMost, WritesAtMost};
 ghost use Rattle.std.specs.Io.KnownBytes.{Keeps, ReadConsumes, WriteAppends};
-ghost use Rattle.counted_io.specs.Failures.{breaks_read, breaks_write, is_failed_write, is_lasting, one_more, one_more_if};
+ghost use Rattle.counted_io.specs.Failures.{breaks_read, breaks_write, is_failed_write, is_lasting, one_more, one_more_if, row_after};
 
 use std::io::{Error, ErrorKind, Read, Result, Write};
 use std::marker::Model;
 
-/// A reader or a writer, how often it has failed, and how often it broke. Contracts see these as `inner`, `failures` and `breaks`.
+/// A reader or a writer, with the number of its failures, of its breaks, and of the last interruptions in a row. In contracts these
+/// are `inner`, `failures`, `breaks` and `in_row`.
 ///
-/// A failure is an error of `read` or `write`, of any kind (an interruption too), and a `write` that takes
-/// nothing of one byte or more. By any failure but an interruption it breaks, and to try again is no answer to that. Clauses tie the count to what this type's own `read` and `write` answer; that
-/// these pass on what the inner ones answer stands in their few lines, and tests show it.
+/// A failure is an error of `read` or `write` of any kind, including an interruption, or a `write` of one byte or more that takes
+/// nothing. A failure other than an interruption is a break; retrying doesn't help. Clauses relate the counts to what this type's
+/// `read` and `write` return. That these pass on what the inner ones return is only tested.
 #[derive(Debug, Drop)]
 pub struct Counted<T> {
     inner: T,
     failures: u64,
     breaks: u64,
+    in_row: u64,
 }
 
-/// Whether an error is more than an interruption.
+/// Returns whether an error isn't an interruption.
 pub(crate) fn lasts(e: &Error) -> bool
     ensures { result ≡ is_lasting e.now }
 {
@@ -31,31 +33,33 @@ impl<T> Model for Counted<T> {
 
     ghost Value = { Tally T };
 
-    ghost view = { λ c. record { inner = c.inner; failures = c.failures; breaks = c.breaks } };
+    ghost view = { λ c. record { inner = c.inner; failures = c.failures; breaks = c.breaks; in_row = c.in_row } };
 }
 
 impl<T> Counted<T> {
-    /// `inner`, which has not failed so far.
+    /// Wraps `inner`, with no failure so far.
     pub fn new(inner: T) -> Self
         ensures inner { result.inner ≡ inner }
         ensures none { result.failures ≡ 0 }
         ensures whole { result.breaks ≡ 0 }
+        ensures row { result.in_row ≡ 0 }
     {
         Counted {
             inner,
             failures: 0,
             breaks: 0,
+            in_row: 0,
         }
     }
 
-    /// The failures so far. At `u64`'s greatest value the count stays, and is taken as grown.
+    /// Returns the number of failures so far. At `u64::MAX` the count stays, and clauses treat it as grown.
     pub fn failures(&self) -> u64
         ensures { result ≡ self.now.failures }
     {
         self.failures
     }
 
-    /// The failures so far that were more than interruptions. At `u64`'s greatest value the count stays.
+    /// Returns the number of failures so far, without interruptions. At `u64::MAX` the count stays.
     pub fn breaks(&self) -> u64
         ensures { result ≡ self.now.breaks }
     {
@@ -66,9 +70,13 @@ impl<T> Counted<T> {
         ensures inner { self.new.inner ≡ self.old.inner }
         ensures count { self.new.failures ≡ one_more self.old.failures }
         ensures breaks { self.new.breaks ≡ one_more_if lasts self.old.breaks }
+        ensures row { self.new.in_row ≡ (if lasts then 0 else one_more self.old.in_row) }
     {
-        if lasts && self.breaks < u64::MAX {
-            self.breaks += 1;
+        if lasts {
+            self.breaks = self.breaks.saturating_add(1);
+            self.in_row = 0;
+        } else {
+            self.in_row = self.in_row.saturating_add(1);
         }
         if self.failures < u64::MAX {
             self.failures += 1;
@@ -84,10 +92,12 @@ impl<R: Read> Read for Counted<R> {
         ensures bytes { ReadConsumes (R.remaining self.old.inner) (R.remaining self.new.inner) result buf.new }
         ensures count { self.new.failures ≡ (if is_err result then one_more self.old.failures else self.old.failures) }
         ensures breaks { self.new.breaks ≡ one_more_if (breaks_read result) self.old.breaks }
+        ensures row { self.new.in_row ≡ row_after result self.old.in_row }
     {
         let answer = self.inner.read(buf);
-        if let Err(e) = &answer {
-            self.count_one(lasts(e));
+        match &answer {
+            Ok(_) => self.in_row = 0,
+            Err(e) => self.count_one(lasts(e)),
         }
         answer
     }
@@ -102,10 +112,12 @@ impl<W: Write> Write for Counted<W> {
         ensures count { self.new.failures
             ≡ (if is_failed_write result buf.now then one_more self.old.failures else self.old.failures) }
         ensures breaks { self.new.breaks ≡ one_more_if (breaks_write result buf.now) self.old.breaks }
+        ensures row { self.new.in_row ≡ row_after result self.old.in_row }
     {
         let answer = self.inner.write(buf);
         match &answer {
             Ok(taken) => {
+                self.in_row = 0;
                 if *taken == 0 && !buf.is_empty() {
                     self.count_one(true);
                 }
@@ -115,11 +127,12 @@ impl<W: Write> Write for Counted<W> {
         answer
     }
 
-    /// Flushes the inner writer. No read and no write, so it isn't counted.
+    /// Flushes the inner writer. This isn't counted, since it is neither a read nor a write.
     fn flush(&mut self) -> Result<()>
         ensures bytes { Keeps (W.contents self.old.inner) (W.contents self.new.inner) }
         ensures count { self.new.failures ≡ self.old.failures }
         ensures breaks { self.new.breaks ≡ self.old.breaks }
+        ensures row { self.new.in_row ≡ self.old.in_row }
     {
         self.inner.flush()
     }

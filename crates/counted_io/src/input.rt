@@ -1,4 +1,4 @@
-//! An input, read to its end or as far as its limit.
+//! An input, read to its end or to a limit.
 ghost use Rattle.std.specs.Prelude.{◌≡◌, ℕ, ◌+◌, ◌<◌, ◌≤◌, ◌++◌, [], length, take, vec_len, IfErr, IfOk, IfSome, IsErrOf, OnErr, OnOk};
 ghost use Rattle.std.specs.Io.{ReadsAtMost};
 ghost use Rattle.std.specs.Io.KnownBytes.{Consumes, IsAtEnd, Keeps};
@@ -12,10 +12,10 @@ use std::alloc::{AllocError, Global};
 use std::io::Read;
 use thiserror::Error;
 
-/// The bytes asked for in one read.
+/// Number of bytes asked for in one read.
 const PIECE: usize = 65_536;
 
-/// Why an input isn't there.
+/// Why an input couldn't be read.
 #[derive(Clone, Copy, Debug, PartialEq, Eq, Error)]
 pub enum InputFault {
     /// Memory was refused.
@@ -27,7 +27,7 @@ pub enum InputFault {
 }
 
 impl InputFault {
-    /// The fault's number, from 1 in the order of declaration.
+    /// Returns the fault's number, counted from 1 in order of declaration.
     pub fn number(&self) -> u8
         ensures { result ≡ input_number self.now }
     {
@@ -38,8 +38,8 @@ impl InputFault {
     }
 }
 
-/// One read, tried again where a signal interrupts it. `Err` where the reader fails, or is interrupted
-/// `TRIES` times in a row.
+/// Reads once, and tries again if a signal interrupts it. Returns `Err` if the reader fails, or is interrupted `TRIES`
+/// times in a row.
 fn read_piece<R: Read>(reader: &mut Counted<R>, room: &mut [u8]) -> Result<usize, InputFault>
     ensures bound { ReadsAtMost result room.new }
     ensures taken { IfOk result (λ n. Consumes (R.remaining reader.old.inner) (R.remaining reader.new.inner) (take n room.new)) }
@@ -64,7 +64,7 @@ fn read_piece<R: Read>(reader: &mut Counted<R>, room: &mut [u8]) -> Result<usize
     Err(InputFault::Read)
 }
 
-/// Appends to `input` what one read into `room` gives, and tells how many bytes these are: 0 at the end.
+/// Appends to `input` what one read into `room` returns. Returns the number of these bytes, which is 0 at the end.
 fn read_more<R: Read>(
     reader: &mut Counted<R>,
     room: &mut [u8],
@@ -87,7 +87,7 @@ fn read_more<R: Read>(
     Ok(count)
 }
 
-/// Appends to `input`, which is empty, all bytes that `reader` has, or the first `most` of them.
+/// Appends to `input`, which is empty, all bytes of `reader`, or the first `most`.
 fn read_all<R: Read>(
     reader: &mut Counted<R>,
     most: usize,
@@ -112,19 +112,18 @@ fn read_all<R: Read>(
     Ok(())
 }
 
-// Its own function, so that a proof sees a number of bytes and not a list of so many.
+// Separate, so that a proof sees the number of bytes and not a list of that length.
 fn room_for(alloc: Global, size: usize) -> Result<Vec<u8>, AllocError>
     ensures { IfOk result (λ room. vec_len room ≡ size) }
 {
     vec![in alloc; 0; size]
 }
 
-/// All bytes that `reader` has, or the first `most` of them, and no more is read than these.
+/// Returns all bytes of `reader`, or the first `most`, and reads no more than these.
 ///
-/// `Read` where the reader fails, which comes before all else: a reader that fails by more than an interruption isn't read
-/// again. A read that a signal interrupts is no reason to give up: it is tried
-/// again, up to [`TRIES`] times in a row, so that this call returns. `Memory` where memory is refused. What
-/// was read by then is gone.
+/// Returns `Read` if the reader fails, which takes precedence: a reader that failed other than by an interruption isn't
+/// read again. A read that a signal interrupts is tried again, up to [`TRIES`] times in a row, so that this call
+/// returns. Returns `Memory` if memory is refused. What was read by then is lost.
 pub fn read_whole<R: Read>(
     alloc: Global,
     reader: &mut Counted<R>,

@@ -8,20 +8,20 @@ use crate::counted::{Counted, lasts};
 use std::io::Write;
 use thiserror::Error;
 
-/// A writer that failed, and how much it had taken.
+/// The fault of a writer that failed, with how much it had taken.
 #[derive(Clone, Copy, Debug, PartialEq, Eq, Error)]
 #[error("write")]
 pub struct WriteFault {
-    /// The bytes that went out.
+    /// The number of bytes written.
     pub written: u64,
 }
 
-/// A writer that takes nothing more.
+/// The writer takes nothing more.
 #[derive(Clone, Copy)]
 struct Refused;
 
-/// One write, tried again where a signal interrupts it, and the number of bytes it took: one at least.
-/// `Err` where the writer fails, takes nothing, or is interrupted `TRIES` times in a row.
+/// Writes once, and tries again if a signal interrupts it. Returns the number of bytes that were taken: at least 1.
+/// Returns `Err` if the writer fails, takes nothing, or is interrupted `TRIES` times in a row.
 fn write_piece<W: Write>(writer: &mut Counted<W>, text: &[u8]) -> Result<usize, Refused>
     requires { 0 < length text.now }
     ensures some { IfOk result (λ n. 0 < n) }
@@ -47,11 +47,11 @@ fn write_piece<W: Write>(writer: &mut Counted<W>, text: &[u8]) -> Result<usize, 
     Err(Refused)
 }
 
-/// Writes `text`, all that is left of it each time, so that it takes as few writes as the writer allows.
-/// Nothing is flushed: a writer that keeps bytes back is its owner's to flush.
+/// Writes `text`: each write offers all that is left, so that there are as few writes as the writer allows. It doesn't
+/// flush: that is up to the writer's owner.
 ///
-/// `Err` where the writer fails or takes nothing, after which nothing more is written: then the first `written` bytes went out, and no more. A
-/// write that a signal interrupts is tried again, up to [`TRIES`] times in a row.
+/// Returns `Err` if the writer fails or takes nothing, and writes nothing more: exactly the first `written` bytes went
+/// out. A write that a signal interrupts is tried again, up to [`TRIES`] times in a row.
 pub fn write_whole<W: Write>(writer: &mut Counted<W>, text: &[u8]) -> Result<(), WriteFault>
     ensures whole { OnOk result (Takes W.contents writer.old writer.new text.now) }
     ensures part { IfErr result (λ fault. Takes W.contents writer.old writer.new (take fault.written text.now)) }

@@ -1,4 +1,4 @@
--- A try to enter loads the shared word at no time: it makes one addition, or none where its slot gave.
+-- A try to enter never loads the shared word: it makes one addition, or none if its slot gave.
 use Rattle.std.proofs.Common.{◌≡◌, Bool, inl, inr}
 use Rattle.percpu_core.specs.declared.view.PassView.{PassView}
 use Rattle.percpu_core.specs.Cells.{Cells}

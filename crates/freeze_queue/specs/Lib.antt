@@ -1,4 +1,4 @@
--- What a tag and a freezer know, and what each call leaves, is said in queue_core; callers find it here too.
+-- What a tag and a freezer know, and what each call leaves, is defined in queue_core; callers find it here too.
 pub use Rattle.queue_core.specs.Queue
 pub use Rattle.queue_core.specs.Readings
 pub use Rattle.queue_core.specs.AtTheGate

@@ -7,9 +7,15 @@ ghost use Rattle.queue_core.specs.Sets.{LooksForDrained};
 ghost use Rattle.freeze_queue.specs.Waiting.{wait_refusal};
 
 use crate::queue::BlockQueue;
+use crossbeam_utils::Backoff;
+use crossbeam_utils::sync::Parker;
 use queue_core::{FreezeFault, Limits, Mode};
 use std::marker::Model;
 use std::sync::Wait;
+
+/// Number of looks, with ever longer pauses, before the freezer parks: a drain is often short. `Backoff` would yield from the next
+/// pause on, which gives the processor away for a whole time slice if other programs want it.
+const LOOKS: u32 = 7;
 
 /// The one freezer of a queue: it counts freezes, and sets the limits while the queue is drained.
 ///
@@ -17,6 +23,9 @@ use std::sync::Wait;
 #[derive(Drop)]
 pub struct Freezer {
     pub(crate) core: queue_core::Freezer,
+    /// Where the freezer sleeps until the queue is drained. A parker serves one sleeper, and one thread at a time has
+    /// the freezer.
+    pub(crate) parker: Parker,
 }
 
 impl Model for Freezer {
@@ -28,8 +37,9 @@ impl Model for Freezer {
 }
 
 impl Freezer {
-    /// The freezes that aren't thawed yet: 0 to 1,000. The queue is live exactly where there is none. Linux:
-    /// `mq_freeze_depth` (include/linux/blkdev.h).
+    /// Returns the number of freezes that aren't thawed yet, 0 to 1,000. The queue is live if it is 0.
+    ///
+    /// Linux: `mq_freeze_depth` (include/linux/blkdev.h).
     #[inline]
     pub fn depth(&self) -> u32
         ensures value { result ≡ self.now.depth }
@@ -38,7 +48,7 @@ impl Freezer {
         self.core.depth()
     }
 
-    /// The limits in force.
+    /// Returns the limits in force.
     #[inline]
     pub fn limits(&self) -> Limits
         ensures value { result ≡ self.now.limits }
@@ -47,21 +57,24 @@ impl Freezer {
         self.core.limits()
     }
 
-    /// Begins a freeze: the depth that this gives. The first one kills the gate, so that no tag enters from then
-    /// on. Refuses DepthFull, WornOut. Linux: `blk_freeze_queue_start` (block/blk-mq.c).
+    /// Begins a freeze, and returns the depth. The first freeze kills the gate: from then on no tag enters, except by
+    /// `try_enter_frozen`. Fails with DepthFull or WornOut.
+    ///
+    /// Linux: `blk_freeze_queue_start` (block/blk-mq.c).
     pub fn start_freeze(&mut self, queue: &BlockQueue) -> Result<u32, FreezeFault>
         requires own { self.old.queue ≡ queue.now }
         ensures refused { fault_of result ≡ freeze_refusal self.old }
         ensures unchanged { OnErr result (self.new ≡ self.old) }
         ensures frozen { IfOk result (λ depth. (depth ≡ self.old.depth + 1) × (r : Put) × (self.new ≡ after_freeze r self.old)) }
     {
-        // Where this drained the queue, no thread sleeps for it: the last thaw woke each that waited for a drain.
+        // If this drained the queue, no thread sleeps for it: the last thaw woke all threads that waited for a drain.
         let frozen = self.core.start_freeze(&queue.core)?;
         Ok(frozen.depth)
     }
 
-    /// Whether the queue is frozen and every tag has left, at this look. Once it was true it is true until the
-    /// last thaw. Linux: `percpu_ref_is_zero` in `blk_mq_freeze_queue_wait` (block/blk-mq.c).
+    /// Returns whether one look finds the queue frozen and drained. Once it has returned true, it does so until the last thaw.
+    ///
+    /// Linux: `percpu_ref_is_zero` in `blk_mq_freeze_queue_wait` (block/blk-mq.c).
     pub fn poll_drained(&mut self, queue: &BlockQueue) -> bool
         requires own { self.old.queue ≡ queue.now }
         ensures look { self.new ≡ after_look result self.old }
@@ -72,8 +85,9 @@ impl Freezer {
         self.core.poll_drained(&queue.core)
     }
 
-    /// Freezes, and waits until the queue is drained: the depth. Refuses DepthFull, WornOut. Linux:
-    /// `blk_mq_freeze_queue` (block/blk-mq.c).
+    /// Freezes the queue, waits until it is drained, and returns the depth. Fails with DepthFull or WornOut.
+    ///
+    /// Linux: `blk_mq_freeze_queue` (block/blk-mq.c).
     pub fn freeze<R: Wait>(&mut self, rt: &R, queue: &BlockQueue) -> Result<u32, FreezeFault>
         requires own { self.old.queue ≡ queue.now }
         ensures refused { fault_of result ≡ freeze_refusal self.old }
@@ -85,8 +99,10 @@ impl Freezer {
         Ok(depth)
     }
 
-    /// Waits until a frozen queue is drained: who freezes several queues starts all freezes first, and then waits for one
-    /// after the other. Refuses NotFrozen. Linux: `blk_mq_freeze_queue_wait` (block/blk-mq.c).
+    /// Waits until a frozen queue is drained. Fails with NotFrozen. To freeze several queues, begin all freezes first, and then
+    /// wait for one after another.
+    ///
+    /// Linux: `blk_mq_freeze_queue_wait` (block/blk-mq.c).
     pub fn wait_drained<R: Wait>(&mut self, rt: &R, queue: &BlockQueue) -> Result<(), FreezeFault>
         requires own { self.old.queue ≡ queue.now }
         ensures refused { fault_of result ≡ wait_refusal self.old }
@@ -100,21 +116,31 @@ impl Freezer {
         Ok(())
     }
 
-    /// Looks until the queue is drained, and sleeps between. A drain is often short, so it looks some times before it sleeps.
+    /// Looks until the queue is drained, and parks between two looks once it has paused often enough. The last put wakes it; a wake
+    /// left over from an earlier drain costs one look.
     fn sleep_until_drained<R: Wait>(&mut self, rt: &R, queue: &BlockQueue)
         requires own { self.old.queue ≡ queue.now }
         ensures { self.new ≡ after_look true self.old }
     {
-        for _ in queue.drained.tries(rt) {
+        let pauses = Backoff::new();
+        let mut looks = LOOKS;
+        for _ in rt.forever() {
             if self.poll_drained(queue) {
                 return;
+            }
+            if looks > 0 {
+                looks -= 1;
+                pauses.snooze();
+            } else {
+                self.parker.park(rt);
             }
         }
         unreachable!()
     }
 
-    /// Sets the limits of a drained queue. Refuses NotFrozen, NotDrained. Linux: `queue_limits_commit_update`
-    /// (block/blk-settings.c), under a freeze.
+    /// Sets the limits of a drained queue. Fails with NotFrozen or NotDrained.
+    ///
+    /// Linux: from 6.9 on `queue_limits_commit_update` (block/blk-settings.c), under a freeze.
     pub fn set(&mut self, queue: &BlockQueue, limits: Limits) -> Result<(), FreezeFault>
         requires own { self.old.queue ≡ queue.now }
         requires hardware { limits.hardware ≡ self.old.queue.hardware }
@@ -125,8 +151,9 @@ impl Freezer {
         self.core.set(&queue.core, limits)
     }
 
-    /// Counts in this mode from now on; a frozen queue does once it is thawed. Depth and limits stay. Linux:
-    /// `percpu_ref_switch_to_atomic_sync`, `percpu_ref_switch_to_percpu` (lib/percpu-refcount.c).
+    /// Counts in this mode from now on, or once the queue is thawed if it is frozen. Depth and limits don't change.
+    ///
+    /// Linux: `percpu_ref_switch_to_atomic_sync`, `percpu_ref_switch_to_percpu` (lib/percpu-refcount.c).
     pub fn mode(&mut self, queue: &BlockQueue, mode: Mode)
         requires own { self.old.queue ≡ queue.now }
         ensures { self.new ≡ after_mode mode self.old }
@@ -134,14 +161,16 @@ impl Freezer {
         self.core.mode(&queue.core, mode);
     }
 
-    /// Ends a freeze: the depth that is left. The last thaw brings the gate back, drained or not. Refuses
-    /// NotFrozen. Linux: `blk_mq_unfreeze_queue` (block/blk-mq.c).
+    /// Ends a freeze, and returns the depth that is left. The last thaw revives the gate, whether or not the queue is drained.
+    /// Fails with NotFrozen.
+    ///
+    /// Linux: `blk_mq_unfreeze_queue` (block/blk-mq.c).
     pub fn thaw(&mut self, queue: &BlockQueue) -> Result<u32, FreezeFault>
         requires own { self.old.queue ≡ queue.now }
         ensures refused { fault_of result ≡ thaw_refusal self.old }
         ensures unchanged { OnErr result (self.new ≡ self.old) }
         ensures thawed { IfOk result (λ depth. HasThawed queue.now.gate self.old self.new depth) }
-        // Where the freezer knew the queue to be drained, the revival found it so: that drain is counted.
+        // If the freezer knew that the queue was drained, the revival found it so, and counts that drain.
         ensures drained { IfOk result (λ depth. self.old.drained ≡ true → self.new ≡ after_thaw true self.old) }
     {
         let thawed = self.core.thaw(&queue.core)?;

@@ -1,27 +1,28 @@
 //! A request queue that can be frozen: requests enter it, and it is drained before its limits are changed.
 //!
-//! A [`BlockQueue`] is to its users what a `request_queue` is to a driver in Linux (block/blk-core.c). It is that of the
-//! crate `queue_core`, which does the counting and freezing and waits for nothing, with two places to sleep at: there
-//! wait those who want to enter, and those who wait for the drain. Its life:
+//! A [`BlockQueue`] is to its users what a `request_queue` is to a driver in Linux (block/blk-core.c). The crate
+//! `queue_core` counts and freezes, and never waits. This crate adds places to sleep: for threads that want to enter,
+//! for the freezer that waits for the drain, and for threads that wait for it by a shared freezer. The life of a queue:
 //!
-//! - **Live.** A submitter takes a [`Tag`] and enters with it, reads the limits under it, and hands the tag on
-//!   with its request. Whoever ends the request leaves with the tag. `try_enter` and `leave` are one counting
-//!   call of the gate each: no lock, and nothing that all submitters write, where each names a slot of its own
-//!   (in the other [`Mode`] they share one count). `enter` counts itself among those who wait only once it has
-//!   been refused some times. A busy thread stays entered between two requests: `stay_or_enter` looks once whether a
-//!   freeze has begun, and leaves, waits and enters again only then. It leaves before it sleeps for any other reason.
-//! - **Frozen.** The [`Freezer`] counts freezes. The first kills the gate: no tag enters from then on, but by
-//!   `try_enter_frozen`, to look at what is under way. The last tag to leave wakes those who wait for the drain. `freeze`
-//!   starts and waits; who freezes several queues calls `start_freeze` on each, and then `wait_drained` on each.
-//! - **Set.** While it is drained its limits are set: they stand in the gate's guarded words, so they hold still
-//!   for as long as a tag is entered.
-//! - **Thawed.** The last thaw brings the gate back, drained or not, and wakes those who wait to enter.
+//! - **Live.** A submitter takes a [`Tag`] and enters with it, reads the limits under it, and hands the tag on with its request.
+//!   The thread that ends the request leaves with the tag. `try_enter` and `leave` are one counting call of the gate each, without
+//!   a lock. If each submitter uses a slot of its own, no word is written by all of them (in the other [`Mode`] they share one
+//!   count). `enter` announces its wait only after it has been refused a few times. A busy thread may stay entered between two
+//!   requests: `stay_or_enter` looks once whether a freeze has begun, and only then leaves, waits and enters again. Such a thread
+//!   has to leave before it sleeps for any other reason.
+//! - **Frozen.** The [`Freezer`] counts freezes. The first kills the gate: no tag enters from then on, except by
+//!   `try_enter_frozen`, to look at the requests in flight. The last tag to leave wakes the threads that wait for the drain.
+//!   `freeze` starts and waits; to freeze several queues, call `start_freeze` on each, and then `wait_drained` on each.
+//! - **Set.** While the queue is drained, its limits can be set. They are in the gate's guarded words, so they don't change while a
+//!   tag is entered.
+//! - **Thawed.** The last thaw revives the gate, drained or not, and wakes the threads that wait to enter.
 //!
-//! A [`SharedFreezer`] gives several threads the one freezer, behind a lock, and waits with no lock held.
+//! One thread at a time has a [`Freezer`], so that thread can wait by parking. A [`SharedFreezer`] shares the one freezer between
+//! several threads, behind a lock, and they wait without holding the lock. The last put of a drain wakes both.
 //!
-//! What a tag and a freezer know, what each call leaves, and the laws are those of `queue_core` (specs/Queue.antt there says
-//! it in five minutes), and are named here too. The tests are in `trials_rows`, where
-//! `tests/queue_caller.rt` shows how a caller reasons. That a waiter wakes is promised nowhere: tests show it.
+//! What a tag and a freezer know, what each call leaves, and the laws are those of `queue_core` (specs/Queue.antt there takes five
+//! minutes to read), and are exported here too. The tests are in `trials_rows`, where `tests/queue_caller.rt` shows how a caller
+//! reasons. No contract promises that a waiter wakes; tests show it.
 #![tactic(auto)]
 
 mod enter;

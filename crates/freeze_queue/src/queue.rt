@@ -1,22 +1,26 @@
-//! The queue: what tags enter and leave, and where threads wait for it.
+//! The queue that tags enter and leave, and where threads wait for it.
 ghost use Rattle.std.specs.Prelude.{◌≡◌, ◌+◌, ◌<◌, ◌≤◌, true, false, replicate, IfSome, IfOk};
 ghost use Rattle.percpu_core.specs.declared.limits.TheConstants.{SLOT_LIMIT};
 ghost use Rattle.percpu_core.specs.declared.view.PassView.{PassView};
 ghost use Rattle.percpu_core.specs.Views.{count};
+ghost use Rattle.percpu_core.specs.declared.pass_event.PassEvent.TheVariants as events;
+ghost use Rattle.percpu_gate.specs.Steps.{PutSteps};
 ghost use Rattle.percpu_gate.specs.Calls.{is_refused, taken, has_dead, has_zero, LiveTryFinds, TryFinds, TryMeets};
+ghost use Rattle.percpu_gate.specs.declared.tried.Put.TheVariants.{Last};
 ghost use Rattle.percpu_gate.specs.declared.tried.Tried.TheVariants.{Given};
 ghost use Rattle.queue_core.specs.declared.queue.TheConstants.{MOST_TAGS};
-ghost use Rattle.queue_core.specs.Queue.{IsQueue, first_tag, first_freezer, after_entering, after_refusal, after_asking, after_leaving};
+ghost use Rattle.queue_core.specs.Queue.{IsQueue, first_tag, first_freezer, come_to, after_entering, after_refusal, after_asking, after_leaving};
 ghost use Rattle.queue_core.specs.AtTheGate.{AreInForce, HoldsOff};
-ghost use Rattle.queue_core.specs.Readings.{IsTag};
-ghost use Rattle.queue_core.specs.Staying.{has_left, after_stay, FindsDead};
+ghost use Rattle.queue_core.specs.Readings.{IsTag, AskSteps};
+ghost use Rattle.queue_core.specs.Staying.{has_left, after_stay, FindsDead, StaySteps};
 ghost use Rattle.queue_core.specs.declared.tag.Stay.TheVariants as Stay;
 ghost use Rattle.freeze_queue.specs.declared.enter.Enter.TheVariants.{Entered, Again};
 ghost use Rattle.freeze_queue.specs.declared.enter.StayOrEnter.TheVariants.{Stayed, EnteredAgain};
-ghost use Rattle.freeze_queue.specs.Entering.{answered, has_entered_again, EndsWithEntering};
+ghost use Rattle.freeze_queue.specs.Entering.{answered, has_entered_again, EndsWithEntering, EnterSteps, WaitSteps, StayOrEnterSteps};
 
 use crate::enter::{Enter, StayOrEnter};
 use crate::freezer::Freezer;
+use crossbeam_utils::sync::{Parker, Unparker};
 use queue_core::{Entry, Limits, Memory, Put, Stay, Tag};
 use std::alloc::Global;
 use std::marker::Model;
@@ -26,14 +30,16 @@ use wait_queue::WaitQueue;
 /// A queue, its freezer and its tags.
 pub type NewQueue = (BlockQueue, Freezer, Vec<Tag>);
 
-/// A queue that requests enter and leave, and that can be frozen. Threads share it by reference. Linux:
-/// `struct request_queue` (include/linux/blkdev.h).
+/// A queue that requests enter and leave and that can be frozen. Threads share it by reference. Linux: `struct
+/// request_queue` (include/linux/blkdev.h).
 #[derive(Drop)]
 pub struct BlockQueue {
     pub(crate) core: queue_core::BlockQueue,
-    /// Those who wait until the queue is drained. Linux: `mq_freeze_wq`, on which both wait.
+    /// Wakes the freezer, which parks until the queue is drained.
+    pub(crate) freezer: Unparker,
+    /// The threads that wait for the drain by a shared freezer. Linux: `mq_freeze_wq`, on which all threads wait.
     pub(crate) drained: WaitQueue,
-    /// Those who wait to enter.
+    /// The threads that wait to enter.
     pub(crate) thawed: WaitQueue,
 }
 
@@ -48,8 +54,10 @@ impl Model for BlockQueue {
 }
 
 impl BlockQueue {
-    /// A live queue of these limits that counts on its slots (1 to 512), with so many tags (1 to 1,023), none of them
-    /// entered, and its freezer. Memory where a growth was refused. Linux: `blk_mq_alloc_queue` (block/blk-mq.c).
+    /// Returns a live queue with these limits that counts on its slots (1 to 512), its freezer, and this many tags (1 to 1,023),
+    /// none of which is entered. Returns Memory if memory is refused.
+    ///
+    /// Linux: `blk_mq_init_queue`, from 6.9 on `blk_mq_alloc_queue` (block/blk-mq.c).
     pub fn new(alloc: Global, limits: Limits, slots: u32, tags: u32) -> Result<NewQueue, Memory>
         requires slots { (1 ≤ slots) × (slots ≤ SLOT_LIMIT) }
         requires tags { (1 ≤ tags) × (tags ≤ MOST_TAGS) }
@@ -57,16 +65,23 @@ impl BlockQueue {
         ensures freezer { IfOk result (λ q. q.1 ≡ first_freezer q.0 limits tags) }
         ensures tags { IfOk result (λ q. q.2.items ≡ replicate tags (first_tag q.0)) }
     {
+        let parker = Parker::new(alloc)?;
+        let unparker = parker.unparker().clone()?;
         let (core, freezer, made) = queue_core::BlockQueue::new(alloc, limits, slots, tags)?;
         let queue = BlockQueue {
             core,
+            freezer: unparker,
             drained: WaitQueue::new(),
             thawed: WaitQueue::new(),
         };
-        Ok((queue, Freezer { core: freezer }, made))
+        let freezer = Freezer {
+            core: freezer,
+            parker,
+        };
+        Ok((queue, freezer, made))
     }
 
-    /// The slots of the queue: 1 to 512.
+    /// Returns the number of slots, 1 to 512.
     #[inline]
     pub fn slots(&self) -> u32
         ensures value { result ≡ self.now.gate.slots }
@@ -75,19 +90,29 @@ impl BlockQueue {
         self.core.slots()
     }
 
-    /// Wakes those who wait for the drain where this drop was the last: they find the queue drained then.
+    /// Wakes the threads that wait for the drain, if this put was the last: they then find the queue drained.
     #[inline]
     pub(crate) fn tell(&self, put: Put) -> Put
         ensures { result ≡ put }
     {
         if put == Put::Last {
-            self.drained.wake_all();
+            self.wake_drained(put);
         }
         put
     }
 
-    /// Wakes all who wait, once the freezer has brought the gate back: who is woken to enter before that tries in vain, and
-    /// may sleep again when it lives. Who waits for the drain of the freeze that is over finds none under way.
+    /// Wakes the threads that wait for the drain, after the last put. Any other put wakes nobody.
+    #[inline]
+    fn wake_drained(&self, put: Put)
+        requires last { put ≡ Last }
+    {
+        let _ = put;
+        self.freezer.unpark();
+        self.drained.wake_all();
+    }
+
+    /// Wakes all waiters, after the freezer has revived the gate: a thread woken earlier would be refused, and might be asleep
+    /// again by the time the gate is live. A thread that waits for the drain of a freeze that has ended sees no freeze in progress.
     pub(crate) fn wake_all(&self, freezer: &queue_core::Freezer)
         requires own { freezer.now.queue ≡ self.now }
         requires live { freezer.now.live ≡ true }
@@ -99,20 +124,23 @@ impl BlockQueue {
 
     /// Enters unless the queue is frozen. Linux: `blk_queue_enter` with BLK_MQ_REQ_NOWAIT (block/blk-core.c).
     ///
-    /// A refused try is counted for a moment, and so puts the drain off; in Linux `percpu_ref_tryget_live` looks at its
-    /// mark first and counts nothing then. `enter` tries ever less often.
+    /// A refused try holds a reference briefly, and so delays the drain; for that reason `enter` backs off. In Linux
+    /// `percpu_ref_tryget_live` looks at its mark first, and counts nothing if it is set.
     #[inline]
     pub fn try_enter(&self, tag: &mut Tag, slot: u32) -> Enter
         requires own { tag.old.queue ≡ self.now }
         requires slot { slot < self.now.gate.slots }
         requires out { tag.old.entered ≡ false }
-        ensures entered { result ≡ Entered → tag.new ≡ after_entering tag.new.seat tag.old }
-        ensures again { result ≡ Again → (r : Put) × (tag.new ≡ after_refusal r tag.new.seat tag.old) × (tag.new.seat.found_dead ≡ true) }
+        ensures entered { result ≡ Entered → tag.new ≡ come_to tag.new.steps (after_entering tag.new.seat tag.old) }
+        ensures again { result ≡ Again → (r : Put) × (tag.new ≡ come_to tag.new.steps (after_refusal r tag.new.seat tag.old)) × (tag.new.seat.found_dead ≡ true) }
+        // It looks at its slot once, and counts on the shared word only if the slot is closed or full, or if the exchange fails.
+        ensures steps { EnterSteps events.AddLive slot result tag.old.steps tag.new.steps }
         ensures finds { LiveTryFinds self.now.gate slot tag.old.seat (answered result) }
-        // Again found DEAD at the one addition of this very call, also where the tag was refused before.
+        // Again found DEAD at the one addition of this very call, even if the tag was refused before.
         ensures meets { TryMeets self.now.gate has_dead tag.old.seat tag.new.seat (is_refused (answered result)) }
         ensures looks { tag.new.seat.looks ≡ tag.old.seat.looks }
-        // What Entered found is of the very step that took the reference: the gate, while it was live, gave it.
+        // What Entered found comes from the very step that took the reference: DEAD was clear, or the slot was still
+        // open.
         ensures counted { tag.new.seat.live_given ≡ tag.old.seat.live_given + taken (answered result) }
         ensures times { tag.new.seat.found_dead_times ≡ tag.old.seat.found_dead_times + count (is_refused (answered result)) }
     {
@@ -125,18 +153,21 @@ impl BlockQueue {
         }
     }
 
-    /// Enters a queue that may be frozen, to look at what is under way, unless it is drained. Until the tag leaves it
-    /// holds the drain off, and may read the limits. Linux: `percpu_ref_tryget` of `q_usage_counter`, as for timeouts and
-    /// for going over tags (block/blk-mq.c, block/blk-mq-tag.c).
+    /// Enters a queue that may be frozen, to look at the requests in flight, unless it is drained. Until the tag leaves, it holds
+    /// off the drain and may read the limits.
+    ///
+    /// Linux: `percpu_ref_tryget` of `q_usage_counter`, as for timeouts and iterating over tags (block/blk-mq.c,
+    /// block/blk-mq-tag.c).
     #[inline]
     pub fn try_enter_frozen(&self, tag: &mut Tag, slot: u32) -> Enter
         requires own { tag.old.queue ≡ self.now }
         requires slot { slot < self.now.gate.slots }
         requires out { tag.old.entered ≡ false }
-        ensures entered { result ≡ Entered → tag.new ≡ after_entering tag.new.seat tag.old }
-        ensures again { result ≡ Again → (r : Put) × (tag.new ≡ after_refusal r tag.new.seat tag.old) × (tag.new.seat.found_zero ≡ true) }
+        ensures entered { result ≡ Entered → tag.new ≡ come_to tag.new.steps (after_entering tag.new.seat tag.old) }
+        ensures again { result ≡ Again → (r : Put) × (tag.new ≡ come_to tag.new.steps (after_refusal r tag.new.seat tag.old)) × (tag.new.seat.found_zero ≡ true) }
+        ensures steps { EnterSteps events.AddTry slot result tag.old.steps tag.new.steps }
         ensures finds { TryFinds self.now.gate tag.old.seat (answered result) }
-        // Again found ZERO at the one addition of this very call, also where the tag was refused before.
+        // Again found ZERO at the one addition of this very call, even if the tag was refused before.
         ensures meets { TryMeets self.now.gate has_zero tag.old.seat tag.new.seat (is_refused (answered result)) }
         ensures times { tag.new.seat.found_zero_times ≡ tag.old.seat.found_zero_times + count (is_refused (answered result)) }
         ensures holds_off { HoldsOff tag.new }
@@ -157,11 +188,12 @@ impl BlockQueue {
         requires own { tag.old.queue ≡ self.now }
         requires slot { slot < self.now.gate.slots }
         requires out { tag.old.entered ≡ false }
-        ensures entered { tag.new ≡ record (after_entering tag.new.seat tag.old) { releases = tag.new.releases } }
+        ensures entered { tag.new ≡ record (after_entering tag.new.seat tag.old) { releases = tag.new.releases; steps = tag.new.steps } }
+        ensures steps { WaitSteps slot tag.old.steps tag.new.steps }
         ensures releases { tag.old.releases ≤ tag.new.releases }
         ensures counted { tag.new.seat.live_given ≡ tag.old.seat.live_given + 1 }
         ensures finds { EndsWithEntering self.now.gate slot tag.old.seat }
-        // It loads the shared word at no time: each try is one addition at most.
+        // It makes no plain load of the shared word: a try learns the marks from its addition.
         ensures looks { tag.new.seat.looks ≡ tag.old.seat.looks }
         ensures times { tag.old.seat.found_dead_times ≤ tag.new.seat.found_dead_times }
     {
@@ -170,12 +202,13 @@ impl BlockQueue {
         }
     }
 
-    // Waits between its tries. It is no part of `enter`, so that a call of `enter` on a live queue is one try and no more.
+    // Waits between its tries. Separate from `enter`, so that `enter` on a live queue is one try and nothing else.
     fn enter_once_thawed<R: Wait>(&self, rt: &R, tag: &mut Tag, slot: u32)
         requires own { tag.old.queue ≡ self.now }
         requires slot { slot < self.now.gate.slots }
         requires out { tag.old.entered ≡ false }
-        ensures entered { tag.new ≡ record (after_entering tag.new.seat tag.old) { releases = tag.new.releases } }
+        ensures entered { tag.new ≡ record (after_entering tag.new.seat tag.old) { releases = tag.new.releases; steps = tag.new.steps } }
+        ensures steps { WaitSteps slot tag.old.steps tag.new.steps }
         ensures releases { tag.old.releases ≤ tag.new.releases }
         ensures counted { tag.new.seat.live_given ≡ tag.old.seat.live_given + 1 }
         ensures finds { EndsWithEntering self.now.gate slot tag.old.seat }
@@ -190,30 +223,34 @@ impl BlockQueue {
         unreachable!()
     }
 
-    /// Leaves. `Last` where that was the last drop of a freeze: the queue is drained. Linux: `blk_queue_exit`
+    /// Leaves. Returns `Last` if this was the last put of a freeze: then the queue is drained. Linux: `blk_queue_exit`
     /// (block/blk-core.c).
     #[inline]
     pub fn leave(&self, tag: &mut Tag, slot: u32) -> Put
         requires own { tag.old.queue ≡ self.now }
         requires slot { slot < self.now.gate.slots }
         requires entered { tag.old.entered ≡ true }
-        ensures { tag.new ≡ after_leaving result tag.old }
+        ensures leaves { tag.new ≡ come_to tag.new.steps (after_leaving result tag.old) }
+        ensures steps { PutSteps slot 1 result tag.old.steps tag.new.steps }
     {
         self.tell(self.core.leave(tag, slot))
     }
 
-    /// Stays entered between two requests, for the price of one load, unless the queue is frozen: then it leaves, and the
-    /// last to leave wakes those who wait for the drain. Where it stays, its limits are those that it has. Linux: the
-    /// requests that a plug keeps, each with its reference of `q_usage_counter` (block/blk-mq.c).
+    /// Stays entered between two requests, at the price of one load. If the queue is frozen, it leaves instead, and the last put
+    /// wakes the threads that wait for the drain. A tag that stays keeps its limits.
     ///
-    /// A thread that stays and then sleeps holds up every freeze, so it leaves before it waits.
+    /// Linux: the requests that a plug keeps, each with its reference on `q_usage_counter` (block/blk-mq.c).
+    ///
+    /// A thread that stays and then sleeps holds up every freeze, so leave before waiting.
     #[inline]
     pub fn stay(&self, tag: &mut Tag, slot: u32) -> Stay
         requires own { tag.old.queue ≡ self.now }
         requires slot { slot < self.now.gate.slots }
         requires entered { tag.old.entered ≡ true }
-        // The one load of this very call is counted with what it found, so no answer comes from an earlier load, or from none.
-        ensures leaves { tag.new ≡ after_stay result tag.old }
+        // The one load of this very call is counted with what it found, so the result can't come from an earlier load, or from no
+        // load.
+        ensures leaves { tag.new ≡ come_to tag.new.steps (after_stay result tag.old) }
+        ensures steps { StaySteps slot result tag.old.steps tag.new.steps }
         ensures finds { FindsDead self.now.gate tag.old.seat (has_left result) }
         ensures times { tag.new.seat.found_dead_times ≡ tag.old.seat.found_dead_times + count (has_left result) }
         ensures looks { tag.new.seat.looks ≡ tag.old.seat.looks + 1 }
@@ -224,20 +261,21 @@ impl BlockQueue {
         }
     }
 
-    /// Stays entered between two requests, for the price of one load, unless the queue is frozen: then it leaves, waits until
-    /// the queue thaws, and enters again. The answer says whether the limits may differ from those before.
+    /// Stays entered between two requests, at the price of one load. If the queue is frozen, it leaves, waits until the queue
+    /// thaws, and enters again. Returns whether the limits may differ from those before.
     ///
-    /// A thread that stays and then sleeps holds up every freeze, so it leaves before it waits.
+    /// A thread that stays and then sleeps holds up every freeze, so leave before waiting.
     #[inline]
     pub fn stay_or_enter<R: Wait>(&self, rt: &R, tag: &mut Tag, slot: u32) -> StayOrEnter
         requires own { tag.old.queue ≡ self.now }
         requires slot { slot < self.now.gate.slots }
         requires entered { tag.old.entered ≡ true }
-        ensures stayed { result ≡ Stayed → tag.new ≡ after_stay Stay.Stayed tag.old }
-        ensures again { result ≡ EnteredAgain → tag.new ≡ record (after_entering tag.new.seat tag.old) { releases = tag.new.releases } }
+        ensures stayed { result ≡ Stayed → tag.new ≡ come_to tag.new.steps (after_stay Stay.Stayed tag.old) }
+        ensures again { result ≡ EnteredAgain → tag.new ≡ record (after_entering tag.new.seat tag.old) { releases = tag.new.releases; steps = tag.new.steps } }
+        ensures steps { StayOrEnterSteps slot result tag.old.steps tag.new.steps }
         ensures releases { tag.old.releases ≤ tag.new.releases }
         ensures looks { tag.new.seat.looks ≡ tag.old.seat.looks + 1 }
-        // It left where the load of this very call found the queue frozen, and a live queue let it in again, once.
+        // It left if the load of this very call found the queue frozen, and then entered again once, when the queue was live.
         ensures frozen { FindsDead self.now.gate tag.old.seat (has_entered_again result) }
         ensures times { tag.old.seat.found_dead_times + count (has_entered_again result) ≤ tag.new.seat.found_dead_times }
         ensures counted { tag.new.seat.live_given ≡ tag.old.seat.live_given + count (has_entered_again result) }
@@ -252,13 +290,14 @@ impl BlockQueue {
         }
     }
 
-    /// The limits in force, for an entered tag: the same at each call until it leaves, in whichever threads the
-    /// calls are made.
+    /// Returns the limits in force, for an entered tag. They are the same at each call until it leaves, whichever threads make the
+    /// calls.
     #[inline]
     pub fn limits(&self, tag: &mut Tag) -> Limits
         requires own { tag.old.queue ≡ self.now }
         requires entered { tag.old.entered ≡ true }
-        ensures told { tag.new ≡ after_asking result tag.new.seat tag.old }
+        ensures told { tag.new ≡ come_to tag.new.steps (after_asking result tag.new.seat tag.old) }
+        ensures steps { AskSteps tag.old.steps tag.new.steps }
         ensures kept { IsTag tag.new }
         ensures in_force { AreInForce self.now.gate self.now.hardware tag.old.seat result }
         ensures same { IfSome tag.old.limits (λ l. result ≡ l) }

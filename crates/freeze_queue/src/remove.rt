@@ -1,6 +1,6 @@
 //! The removal of a queue.
 ghost use Rattle.std.specs.Prelude.{◌≡◌, All, vec_len, false, IfOk, IfErr};
-ghost use Rattle.queue_core.specs.Queue.{remove_refusal};
+ghost use Rattle.queue_core.specs.Queue.{fault_number, remove_refusal};
 ghost use Rattle.queue_core.specs.Removal.{HasEnded};
 ghost use Rattle.freeze_queue.specs.Removal.{why_of};
 
@@ -8,7 +8,7 @@ use crate::freezer::Freezer;
 use crate::queue::BlockQueue;
 use queue_core::{Final, FreezeFault, LIMIT_WORDS, Tag};
 
-/// A queue that may not end comes back with its freezer and tags, all as they were.
+/// A queue that can't be ended, with its freezer and tags, all unchanged.
 #[derive(Drop)]
 pub struct RemoveFault {
     pub why: FreezeFault,
@@ -17,10 +17,20 @@ pub struct RemoveFault {
     pub tags: Vec<Tag>,
 }
 
+impl RemoveFault {
+    /// Returns the fault's number: 4 or 5.
+    pub fn number(&self) -> u8
+        ensures { result ≡ fault_number self.now.why }
+    {
+        self.why.number()
+    }
+}
+
 impl Freezer {
-    /// Ends a queue that no tag has entered, with all its tags: kills a live gate, takes the tags back and ends
-    /// the gate. Refuses TagsOut where tags are missing, WornOut. Linux: `blk_mq_destroy_queue`
-    /// (block/blk-mq.c).
+    /// Ends a queue in which no tag is entered, with all its tags: kills a live gate, takes the tags back and ends the gate. Fails
+    /// with TagsOut if tags are missing, or with WornOut.
+    ///
+    /// Linux: `blk_mq_destroy_queue` (block/blk-mq.c).
     pub fn remove(
         self,
         queue: BlockQueue,
@@ -39,9 +49,11 @@ impl Freezer {
                 why: fault.why,
                 freezer: Freezer {
                     core: fault.freezer,
+                    parker: self.parker,
                 },
                 queue: BlockQueue {
                     core: fault.queue,
+                    freezer: queue.freezer,
                     drained: queue.drained,
                     thawed: queue.thawed,
                 },

@@ -2,23 +2,11 @@
 use Rattle.std.proofs.Common.{◌≡◌, ℕ, Option, None, refl, sym, subst}
 use Rattle.std.specs.Prelude.{Result, Err}
 use Rattle.queue_core.specs.declared.fault.FreezeFault.{FreezeFault}
-use Rattle.freeze_queue_c.specs.declared.misuse.Misuse.{Misuse}
-use Rattle.freeze_queue_c.specs.declared.misuse.Misuse.TheVariants.{Closed}
-use Rattle.freeze_queue_c.specs.Numbers.{number_of}
+use Rattle.c_answers.specs.declared.misuse.Misuse.TheVariants.{Closed}
+use Rattle.c_answers.specs.Ran.{RanOn, Tells}
 use Rattle.freeze_queue_c.specs.Opened.{TagOpened, FreezerOpened}
-use Rattle.freeze_queue_c.specs.Life.{Given, GivenBack}
-use Rattle.freeze_queue_c.specs.Ran.{RanOn, Answers, Tells, Writes}
+use Rattle.freeze_queue_c.specs.Life.{Given, GivenBack, TellsPut}
 use Rattle.freeze_queue_c.specs.FreezerCalls.{Counts}
-
-pub closed_answers : {S A : Type 0} {number : A → ℕ} (misuse : S → Option Misuse) (leaves : S → S → A → Type 0) {old new : Option S} {result : ℕ}
-    → old ≡ None → new ≡ None → result ≡ number_of number (Err Closed) → Answers number misuse leaves old new result
-closed_answers {S = S} {A = A} {number = number} misuse leaves {old = old} {new = new} {result = result} was is told =
-    (Err Closed, told, subst (λ (o : Option S). RanOn misuse leaves o new (Err Closed)) (sym was) (refl, is))
-
-pub closed_writes : {S V : Type 0} (misuse : S → Option Misuse) (leaves : S → S → V → Type 0) {old new : Option S} {there here : V} {result : ℕ}
-    → old ≡ None → new ≡ None → here ≡ there → result ≡ 32 → Writes misuse leaves old new there here result
-closed_writes {S = S} {V = V} misuse leaves {old = old} {new = new} was is kept told =
-    (Err Closed, told, kept, subst (λ (o : Option S). RanOn {A = V} misuse leaves o new (Err Closed)) (sym was) (refl, is))
 
 pub closed_counts : {A : Type 0} (number depth : A → ℕ) (leaves : FreezerOpened → FreezerOpened → Result A FreezeFault → Type 0) {old new : Option FreezerOpened} {there here result : ℕ}
     → old ≡ None → new ≡ None → here ≡ there → result ≡ 32 → Counts number depth leaves old new there here result
@@ -31,6 +19,6 @@ closed_given {new = new} {before = before} {after = after} was is kept told =
     (Err Closed, told, subst (λ (o : Option FreezerOpened). Given o new before after (Err Closed)) (sym was) (refl, is, kept))
 
 pub closed_given_back : {old new : Option FreezerOpened} {before after : Option TagOpened} {result : ℕ} → old ≡ None → new ≡ None → after ≡ before → result ≡ 32
-    → Tells (GivenBack old new before after) result
+    → TellsPut (GivenBack old new before after) result
 closed_given_back {new = new} {before = before} {after = after} was is kept told =
     (Err Closed, told, subst (λ (o : Option FreezerOpened). GivenBack o new before after (Err Closed)) (sym was) (refl, is, kept))

@@ -5,7 +5,7 @@ pub mod FreezerBox
 pub mod Closed
 -- a freezer stays one of its queue
 pub mod Kept
--- what a look tells of an open tag and an open freezer
-pub mod Looks
+-- tags that wait
+pub mod Waiting
 -- what a queue that has ended leaves
 pub mod Finals

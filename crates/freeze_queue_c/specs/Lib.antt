@@ -3,7 +3,6 @@ pub mod TagHolding
 pub mod FreezerHolding
 pub mod PlainLimits
 pub mod Numbers
-pub mod Ran
 pub mod TagCalls
 pub mod FreezerCalls
 pub mod Life

@@ -1,4 +1,4 @@
--- Four numbers as limits, and why they may not be.
+-- Four numbers as limits, and why they may be invalid.
 use Rattle.std.specs.Prelude.{ℕ, ◌==◌, ◌||◌, nat_lt, if◌then◌else◌, Option, Some, None}
 use Rattle.queue_limits.specs.Bounds.{Bounds, is_physical_size}
 use Rattle.queue_limits.specs.declared.fault.LimitFault.{LimitFault}
@@ -6,7 +6,7 @@ use Rattle.queue_limits.specs.declared.fault.LimitFault.TheVariants.{AboveHardwa
 use Rattle.queue_limits.specs.declared.limits.TheConstants.{CHUNK_LIMIT, HARDWARE_LIMIT}
 use Rattle.freeze_queue_c.specs.declared.plain_limits.PlainLimits.{PlainLimits}
 
--- the limits that these numbers tell
+-- the limits with these numbers
 abbrev pub as_bounds : PlainLimits → Bounds
 as_bounds p = record { hardware = p.hardware; max = p.max; chunk = p.chunk; physical = p.physical }
 
@@ -14,11 +14,11 @@ as_bounds p = record { hardware = p.hardware; max = p.max; chunk = p.chunk; phys
 abbrev pub block_of : PlainLimits → ℕ
 block_of p = if p.physical == 0 then 1 else p.physical
 
--- the limits that they ask for: a maximum of 0 asks for as many sectors as the hardware takes
+-- the limits that they ask for: a maximum of 0 asks for the hardware's maximum
 abbrev pub bounds_of : PlainLimits → Bounds
 bounds_of p = record { hardware = p.hardware; max = (if p.max == 0 then p.hardware else p.max); chunk = p.chunk; physical = block_of p }
 
--- the first reason for which no queue may have them
+-- the first reason why no queue may have them
 abbrev pub limit_refusal : PlainLimits → Option LimitFault
 limit_refusal p =
     if nat_lt p.hardware 1 || nat_lt HARDWARE_LIMIT p.hardware then Some HardwareRange

@@ -1,80 +1,83 @@
--- What C may do wrong with a tag, and what each of its calls leaves.
-use Rattle.std.specs.Prelude.{◌≡◌, ℕ, ◌+◌, true, nat_le, if◌then◌else◌, Option, Some, None}
-use Rattle.std.specs.Option.{IfSome}
-use Rattle.percpu_core.specs.Views.{count}
+-- What C may do wrong with a tag, and the effect of each of its calls.
+use Rattle.std.specs.Prelude.{◌≡◌, ℕ, Bool, true, false, not, nat_le, if◌then◌else◌, Option, Some, None, IfSome}
 use Rattle.percpu_gate.specs.declared.tried.Put.{Put}
-use Rattle.percpu_gate.specs.Calls.{is_refused, taken, has_dead, has_zero, LiveTryFinds, TryFinds, TryMeets}
-use Rattle.queue_core.specs.declared.tag.Entry.{Entry}
-use Rattle.queue_core.specs.declared.tag.Stay.{Stay}
-use Rattle.queue_core.specs.Queue.{after_asking, after_leaving}
-use Rattle.queue_core.specs.Entering.{tried, after_try}
-use Rattle.queue_core.specs.AtTheGate.{AreInForce, HoldsOff}
-use Rattle.queue_core.specs.Readings.{IsTag}
-use Rattle.queue_core.specs.Staying.{has_left, after_stay, FindsDead}
-use Rattle.freeze_queue_c.specs.declared.misuse.Misuse.{Misuse}
-use Rattle.freeze_queue_c.specs.declared.misuse.Misuse.TheVariants.{Slot, Entered, NotEntered}
+use Rattle.percpu_gate.specs.declared.tried.Put.TheVariants.{NotLast}
+use Rattle.bias_lanes.specs.declared.views.Stage.TheVariants as stages
+use Rattle.bias_lanes.specs.Seats.{at, FindsParked}
+use Rattle.biased_queue.specs.declared.tag.BiasedEntry.{BiasedEntry}
+use Rattle.biased_queue.specs.Parked.{Fits}
+use Rattle.biased_queue.specs.Biased.{IsBiasedTag, stage, is_plain, is_in}
+use Rattle.biased_queue.specs.Steps.{at_stage, says_in, says_in_hand, EnteredGate, HasLeft, LeavesPlain}
+use Rattle.biased_queue.specs.AtTheGate.{EntersByGate, LooksInByGate, LeavesAtGate, ParksAt}
+use Rattle.c_answers.specs.declared.misuse.Misuse.{Misuse}
+use Rattle.c_answers.specs.declared.misuse.Misuse.TheVariants.{Slot, Entered, NotEntered}
 use Rattle.freeze_queue_c.specs.declared.plain_limits.PlainLimits.{PlainLimits}
+use Rattle.freeze_queue_c.specs.declared.tried.Tried.{Tried}
 use Rattle.freeze_queue_c.specs.PlainLimits.{as_bounds}
 use Rattle.freeze_queue_c.specs.Opened.{TagOpened}
 
--- there is no such slot, or the first of these
+-- there is no such slot, or else this misuse
 abbrev pub slot_misuse : ℕ → TagOpened → Option Misuse → Option Misuse
-slot_misuse slot t else_this = if nat_le t.tag.queue.gate.slots slot then Some Slot else else_this
+slot_misuse slot t else_this = if nat_le t.queue.queue.gate.slots slot then Some Slot else else_this
 
--- who enters isn't in
+-- a tag that enters isn't in
 abbrev pub enter_misuse : ℕ → TagOpened → Option Misuse
-enter_misuse slot t = slot_misuse slot t (if t.tag.entered then Some Entered else None)
+enter_misuse slot t = slot_misuse slot t (if is_in t.tag then Some Entered else None)
 
--- limits are told to who is in
+-- a tag whose limits are read is in
 abbrev pub limits_misuse : TagOpened → Option Misuse
-limits_misuse t = if t.tag.entered then None else Some NotEntered
+limits_misuse t = if is_in t.tag then None else Some NotEntered
 
--- who leaves is in
+-- a tag that leaves is in
 abbrev pub leave_misuse : ℕ → TagOpened → Option Misuse
 leave_misuse slot t = slot_misuse slot t (limits_misuse t)
 
--- what `try_enter` leaves
-pub record TriedToEnter (slot : ℕ) (old new : TagOpened) (r : Entry) : Type 0 where
-  pub number : new.number ≡ old.number
-  pub leaves : new.tag ≡ after_try r new.tag.seat old.tag
-  -- a refusal found the queue frozen, at the one addition of this call, and a tag that entered found it live
-  pub frozen : is_refused (tried r) ≡ true → new.tag.seat.found_dead ≡ true
-  pub finds : LiveTryFinds old.tag.queue.gate slot old.tag.seat (tried r)
-  pub counted : new.tag.seat.live_given ≡ old.tag.seat.live_given + taken (tried r)
-  pub meets : TryMeets old.tag.queue.gate has_dead old.tag.seat new.tag.seat (is_refused (tried r))
-  pub times : new.tag.seat.found_dead_times ≡ old.tag.seat.found_dead_times + count (is_refused (tried r))
+-- a handle still leads to the same queue
+abbrev pub SameQueue : TagOpened → TagOpened → Type 0
+SameQueue old new = (new.number ≡ old.number) × (new.queue ≡ old.queue)
 
--- what `try_enter_frozen` leaves
-pub record TriedToLookIn (old new : TagOpened) (r : Entry) : Type 0 where
-  pub number : new.number ≡ old.number
-  pub leaves : new.tag ≡ after_try r new.tag.seat old.tag
-  -- a refusal found the queue drained, at the one addition of this call
-  pub drained : is_refused (tried r) ≡ true → new.tag.seat.found_zero ≡ true
-  pub finds : TryFinds old.tag.queue.gate old.tag.seat (tried r)
-  pub meets : TryMeets old.tag.queue.gate has_zero old.tag.seat new.tag.seat (is_refused (tried r))
-  pub times : new.tag.seat.found_zero_times ≡ old.tag.seat.found_zero_times + count (is_refused (tried r))
-  -- who is in holds the drain off
-  pub holds_off : HoldsOff new.tag
+-- the effect of `try_enter` on this slot
+pub record TriedToEnter (slot : ℕ) (old new : TagOpened) (r : Tried) : Type 0 where
+  pub same : SameQueue old new
+  pub own : new.tag.bias.lanes ≡ old.tag.bias.lanes
+  pub entered : is_in new.tag ≡ says_in r.entry
+  -- if the tag entered by its lane, its reference was parked at the load that let it in, and nothing else changes
+  pub by_lane : stage new.tag ≡ stages.Entered → new.tag ≡ at_stage stages.Entered old.tag
+  pub held : stage new.tag ≡ stages.Entered → FindsParked Fits (at stages.Trying old.tag.bias)
+  pub by_gate : says_in r.entry ≡ false → is_plain new.tag ≡ not (says_in_hand r.entry)
+  pub in_force : says_in r.entry ≡ true → is_plain new.tag ≡ true → EnteredGate old.queue new.tag.limits
+  pub refused : says_in r.entry ≡ false → says_in_hand r.entry ≡ false → IfSome new.tag.tag (λ t. t.seat.found_dead ≡ true)
+  pub in_hand : says_in_hand r.entry ≡ true → new.tag ≡ at_stage stages.Parked old.tag
+  -- a tag with no bias afterwards looked once at the gate, or tried once on this slot; by its lane a tag takes no step there
+  pub steps : is_plain new.tag ≡ true → EntersByGate slot old.queue r.entry old.tag new.tag
+  pub bias : r.had_bias ≡ not (is_plain old.tag)
 
--- what `leave` leaves
-pub record HasLeft (old new : TagOpened) (put : Put) : Type 0 where
-  pub tag : new ≡ record old { tag = after_leaving put old.tag }
+-- the effect of a look on this slot into a queue that may be frozen
+pub record TriedToLookIn (slot : ℕ) (old new : TagOpened) (r : BiasedEntry) : Type 0 where
+  pub same : SameQueue old new
+  pub own : new.tag.bias.lanes ≡ old.tag.bias.lanes
+  pub entered : is_in new.tag ≡ says_in r
+  pub by_gate : is_plain new.tag ≡ not (says_in_hand r)
+  pub drained : says_in r ≡ false → says_in_hand r ≡ false → IfSome new.tag.tag (λ t. t.seat.found_zero ≡ true)
+  pub in_hand : says_in_hand r ≡ true → new.tag ≡ at_stage stages.Parked old.tag
+  pub steps : is_plain new.tag ≡ true → LooksInByGate slot old.queue r old.tag new.tag
 
--- what `stay` leaves: the one load of this call, which the tag counts, found the queue live, or frozen, and then the tag has left
-pub record HasStayed (old new : TagOpened) (r : Stay) : Type 0 where
-  pub number : new.number ≡ old.number
-  pub leaves : new.tag ≡ after_stay r old.tag
-  pub finds : FindsDead old.tag.queue.gate old.tag.seat (has_left r)
-  pub times : new.tag.seat.found_dead_times ≡ old.tag.seat.found_dead_times + count (has_left r)
-  pub looks : new.tag.seat.looks ≡ old.tag.seat.looks + 1
+-- the effect of leaving on this slot; `keep` says whether a tag with no bias is to be parked
+pub record Leaves (slot : ℕ) (keep : Bool) (old new : TagOpened) (put : Put) : Type 0 where
+  pub same : SameQueue old new
+  pub own : new.tag.bias.lanes ≡ old.tag.bias.lanes
+  pub out : is_in new.tag ≡ false
+  pub left : is_plain new.tag ≡ true → HasLeft slot put new.tag.tag
+  pub parked : is_plain new.tag ≡ false → put ≡ NotLast
+  pub plain : keep ≡ false → is_plain old.tag ≡ true → LeavesPlain slot put old.tag new.tag
+  pub biased : stage old.tag ≡ stages.Entered → stage new.tag ≡ stages.Idle → new.tag ≡ at_stage stages.Idle old.tag
+  pub keeps : stage new.tag ≡ stages.Idle → (is_plain old.tag ≡ true → keep ≡ true) × (new.tag.limits ≡ old.tag.limits)
+  -- a tag with no bias afterwards put once on this slot; by its lane a tag takes no step there
+  pub steps : is_plain new.tag ≡ true → LeavesAtGate slot keep put old.tag new.tag
+  pub parks : is_plain old.tag ≡ true → stage new.tag ≡ stages.Idle → ParksAt stages.Idle slot old.tag new.tag
 
--- what a tag that is in is told of its limits
+-- the limits that a tag that is in reads
 pub record ToldLimits (old new : TagOpened) (told : PlainLimits) : Type 0 where
-  pub number : new.number ≡ old.number
-  pub value : new.tag ≡ after_asking (as_bounds told) new.tag.seat old.tag
-  pub kept : IsTag new.tag
-  -- the guarded words of the queue spelled them at a moment of this call
-  pub in_force : AreInForce old.tag.queue.gate old.tag.queue.hardware old.tag.seat (as_bounds told)
-  -- they are what the tag was told before, if it has asked since it entered
-  pub same : IfSome old.tag.limits (λ l. as_bounds told ≡ l)
-  pub hardware : told.hardware ≡ old.tag.queue.hardware
+  pub same : new ≡ old
+  pub value : as_bounds told ≡ old.tag.limits
+  pub kept : IsBiasedTag old.tag

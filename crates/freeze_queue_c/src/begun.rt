@@ -1,10 +1,10 @@
-//! What a freeze that has begun answers.
+//! The result of starting a freeze.
 
-/// A freeze has begun.
+/// A freeze that has started.
 #[derive(Clone, Copy, Debug, PartialEq, Eq)]
 pub struct Begun {
-    /// The freezes that aren't thawed yet, this one too.
+    /// The number of freezes that aren't thawed yet, including this freeze.
     pub depth: u32,
-    /// Whether the queue is drained already, as a look after the freeze found: nobody else is told so.
+    /// Whether a look after the freeze found the queue drained. A leave may have returned `Last` too.
     pub drained: bool,
 }

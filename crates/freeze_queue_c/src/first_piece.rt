@@ -1,13 +1,13 @@
-//! The splitter: how a request is cut by limits.
+//! The first piece of a request that is cut by limits.
 ghost use Rattle.std.specs.Prelude.{◌≡◌};
 ghost use Rattle.freeze_queue_c.specs.PlainLimits.{bounds_of};
 ghost use Rattle.freeze_queue_c.specs.FirstPiece.{Cuts, WritesFirstPiece, piece_number, piece_refusal, piece_written};
 
-use crate::misuse::Misuse;
 use crate::plain_limits::PlainLimits;
 use crate::refusal::Refusal;
+use c_answers::Misuse;
 
-/// The first piece. Refuses the limits' faults, then Range.
+/// Returns the length of the first piece. Refuses with the limits' faults, then with Range.
 fn first_piece(limits: &PlainLimits, start: u64, count: u32) -> Result<u32, Refusal>
     ensures { Cuts (piece_refusal limits.now start count) (bounds_of limits.now) start count result }
 {
@@ -18,7 +18,7 @@ fn first_piece(limits: &PlainLimits, start: u64, count: u32) -> Result<u32, Refu
     }
 }
 
-/// Writes a piece. 0 where there is one.
+/// Writes the length of a piece and returns 0, or returns the number of the refusal.
 fn write_piece(answer: Result<u32, Refusal>, piece: &mut u32) -> u32
     ensures number { result ≡ piece_number answer }
     ensures written { piece.new ≡ piece_written answer piece.old }
@@ -32,8 +32,8 @@ fn write_piece(answer: Result<u32, Refusal>, piece: &mut u32) -> u32
     }
 }
 
-/// Writes the length, in sectors, of the first piece of the `count` sectors (1 or more) from `start` on (below 2^33), as
-/// these limits cut them. Refuses the limits' faults (25 to 28), Range. Linux: `get_max_io_size` (block/blk-merge.c).
+/// Writes the length, in sectors, of the first piece of the `count` sectors (1 or more) that start at `start` (below 2^33), as these
+/// limits cut them. Refuses with the limits' faults (25 to 28) or Range. Linux: `get_max_io_size` (block/blk-merge.c).
 #[unsafe(no_mangle)]
 pub extern "C" fn freeze_queue_first_piece(
     limits: &PlainLimits,

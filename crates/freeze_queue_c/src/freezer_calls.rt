@@ -1,16 +1,16 @@
-//! The calls of the freezer. A closed handle answers Closed, and is never drained.
+//! The calls of the freezer. A closed handle returns Closed, or false if it is asked whether the queue is drained.
+ghost use Rattle.c_answers.specs.Ran.{Answers, Asks, Writes, no_misuse};
 ghost use Rattle.freeze_queue_c.specs.Numbers.{done_number};
-ghost use Rattle.freeze_queue_c.specs.Ran.{Answers, Asks, Writes, no_misuse};
 ghost use Rattle.freeze_queue_c.specs.FreezerCalls.{Counts, StartedFreeze, begun_number, begun_depth, Thaws, thawed_number, thawed_depth, LookedForDrained, HasSet, HasMode, mode_misuse, ToldDepth, ToldInForce};
 
 use crate::freezer_handle::FreezerHandle;
-use crate::misuse::Misuse;
-use crate::number::{of_set, of_unit, write, write_begun, write_limits, write_thawed};
+use crate::number::{of_set, write_begun, write_thawed};
 use crate::plain_limits::PlainLimits;
+use c_answers::{Misuse, of_unit, write};
 
-/// Begins a freeze, and writes the depth that this gives. 4 where the queue is drained already, which nobody else is
-/// told, else 0: then who leaves last is told. Refuses Closed, DepthFull (17), WornOut (21). Linux:
-/// `blk_freeze_queue_start` (block/blk-mq.c).
+/// Starts a freeze, and writes the depth. Returns 4 if a look after the freeze finds the queue drained; a leave may have returned
+/// LAST too. Otherwise returns 0, and a later leave or refused try returns LAST, unless the queue is thawed first. Refuses with
+/// Closed, DepthFull (17) or WornOut (21). Linux: `blk_freeze_queue_start` (block/blk-mq.c).
 #[unsafe(no_mangle)]
 pub extern "C" fn freeze_queue_start_freeze(freezer: &mut FreezerHandle, depth: &mut u32) -> u32
     ensures { Counts begun_number begun_depth StartedFreeze freezer.old.held.freezer freezer.new.held.freezer depth.old depth.new result }
@@ -23,8 +23,7 @@ pub extern "C" fn freeze_queue_start_freeze(freezer: &mut FreezerHandle, depth: 
     write_begun(answer, depth)
 }
 
-/// Whether the queue is frozen and every tag has left. Linux: `percpu_ref_is_zero` in `blk_mq_freeze_queue_wait`
-/// (block/blk-mq.c).
+/// Whether the queue is frozen and every tag has left. Linux: `percpu_ref_is_zero` in `blk_mq_freeze_queue_wait` (block/blk-mq.c).
 #[unsafe(no_mangle)]
 pub extern "C" fn freeze_queue_poll_drained(freezer: &mut FreezerHandle) -> bool
     ensures { Asks LookedForDrained freezer.old.held.freezer freezer.new.held.freezer result }
@@ -37,9 +36,10 @@ pub extern "C" fn freeze_queue_poll_drained(freezer: &mut FreezerHandle) -> bool
     drained
 }
 
-/// Sets the limits of a drained queue. Refuses Closed; the limits' faults (25 to 28), 29 where they are for other hardware;
-/// NotFrozen (18), NotDrained (19). Linux: `queue_limits_commit_update` (block/blk-settings.c), under a freeze.
-#[tactic(auto, using(crate::proofs::Closed::closed_answers))]
+/// Sets the limits of a drained queue. Refuses with Closed; with the limits' faults (25 to 28), or 29 if they are for other
+/// hardware; with NotFrozen (18) or NotDrained (19). Linux: `queue_limits_commit_update` under a freeze, since 6.9
+/// (block/blk-settings.c).
+#[tactic(auto, using(c_answers::proofs::Closed::closed_answers))]
 #[unsafe(no_mangle)]
 pub extern "C" fn freeze_queue_set(freezer: &mut FreezerHandle, limits: &PlainLimits) -> u32
     ensures { Answers done_number no_misuse (HasSet limits.now) freezer.old.held.freezer freezer.new.held.freezer result }
@@ -52,8 +52,8 @@ pub extern "C" fn freeze_queue_set(freezer: &mut FreezerHandle, limits: &PlainLi
     of_set(answer)
 }
 
-/// Ends a freeze, and writes the depth that is left. 5 where the queue is live again: then those who wait to enter are to be
-/// woken. Refuses Closed, NotFrozen (18). Linux: `blk_mq_unfreeze_queue` (block/blk-mq.c).
+/// Ends a freeze, and writes the depth that is left. Returns 5 if the queue is live again: the caller then wakes the threads that wait
+/// to enter. Otherwise returns 0. Refuses with Closed or NotFrozen (18). Linux: `blk_mq_unfreeze_queue` (block/blk-mq.c).
 #[unsafe(no_mangle)]
 pub extern "C" fn freeze_queue_thaw(freezer: &mut FreezerHandle, depth: &mut u32) -> u32
     ensures { Counts thawed_number thawed_depth Thaws freezer.old.held.freezer freezer.new.held.freezer depth.old depth.new result }
@@ -66,9 +66,9 @@ pub extern "C" fn freeze_queue_thaw(freezer: &mut FreezerHandle, depth: &mut u32
     write_thawed(answer, depth)
 }
 
-/// Counts on slots (0) or on the shared word alone (1) from now on. Refuses Closed, Mode. Linux:
+/// Counts on slots (0) or on the shared word alone (1) from now on. Refuses with Closed or Mode. Linux:
 /// `percpu_ref_switch_to_atomic_sync`, `percpu_ref_switch_to_percpu` (lib/percpu-refcount.c).
-#[tactic(auto, using(crate::proofs::Closed::closed_answers))]
+#[tactic(auto, using(c_answers::proofs::Closed::closed_answers))]
 #[unsafe(no_mangle)]
 pub extern "C" fn freeze_queue_mode(freezer: &mut FreezerHandle, mode: u32) -> u32
     ensures { Answers (λ _. 0) (mode_misuse mode) (HasMode mode) freezer.old.held.freezer freezer.new.held.freezer result }
@@ -81,8 +81,8 @@ pub extern "C" fn freeze_queue_mode(freezer: &mut FreezerHandle, mode: u32) -> u
     of_unit(answer)
 }
 
-/// Writes the freezes that aren't thawed yet. Linux: `mq_freeze_depth` (include/linux/blkdev.h).
-#[tactic(auto, using(crate::proofs::Closed::closed_writes))]
+/// Writes the number of freezes that aren't thawed yet. Linux: `mq_freeze_depth` (include/linux/blkdev.h).
+#[tactic(auto, using(c_answers::proofs::Closed::closed_writes))]
 #[unsafe(no_mangle)]
 pub extern "C" fn freeze_queue_depth(freezer: &mut FreezerHandle, depth: &mut u32) -> u32
     ensures { Writes no_misuse ToldDepth freezer.old.held.freezer freezer.new.held.freezer depth.old depth.new result }
@@ -96,7 +96,7 @@ pub extern "C" fn freeze_queue_depth(freezer: &mut FreezerHandle, depth: &mut u3
 }
 
 /// Writes the limits in force.
-#[tactic(auto, using(crate::proofs::Closed::closed_writes))]
+#[tactic(auto, using(c_answers::proofs::Closed::closed_writes))]
 #[unsafe(no_mangle)]
 pub extern "C" fn freeze_queue_limits_in_force(
     freezer: &mut FreezerHandle,
@@ -105,9 +105,9 @@ pub extern "C" fn freeze_queue_limits_in_force(
     ensures { Writes no_misuse ToldInForce freezer.old.held.freezer freezer.new.held.freezer limits.old limits.new result }
 {
     let Some(mut open) = freezer.take() else {
-        return write_limits(Err(Misuse::Closed), limits);
+        return write(Err(Misuse::Closed), limits);
     };
     let answer = open.limits();
     freezer.put_back(open);
-    write_limits(answer, limits)
+    write(answer, limits)
 }

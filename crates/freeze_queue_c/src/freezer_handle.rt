@@ -1,15 +1,15 @@
-//! The freezer, to C.
+//! The freezer's handle for C.
 ghost use Rattle.std.specs.Prelude.{◌≡◌, Some, None, is_some, IsSome, IfOk, IfErr};
-ghost use Rattle.freeze_queue_c.specs.declared.misuse.Misuse.TheVariants.{Open, Memory};
+ghost use Rattle.c_answers.specs.declared.misuse.Misuse.TheVariants.{Open, Memory};
 ghost use Rattle.freeze_queue_c.specs.FreezerHolding.{opened};
 
 use crate::freezer_held::FreezerHeld;
-use crate::misuse::Misuse;
 use crate::open_freezer::OpenFreezer;
+use c_answers::Misuse;
 use std::alloc::Global;
 use std::mem;
 
-/// The freezer handle: to C a `bool` and a pointer, all zero where it is closed.
+/// The freezer's handle: for C a `bool` and a pointer, all zero if it is closed.
 #[derive(Drop)]
 #[repr(C)]
 pub struct FreezerHandle {
@@ -32,7 +32,7 @@ impl FreezerHandle {
         }
     }
 
-    /// The box of an open handle, which is left closed.
+    /// Takes the box of an open handle, which is closed afterwards.
     pub fn take(&mut self) -> Option<Box<OpenFreezer>>
         ensures freezer { opened result ≡ self.old.held.freezer }
         ensures closed { self.new.held.freezer ≡ None }
@@ -45,7 +45,7 @@ impl FreezerHandle {
         Some(mem::replace(&mut self.held, nothing).into_box())
     }
 
-    /// Its allocator, where it is closed. Refuses Open.
+    /// Returns the allocator of a closed handle. Refuses with Open.
     pub fn closed(&self) -> Result<Global, Misuse>
         ensures closed { IfOk result (λ _. self.now.held.freezer ≡ None) }
         ensures open { IfErr result (λ why. (why ≡ Open) × IsSome self.now.held.freezer) }
@@ -57,12 +57,12 @@ impl FreezerHandle {
         }
     }
 
-    /// Its allocator.
+    /// Returns the allocator of a handle, open or closed.
     pub fn allocator(&self) -> Global {
         self.alloc
     }
 
-    /// Opens a closed handle, in a new box. Refuses Memory.
+    /// Opens a closed handle, in a new box. Refuses with Memory.
     pub fn open(&mut self, freezer: OpenFreezer) -> Result<(), Misuse>
         requires closed { self.old.held.freezer ≡ None }
         ensures open { IfOk result (λ _. self.new.held.freezer ≡ Some freezer) }

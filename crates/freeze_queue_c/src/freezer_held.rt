@@ -1,4 +1,4 @@
-//! The box of a handle, under a pointer that C may keep.
+//! The box of a handle, behind a pointer that C may keep.
 ghost use Rattle.std.specs.Prelude.{◌≡◌, Some, None, Option};
 ghost use Rattle.freeze_queue_c.specs.FreezerHolding.{freezer_owns, freezer_coded};
 ghost use Rattle.freeze_queue_c.specs.declared.open_freezer.OpenFreezer.{OpenFreezer};
@@ -9,8 +9,8 @@ use std::alloc::Global;
 use std::marker::Model;
 use std::ptr;
 
-/// A box of a freezer, or nothing. The pointer's type hides the freezer's, which C may not know. One that is let go
-/// keeps its box.
+/// A box of a freezer, or nothing. The pointer's type hides the freezer's, which C may not know. Dropping it doesn't
+/// free the box.
 #[derive(Drop)]
 #[repr(C)]
 pub struct FreezerHeld {
@@ -24,7 +24,7 @@ impl Model for FreezerHeld {
 }
 
 impl FreezerHeld {
-    /// Nothing.
+    /// Returns nothing.
     pub(crate) fn nothing(alloc: Global) -> FreezerHeld
         ensures { result.freezer ≡ None }
     {
@@ -32,14 +32,14 @@ impl FreezerHeld {
         FreezerHeld { at, alloc }
     }
 
-    /// This box.
+    /// Holds this box.
     pub(crate) fn of(freezer: Box<OpenFreezer>) -> FreezerHeld
         ensures { result.freezer ≡ Some freezer.value }
     {
         FreezerHeld::of_loose(Loose::of(freezer))
     }
 
-    /// Its box.
+    /// Returns the box.
     pub(crate) fn into_box(self) -> Box<OpenFreezer>
         requires open { (s : OpenFreezer) × (self.freezer ≡ Some s) }
         ensures { self.freezer ≡ Some result.value }

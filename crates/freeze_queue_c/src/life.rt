@@ -1,19 +1,19 @@
-//! How queues and their handles come and go.
+//! The beginning and the end of queues and their handles.
 ghost use Rattle.std.specs.Prelude.{◌≡◌, None};
-ghost use Rattle.freeze_queue_c.specs.Life.{HasMade, Gives, Given, NumbersTell, NumbersTellOn, GivesBack, GivenBack, freezer_number, tag_number};
-ghost use Rattle.freeze_queue_c.specs.Ran.{Tells, TellsDone};
+ghost use Rattle.c_answers.specs.Ran.{Tells};
+ghost use Rattle.freeze_queue_c.specs.Life.{HasMade, TellsDone, TellsPut, Gives, Given, NumbersTell, NumbersTellOn, GivesBack, GivenBack, freezer_number, tag_number};
 ghost use Rattle.freeze_queue_c.specs.Ends.{Removes, Restores};
 
 use crate::freezer_handle::FreezerHandle;
-use crate::misuse::Misuse;
-use crate::number::{of_done, of_unit};
+use crate::number::of_done;
 use crate::open_freezer::{KeptFreezer, OpenFreezer};
 use crate::plain_limits::PlainLimits;
-use crate::queue_number::QueueNumber;
 use crate::refusal::Refusal;
 use crate::tag_handle::TagHandle;
+use c_answers::{DrawnNumber, Misuse, of_put, of_unit};
+use percpu_gate::Put;
 
-/// What is left of a queue that has ended.
+/// The last facts of a queue that has ended.
 #[derive(Debug, Drop)]
 #[repr(C)]
 pub struct Final {
@@ -23,10 +23,10 @@ pub struct Final {
     pub limits: PlainLimits,
 }
 
-/// The freezer of a new queue, for a closed handle. Refuses Open, the limits' faults, Size, Memory.
+/// Makes the freezer of a new queue, for a closed handle. Refuses with Open, the limits' faults, Size or Memory.
 fn make(
     freezer: &mut FreezerHandle,
-    number: &QueueNumber,
+    number: &DrawnNumber,
     limits: &PlainLimits,
     slots: u32,
     tags: u32,
@@ -44,12 +44,13 @@ fn make(
     }
 }
 
-/// A live queue of these limits that counts on its slots (1 to 512), with so many tags (1 to 1,023), for a closed freezer
-/// handle. Refuses Open, the limits' faults (25 to 28), Size, Memory. Linux: `blk_mq_alloc_queue` (block/blk-mq.c).
+/// Makes a live queue with these limits, this many slots (1 to 512) and tags (1 to 1,023), for a closed freezer handle. The queue counts
+/// on its slots. Refuses with Open, the limits' faults (25 to 28), Size or Memory. Linux: `blk_mq_init_queue`, since 6.9
+/// `blk_mq_alloc_queue` (block/blk-mq.c).
 #[unsafe(no_mangle)]
 pub extern "C" fn freeze_queue_new_numbered(
     freezer: &mut FreezerHandle,
-    number: &QueueNumber,
+    number: &DrawnNumber,
     limits: &PlainLimits,
     slots: u32,
     tags: u32,
@@ -59,7 +60,7 @@ pub extern "C" fn freeze_queue_new_numbered(
     of_done(make(freezer, number, limits, slots, tags))
 }
 
-/// The next tag of this freezer, for a closed handle.
+/// Gives the next tag of this freezer to a closed handle.
 fn give(chosen: &mut OpenFreezer, tag: &mut TagHandle) -> Result<(), Misuse>
     ensures { Gives chosen.old chosen.new tag.old.held.tag tag.new.held.tag result }
 {
@@ -69,8 +70,8 @@ fn give(chosen: &mut OpenFreezer, tag: &mut TagHandle) -> Result<(), Misuse>
     Ok(())
 }
 
-/// The next tag of the queue, for a closed tag handle: the one that was given back last. Refuses Closed, Open, NoTag,
-/// Memory.
+/// Gives the next tag of the queue, which is the tag that was given back last, to a closed tag handle. Refuses with Closed, Open,
+/// NoneWaits or Memory.
 #[tactic(auto, using(crate::proofs::Closed::closed_given))]
 #[unsafe(no_mangle)]
 pub extern "C" fn freeze_queue_next_tag(freezer: &mut FreezerHandle, tag: &mut TagHandle) -> u32
@@ -84,23 +85,29 @@ pub extern "C" fn freeze_queue_next_tag(freezer: &mut FreezerHandle, tag: &mut T
     of_unit(answer)
 }
 
-/// The tag of a handle is taken back by the freezer, unless that is refused.
-fn give_back(chosen: &mut OpenFreezer, tag: &mut TagHandle) -> Result<(), Misuse>
+/// Has the freezer take back the tag of a handle, unless that is refused.
+fn give_back(chosen: &mut OpenFreezer, tag: &mut TagHandle) -> Result<Put, Misuse>
     requires numbers { NumbersTell chosen.old tag.old.held.tag }
     ensures { GivesBack chosen.old chosen.new tag.old.held.tag tag.new.held.tag result }
 {
-    let Some(given) = tag.take() else {
+    let Some(mut given) = tag.take() else {
         return Err(Misuse::Closed);
     };
     if let Err(why) = chosen.refuse_back(&given) {
         tag.put_back(given);
         return Err(why);
     }
+    let Some(put) = given.end_bias() else {
+        tag.put_back(given);
+        return Err(Misuse::InUse);
+    };
     chosen.take_back(Box::into_inner(given));
-    Ok(())
+    Ok(put)
 }
 
-/// Gives a tag back that isn't in. Takes no memory: its place is there from the start. Refuses Closed, OtherQueue, Entered.
+/// Gives back a tag that isn't in, and ends its bias. Returns 1 if the queue is drained by that, otherwise 0. Allocates nothing: the
+/// freezer has room for all tags from the start. Refuses with Closed, Foreign or Entered, or with InUse while a freeze has the tag in
+/// hand, which no use of handles leads to.
 #[tactic(auto, using(crate::proofs::Closed::closed_given_back))]
 #[unsafe(no_mangle)]
 pub extern "C" fn freeze_queue_give_tag_back(
@@ -108,17 +115,17 @@ pub extern "C" fn freeze_queue_give_tag_back(
     tag: &mut TagHandle,
 ) -> u32
     requires numbers { NumbersTellOn freezer.old.held.freezer tag.old.held.tag }
-    ensures { Tells (GivenBack freezer.old.held.freezer freezer.new.held.freezer tag.old.held.tag tag.new.held.tag) result }
+    ensures { TellsPut (GivenBack freezer.old.held.freezer freezer.new.held.freezer tag.old.held.tag tag.new.held.tag) result }
 {
     let Some(mut open) = freezer.take() else {
-        return of_unit(Err(Misuse::Closed));
+        return of_put(Err(Misuse::Closed));
     };
     let answer = give_back(&mut open, tag);
     freezer.put_back(open);
-    of_unit(answer)
+    of_put(answer)
 }
 
-/// The number of a tag's queue, or 0 of a closed handle.
+/// The number of a tag's queue, or 0 for a closed handle.
 #[unsafe(no_mangle)]
 pub extern "C" fn freeze_queue_tag_number(tag: &mut TagHandle) -> u64
     ensures number { result ≡ tag_number tag.old.held.tag }
@@ -132,9 +139,9 @@ pub extern "C" fn freeze_queue_tag_number(tag: &mut TagHandle) -> u64
     number
 }
 
-/// The number of a freezer's queue, or 0 of a closed handle.
+/// The number of a freezer's queue, or 0 for a closed handle.
 #[unsafe(no_mangle)]
-pub extern "C" fn freeze_queue_freezer_number(freezer: &mut FreezerHandle) -> u64
+pub extern "C" fn freeze_queue_number(freezer: &mut FreezerHandle) -> u64
     ensures number { result ≡ freezer_number freezer.old.held.freezer }
     ensures same { freezer.new.held.freezer ≡ freezer.old.held.freezer }
 {
@@ -146,7 +153,7 @@ pub extern "C" fn freeze_queue_freezer_number(freezer: &mut FreezerHandle) -> u6
     number
 }
 
-/// Frees what a tag handle has, and closes it. Its queue counts the tag as out for ever, if it wasn't given back.
+/// Frees the box of a tag handle, and closes it. If the tag wasn't given back, its queue counts it as out forever.
 #[unsafe(no_mangle)]
 pub extern "C" fn freeze_queue_free_tag(tag: &mut TagHandle)
     ensures { tag.new.held.tag ≡ None }
@@ -154,7 +161,7 @@ pub extern "C" fn freeze_queue_free_tag(tag: &mut TagHandle)
     drop(tag.take());
 }
 
-/// Frees what a freezer handle has, and closes it.
+/// Frees the box of a freezer handle, and closes it.
 #[unsafe(no_mangle)]
 pub extern "C" fn freeze_queue_free_freezer(freezer: &mut FreezerHandle)
     ensures { freezer.new.held.freezer ≡ None }
@@ -162,7 +169,7 @@ pub extern "C" fn freeze_queue_free_freezer(freezer: &mut FreezerHandle)
     drop(freezer.take());
 }
 
-/// Puts a freezer back whose queue hasn't ended. The number of the reason, or of Memory.
+/// Puts back a freezer whose queue hasn't ended. Returns the number of the reason, or of Memory.
 fn restore(freezer: &mut FreezerHandle, kept: KeptFreezer) -> u32
     requires closed { freezer.old.held.freezer ≡ None }
     ensures { Restores kept.freezer kept.why freezer.new.held.freezer result }
@@ -177,10 +184,10 @@ fn restore(freezer: &mut FreezerHandle, kept: KeptFreezer) -> u32
     }
 }
 
-/// Ends a queue, and closes the handle: freezes it for the last time if it is live, and takes in the tags that wait.
-/// Refuses Closed; 20 where tags that were given out aren't back, 21 where it is live and was killed 2^40 times. Somebody
-/// else's share of the queue, which no way of using handles leads to, is answered InUse, with everything as it was. Memory
-/// where a queue that is refused so late can't be put back: the freezer is gone then. Linux: `blk_mq_destroy_queue`
+/// Ends a queue, and closes the handle: freezes the queue for the last time if it is live, and takes in the tags that no handle has.
+/// Refuses with Closed; with 20 if tags that were given out aren't back; with 21 if the queue is live and was killed 2^40 times. If
+/// somebody else has a share of the queue, which no use of handles leads to, it returns InUse with everything unchanged. It returns
+/// Memory if such a late refusal finds no memory to put the queue back: then the freezer is gone. Linux: `blk_mq_destroy_queue`
 /// (block/blk-mq.c).
 #[unsafe(no_mangle)]
 pub extern "C" fn freeze_queue_remove(freezer: &mut FreezerHandle, last: &mut Final) -> u32

@@ -1,69 +1,47 @@
-//! The numbers that C is answered, and what is written for it.
-ghost use Rattle.std.specs.Prelude.{◌≡◌, ◌≤◌, ◌+◌};
+//! The numbers that only the library of the queue returns to C, and the values that it writes with them.
+ghost use Rattle.std.specs.Prelude.{◌≡◌, ◌+◌};
 ghost use Rattle.queue_core.specs.Queue.{fault_number};
-ghost use Rattle.freeze_queue_c.specs.Numbers.{number_of, queue_number, done_number, entry_number, put_number, stay_number};
-ghost use Rattle.freeze_queue_c.specs.Ran.{written};
+ghost use Rattle.c_answers.specs.Numbers.{number_of, put_number};
+ghost use Rattle.freeze_queue_c.specs.Numbers.{queue_number, done_number, look_number, tried_number};
 ghost use Rattle.freeze_queue_c.specs.FreezerCalls.{begun_number, thawed_number, begun_depth, thawed_depth, depth_written};
 
 use crate::begun::Begun;
-use crate::misuse::Misuse;
-use crate::plain_limits::PlainLimits;
 use crate::refusal::Refusal;
-use queue_core::{Entry, FreezeFault, Put, Stay, Thawed};
+use crate::tried::Tried;
+use biased_queue::BiasedEntry;
+use c_answers::{Misuse, put_number};
+use queue_core::{FreezeFault, Thawed};
 
-fn put_number(put: Put) -> u32
-    ensures number { result ≡ put_number put }
-    ensures small { result ≤ 1 }
-{
-    match put {
-        Put::NotLast => 0,
-        Put::Last => 1,
-    }
-}
-
-/// What an attempt to enter answers: 0 where it did; where it didn't, 2, or 3 where that was the last drop.
-pub fn of_entry(answer: Result<Entry, Misuse>) -> u32
-    ensures { result ≡ number_of entry_number answer }
+/// The number of a look: 0 if the tag entered; otherwise 2, or 3 if the look's put was the last, or 6 if the freezer has the tag in
+/// hand.
+pub fn of_look(answer: Result<BiasedEntry, Misuse>) -> u32
+    ensures { result ≡ number_of look_number answer }
 {
     match answer {
-        Ok(Entry::Entered) => 0,
-        Ok(Entry::Refused(put)) => 2 + put_number(put),
+        Ok(BiasedEntry::Entered) => 0,
+        Ok(BiasedEntry::Refused(put)) => 2 + put_number(put),
+        Ok(BiasedEntry::InHand) => 6,
         Err(why) => why.number(),
     }
 }
 
-/// What staying answers: 0 where it did; where it left, 2, or 3 where that was the last drop.
-pub fn of_stay(answer: Result<Stay, Misuse>) -> u32
-    ensures { result ≡ number_of stay_number answer }
+/// The number of a try: 0 if the tag entered; otherwise 2, or 3 if the try's put was the last or the tag had a bias.
+pub fn of_try(answer: Result<Tried, Misuse>) -> u32
+    ensures { result ≡ number_of tried_number answer }
 {
-    match answer {
-        Ok(Stay::Stayed) => 0,
-        Ok(Stay::Left(put)) => 2 + put_number(put),
-        Err(why) => why.number(),
+    let Tried { entry, had_bias } = match answer {
+        Ok(tried) => tried,
+        Err(why) => return why.number(),
+    };
+    match entry {
+        BiasedEntry::Entered => 0,
+        BiasedEntry::Refused(_) if had_bias => 3,
+        BiasedEntry::Refused(put) => 2 + put_number(put),
+        BiasedEntry::InHand => 3,
     }
 }
 
-/// What leaving answers: 0, or 1 where that was the last drop.
-pub fn of_put(answer: Result<Put, Misuse>) -> u32
-    ensures { result ≡ number_of put_number answer }
-{
-    match answer {
-        Ok(put) => put_number(put),
-        Err(why) => why.number(),
-    }
-}
-
-/// 0 where all went well.
-pub fn of_unit(answer: Result<(), Misuse>) -> u32
-    ensures { result ≡ number_of (λ _. 0) answer }
-{
-    match answer {
-        Ok(()) => 0,
-        Err(why) => why.number(),
-    }
-}
-
-/// 0 where it is done.
+/// 0 if the call succeeded.
 pub fn of_done(answer: Result<(), Refusal>) -> u32
     ensures { result ≡ done_number answer }
 {
@@ -73,7 +51,7 @@ pub fn of_done(answer: Result<(), Refusal>) -> u32
     }
 }
 
-/// 0 where the limits are set.
+/// 0 if the limits are set.
 pub fn of_set(answer: Result<Result<(), Refusal>, Misuse>) -> u32
     ensures { result ≡ number_of done_number answer }
 {
@@ -83,42 +61,14 @@ pub fn of_set(answer: Result<Result<(), Refusal>, Misuse>) -> u32
     }
 }
 
-/// Writes what was read. 0 where all went well.
-pub fn write(answer: Result<u32, Misuse>, here: &mut u32) -> u32
-    ensures number { result ≡ number_of (λ _. 0) answer }
-    ensures written { here.new ≡ written answer here.old }
-{
-    match answer {
-        Ok(value) => {
-            *here = value;
-            0
-        }
-        Err(why) => why.number(),
-    }
-}
-
-/// Writes limits. 0 where all went well.
-pub fn write_limits(answer: Result<PlainLimits, Misuse>, here: &mut PlainLimits) -> u32
-    ensures number { result ≡ number_of (λ _. 0) answer }
-    ensures written { here.new ≡ written answer here.old }
-{
-    match answer {
-        Ok(limits) => {
-            *here = limits;
-            0
-        }
-        Err(why) => why.number(),
-    }
-}
-
-/// A refusal of the queue: 16 more than its number.
+/// The number of a refusal by the queue, plus 16.
 fn of_fault(why: FreezeFault) -> u32
     ensures { result ≡ 16 + fault_number why }
 {
     16 + u32::from(why.number())
 }
 
-/// Writes the depth of a freeze. 0 where it has begun, 4 where the queue is drained already.
+/// Writes the depth of a freeze. Returns 0 if the freeze has started, or 4 if the queue is already drained as well.
 pub fn write_begun(answer: Result<Result<Begun, FreezeFault>, Misuse>, depth: &mut u32) -> u32
     ensures number { result ≡ number_of (queue_number begun_number) answer }
     ensures written { depth.new ≡ depth_written begun_depth answer depth.old }
@@ -133,7 +83,7 @@ pub fn write_begun(answer: Result<Result<Begun, FreezeFault>, Misuse>, depth: &m
     }
 }
 
-/// Writes the depth that a thaw leaves. 0 where the queue is frozen still, 5 where it is live again.
+/// Writes the depth that a thaw leaves. Returns 0 if the queue is still frozen, or 5 if it is live again.
 pub fn write_thawed(answer: Result<Result<Thawed, FreezeFault>, Misuse>, depth: &mut u32) -> u32
     ensures number { result ≡ number_of (queue_number thawed_number) answer }
     ensures written { depth.new ≡ depth_written thawed_depth answer depth.old }

@@ -1,6 +1,6 @@
-//! What an open freezer handle leads to.
+//! The box of an open freezer handle.
 ghost use Rattle.std.specs.Prelude.{◌≡◌, None};
-ghost use Rattle.freeze_queue_c.specs.Ran.{Ran};
+ghost use Rattle.c_answers.specs.Ran.{Ran};
 ghost use Rattle.freeze_queue_c.specs.FreezerCalls.{StartedFreeze, Thaws, LookedForDrained, Sets, Sought, input_refusal, HasSet, HasMode, mode_misuse, mode_named, ToldDepth, ToldInForce};
 ghost use Rattle.freeze_queue_c.specs.PlainLimits.{bounds_of};
 
@@ -9,12 +9,12 @@ mod makes;
 mod tags;
 
 use crate::begun::Begun;
-use crate::misuse::Misuse;
 use crate::plain_limits::PlainLimits;
-use crate::queue_number::QueueNumber;
 use crate::refusal::Refusal;
+use biased_queue::{BiasedFreezer, BiasedQueue, BiasedTag};
+use c_answers::{DrawnNumber, Misuse};
 pub use ends::KeptFreezer;
-use queue_core::{BlockQueue, FreezeFault, Freezer, Limits, Mode, Tag, Thawed};
+use queue_core::{FreezeFault, Limits, Mode, Tag, Thawed};
 use std::marker::Model;
 use std::sync::Arc;
 
@@ -23,29 +23,34 @@ use std::sync::Arc;
 #[repr(C)]
 pub struct OpenFreezer {
     before: [u64; 16],
-    queue: Arc<BlockQueue>,
-    number: QueueNumber,
-    waiting: Vec<Tag>,
-    freezer: Freezer,
+    queue: Arc<BiasedQueue>,
+    number: DrawnNumber,
+    /// The number of tags of the queue.
+    tags: u32,
+    waiting: Vec<BiasedTag>,
+    /// Room for the plain tags when the queue ends.
+    room: Vec<Tag>,
+    freezer: BiasedFreezer,
     after: [u64; 16],
 }
 
 impl Model for OpenFreezer {
-    ghost use Rattle.std.specs.Prelude.{◌≡◌, ◌≤◌, All, false};
+    ghost use Rattle.std.specs.Prelude.{◌≡◌, ◌≤◌, All, [], vec_len};
     ghost use Rattle.std.specs.Vec.{vec_capacity};
     ghost use Rattle.std.specs.Arc.{arc_value};
-    ghost use Rattle.freeze_queue_c.specs.Opened.{FreezerOpened};
+    ghost use Rattle.biased_queue.specs.Biased.{IsOf, IsBiasedQueue};
+    ghost use Rattle.freeze_queue_c.specs.Opened.{FreezerOpened, Waits};
 
     ghost Value = { FreezerOpened };
 
-    ghost view = { λ f. record { number = f.number; waiting = f.waiting.items; freezer = f.freezer } };
+    ghost view = { λ f. record { number = f.number; queue = arc_value f.queue; waiting = f.waiting.items; freezer = f.freezer } };
 
-    ghost invariant = { λ f. (f.freezer.queue ≡ arc_value f.queue) × (f.freezer.tags ≤ vec_capacity f.waiting)
-        × All (λ t. t.queue ≡ arc_value f.queue) f.waiting.items
-        × All (λ t. t.entered ≡ false) f.waiting.items };
+    ghost invariant = { λ f. (IsOf f.freezer (arc_value f.queue)) × (f.tags ≡ f.freezer.freezer.tags)
+        × (f.tags ≤ vec_capacity f.waiting) × (f.room.items ≡ []) × (f.tags ≤ vec_capacity f.room)
+        × All (Waits (arc_value f.queue)) f.waiting.items × (vec_len f.waiting ≤ f.tags) × IsBiasedQueue (arc_value f.queue) };
 }
 
-/// A mode, by its number.
+/// The mode with this number.
 fn mode_of(mode: u32) -> Mode
     ensures { result ≡ mode_named mode }
 {
@@ -53,7 +58,7 @@ fn mode_of(mode: u32) -> Mode
 }
 
 impl OpenFreezer {
-    /// Begins a freeze, and looks whether the queue is drained.
+    /// Starts a freeze, and looks whether the queue is drained.
     #[tactic(auto, using(crate::proofs::Kept::freeze_keeps))]
     pub fn start_freeze(&mut self) -> Result<Result<Begun, FreezeFault>, Misuse>
         ensures { Ran None StartedFreeze self.old self.new result }
@@ -73,7 +78,7 @@ impl OpenFreezer {
         self.freezer.poll_drained(&self.queue)
     }
 
-    /// The limits to be set. Refuses the limits' faults, OtherHardware.
+    /// Returns the limits to be set. Refuses with the limits' faults or OtherHardware.
     fn checked(&self, limits: &PlainLimits) -> Result<Limits, Refusal>
         ensures { Sought (input_refusal limits.now self.now) (bounds_of limits.now) result }
     {
@@ -110,7 +115,7 @@ impl OpenFreezer {
         Ok(self.freezer.thaw(&self.queue))
     }
 
-    /// Counts in this mode from now on. Refuses Mode.
+    /// Counts in this mode from now on. Refuses with Mode.
     pub fn mode(&mut self, mode: u32) -> Result<(), Misuse>
         ensures { Ran (mode_misuse mode self.old) (HasMode mode) self.old self.new result }
     {
@@ -121,7 +126,7 @@ impl OpenFreezer {
         Ok(())
     }
 
-    /// The freezes that aren't thawed yet.
+    /// The number of freezes that aren't thawed yet.
     pub fn depth(&mut self) -> Result<u32, Misuse>
         ensures { Ran None ToldDepth self.old self.new result }
     {
@@ -136,7 +141,7 @@ impl OpenFreezer {
     }
 
     /// The number of its queue.
-    pub fn number(&self) -> QueueNumber
+    pub fn number(&self) -> DrawnNumber
         ensures { result ≡ self.now.number }
     {
         self.number

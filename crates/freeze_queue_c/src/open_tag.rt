@@ -1,46 +1,51 @@
-//! What an open tag handle leads to.
-ghost use Rattle.std.specs.Prelude.{◌≡◌, None};
-ghost use Rattle.freeze_queue_c.specs.Ran.{Ran, misuse_of};
-ghost use Rattle.freeze_queue_c.specs.TagCalls.{slot_misuse, enter_misuse, leave_misuse, limits_misuse, TriedToEnter, TriedToLookIn, HasStayed, HasLeft, ToldLimits};
+//! The box of an open tag handle.
+ghost use Rattle.std.specs.Prelude.{◌≡◌, None, false, IfSome};
+ghost use Rattle.biased_queue.specs.Biased.{IsBiasedQueue, is_in};
+ghost use Rattle.c_answers.specs.Ran.{Ran, misuse_of};
+ghost use Rattle.freeze_queue_c.specs.Life.{EndedBias};
+ghost use Rattle.freeze_queue_c.specs.Opened.{Waits};
+ghost use Rattle.freeze_queue_c.specs.TagCalls.{slot_misuse, enter_misuse, leave_misuse, limits_misuse, TriedToEnter, TriedToLookIn, Leaves, ToldLimits};
 
-use crate::misuse::Misuse;
 use crate::plain_limits::PlainLimits;
-use crate::queue_number::QueueNumber;
-use queue_core::{BlockQueue, Entry, Put, Stay, Tag};
+use crate::tried::Tried;
+use biased_queue::{BiasedEntry, BiasedQueue, BiasedTag};
+use c_answers::{DrawnNumber, Misuse};
+use percpu_gate::Put;
 use std::marker::Model;
 use std::sync::Arc;
 
-/// A tag with its queue, and the number that tells the queue from others.
+/// A tag with its queue, and the queue's unique number.
 ///
-/// There are 128 unused bytes before and behind what calls write, so that boxes of different threads share no
-/// 128 bytes, whatever else lies beside them.
+/// 128 unused bytes before and after what calls write keep the boxes of different threads from sharing 128 bytes.
 #[derive(Drop)]
 #[repr(C)]
 pub struct OpenTag {
     before: [u64; 16],
-    queue: Arc<BlockQueue>,
-    number: QueueNumber,
-    tag: Tag,
+    pub(crate) queue: Arc<BiasedQueue>,
+    number: DrawnNumber,
+    pub(crate) tag: BiasedTag,
     after: [u64; 16],
 }
 
 impl Model for OpenTag {
     ghost use Rattle.std.specs.Prelude.{◌≡◌};
     ghost use Rattle.std.specs.Arc.{arc_value};
+    ghost use Rattle.biased_queue.specs.Biased.{IsBiasedQueue};
     ghost use Rattle.freeze_queue_c.specs.Opened.{TagOpened};
 
     ghost Value = { TagOpened };
 
-    ghost view = { λ t. record { number = t.number; tag = t.tag } };
+    ghost view = { λ t. record { number = t.number; queue = arc_value t.queue; tag = t.tag } };
 
-    ghost invariant = { λ t. t.tag.queue ≡ arc_value t.queue };
+    ghost invariant = { λ t. (t.tag.bias.lanes ≡ (arc_value t.queue).lanes) × IsBiasedQueue (arc_value t.queue) };
 }
 
 impl OpenTag {
-    /// A tag of this queue.
-    pub fn new(queue: Arc<BlockQueue>, number: QueueNumber, tag: Tag) -> OpenTag
-        requires own { tag.queue ≡ queue.value }
-        ensures { result ≡ record { number = number; tag = tag } }
+    /// Makes the box's contents for a tag of this queue.
+    pub fn new(queue: Arc<BiasedQueue>, number: DrawnNumber, tag: BiasedTag) -> OpenTag
+        requires own { tag.bias.lanes ≡ queue.value.lanes }
+        requires queue { IsBiasedQueue queue.value }
+        ensures { result ≡ record { number = number; queue = queue.value; tag = tag } }
     {
         OpenTag {
             before: [0; 16],
@@ -85,64 +90,72 @@ impl OpenTag {
         }
     }
 
-    /// Enters unless the queue is frozen. Refuses Slot, Entered.
-    pub fn try_enter(&mut self, slot: u32) -> Result<Entry, Misuse>
+    /// Enters unless the queue is frozen. Refuses with Slot or Entered.
+    pub fn try_enter(&mut self, slot: u32) -> Result<Tried, Misuse>
         ensures { Ran (enter_misuse slot self.old) (TriedToEnter slot) self.old self.new result }
     {
         self.refuse_enter(slot)?;
-        Ok(self.queue.try_enter(&mut self.tag, slot))
+        let had_bias = self.tag.is_biased();
+        let entry = self.tag.try_enter(&self.queue, slot);
+        Ok(Tried { entry, had_bias })
     }
 
-    /// Enters to look at what is under way, unless the queue is drained. Refuses Slot, Entered.
-    pub fn try_enter_frozen(&mut self, slot: u32) -> Result<Entry, Misuse>
-        ensures { Ran (enter_misuse slot self.old) TriedToLookIn self.old self.new result }
+    /// Enters to look at the requests in flight, unless the queue is drained. Refuses with Slot or Entered.
+    pub fn try_enter_frozen(&mut self, slot: u32) -> Result<BiasedEntry, Misuse>
+        ensures { Ran (enter_misuse slot self.old) (TriedToLookIn slot) self.old self.new result }
     {
         self.refuse_enter(slot)?;
-        Ok(self.queue.try_enter_frozen(&mut self.tag, slot))
+        Ok(self.tag.try_enter_frozen(&self.queue, slot))
     }
 
-    /// Stays, or leaves where the queue is frozen. Refuses Slot, NotEntered.
-    pub fn stay(&mut self, slot: u32) -> Result<Stay, Misuse>
-        ensures { Ran (leave_misuse slot self.old) HasStayed self.old self.new result }
+    /// Leaves. If `keep` is true and the queue isn't frozen, a tag with no bias parks its reference. Refuses with Slot or NotEntered.
+    pub fn leave(&mut self, slot: u32, keep: bool) -> Result<Put, Misuse>
+        ensures { Ran (leave_misuse slot self.old) (Leaves slot keep) self.old self.new result }
     {
         self.refuse_slot(slot)?;
         self.refuse_outside()?;
-        Ok(self.queue.stay(&mut self.tag, slot))
+        Ok(self.tag.leave(&self.queue, slot, keep))
     }
 
-    /// Leaves. Refuses Slot, NotEntered.
-    pub fn leave(&mut self, slot: u32) -> Result<Put, Misuse>
-        ensures { Ran (leave_misuse slot self.old) HasLeft self.old self.new result }
-    {
-        self.refuse_slot(slot)?;
-        self.refuse_outside()?;
-        Ok(self.queue.leave(&mut self.tag, slot))
-    }
-
-    /// The limits in force. Refuses NotEntered.
+    /// The limits in force. Refuses with NotEntered.
     pub fn limits(&mut self) -> Result<PlainLimits, Misuse>
         ensures { Ran (limits_misuse self.old) ToldLimits self.old self.new result }
     {
         self.refuse_outside()?;
-        Ok(PlainLimits::of(self.queue.limits(&mut self.tag)))
+        Ok(PlainLimits::of(self.tag.limits()))
     }
 
-    /// The number of its queue.
-    pub fn number(&self) -> QueueNumber
+    /// Ends the bias of a tag that isn't in, if it has one. Returns the put, or None if the freezer has the tag in hand.
+    pub fn end_bias(&mut self) -> Option<Put>
+        requires out { is_in self.old.tag ≡ false }
+        ensures ended { EndedBias self.old self.new result }
+        ensures waits { IfSome result (λ _. Waits self.new.queue self.new.tag) }
+    {
+        if !self.tag.is_biased() && !self.tag.entered() {
+            return Some(Put::NotLast);
+        }
+        let slot = self.queue.slots() - 1;
+        let put = self.tag.end_bias(&self.queue, slot)?;
+        prove!(!self.tag.entered());
+        Some(put)
+    }
+
+    /// The number of the tag's queue.
+    pub fn number(&self) -> DrawnNumber
         ensures { result ≡ self.now.number }
     {
         self.number
     }
 
-    /// Whether it has entered and not left.
+    /// Whether the tag has entered and not left.
     pub fn entered(&self) -> bool
-        ensures { result ≡ self.now.tag.entered }
+        ensures { result ≡ is_in self.now.tag }
     {
         self.tag.entered()
     }
 
     /// The tag alone.
-    pub fn into_tag(self) -> Tag
+    pub fn into_tag(self) -> BiasedTag
         ensures { result ≡ self.tag }
     {
         let Self {

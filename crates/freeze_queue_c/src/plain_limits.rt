@@ -1,12 +1,11 @@
-//! Limits as C has them.
+//! Limits for C.
 ghost use Rattle.std.specs.Prelude.{◌≡◌, None, Some, MatchResult};
 ghost use Rattle.freeze_queue_c.specs.PlainLimits.{as_bounds, bounds_of, limit_refusal};
 
 use queue_core::{LimitFault, Limits};
 
-/// Four numbers of sectors, which may be anything: what the hardware takes in one request, the most of one request (0 asks
-/// for as many as the hardware takes), the chunk (0: none), and the physical block (0: one sector). Linux: `struct
-/// queue_limits` (include/linux/blkdev.h).
+/// Four numbers of sectors, unchecked: the maximum that the hardware takes in one request, the maximum of one request (0: that of the
+/// hardware), the chunk (0: none), and the physical block (0: one sector). Linux: `struct queue_limits` (include/linux/blkdev.h).
 #[derive(Clone, Copy, Debug, PartialEq, Eq, Drop)]
 #[repr(C)]
 pub struct PlainLimits {
@@ -29,7 +28,7 @@ impl PlainLimits {
         }
     }
 
-    /// The limits that these numbers are. Refuses HardwareRange, AboveHardware, ChunkTooLarge, BadPhysical, in this order.
+    /// Returns the limits with these numbers. Refuses with HardwareRange, AboveHardware, ChunkTooLarge or BadPhysical, in this order.
     pub fn checked(&self) -> Result<Limits, LimitFault>
         ensures { MatchResult result (λ l. (limit_refusal self.now ≡ None) × (l ≡ bounds_of self.now)) (λ why. limit_refusal self.now ≡ Some why) }
     {

@@ -1,12 +1,12 @@
-//! Why a call is refused that takes limits, makes a queue or ends one.
+//! Refusals of the calls that take limits, make a queue or end it.
 ghost use Rattle.std.specs.Prelude.{◌≡◌};
 ghost use Rattle.freeze_queue_c.specs.Numbers.{refusal_number};
 
-use crate::misuse::Misuse;
+use c_answers::Misuse;
 use queue_core::{FreezeFault, LimitFault};
 use thiserror::Error;
 
-/// A refusal, by whom. Everything is as before.
+/// Why a call is refused. The call has changed nothing, unless the end of a queue returned Memory.
 #[derive(Clone, Copy, Debug, PartialEq, Eq, Error)]
 pub enum Refusal {
     /// No queue may have these limits.
@@ -24,7 +24,7 @@ pub enum Refusal {
 }
 
 impl Refusal {
-    /// Its number: 24 more than a fault of limits has, 29, 16 more than the queue's refusal has, or that of the misuse.
+    /// The refusal's number: a fault of limits plus 24, 29 for other hardware, a refusal of the queue plus 16, or the misuse's number.
     pub fn number(&self) -> u32
         ensures { result ≡ refusal_number self.now }
     {

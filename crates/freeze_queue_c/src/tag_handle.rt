@@ -1,15 +1,15 @@
-//! A tag, to C.
+//! A tag's handle for C.
 ghost use Rattle.std.specs.Prelude.{◌≡◌, Some, None, is_some, IsSome, IfOk, IfErr};
-ghost use Rattle.freeze_queue_c.specs.declared.misuse.Misuse.TheVariants.{Open};
+ghost use Rattle.c_answers.specs.declared.misuse.Misuse.TheVariants.{Open};
 ghost use Rattle.freeze_queue_c.specs.TagHolding.{opened};
 
-use crate::misuse::Misuse;
 use crate::open_tag::OpenTag;
 use crate::tag_held::TagHeld;
+use c_answers::Misuse;
 use std::alloc::Global;
 use std::mem;
 
-/// A tag handle: to C a `bool` and a pointer, all zero where it is closed.
+/// A tag's handle: for C a `bool` and a pointer, all zero if it is closed.
 #[derive(Drop)]
 #[repr(C)]
 pub struct TagHandle {
@@ -32,7 +32,7 @@ impl TagHandle {
         }
     }
 
-    /// The box of an open handle, which is left closed.
+    /// Takes the box of an open handle, which is closed afterwards.
     pub fn take(&mut self) -> Option<Box<OpenTag>>
         ensures tag { opened result ≡ self.old.held.tag }
         ensures closed { self.new.held.tag ≡ None }
@@ -45,7 +45,7 @@ impl TagHandle {
         Some(mem::replace(&mut self.held, nothing).into_box())
     }
 
-    /// Its allocator, where it is closed. Refuses Open.
+    /// Returns the allocator of a closed handle. Refuses with Open.
     pub fn closed(&self) -> Result<Global, Misuse>
         ensures closed { IfOk result (λ _. self.now.held.tag ≡ None) }
         ensures open { IfErr result (λ why. (why ≡ Open) × IsSome self.now.held.tag) }
@@ -62,7 +62,7 @@ impl TagHandle {
         requires closed { self.old.held.tag ≡ None }
         ensures { self.new.held.tag ≡ Some tag.value }
     {
-        // One by one, since the bytes between them needn't be stored: what is stored delays the exchange that comes next.
+        // Field by field, since the bytes between them needn't be stored: a store delays the exchange that comes next.
         self.held = TagHeld::of(tag);
         self.is_open = true;
     }

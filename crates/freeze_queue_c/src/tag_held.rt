@@ -1,4 +1,4 @@
-//! The box of a handle, under a pointer that C may keep.
+//! The box of a handle, behind a pointer that C may keep.
 ghost use Rattle.std.specs.Prelude.{◌≡◌, Some, None, Option};
 ghost use Rattle.freeze_queue_c.specs.TagHolding.{tag_owns, tag_coded};
 ghost use Rattle.freeze_queue_c.specs.declared.open_tag.OpenTag.{OpenTag};
@@ -9,8 +9,8 @@ use std::alloc::Global;
 use std::marker::Model;
 use std::ptr;
 
-/// A box of a tag, or nothing. The pointer's type hides the tag's, which C may not know. One that is let go
-/// keeps its box.
+/// A box of a tag, or nothing. The pointer's type hides the tag's, which C may not know. Dropping it doesn't free the
+/// box.
 #[derive(Drop)]
 #[repr(C)]
 pub struct TagHeld {
@@ -24,7 +24,7 @@ impl Model for TagHeld {
 }
 
 impl TagHeld {
-    /// Nothing.
+    /// Returns nothing.
     pub(crate) fn nothing(alloc: Global) -> TagHeld
         ensures { result.tag ≡ None }
     {
@@ -32,14 +32,14 @@ impl TagHeld {
         TagHeld { at, alloc }
     }
 
-    /// This box.
+    /// Holds this box.
     pub(crate) fn of(tag: Box<OpenTag>) -> TagHeld
         ensures { result.tag ≡ Some tag.value }
     {
         TagHeld::of_loose(Loose::of(tag))
     }
 
-    /// Its box.
+    /// Returns the box.
     pub(crate) fn into_box(self) -> Box<OpenTag>
         requires open { (s : OpenTag) × (self.tag ≡ Some s) }
         ensures { self.tag ≡ Some result.value }

@@ -1,5 +1,6 @@
-//! A life through the exports, and each misuse. What the program does with C's threads, sanitizers and a failing
-//! `malloc` is tested by c/tests.
+//! A life through the exports, and each misuse. c/tests tests what the library does with C's threads, sanitizers and a
+//! failing `malloc`.
+mod biased;
 mod ends;
 mod freed;
 mod limits;
@@ -16,21 +17,20 @@ use crate::life::{
 use crate::open_freezer::OpenFreezer;
 use crate::open_tag::OpenTag;
 use crate::plain_limits::PlainLimits;
-use crate::queue_number::QueueNumber;
 use crate::tag_calls::{
-    freeze_queue_leave, freeze_queue_limits_of, freeze_queue_stay, freeze_queue_try_enter,
-    freeze_queue_try_enter_frozen,
+    freeze_queue_leave, freeze_queue_limits_of, freeze_queue_look_in, freeze_queue_try_enter,
 };
 use crate::tag_handle::TagHandle;
+use c_answers::DrawnNumber;
 use std::process::Abort;
 
-/// The number of a test's queue.
-const NUMBER: QueueNumber = QueueNumber {
+/// The number of the tests' queue.
+const NUMBER: DrawnNumber = DrawnNumber {
     counter: 1,
     drawn: 1,
 };
 
-/// Sixteen sectors by hardware, twelve by choice, in chunks of ten, with blocks of four.
+/// Hardware that takes 16 sectors, a maximum of 12, chunks of 10 and physical blocks of 4.
 const LIMITS: PlainLimits = PlainLimits {
     hardware: 16,
     max: 12,
@@ -38,10 +38,10 @@ const LIMITS: PlainLimits = PlainLimits {
     physical: 4,
 };
 
-/// What a handle leads to may cross threads.
+/// The box of a handle may cross threads.
 fn crosses<T: Send>() {}
 
-/// A freezer and a tag of a new queue with two slots and two tags.
+/// Returns a freezer and a tag of a new queue with two slots and two tags.
 fn opened(rt: HostRuntime) -> (FreezerHandle, TagHandle) {
     crosses::<OpenTag>();
     crosses::<OpenFreezer>();
@@ -52,13 +52,13 @@ fn opened(rt: HostRuntime) -> (FreezerHandle, TagHandle) {
     (freezer, tag)
 }
 
-/// Frees both.
+/// Frees both handles.
 fn close(freezer: &mut FreezerHandle, tag: &mut TagHandle) {
     freeze_queue_free_tag(tag);
     freeze_queue_free_freezer(freezer);
 }
 
-/// Enters, is frozen out, looks in, leaves as the last, and enters again after the thaw.
+/// A tag enters; during a freeze a second tag is refused, looks in, leaves as the last, and enters again after the thaw.
 #[test]
 fn a_life(rt: HostRuntime) {
     let (mut freezer, mut tag) = opened(rt);
@@ -70,23 +70,22 @@ fn a_life(rt: HostRuntime) {
     assert!(rt; freeze_queue_start_freeze(&mut freezer, &mut depth) == 0);
     assert!(rt; depth == 1);
     assert!(rt; freeze_queue_try_enter(&mut other, 0) == 2);
-    assert!(rt; freeze_queue_try_enter_frozen(&mut other, 0) == 0);
+    assert!(rt; freeze_queue_look_in(&mut other, 0) == 0);
     assert!(rt; freeze_queue_leave(&mut tag, 0) == 0);
     assert!(rt; !freeze_queue_poll_drained(&mut freezer));
     assert!(rt; freeze_queue_leave(&mut other, 0) == 1);
     assert!(rt; freeze_queue_poll_drained(&mut freezer));
-    assert!(rt; freeze_queue_try_enter_frozen(&mut other, 1) == 2);
+    assert!(rt; freeze_queue_look_in(&mut other, 1) == 2);
     assert!(rt; freeze_queue_thaw(&mut freezer, &mut depth) == 5);
     assert!(rt; depth == 0);
     assert!(rt; freeze_queue_try_enter(&mut other, 1) == 0);
-    assert!(rt; freeze_queue_stay(&mut other, 1) == 0);
     assert!(rt; freeze_queue_leave(&mut other, 1) == 0);
-    assert!(rt; freeze_queue_stay(&mut other, 1) == 49);
+    assert!(rt; freeze_queue_leave(&mut other, 1) == 49);
     freeze_queue_free_tag(&mut other);
     close(&mut freezer, &mut tag);
 }
 
-/// A freeze of a queue that nobody is in is told, and so is one that nests in it; a thaw tells when the queue is live.
+/// A freeze of an empty queue returns that it is drained, and so does a nested freeze. The last thaw returns that it is live.
 #[test]
 fn nested_freezes(rt: HostRuntime) {
     let (mut freezer, mut tag) = opened(rt);
@@ -108,7 +107,7 @@ fn nested_freezes(rt: HostRuntime) {
     close(&mut freezer, &mut tag);
 }
 
-/// Who was drained by the last to leave is told at the next freeze, without a look in between.
+/// If the last tag to leave has drained the queue, the next freeze returns this without a look in between.
 #[test]
 fn a_nested_freeze_looks(rt: HostRuntime) {
     let (mut freezer, mut tag) = opened(rt);
@@ -122,7 +121,7 @@ fn a_nested_freeze_looks(rt: HostRuntime) {
     close(&mut freezer, &mut tag);
 }
 
-/// The thousand-and-first freeze is refused, and writes nothing.
+/// Freeze number 1,001 is refused, and writes nothing.
 #[test]
 fn the_greatest_depth(rt: HostRuntime) {
     let (mut freezer, mut tag) = opened(rt);
@@ -142,18 +141,18 @@ fn misuse_of_a_tag(rt: HostRuntime) {
     let (mut freezer, mut tag) = opened(rt);
     let mut told = LIMITS;
     assert!(rt; freeze_queue_try_enter(&mut tag, 2) == 34);
-    assert!(rt; freeze_queue_try_enter_frozen(&mut tag, 2) == 34);
+    assert!(rt; freeze_queue_look_in(&mut tag, 2) == 34);
     assert!(rt; freeze_queue_leave(&mut tag, 2) == 34);
     assert!(rt; freeze_queue_leave(&mut tag, 1) == 49);
     assert!(rt; freeze_queue_limits_of(&mut tag, &mut told) == 49);
     assert!(rt; freeze_queue_try_enter(&mut tag, 1) == 0);
     assert!(rt; freeze_queue_try_enter(&mut tag, 2) == 34);
     assert!(rt; freeze_queue_try_enter(&mut tag, 0) == 48);
-    assert!(rt; freeze_queue_try_enter_frozen(&mut tag, 0) == 48);
+    assert!(rt; freeze_queue_look_in(&mut tag, 0) == 48);
     assert!(rt; freeze_queue_leave(&mut tag, 0) == 0);
     freeze_queue_free_tag(&mut tag);
     assert!(rt; freeze_queue_try_enter(&mut tag, 0) == 32);
-    assert!(rt; freeze_queue_try_enter_frozen(&mut tag, 0) == 32);
+    assert!(rt; freeze_queue_look_in(&mut tag, 0) == 32);
     assert!(rt; freeze_queue_leave(&mut tag, 0) == 32);
     assert!(rt; freeze_queue_limits_of(&mut tag, &mut told) == 32);
     close(&mut freezer, &mut tag);
@@ -175,7 +174,7 @@ fn misuse_of_a_freezer(rt: HostRuntime) {
     close(&mut freezer, &mut tag);
 }
 
-/// Both modes count, also where the mode is changed while a tag is in or the queue is frozen.
+/// Both modes count, also if the mode is changed while a tag is in or the queue is frozen.
 #[test]
 fn both_modes(rt: HostRuntime) {
     let (mut freezer, mut tag) = opened(rt);
@@ -192,7 +191,7 @@ fn both_modes(rt: HostRuntime) {
     close(&mut freezer, &mut tag);
 }
 
-/// What a freed tag had entered it never leaves: the queue is never drained.
+/// A tag that is freed while it is in never leaves: the queue never drains.
 #[test]
 fn a_freed_tag_stays_in(rt: HostRuntime) {
     let (mut freezer, mut tag) = opened(rt);
@@ -204,7 +203,7 @@ fn a_freed_tag_stays_in(rt: HostRuntime) {
     freeze_queue_free_freezer(&mut freezer);
 }
 
-/// The tags of a freed freezer enter on: nobody has frozen their queue.
+/// The tags of a freed freezer go on entering: nobody has frozen their queue.
 #[test]
 fn a_freed_freezer_leaves_its_queue_live(rt: HostRuntime) {
     let (mut freezer, mut tag) = opened(rt);

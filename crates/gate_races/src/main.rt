@@ -1,9 +1,9 @@
-//! All that may happen in a race of a gate.
+//! Everything that may happen in a race of a gate.
 //!
-//! The program reads a race from standard input: a gate, and the calls of each of its actors. It writes what these
-//! calls may be answered, in all orders of their atomic steps, and a shortest schedule for each outcome. `races_run` is all of it
-//! over any reader and writers; here it gets the words after the program's name and the standard streams. Where standard error is a
-//! terminal, a line there shows how far the search is.
+//! The program reads a race from standard input: a gate, and the calls of each of its actors. It goes through all orders of their
+//! atomic steps, and writes the answers that the calls may get, and a shortest schedule for each outcome. `races_run`
+//! does all of this over any reader and writers; this crate passes it the arguments and the standard streams. If standard
+//! error is a terminal, a line there shows how far the search is.
 #![tactic(auto)]
 
 use counted_io::Counted;
@@ -13,7 +13,7 @@ use std::process::ExitCode;
 use std::rt::Env;
 use std::{env, io};
 
-/// The words after the program's name.
+/// The program's arguments.
 fn words(rt: &(impl Env + AllocGlobal)) -> io::Result<Vec<String>> {
     Ok(env::args(rt)?.skip(1).collect(rt.alloc())?)
 }

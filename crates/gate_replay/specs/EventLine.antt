@@ -1,4 +1,4 @@
--- What a line of a schedule says that tells a step.
+-- The step that a line of a schedule describes.
 use Rattle.std.specs.Prelude.{ℕ, ℤ, pos, neg_ℤ, true, if◌then◌else◌, List, [], ◌∷◌, Result, Ok, Err, codes}
 use Rattle.std.specs.List.{list_all}
 use Rattle.std.specs.Str.{bytes_eq}

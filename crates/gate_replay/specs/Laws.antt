@@ -16,18 +16,19 @@ use Rattle.gate_replay.specs.declared.schedule.Schedule.{Schedule}
 abbrev pub step_of : ℕ × Event → Event
 step_of e = e.1
 
--- where the machine takes all steps, their replies are shown, and then the state that they leave
+-- if the machine takes all steps, their replies are shown, and then the state that they leave
 abbrev pub WholeRunsAreShown : Type 0
 WholeRunsAreShown = (first : State) (events : List (ℕ × Event)) (replies : List Reply) (last : State) → Run first (map step_of events) replies last
     → shown_from first events ≡ record { text = flat_map reply_line replies ++ end_line last; ended = Whole }
 
--- where it takes some, and the next one isn't enabled, the replies are shown, and then the line of that one
+-- if it takes some and the next isn't enabled, their replies are shown, and then the line of the step that isn't enabled
 abbrev pub StuckRunsAreShown : Type 0
 StuckRunsAreShown = (first : State) (before : List (ℕ × Event)) (replies : List Reply) (here : State) (line : ℕ) (event : Event) (why : NotEnabled) (later : List (ℕ × Event))
     → Run first (map step_of before) replies here → refusal here event ≡ Some why
     → shown_from first (before ++ (line, event) ∷ later) ≡ record { text = flat_map reply_line replies ++ stuck_line line why; ended = Stuck }
 
--- a schedule whose steps are all taken, and that leaves every pass joined and the control at rest, shows its replies and the state that they leave, and nothing is lost in it
+-- a schedule of which all steps are taken, and that leaves every pass joined and the control at rest, shows their replies and the state that they leave, and
+-- nothing is lost in it
 abbrev pub EndedReplaysLoseNothing : Type 0
 EndedReplaysLoseNothing = (schedule : Schedule) (replies : List Reply) (last : State) → IsWithinLimits (opening_in schedule)
     → Run (first_state (opening_in schedule)) (map step_of schedule.events) replies last → IsOver last

@@ -13,7 +13,7 @@ use Rattle.percpu_words.specs.SharedWord.{SharedWord, spelling, parts}
 abbrev pub marks_text : SharedWord → List ℕ
 marks_text shared = if shared.zero then codes "zero " else if shared.dead then codes "dead " else codes "live "
 
--- a shared word, as the number that spells it: its marks, and its value with whatever bias is in it
+-- a shared word, given as a number: its marks, and its value with any bias that is in it
 unfoldable pub shared_text : ℕ → List ℕ
 shared_text word = marks_text (parts word) ++ decimal (parts word).value
 
@@ -47,11 +47,11 @@ why_text NoSuchWord = codes "no such word"
 why_text BadAmount = codes "bad amount"
 why_text StillHeld = codes "still held"
 
--- the last line, where the step of the schedule's line of this number isn't enabled
+-- the last line, if the step on this line of the schedule isn't enabled
 abbrev pub stuck_line : ℕ → NotEnabled → List ℕ
 stuck_line line why = codes "stuck " ++ decimal line ++ codes " " ++ why_text why ++ codes "\n"
 
--- the last line, where all steps were taken
+-- the last line, if all steps were taken
 abbrev pub end_line : State → List ℕ
 end_line s =
     codes "end " ++ shared_text (spelling s.cells.shared) ++ named (codes " front ") s.cells.front ++ named (codes " kills ") s.control.kills

@@ -1,4 +1,4 @@
--- Which schedule a text means, or which fault it has.
+-- The schedule that a text means, or its first fault.
 use Rattle.std.specs.Prelude.{ℕ, Bool, List, [], ◌∷◌, Result, Ok}
 use Rattle.line_text.specs.Numbers.{◌>>=◌}
 use Rattle.line_text.specs.Answers.{at_line}
@@ -14,7 +14,7 @@ use Rattle.gate_replay.specs.declared.schedule.Schedule.{Schedule}
 use Rattle.gate_replay.specs.declared.world_line.MarkedWorld.{MarkedWorld}
 use Rattle.gate_replay.specs.declared.world_line.WorldLine.{WorldLine}
 
--- what a gate is made with, as a line told it, and as a schedule has it
+-- what a gate is made with, from a line, and from a schedule
 abbrev pub opened : WorldLine → Opening
 opened said = opening said.slots said.passes said.start said.kills said.words
 
@@ -29,7 +29,7 @@ opening_in schedule = opening schedule.slots schedule.passes schedule.start sche
 abbrev pub schedule_in : Opening → List (ℕ × Event) → Schedule
 schedule_in world events = record { slots = world.slots; passes = world.passes; start = world.start; kills = world.kills; words = world.words; events = events }
 
--- what the words of a line tell, where it has any
+-- the step that the words of a line describe, if it has any
 abbrev pub told_by : Result (List (List ℕ)) Why → Result Event Why
 told_by words = words >>= event_of
 
@@ -41,15 +41,15 @@ events_of (said ∷ more) =
     events_of more >>= λ events.
     Ok ((said.0, event) ∷ events)
 
--- the first line that says something has to be that of the version
+-- the first line that isn't empty or a comment has to name the version
 abbrev pub gate_in : Unread → Result Bool ParseFault
 gate_in text = first_or NoVersion text >>= λ said. at_line said.0 (gate_of said.1)
 
--- and the next one that of the world
+-- and the next one describes the world
 abbrev pub world_in : Unread → Result Opening ParseFault
 world_in text = first_or NoWorld text >>= λ said. at_line said.0 (world_of said.1)
 
--- or that of a world in which the mark may replace the guarded words
+-- or a world in which the mark may replace the guarded words
 abbrev pub marked_world_in : List ℕ → Unread → Result Marked ParseFault
 marked_world_in mark text = first_or NoWorld text >>= λ said. at_line said.0 (marked_world_of mark said.1)
 

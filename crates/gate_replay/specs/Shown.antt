@@ -1,4 +1,4 @@
--- What a replay writes for an input: the lines of its steps, or the fault that the input is refused for.
+-- What a replay writes for an input: the lines of its steps, or the fault for which the input is refused.
 use Rattle.std.specs.Prelude.{◌≡◌, ℕ, Option, None, Some, List, [], ◌∷◌, ◌++◌, Result, Ok, IsOkAnd}
 use Rattle.line_text.specs.Numbers.{◌>>=◌}
 use Rattle.line_text.specs.declared.fault.ParseFault.{ParseFault}
@@ -22,7 +22,7 @@ pub record Shown : Type 0 where
 abbrev pub then_shown : List ℕ → Shown → Shown
 then_shown text shown = record { text = text ++ shown.text; ended = shown.ended }
 
--- what the step of this line shows: its reply and what comes after it, or why it isn't enabled
+-- what the step of this line shows: its reply and what follows, or why it isn't enabled
 abbrev pub step_shown : Option NotEnabled → ℕ → Reply → Shown → Shown
 step_shown None line replied rest = then_shown (reply_line replied) rest
 step_shown (Some why) line replied rest = record { text = stuck_line line why; ended = Stuck }
@@ -35,10 +35,10 @@ shown_from s (e ∷ es) = step_shown (refusal s e.1) e.0 (reply s e.1) (shown_fr
 abbrev pub shown_of : Schedule → Shown
 shown_of schedule = shown_from (first_state (opening_in schedule)) schedule.events
 
--- what an input is answered with: what its schedule shows, or the fault of an input that means none
+-- the result for an input: what its schedule shows, or the fault of an input that means none
 unfoldable pub shown_by : List ℕ → Result Shown ParseFault
 shown_by input = schedule_of input >>= λ schedule. Ok (shown_of schedule)
 
--- the input's replay ends so, and P holds of its text
+-- the replay of the input ends like this, and P holds of its text
 abbrev pub EndsSo : List ℕ → Replayed → (List ℕ → Type 0) → Type 0
 EndsSo input ended P = IsOkAnd (shown_by input) (λ shown. (shown.ended ≡ ended) × P shown.text)

@@ -59,7 +59,7 @@ sizes_of (slots ∷ passes ∷ start ∷ kills ∷ words) =
 abbrev pub with_values : Sizes → List ℕ → Opening
 with_values said values = opening said.slots said.passes said.start said.kills values
 
--- the words behind SLOTS PASSES START KILLS
+-- the words after SLOTS PASSES START KILLS
 abbrev pub behind_kills : List (List ℕ) → List (List ℕ)
 behind_kills words = drop 4 words
 
@@ -70,7 +70,7 @@ opening_of words =
     values_of (behind_kills words) >>= λ values.
     Ok (with_values said values)
 
--- the words behind `world`
+-- the words after `world`
 abbrev pub behind_world : List (List ℕ) → Result (List (List ℕ)) Why
 behind_world [] = Err NoWorld
 behind_world (first ∷ words) = if bytes_eq first (codes "world") then Ok words else Err NoWorld
@@ -84,7 +84,7 @@ pub record Marked : Type 0 where
   pub world : Opening
   pub is_marked : Bool
 
--- the mark, with no word behind it
+-- the mark, with no word after it
 abbrev pub mark_alone : List (List ℕ) → Result (Bool × List ℕ) Why
 mark_alone words = no_words words >>= λ alone. Ok (true, [])
 
@@ -92,7 +92,7 @@ mark_alone words = no_words words >>= λ alone. Ok (true, [])
 abbrev pub values_alone : List (List ℕ) → Result (Bool × List ℕ) Why
 values_alone words = values_of words >>= λ values. Ok (false, values)
 
--- whether the first of these words is the mark; else they are guarded words
+-- whether the first of these words is the mark; otherwise they are guarded words
 abbrev pub mark_or_values : List ℕ → List (List ℕ) → Result (Bool × List ℕ) Why
 mark_or_values mark [] = Ok (false, [])
 mark_or_values mark (first ∷ words) = if bytes_eq first mark then mark_alone words else values_alone (first ∷ words)

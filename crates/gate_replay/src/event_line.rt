@@ -1,4 +1,4 @@
-//! What a line of a schedule says that tells a step.
+//! The step that a line of a schedule describes.
 ghost use Rattle.std.specs.Prelude.{◌≡◌};
 ghost use Rattle.std.specs.List.{list_all};
 ghost use Rattle.line_text.specs.Numbers.{is_digit};
@@ -10,10 +10,10 @@ use line_text::{
 };
 use percpu_core::{ControlEvent, Event, HELD_LIMIT, PassEvent};
 
-/// The greatest number that a line gives for what was seen in a slot, and less 0 the smallest.
+/// The greatest number that a line gives for what was seen in a slot. Its negative is the smallest.
 const MOST_SEEN: i128 = 4_294_967_295;
 
-/// Whether a word is of digits alone, as one is that names a pass.
+/// Returns whether a word is of digits alone, as is a word that names a pass.
 pub fn is_all_digits(word: &[u8]) -> bool
     ensures { result ≡ list_all is_digit word.now }
 {
@@ -35,7 +35,7 @@ struct OneNumber {
     number: u32,
 }
 
-// The pass, and the one number that is left, from 0 to `most`.
+// Reads the pass, and the one number that is left, from 0 to `most`.
 fn one_number(most: u32, pass: &[u8], words: Words<'_>) -> Result<OneNumber, Why>
     ensures { result ≡ one_number_of most pass.now words.entry }
 {
@@ -60,7 +60,7 @@ struct SlotExchange {
     n: u32,
 }
 
-// What a slot is said to hold.
+// Reads what a slot is said to hold.
 fn delta(word: &[u8]) -> Result<i64, Why>
     ensures { result ≡ delta_in word.now }
 {
@@ -129,7 +129,7 @@ fn load_word(pass: &[u8], words: Words<'_>) -> Result<Event, Why>
     Ok(Event::Pass(pass, PassEvent::LoadWord(number)))
 }
 
-// What follows `add`.
+// Reads what follows `add`.
 fn addition(pass: &[u8], mut words: Words<'_>) -> Result<Event, Why>
     ensures { result ≡ addition_of pass.now words.entry }
 {
@@ -145,7 +145,7 @@ fn addition(pass: &[u8], mut words: Words<'_>) -> Result<Event, Why>
     }
 }
 
-// What follows the number of a pass.
+// Reads what follows the number of a pass.
 fn pass_step(pass: &[u8], mut words: Words<'_>) -> Result<Event, Why>
     ensures { result ≡ pass_step_of pass.now words.entry }
 {
@@ -199,7 +199,7 @@ fn join(words: Words<'_>) -> Result<Event, Why>
     Ok(Event::Control(ControlEvent::Join(pass)))
 }
 
-// What follows the `c` of the control.
+// Reads what follows the `c` of the control.
 fn control_step(mut words: Words<'_>) -> Result<Event, Why>
     ensures { result ≡ control_step_of words.entry }
 {
@@ -237,8 +237,8 @@ fn control_step(mut words: Words<'_>) -> Result<Event, Why>
     }
 }
 
-/// The step that the words of a line tell. A first word of digits alone is the number of a pass, however
-/// long it is, and `c` is the control.
+/// Returns the step that the words of a line describe. A first word of digits alone is the number of a pass, however long it is,
+/// and `c` is the control.
 pub(crate) fn event(mut words: Words<'_>) -> Result<Event, Why>
     ensures { result ≡ event_of words.entry }
 {

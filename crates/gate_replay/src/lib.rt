@@ -1,10 +1,10 @@
 //! Schedules of a gate, written down and replayed.
 //!
-//! A schedule is text. Its first line names the format, its second a world: the slots, the passes, how the
-//! gate starts, its kills and its guarded words. Each further line is one atomic step of a pass or of the
-//! control. [`parse_schedule`] gives the [`Schedule`] that a text means, or the first fault of the text.
-//! [`replay_text`] takes the steps one after another in the gate's machine, `percpu_core`'s `World`, and gives
-//! a line for each reply, and then the line of the end, or of the first step that isn't enabled.
+//! A schedule is text. Its first line names the format, its second a world: the slots, the passes, how the gate starts, its kills
+//! and its guarded words. Each further line is one atomic step of a pass or of the control. [`parse_schedule`] returns the
+//! [`Schedule`] that a text means, or the first fault of the text. [`replay_text`] takes the steps one after another in the gate's
+//! machine, `percpu_core`'s `World`. It returns a line for each reply, and then the line of the end, or of the first step that
+//! isn't enabled.
 #![tactic(auto)]
 
 mod event_line;

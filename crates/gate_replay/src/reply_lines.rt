@@ -38,7 +38,7 @@ fn push_signed(out: &mut Vec<u8>, number: i64) -> Result<(), AllocError>
     push_number(out, number.unsigned_abs())
 }
 
-/// Appends a delta behind this text. Where memory is refused, some of it may be there.
+/// Appends this text and then a delta. If memory is refused, a part of it may have been appended.
 pub fn push_delta(out: &mut Vec<u8>, text: &str, delta: i64) -> Result<(), AllocError>
     ensures { OnOk result (out.new.items ≡ out.old.items ++ text.now ++ signed_decimal delta) }
 {
@@ -66,7 +66,7 @@ fn push_reply_text(out: &mut Vec<u8>, reply: Reply) -> Result<(), AllocError>
     }
 }
 
-/// Appends the line of a step that was taken. Where memory is refused, some of it may be there.
+/// Appends the line of a step that was taken. If memory is refused, a part of it may have been appended.
 pub fn push_reply(out: &mut Vec<u8>, reply: Reply) -> Result<(), AllocError>
     ensures { OnOk result (out.new.items ≡ out.old.items ++ reply_line reply) }
 {
@@ -91,7 +91,7 @@ fn push_why(out: &mut Vec<u8>, why: NotEnabled) -> Result<(), AllocError>
     }
 }
 
-/// Appends the line of a step that isn't enabled, and that stands on this line of the schedule.
+/// Appends the line of a step that isn't enabled, which is on this line of the schedule.
 pub(crate) fn push_stuck(out: &mut Vec<u8>, line: u32, why: NotEnabled) -> Result<(), AllocError>
     ensures { OnOk result (out.new.items ≡ out.old.items ++ stuck_line line why) }
 {
@@ -102,7 +102,7 @@ pub(crate) fn push_stuck(out: &mut Vec<u8>, line: u32, why: NotEnabled) -> Resul
     push_text(out, "\n")
 }
 
-/// Appends the line of a world in which all steps were taken. Where memory is refused, some of it may be there.
+/// Appends the line of a world in which all steps were taken. If memory is refused, a part of it may have been appended.
 pub fn push_end(out: &mut Vec<u8>, world: &World) -> Result<(), AllocError>
     ensures { OnOk result (out.new.items ≡ out.old.items ++ end_line world.now) }
 {

@@ -4,7 +4,7 @@ ghost use Rattle.std.specs.Prelude.{◌≡◌};
 use percpu_core::{Event, Start};
 use std::marker::Model;
 
-/// The guarded words that a world starts with: 0 to 8 of them. Contracts see the list of them.
+/// The 0 to 8 guarded words that a world starts with. Contracts see the list of them.
 #[derive(Debug, Drop)]
 pub struct GuardedWords {
     words: Vec<u64>,
@@ -19,21 +19,21 @@ impl Model for GuardedWords {
 }
 
 impl GuardedWords {
-    /// These words; no memory is taken.
+    /// Makes a list of these words; no memory is taken.
     pub fn new(words: Vec<u64>) -> Self
         ensures { result ≡ words.items }
     {
         GuardedWords { words }
     }
 
-    /// The words.
+    /// Returns the words.
     pub fn as_slice(&self) -> &[u64]
         ensures { result.now ≡ self.now }
     {
         self.words.as_slice()
     }
 
-    /// The words, given back; no memory is taken.
+    /// Returns the words as a vector; no memory is taken.
     pub fn into_vec(self) -> Vec<u64>
         ensures { result.items ≡ self }
     {
@@ -57,21 +57,21 @@ impl Model for Events {
 }
 
 impl Events {
-    /// These steps; no memory is taken.
+    /// Makes a list of these steps; no memory is taken.
     pub fn new(events: Vec<(u32, Event)>) -> Self
         ensures { result ≡ events.items }
     {
         Events { events }
     }
 
-    /// The steps.
+    /// Returns the steps.
     pub fn as_slice(&self) -> &[(u32, Event)]
         ensures { result.now ≡ self.now }
     {
         self.events.as_slice()
     }
 
-    /// The steps, given back; no memory is taken.
+    /// Returns the steps as a vector; no memory is taken.
     pub fn into_vec(self) -> Vec<(u32, Event)>
         ensures { result.items ≡ self }
     {
@@ -82,12 +82,12 @@ impl Events {
 /// A world, and the steps that are taken in it.
 #[derive(Debug, Drop)]
 pub struct Schedule {
-    /// The slots of the gate: 1 to 64.
+    /// Number of slots of the gate, 1 to 64.
     pub slots: u32,
-    /// The passes of the gate: 1 to 64.
+    /// Number of passes of the gate, 1 to 64.
     pub passes: u32,
     pub start: Start,
-    /// The kills that the gate starts with: 0 to 2^40.
+    /// Number of kills that the gate starts with, 0 to 2^40.
     pub kills: u64,
     pub words: GuardedWords,
     pub events: Events,

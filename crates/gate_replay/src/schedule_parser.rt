@@ -21,10 +21,10 @@ fn gate(text: &mut Statements<'_>) -> Result<(), ParseFault>
     at_line(line, world_line::gate(words))
 }
 
-/// Takes the next line, which has to be that of a world.
+/// Takes the next line, which has to describe a world.
 ///
-/// Refused with `Parse` for its first fault, of the line after the last where no line is left; with `Memory` only
-/// where a growth of memory was refused. After a refusal the line is taken as well.
+/// Returns `Parse` with the first fault, which is a fault of the line after the last if no line is left. Returns `Memory` only if
+/// memory is refused. The line is taken even if this fails.
 pub fn next_world(alloc: Global, text: &mut Statements<'_>) -> Result<WorldLine, ScriptFault>
     ensures said { Tells opened result (world_in text.old) }
     ensures rest { text.new ≡ after_first text.old }
@@ -34,10 +34,10 @@ pub fn next_world(alloc: Global, text: &mut Statements<'_>) -> Result<WorldLine,
     world_line::world(alloc, line, words)
 }
 
-/// Takes the next line, which has to be a world's. The word `mark` may replace its guarded words.
+/// Takes the next line, which has to describe a world. The word `mark` may replace its guarded words.
 ///
-/// Refused as by [`next_world`], where a mark is no guarded word, and with `ExtraWord` for words behind it. After a refusal
-/// the line is taken as well.
+/// Fails as [`next_world`] does, to which a mark is no guarded word, and with `ExtraWord` if words follow the mark. The line is
+/// taken even if this fails.
 pub fn next_marked_world(
     alloc: Global,
     text: &mut Statements<'_>,
@@ -51,7 +51,7 @@ pub fn next_marked_world(
     world_line::marked_world(alloc, line, words, mark)
 }
 
-// The step that the words of a line tell, if it has any.
+// Returns the step that the words of a line describe, if it has any.
 fn event(line: u32, said: Result<Words<'_>, Why>) -> Result<Event, ParseFault>
     ensures { result ≡ at_line line (told_by said.entry) }
 {
@@ -59,7 +59,7 @@ fn event(line: u32, said: Result<Words<'_>, Why>) -> Result<Event, ParseFault>
     at_line(line, event_line::event(words))
 }
 
-// The steps of the lines that are left.
+// Returns the steps of the lines that are left.
 fn events(alloc: Global, mut text: Statements<'_>) -> Result<Vec<(u32, Event)>, ScriptFault>
     ensures { Tells (λ events. events.items) result (events_of text.entry.said) }
 {
@@ -71,11 +71,10 @@ fn events(alloc: Global, mut text: Statements<'_>) -> Result<Vec<(u32, Event)>, 
     Ok(events)
 }
 
-/// The schedule that a text means.
+/// Returns the schedule that a text means.
 ///
-/// Refused with `Parse` exactly where the text means none: the fault is the first of the text, in the
-/// order that docs/FORMATS.md gives, with its line from 1. Refused with `Memory` only where a growth of
-/// memory was refused.
+/// Returns `Parse` exactly if the text means no schedule, with the first fault of the text, in the order that docs/FORMATS.md
+/// gives, and its line, counted from 1. Returns `Memory` only if memory is refused.
 pub fn parse_schedule(alloc: Global, bytes: &[u8]) -> Result<Schedule, ScriptFault>
     ensures meant { Answers result (schedule_of bytes.now) }
     ensures within { IfOk result (λ schedule. IsWithinLimits (opening_in schedule)) }

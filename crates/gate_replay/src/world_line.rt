@@ -10,27 +10,27 @@ use line_text::{ScriptFault, Why, Words, at_line, is_word, long_number, no_words
 use percpu_core::{KILL_LIMIT, Start, WORD_LIMIT};
 use std::alloc::Global;
 
-/// The most slots that a `world` has: of the format `gate 1`, whatever a gate takes.
+/// Maximum number of slots of a `world`. It belongs to the format `gate 1`; a gate may take more.
 const MOST_SLOTS: u32 = 64;
 
-/// The most passes that a `world` has.
+/// Maximum number of passes of a `world`.
 const MOST_PASSES: u32 = 64;
 
-/// The world that a line tells.
+/// The world that a line describes.
 #[derive(Debug, Drop)]
 pub struct WorldLine {
-    /// The slots of the gate: 1 to 64.
+    /// Number of slots of the gate, 1 to 64.
     pub slots: u32,
-    /// The passes of the gate: 1 to 64.
+    /// Number of passes of the gate, 1 to 64.
     pub passes: u32,
     pub start: Start,
-    /// The kills that the gate starts with: 0 to 2^40.
+    /// Number of kills that the gate starts with, 0 to 2^40.
     pub kills: u64,
     pub words: GuardedWords,
 }
 
 impl WorldLine {
-    // The world of these sizes and these guarded words.
+    // Makes a world of these sizes and these guarded words.
     fn new(sizes: WorldSizes, values: Vec<u64>) -> WorldLine
         ensures { opened result ≡ opening sizes.slots sizes.passes sizes.start sizes.kills values.items }
     {
@@ -44,15 +44,15 @@ impl WorldLine {
     }
 }
 
-/// The world of a line in which a mark, a word of the caller's, may replace the guarded words.
+/// The world of a line in which a mark, a word that the caller chooses, may replace the guarded words.
 #[derive(Debug, Drop)]
 pub struct MarkedWorld {
     pub world: WorldLine,
-    /// Whether the mark is there: the world has no guarded words then.
+    /// Whether the mark is there. Then the world has no guarded words.
     pub is_marked: bool,
 }
 
-/// Whether the line is that of the version.
+/// Checks that the line names the version.
 pub(crate) fn gate(mut words: Words<'_>) -> Result<(), Why>
     ensures { Says (λ _. true) result (gate_of words.entry) }
 {
@@ -65,7 +65,7 @@ pub(crate) fn gate(mut words: Words<'_>) -> Result<(), Why>
     }
 }
 
-// How the world starts.
+// Returns how the world starts.
 fn start_said(word: &[u8]) -> Result<Start, Why>
     ensures { result ≡ start_of word.now }
 {
@@ -107,7 +107,7 @@ fn size_words<'a>(words: &mut Words<'a>) -> Result<SizeWords<'a>, Why>
     })
 }
 
-/// What is said before the guarded words.
+/// What comes before the guarded words.
 #[derive(Clone, Copy)]
 struct WorldSizes {
     slots: u32,
@@ -116,7 +116,7 @@ struct WorldSizes {
     kills: u64,
 }
 
-// The slots, the passes, the start and the kills. The words behind them are left, few enough of them.
+// Takes the slots, the passes, the start and the kills. Leaves the words after them, and checks that there aren't too many.
 fn sizes(words: &mut Words<'_>) -> Result<WorldSizes, Why>
     ensures said { Says (λ said. sizes said.slots said.passes said.start said.kills) result (sizes_of words.old) }
     ensures rest { OnOk result (words.new ≡ behind_kills words.old) }
@@ -153,7 +153,7 @@ fn named(words: &mut Words<'_>) -> Result<(), Why>
     }
 }
 
-// The guarded words.
+// Reads the guarded words.
 fn values(alloc: Global, line: u32, mut words: Words<'_>) -> Result<Vec<u64>, ScriptFault>
     ensures said { Tells (λ values. values.items) result (at_line line (values_of words.entry)) }
     ensures count { IfOk result (λ values. length values.items ≡ length words.entry) }
@@ -165,7 +165,7 @@ fn values(alloc: Global, line: u32, mut words: Words<'_>) -> Result<Vec<u64>, Sc
     Ok(values)
 }
 
-// The guarded words, the first of which was taken.
+// Reads the guarded words, of which the first was taken.
 fn values_behind(
     alloc: Global,
     line: u32,
@@ -183,7 +183,7 @@ fn values_behind(
     Ok(values)
 }
 
-// The mark, where no word is behind it: there are no guarded words.
+// Checks that no word follows the mark: then there are no guarded words.
 fn mark_alone(alloc: Global, line: u32, words: Words<'_>) -> Result<(bool, Vec<u64>), ScriptFault>
     ensures said { Tells (λ said. (said.0, said.1.items)) result (at_line line (mark_alone words.entry)) }
     ensures count { IfOk result (λ said. length said.1.items ≡ 0) }
@@ -192,7 +192,7 @@ fn mark_alone(alloc: Global, line: u32, words: Words<'_>) -> Result<(bool, Vec<u
     Ok((true, Vec::new(alloc)))
 }
 
-// The guarded words, the first of which was taken, where there is no mark.
+// Reads the guarded words, of which the first was taken, if there is no mark.
 fn values_alone(
     alloc: Global,
     line: u32,
@@ -206,7 +206,7 @@ fn values_alone(
     Ok((false, values))
 }
 
-// Whether the mark replaces the guarded words, and these words: none where it does.
+// Returns whether the mark replaces the guarded words, and these words, of which there are none if it does.
 fn mark_or_values(
     alloc: Global,
     line: u32,
@@ -226,7 +226,7 @@ fn mark_or_values(
     }
 }
 
-/// The world of the words of a line.
+/// Returns the world that the words of a line describe.
 pub(crate) fn world(
     alloc: Global,
     line: u32,
@@ -239,9 +239,9 @@ pub(crate) fn world(
     world_said(alloc, line, words)
 }
 
-/// The world of the words of a line, in which this mark may replace the guarded words.
+/// Returns the world that the words of a line describe, in which this mark may replace the guarded words.
 ///
-/// Refused with `Parse` for the first fault among them, with that line; with `Memory` only where a growth of memory was refused.
+/// Returns `Parse` with the first fault among them and this line. Returns `Memory` only if memory is refused.
 pub fn marked_world(
     alloc: Global,
     line: u32,
@@ -255,9 +255,9 @@ pub fn marked_world(
     marked_world_said(alloc, line, words, mark)
 }
 
-/// The world of the words behind `world`.
+/// Returns the world that the words after `world` describe.
 ///
-/// Refused with `Parse` for the first fault among them, with that line; with `Memory` only where a growth of memory was refused.
+/// Returns `Parse` with the first fault among them and this line. Returns `Memory` only if memory is refused.
 pub fn world_said(alloc: Global, line: u32, mut words: Words<'_>) -> Result<WorldLine, ScriptFault>
     ensures said { Tells opened result (at_line line (opening_of words.entry)) }
     ensures within { IfOk result (λ world. IsWithinLimits (opened world)) }
@@ -267,7 +267,7 @@ pub fn world_said(alloc: Global, line: u32, mut words: Words<'_>) -> Result<Worl
     Ok(WorldLine::new(sizes, values))
 }
 
-// The world of the words behind `world`, in which the mark may replace the guarded ones.
+// Returns the world that the words after `world` describe, in which the mark may replace the guarded words.
 fn marked_world_said(
     alloc: Global,
     line: u32,

@@ -1,4 +1,4 @@
--- Lines that were read, in front of those that are still to come.
+-- Lines that were read, before those that are still to come.
 use Rattle.std.proofs.Common.{◌≡◌, sym, ap, refl, List, [], ◌∷◌, ◌++◌, append_assoc, Result, Ok, Err}
 use Rattle.line_text.specs.Numbers.{◌>>=◌}
 

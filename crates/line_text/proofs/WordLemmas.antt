@@ -37,7 +37,7 @@ words-first line n some within word ends =
           ap (filter is_not_empty) none ∙ filter_some line [] (omega arith) ∙ ap (λ w. w ∷ []) (sym front) ∙ ap (λ ws. take n line ∷ ws) (sym (ap words_of back))
     ]
 
--- and these bytes are some, where the line doesn't begin with a blank
+-- and these bytes are some, if the line doesn't begin with a blank
 pub word-some : (line : List ℕ) (n : ℕ) → (line ≡ []) ⊎ (is_blank (get_or line 0 0) ≡ false) → false ≡ eqb (length line) 0 → (n < length line → is_blank (get_or line n 0) ≡ true) → 0 < n
 word-some line n begins full ends =
     elim (cases_lt 0 n) [

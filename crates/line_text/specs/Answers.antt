@@ -1,4 +1,4 @@
--- What a call answered against what the text says.
+-- The result of a call, compared with what the text means.
 use Rattle.std.specs.Prelude.{◌≡◌, ℕ, Result, Ok, Err}
 use Rattle.line_text.specs.declared.fault.Why.{Why}
 use Rattle.line_text.specs.declared.fault.LineFault.{LineFault}
@@ -7,17 +7,17 @@ use Rattle.line_text.specs.declared.fault.ParseFault.{ParseFault}
 use Rattle.line_text.specs.declared.fault.ScriptFault.{ScriptFault}
 use Rattle.line_text.specs.declared.fault.ScriptFault.TheVariants as script_fault
 
--- a fault of a line's words is one of that line
+-- a fault of a line's words, with the number of that line
 abbrev pub at_line : {A : Type 0} → ℕ → Result A Why → Result A ParseFault
 at_line number (Ok x) = Ok x
 at_line number (Err why) = Err (record { line = number; why = why })
 
--- what a call answered, seen by `view`, is what is said
+-- the result of a call, seen by `view`, is what the text says
 abbrev pub Says : {A B E : Type 0} → (A → B) → Result A E → Result B E → Type 0
 Says view (Ok x) said = said ≡ Ok (view x)
 Says view (Err e) said = said ≡ Err e
 
--- what a call on one line answered, seen by `view`, is what the line says, unless memory ran out
+-- the result of a call on one line, seen by `view`, is what the line says, unless memory was refused
 abbrev pub LineTells : {A B : Type 0} → (A → B) → Result A LineFault → Result B Why → Type 0
 LineTells view (Ok x) said = said ≡ Ok (view x)
 LineTells view (Err line_fault.Memory) said = Unit {0}
@@ -26,7 +26,7 @@ LineTells view (Err (line_fault.Refused why)) said = said ≡ Err why
 abbrev pub LineAnswers : {A : Type 0} → Result A LineFault → Result A Why → Type 0
 LineAnswers answered said = LineTells (λ x. x) answered said
 
--- what a call on a text answered, seen by `view`, is what is meant, unless memory ran out; it answers no overlap
+-- the result of a call on a text, seen by `view`, is what the text means, unless memory was refused; it is never an overlap
 abbrev pub Tells : {A B : Type 0} → (A → B) → Result A ScriptFault → Result B ParseFault → Type 0
 Tells view (Ok x) meant = meant ≡ Ok (view x)
 Tells view (Err script_fault.Memory) meant = Unit {0}

@@ -1,5 +1,5 @@
--- What the contracts of this crate cite: lines and words (Text), the lines that say something (Statements), how many words there are
--- (Words), what a word spells (Numbers, Integers, Hex), faults (Why, Answers), and a name with a number (Named).
+-- What the contracts of this crate cite: lines and words (Text), the lines that aren't empty or comments (Statements), how many words there are (Words), what a
+-- word spells (Numbers, Integers, Hex), faults (WhyNumber, Answers), and a name with a number (Named).
 pub mod Answers
 pub mod Hex
 pub mod Integers

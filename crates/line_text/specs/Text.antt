@@ -3,14 +3,14 @@ use Rattle.std.specs.Prelude.{ℕ, Bool, ◌==◌, ◌||◌, if◌then◌else◌
 use Rattle.std.specs.List.{slice_split}
 use Rattle.std.specs.Str.Lines.{strip_carriage_return}
 
--- what ends a line; what stands between words: a space or a tab
+-- what ends a line, and what separates words: a space or a tab
 abbrev pub is_line_feed : ℕ → Bool
 is_line_feed byte = byte == 10
 
 abbrev pub is_blank : ℕ → Bool
 is_blank byte = byte == 32 || byte == 9
 
--- the parts without the last one, where that is empty
+-- the parts without the last one, if that is empty
 abbrev pub without_empty_last : List (List ℕ) → List (List ℕ)
 without_empty_last [] = []
 without_empty_last (part ∷ []) = if length part == 0 then [] else part ∷ []
@@ -23,6 +23,6 @@ lines_of bytes = map strip_carriage_return (without_empty_last (slice_split is_l
 abbrev pub is_not_empty : List ℕ → Bool
 is_not_empty part = nat_lt 0 (length part)
 
--- the words of a line: what stands between blanks
+-- the words of a line: what is between blanks
 abbrev pub words_of : List ℕ → List (List ℕ)
 words_of line = filter is_not_empty (slice_split is_blank line)

@@ -1,4 +1,4 @@
--- The words of a part of a line that has this many.
+-- The words of a part of a line, if it has exactly this many.
 use Rattle.std.specs.Prelude.{ℕ, Bool, true, List, [], ◌∷◌, Result, Ok, Err}
 use Rattle.line_text.specs.declared.fault.Why.{Why}
 use Rattle.line_text.specs.declared.fault.Why.TheVariants.{MissingWord, ExtraWord}

@@ -1,4 +1,4 @@
-//! What appends to a text. Where memory is refused, the text is as before.
+//! Appending to a text. If memory is refused, the text is unchanged.
 ghost use Rattle.std.specs.Prelude.{◌≡◌, ◌++◌, ◌∷◌, [], OnErr, OnOk, decimal};
 ghost use Rattle.hex.specs.Hex.{encode_lower};
 ghost use Rattle.line_text.specs.Named.{named};
@@ -23,7 +23,7 @@ pub fn push_text(out: &mut Vec<u8>, text: &str) -> Result<(), AllocError>
     out.extend_from_slice(text.as_bytes())
 }
 
-/// Appends a name, and a number after it in decimal.
+/// Appends a name, and then a number in decimal.
 #[tactic(auto, unfolding(crate::specs::Named::named))]
 pub fn push_named(out: &mut Vec<u8>, name: &str, number: u64) -> Result<(), AllocError>
     ensures ok { OnOk result (out.new.items ≡ out.old.items ++ named name.now number) }

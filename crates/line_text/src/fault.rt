@@ -6,19 +6,19 @@ ghost use Rattle.line_text.specs.WhyNumber.{why_number};
 use std::alloc::{AllocError, AllocFailed};
 use thiserror::Error;
 
-/// Why a line is refused. In a line the faults are tested in the order of the format: docs/FORMATS.md.
+/// Why a line is refused. The faults of a line are tested in the order of docs/FORMATS.md.
 #[derive(Clone, Copy, Debug, PartialEq, Eq, Error)]
 pub enum Why {
     /// The line isn't UTF-8.
     #[error("not utf-8")]
     NotUtf8,
-    /// The first line that says something isn't that of a known version.
+    /// The first statement doesn't name a known version.
     #[error("no version")]
     NoVersion,
-    /// The second line that says something doesn't begin with `disk`.
+    /// The second statement doesn't begin with `disk`.
     #[error("no disk")]
     NoDisk,
-    /// A first word, or a word that is one of a few, is none of these.
+    /// A first word, or a word that has to be one of a few, is unknown.
     #[error("unknown word")]
     UnknownWord,
     /// The line has too few words.
@@ -33,19 +33,19 @@ pub enum Why {
     /// A number isn't in its range.
     #[error("out of range")]
     OutOfRange,
-    /// A pattern isn't an even number of hexadecimal digits, 2 to 128 of them.
+    /// A pattern isn't an even number of hexadecimal digits, 2 to 128.
     #[error("bad hex")]
     BadHex,
     /// The text has more than 1,048,576 bytes.
     #[error("too long")]
     TooLong,
-    /// The second line of a schedule that says something doesn't begin with `world`.
+    /// The second statement of a schedule doesn't begin with `world`.
     #[error("no world")]
     NoWorld,
 }
 
 impl Why {
-    /// The reason's number, from 1 in the order of declaration.
+    /// Returns the reason's number, counted from 1 in order of declaration.
     pub fn number(&self) -> u8
         ensures { result ≡ why_number self.now }
     {
@@ -65,7 +65,7 @@ impl Why {
     }
 }
 
-/// The first fault of a text: its line, from 1, and why that line is refused.
+/// The first fault of a text: its line, counted from 1, and why that line is refused.
 #[derive(Clone, Copy, Debug, PartialEq, Eq, Error)]
 #[error("line {line}: {why}")]
 pub struct ParseFault {
@@ -73,7 +73,7 @@ pub struct ParseFault {
     pub why: Why,
 }
 
-/// Two requests of a script that overlap, by the numbers of their lines, from 1.
+/// Two requests of a script that overlap, by their line numbers, counted from 1.
 #[derive(Clone, Copy, Debug, PartialEq, Eq, Error)]
 #[error("line {line}: overlaps line {earlier}")]
 pub struct Overlap {
@@ -82,13 +82,13 @@ pub struct Overlap {
     pub earlier: u32,
 }
 
-/// Why a call on a script or a schedule has no answer. Of a schedule it is never `Overlap`.
+/// Why a script or a schedule has no answer. A schedule never has `Overlap`.
 #[derive(Clone, Copy, Debug, PartialEq, Eq, Error)]
 pub enum ScriptFault {
-    /// A growth of memory was refused.
+    /// An allocation was refused.
     #[error("memory")]
     Memory,
-    /// The text means none.
+    /// The text is refused.
     #[error("{0}")]
     Parse(ParseFault),
     /// Two requests of the script overlap.
@@ -126,10 +126,10 @@ impl From<ParseFault> for ScriptFault {
     }
 }
 
-/// Why a call on the words of one line has no answer.
+/// Why a call on the words of one line failed.
 #[derive(Clone, Copy, Debug, PartialEq, Eq, Error)]
 pub enum LineFault {
-    /// A growth of memory was refused.
+    /// An allocation was refused.
     #[error("memory")]
     Memory,
     /// The line is refused.
@@ -147,7 +147,7 @@ impl From<Why> for LineFault {
     }
 }
 
-/// An outcome on the words of a line; its fault is told with the number of that line.
+/// Returns the result of a call on the words of a line, with the number of that line in its fault.
 pub fn at_line<T>(line: u32, outcome: Result<T, Why>) -> Result<T, ParseFault>
     ensures { result ≡ at_line line outcome }
 {

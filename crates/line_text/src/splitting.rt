@@ -4,8 +4,8 @@ ghost use Rattle.line_text.specs.Text.{words_of};
 
 use crate::word_list::Words;
 
-/// The words of a line, one after another, as their bytes: what stands between spaces and tabs. A line of
-/// these alone, or of nothing, has none. No memory is taken.
+/// Returns the words of a line, one after another, as bytes: what is between spaces and tabs. A line of spaces and tabs alone has
+/// no words. Allocates nothing.
 pub fn words(line: &str) -> Words<'_>
     ensures { result ≡ words_of line.now }
 {

@@ -1,20 +1,83 @@
-//! The lines of a text that say something.
-ghost use Rattle.std.specs.Prelude.{◌≡◌, ◌+◌, ◌<◌, ◌^◌, ◌∷◌, [], length, IfNone, MatchOption};
+//! The statements of a text: its lines that aren't empty or comments.
+ghost use Rattle.std.specs.Prelude.{◌≡◌, ◌<◌, ◌∷◌, length, ◌+◌, ◌^◌, [], IfNone, MatchOption};
+ghost use Rattle.std.specs.Iterator.{YieldsFirstRef, item_count};
+ghost use Rattle.std.specs.Str.Lines.{strip_carriage_return};
+ghost use Rattle.line_text.specs.Text.{lines_of, words_of};
 ghost use Rattle.std.specs.Str.{is_utf8};
-ghost use Rattle.line_text.specs.Text.{words_of};
 ghost use Rattle.line_text.specs.Statements.{after_first, first_or, says_nothing, statements, unread};
 
 use crate::fault::{ParseFault, Why, at_line};
-use crate::lines::Lines;
 use crate::word_list::Words;
+use memchr::memchr;
 use std::marker::Model;
 
-/// The most bytes of a text: 1,048,576.
+/// The lines of a text that are left. In contracts it is the list of them.
+#[derive(Debug, Drop)]
+struct Lines<'a> {
+    rest: &'a [u8],
+}
+
+impl<'a> Model for Lines<'a> {
+    ghost use Rattle.std.specs.Prelude.{List, ℕ};
+    ghost use Rattle.line_text.specs.Text.{lines_of};
+
+    ghost Value = { List (List ℕ) };
+
+    ghost view = { λ l. lines_of l.rest.now };
+}
+
+impl<'a> Lines<'a> {
+    fn new(text: &'a [u8]) -> Self
+        ensures { result ≡ lines_of text.now }
+    {
+        Lines { rest: text }
+    }
+}
+
+fn without_return(line: &[u8]) -> &[u8]
+    ensures { result.now ≡ strip_carriage_return line.now }
+{
+    if !line.is_empty() && line[line.len() - 1] == b'\r' {
+        &line[..line.len() - 1]
+    } else {
+        line
+    }
+}
+
+// Returns the first line of a text that has one, and what follows its line feed.
+fn first_line(text: &[u8]) -> (&[u8], &[u8])
+    requires { 0 < length text.now }
+    ensures { lines_of text.now ≡ strip_carriage_return result.0.now ∷ lines_of result.1.now }
+{
+    match memchr(b'\n', text) {
+        Some(end) => (&text[..end], &text[end + 1..]),
+        None => (text, &[]),
+    }
+}
+
+impl<'a> Iterator for Lines<'a> {
+    type Item = &'a [u8];
+
+    ghost next_gives = { YieldsFirstRef (λ s. s) };
+
+    ghost remaining = { item_count (λ s. s) };
+
+    fn next(&mut self) -> Option<&'a [u8]> {
+        if self.rest.is_empty() {
+            return None;
+        }
+        let (line, rest) = first_line(self.rest);
+        self.rest = rest;
+        Some(without_return(line))
+    }
+}
+
+/// Maximum number of bytes of a text: 1,048,576.
 pub const LONGEST_TEXT: usize = 1_048_576;
 
-/// The lines of a text that say something and are left. What says nothing is a line without words, and one
-/// whose first word begins with `#`; both are skipped. Contracts see the list of these lines, each with its
-/// number and its words, and the number of the line after the last.
+/// The statements of a text that are left. A line without words, and a line whose first word begins with `#`, are
+/// skipped. In contracts it is the list of the statements, each with its line number and its words, and the number of
+/// the line after the last.
 #[derive(Drop)]
 pub struct Statements<'a> {
     lines: Lines<'a>,
@@ -38,7 +101,7 @@ fn is_text(line: &[u8]) -> bool
     std::str::from_utf8(line).is_ok()
 }
 
-// Whether the line has no words or is a comment.
+// Returns whether the line has no words or is a comment.
 fn says_nothing(line: &[u8]) -> bool
     ensures { result ≡ says_nothing (words_of line.now) }
 {
@@ -48,7 +111,7 @@ fn says_nothing(line: &[u8]) -> bool
     }
 }
 
-// Takes lines up to the first that says something.
+// Takes lines up to the first statement.
 fn next_said<'a>(lines: &mut Lines<'a>, before: &mut u32) -> Option<(u32, Result<Words<'a>, Why>)>
     requires { before.old + length lines.old + 1 < 2 ^ 32 }
     ensures all { before.new + length lines.new ≡ before.old + length lines.old }
@@ -70,8 +133,7 @@ fn next_said<'a>(lines: &mut Lines<'a>, before: &mut u32) -> Option<(u32, Result
 }
 
 impl<'a> Statements<'a> {
-    /// The lines of `text`, none of them taken yet. Refused with `TooLong` at line 1 where the text has more
-    /// than [`LONGEST_TEXT`] bytes.
+    /// Returns the statements of `text`, or `TooLong` at line 1 if the text has more than [`LONGEST_TEXT`] bytes.
     pub fn new(text: &'a [u8]) -> Result<Self, ParseFault>
         ensures { result ≡ unread text.now }
     {
@@ -87,8 +149,8 @@ impl<'a> Statements<'a> {
         })
     }
 
-    /// The next line that says something: its number, from 1, and its words; `NotUtf8` in place of these
-    /// where the line is no text, and such a line isn't skipped, whatever stands on it. `None` at the end.
+    /// Returns the next statement: its line number, counted from 1, and its words, or `NotUtf8` instead of the words if the line
+    /// isn't UTF-8. Such a line isn't skipped, whatever is on it. Returns `None` at the end.
     pub fn next(&mut self) -> Option<(u32, Result<Words<'a>, Why>)>
         ensures said { MatchOption result (self.old.said ≡ []) (λ said. self.old.said ≡ said ∷ self.new.said) }
         ensures rest { self.new ≡ after_first self.old }
@@ -96,9 +158,8 @@ impl<'a> Statements<'a> {
         next_said(&mut self.lines, &mut self.before)
     }
 
-    /// The number and the words of the next line that says something. Where there is none, `missing` is the
-    /// fault of the line after the last; a line that is no text is refused with `NotUtf8`. After a refusal
-    /// that line is taken as well.
+    /// Returns the line number and the words of the next statement. If there is none, `missing` is the fault, at the line after the
+    /// last. Returns `NotUtf8` if the line isn't UTF-8; that line is taken too.
     pub fn next_or(&mut self, missing: Why) -> Result<(u32, Words<'a>), ParseFault>
         ensures first { result ≡ first_or missing self.old }
         ensures rest { self.new ≡ after_first self.old }

@@ -1,11 +1,15 @@
-//! The words of a line.
+//! The words of a line, and checks of how many are left.
 ghost use Rattle.std.specs.Prelude.{◌≡◌, ◌<◌, ◌≤◌, ◌⊎◌, ℕ, true, false, length, slice_index, []};
 ghost use Rattle.std.specs.Iterator.{YieldsFirstRef, item_count};
 ghost use Rattle.line_text.specs.Text.{words_of, is_blank};
+ghost use Rattle.std.specs.Str.{bytes_eq};
+ghost use Rattle.line_text.specs.Answers.{Says};
+ghost use Rattle.line_text.specs.Words.{no_words, one_word, two_words, three_words};
 
+use crate::fault::Why;
 use std::marker::Model;
 
-/// The words of a line that are left: what stands between spaces and tabs. Contracts see the list of them.
+/// The words of a line that are left: what is between spaces and tabs. In contracts it is the list of them.
 #[derive(Debug, Drop)]
 pub struct Words<'a> {
     rest: &'a [u8],
@@ -27,7 +31,7 @@ impl<'a> Words<'a> {
         Words { rest: line }
     }
 
-    /// How many words are left. None of them is taken.
+    /// Returns the number of words that are left, and takes none of them.
     pub fn count_left(&self) -> usize
         ensures { result ≡ length self.now }
     {
@@ -55,7 +59,7 @@ fn without_blanks(line: &[u8]) -> &[u8]
     rest
 }
 
-// Where the word ends that the line begins with.
+// Returns the length of the word at the beginning of the line.
 fn word_len(line: &[u8]) -> usize
     ensures within { result ≤ length line.now }
     ensures word { (k : ℕ) → k < result → is_blank (slice_index line.now k) ≡ false }
@@ -86,4 +90,53 @@ impl<'a> Iterator for Words<'a> {
         self.rest = rest;
         Some(word)
     }
+}
+
+/// Returns whether a word is this text.
+pub fn is_word(word: &[u8], text: &str) -> bool
+    ensures { result ≡ bytes_eq word.now text.now }
+{
+    word == text.as_bytes()
+}
+
+/// Checks that no words are left, and returns `ExtraWord` otherwise.
+pub fn no_words(mut words: Words<'_>) -> Result<(), Why>
+    ensures { Says (λ _. true) result (no_words words.entry) }
+{
+    match words.next() {
+        Some(_) => Err(Why::ExtraWord),
+        None => Ok(()),
+    }
+}
+
+/// Returns the one word that is left, or `MissingWord` if there is none and `ExtraWord` if there are more.
+pub fn one_word<'a>(mut words: Words<'a>) -> Result<&'a [u8], Why>
+    ensures { Says (λ word. word.now) result (one_word words.entry) }
+{
+    let word = words.next().ok_or(Why::MissingWord)?;
+    no_words(words)?;
+    Ok(word)
+}
+
+/// Returns the two words that are left, or `MissingWord` if there are fewer and `ExtraWord` if there are more.
+pub fn two_words<'a>(mut words: Words<'a>) -> Result<(&'a [u8], &'a [u8]), Why>
+    ensures { Says (λ word. (word.0.now, word.1.now)) result (two_words words.entry) }
+{
+    let first = words.next().ok_or(Why::MissingWord)?;
+    let second = words.next().ok_or(Why::MissingWord)?;
+    no_words(words)?;
+    Ok((first, second))
+}
+
+type ThreeWords<'a> = (&'a [u8], &'a [u8], &'a [u8]);
+
+/// Returns the three words that are left, or `MissingWord` if there are fewer and `ExtraWord` if there are more.
+pub fn three_words<'a>(mut words: Words<'a>) -> Result<ThreeWords<'a>, Why>
+    ensures { Says (λ word. (word.0.now, word.1.now, word.2.now)) result (three_words words.entry) }
+{
+    let first = words.next().ok_or(Why::MissingWord)?;
+    let second = words.next().ok_or(Why::MissingWord)?;
+    let third = words.next().ok_or(Why::MissingWord)?;
+    no_words(words)?;
+    Ok((first, second, third))
 }

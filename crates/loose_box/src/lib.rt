@@ -1,4 +1,4 @@
-//! A box taken apart, with its pointer in sight, and put together again. The libraries for C keep such boxes under a
+//! A box taken apart, with its pointer visible, and put together again. The libraries for C keep such boxes behind a
 //! pointer that C may have.
 #![tactic(auto)]
 

@@ -5,7 +5,7 @@ ghost use Rattle.std.specs.Box.Ownership.{box_owns};
 use std::alloc::Allocator;
 use std::marker::Model;
 
-/// A box, with its pointer in sight.
+/// A box, with its pointer visible.
 pub struct Loose<T, A: Allocator> {
     pub at: *mut T,
     pub alloc: A,
@@ -17,7 +17,7 @@ impl<T, A: Allocator> Model for Loose<T, A> {
 }
 
 impl<T, A: Allocator> Loose<T, A> {
-    /// This box, taken apart.
+    /// Takes a box apart.
     pub fn of(whole: Box<T, A>) -> Loose<T, A>
     where
         T: Drop,
@@ -27,7 +27,7 @@ impl<T, A: Allocator> Loose<T, A> {
         Loose { at, alloc }
     }
 
-    /// A box again.
+    /// Puts the box together again.
     pub fn into_box(self) -> Box<T, A>
         ensures { result.value ≡ self.value }
     {

@@ -1,4 +1,4 @@
--- A step of the control keeps the laws of the other views where it goes by its own.
+-- A step of the control keeps the laws of the other views if it goes by its own.
 use Rattle.std.proofs.Common.{◌≡◌, ℕ, ◌+◌, ◌*◌, ◌%◌, ◌<◌, ◌≤◌, ◌⊎◌, ⊎_elim, true, List, [], ◌∷◌, length, arith, sym, ◌∙◌, subst}
 use Rattle.percpu_core.specs.declared.phase.Phase.TheVariants.{Opening}
 use Rattle.percpu_core.specs.declared.view.ControlView.{ControlView}
@@ -49,7 +49,7 @@ pub record ControlChange (o : Origin) (cells : Cells) (c : ControlView) (vs : Li
   pub few_kills : d.standing.kills ≤ KILL_LIMIT
   pub due : d.front + fronts_due d.standing.phase d.killing + 2 * c.standing.kills ≡ c.front + fronts_due c.standing.phase c.killing + 2 * d.standing.kills
 
--- where nothing is held each pass holds nothing
+-- if nothing is held each pass holds nothing
 unheld : (words : List ℕ) (vs : List View) → held_by_all vs ≡ 0 → EachPass (λ p. p.standing.held ≤ 65535) vs → EachPass (λ p. 0 < p.standing.held → AreNow words p.read) vs
 unheld words [] none e = tt
 unheld words (OfPass p ∷ vs) none e = ((λ some. absurd (omega arith)), unheld words vs (omega arith) e.1)

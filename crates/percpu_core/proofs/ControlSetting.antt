@@ -1,4 +1,4 @@
--- What the phase of the control tells, for the proofs of its steps.
+-- What the phase of the control implies, for the proofs of its steps.
 use Rattle.std.proofs.Common.{◌≡◌, ℕ, ◌%◌, ◌≤◌, Bool, true, false, if◌then◌else◌, List, refl, arith, ap, sym, ◌∙◌, subst, leb}
 use Rattle.std.proofs.lemmas.Bool.Decides.{nat_tests}
 use Rattle.percpu_core.specs.declared.control_event.ControlEvent.{ControlEvent}

@@ -24,7 +24,7 @@ use Rattle.percpu_core.proofs.Passes.{over_passes-most}
 pub balance : (v v' n n' k : ℕ) (a b : ℤ) → pos v +ℤ a +ℤ b -ℤ pos k ≡ pos n → v' + n ≡ v + n' → pos v' +ℤ a +ℤ b -ℤ pos k ≡ pos n'
 balance v v' n n' k a b e h = omega (arith, ints)
 
--- both sides, where slots change too
+-- both sides, if slots change too
 pub balance_slots : (v v' n n' k x y : ℕ) (a a' b : ℤ) → pos v +ℤ a +ℤ b -ℤ pos k ≡ pos n → pos v' +ℤ a' +ℤ pos x ≡ pos v +ℤ a +ℤ pos y → n' + x ≡ n + y → pos v' +ℤ a' +ℤ b -ℤ pos k ≡ pos n'
 balance_slots v v' n n' k x y a a' b e f h = omega (arith, ints)
 
@@ -112,7 +112,7 @@ module _ (o : Origin) (cells : Cells) (c : ControlView) (vs : List View) (l : La
   closed_few : most_delta * closed_so_far c.standing.phase ≤ 536870912
   closed_few = let h : length cells.slots ≤ 512 = l.limit.slots in let g : closed_so_far c.standing.phase ≤ length cells.slots = l.phase.closed in omega arith
 
-  -- where no bias is in force the shared value is all there is
+  -- if no bias is in force the shared value is all there is
   pub value-unbiased : has_bias c.standing.phase ≡ false → cells.shared.value ≡ counted
   value-unbiased h = let n = no_bias c.standing.phase h in
       let deltas = open_deltas-closed cells.slots (λ k s e. l.phase.slots k s e ∙ n.1 k) in

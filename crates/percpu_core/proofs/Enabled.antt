@@ -41,12 +41,12 @@ first_not : {X : Type 0} (b : Bool) (x : X) (r : Option X) → cond b (Some x) r
 first_not true x r e = cc
 first_not false x r e = (refl, e)
 
--- where no reason was found, none holds
+-- if no reason was found, none holds
 none_found : {X : Type 0} (p : X → Bool) (xs : List X) → find p xs ≡ None → AllByRecursion (λ x. p x ≡ false) xs
 none_found p [] e = tt
 none_found p (x ∷ xs) e = let h = first_not (p x) x (find p xs) e in (h.0, none_found p xs h.1)
 
--- where an event is enabled no reason holds against it
+-- if an event is enabled no reason holds against it
 pub no_reason : (p : NotEnabled → Bool) → IsEnabled p → (why : NotEnabled) → p why ≡ false
 no_reason p h NoSuchActor = (none_found p order h).0
 no_reason p h NoSuchSlot = (none_found p order h).1.0
@@ -128,7 +128,7 @@ both_hold true true e = (refl, refl)
 both_hold true false e = cc
 both_hold false b e = cc
 
--- the two phases are one where the test says so
+-- the two phases are one if the test says so
 pub only : (x y : Phase) → not (is_phase x y) ≡ false → y ≡ x
 only LiveSlots LiveSlots h = refl
 only LiveAtomic LiveAtomic h = refl

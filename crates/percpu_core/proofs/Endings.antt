@@ -114,7 +114,7 @@ zeros_are o m l (e ∷ es) (r ∷ rs) last run = let goes = event_goes o m l e r
     let more = zeros_are o (snapshot_after m e) goes.0 es rs last (subst (λ (s : State). Run s es rs last) (sym goes.1) run.2) in
     let same = ap (λ (s : State). zeros_cleared s es) goes.1 in let one = zeros_step m e in omega arith
 
--- who is refused found a mark
+-- a pass that was refused found a mark
 if_refused : (b : Bool) → (if b then Refused else Given) ≡ Refused → b ≡ true
 if_refused true h = refl
 if_refused false h = cc

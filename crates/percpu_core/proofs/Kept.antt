@@ -26,7 +26,7 @@ use Rattle.percpu_core.specs.Snapshots.{Snapshot, view_after, control_taking, sn
 use Rattle.percpu_core.proofs.Passes.{over_passes-set}
 use Rattle.percpu_core.proofs.Enabled.{neither, no_reason, pass_keeps_laws, control_keeps_laws, join_keeps_laws}
 
--- the view of a pass that stands so
+-- the view of a pass in this state
 pub record Seat (vs : List View) (k : ℕ) (q : PassStanding) : Type 0 where
   pub view : PassView
   pub at : get_elem? vs k ≡ some (OfPass view)
@@ -117,7 +117,7 @@ module _ (m : Snapshot) where
 abbrev pub Holds : Origin → Snapshot → Type 0
 Holds o m = Laws o m.cells m.control m.others
 
--- an enabled event leads to a snapshot where the laws hold, and of which the world keeps what the machine says
+-- an enabled event leads to a snapshot at which the laws hold, and of which the world keeps what the machine says
 abbrev pub Goes : Origin → Snapshot → Event → Type 0
 Goes o m e = Holds o (snapshot_after m e) × (kept (snapshot_after m e) ≡ after (kept m) e)
 

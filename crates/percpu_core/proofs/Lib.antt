@@ -4,11 +4,11 @@ pub mod Passes
 pub mod SlotLists
 -- what the sum law says in plain numbers
 pub mod Counting
--- a step of a pass keeps the laws: what is so of all, then each event on the shared word, then each on a slot
+-- a step of a pass keeps the laws: what holds of all, then each event on the shared word, then each on a slot
 pub mod PassKeeps
 pub mod PassEvents
 pub mod SlotEvents
--- a step of the control keeps the laws: what is so of all, what its phase tells, then each event of a kill, of a revival and on the slots, and the taking in of a pass
+-- a step of the control keeps the laws: what holds of all, what its phase implies, then each event of a kill, of a revival and on the slots, and the taking in of a pass
 pub mod ControlKeeps
 pub mod ControlSetting
 pub mod KillEvents
@@ -33,7 +33,7 @@ pub mod Sameness
 pub mod EveryRun
 pub mod Moves
 pub mod Endings
--- the same over all views in one list, as a running gate asks it: that each step keeps the laws, that it fits, and what the words of slots tell
+-- the same over all views in one list, as a running gate needs it: that each step keeps the laws, that it fits, and what the words of slots imply
 pub mod SeatSteps
 pub mod Fitting
 pub mod SlotNumbers

@@ -257,7 +257,7 @@ module _ (o : Origin) (m : Snapshot) (l : Holds o m) where
   event_moves e h = subst (λ (x : PlainCounter × PlainCounter). MayMove x.0 (move_of e (reply (kept m) e)) x.1)
       (λ j. (sym (seen_is m) j, (sym (seen_is (snapshot_after m e)) ∙ ap counter_of (event_goes o m l e h).1) j)) (moves_seen e h)
 
-  -- who wins the release has found DEAD alone
+  -- the seat that wins the release has found DEAD alone
   left_no_last : {P : Type 0} (b : Bool) → (if b then ToMark else NotLast) ≡ Last → P
   left_no_last true h = cc
   left_no_last false h = cc

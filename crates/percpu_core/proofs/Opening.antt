@@ -24,7 +24,7 @@ abbrev opened_in : Option Slot → Bool
 opened_in None = false
 opened_in (Some t) = is_open t
 
--- so many slots that are all this one
+-- this many slots, all equal to this one
 all_slots : (n k : ℕ) (t s : Slot) → slice_get (replicate n t) k ≡ Some s → is_open s ≡ is_open t
 all_slots zero k t s e = cc
 all_slots (suc n) zero t s e = sym (ap opened_in e)

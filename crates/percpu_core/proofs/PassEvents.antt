@@ -37,7 +37,7 @@ flag_found a true n h e = omega arith
 flag_found true false n h e = h refl
 flag_found false false n h e = cc
 
--- reading begins anew where nothing was held
+-- reading begins anew if nothing was held
 begun_by : (b : Bool) (words : List ℕ) (held : ℕ) (read : List WordRead) → (held == 0) ≡ b → (0 < held → AreNow words read) → AreNow words (if b then [] else read)
 begun_by true words held read e h = tt
 begun_by false words held read e h = h (grind (arith, nat_tests))
@@ -142,7 +142,7 @@ module _ (o : Origin) (cells : Cells) (c : ControlView) (vs : List View) (l : La
   raised_seen true = floors.1
   raised_seen false = let low = floors.1 in omega arith
 
-  -- what a try leaves that is answered so
+  -- what a try with this reply leaves
   abbrev tried : PassEvent → Reply → ℕ → PassView
   tried e r floor = record {
     standing = standing_after e r p.standing;

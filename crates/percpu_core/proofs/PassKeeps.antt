@@ -1,4 +1,4 @@
--- A step of a pass keeps the laws where what it changes in its own view matches what it changes in the shared word.
+-- A step of a pass keeps the laws if what it changes in its own view matches what it changes in the shared word.
 use Rattle.std.proofs.Common.{◌≡◌, ℕ, ◌+◌, ◌<◌, ◌≤◌, ◌⊎◌, ⊎_elim, true, false, List, length, set, refl, arith, ap, sym, ◌∙◌, subst}
 use Rattle.std.specs.Prelude.{ℤ, pos, ◌+ℤ◌}
 use Rattle.std.proofs.lemmas.Int.{ints}
@@ -36,7 +36,7 @@ pub record Recounts (cells : Cells) (c : ControlView) (p : PassView) (s : Shared
   pub size : length ss ≡ length cells.slots
   pub small : AreSmall ss
 
--- what a step of a pass may do, as far as its own view, the shared word and the slots tell
+-- what a step of a pass may do, as far as its own view, the shared word and the slots allow
 pub record PassChange (cells : Cells) (c : ControlView) (p : PassView) (s : SharedWord) (ss : List Slot) (w : PassView) : Type 0 where
   pub counts : Recounts cells c p s ss w
   pub dead : s.dead ≡ cells.shared.dead
@@ -66,7 +66,7 @@ out Fronted h = absurd (omega arith)
 out (Opening i) h = absurd (omega arith)
 
 module _ (o : Origin) (cells : Cells) (c : ControlView) (vs : List View) (l : Laws o cells c vs) where
-  -- where the shared word is DEAD alone the initial reference is out and nothing is held
+  -- if the shared word is DEAD alone the initial reference is out and nothing is held
   pub alone_is_out : is_dead_alone cells.shared ≡ true → (may_be_zero c.standing.phase ≡ true) × (is_coming_back c.standing.phase ≡ false) × (has_bias c.standing.phase ≡ false)
   alone_is_out h = let none = (alone cells.shared h).2 in let least = value-least o cells c vs l in out c.standing.phase (omega arith)
 
@@ -76,7 +76,7 @@ module _ (o : Origin) (cells : Cells) (c : ControlView) (vs : List View) (l : La
   same_sum : (v v' x y : ℕ) (a : ℤ) → v' + x ≡ v + y → pos v' +ℤ a +ℤ pos x ≡ pos v +ℤ a +ℤ pos y
   same_sum v v' x y a h = omega (arith, ints)
 
-  -- where no slot changes, the shared word alone has to match
+  -- if no slot changes, the shared word alone has to match
   pub on_shared : (p w : PassView) (s : SharedWord) → s.value + (p.standing.held + to_undo p.standing.pending) ≡ cells.shared.value + (w.standing.held + to_undo w.standing.pending)
       → Recounts cells c p s cells.slots w
   on_shared p w s h = record { sum = same_sum _ _ _ _ _ h; slots = l.phase.slots; size = refl; small = l.limit.deltas }

@@ -18,7 +18,7 @@ over_passes-at f [] i v e = absurd (some-ne-none v (sym e))
 over_passes-at f (x ∷ xs) zero v e = let is : of_pass f x ≡ of_pass f v = ap (of_pass f) (some-injective x v e) in omega arith
 over_passes-at f (x ∷ xs) (suc i) v e = let r = over_passes-at f xs i v e in omega arith
 
--- where each counts at most m, all count at most m each
+-- if each counts at most m, all count at most m each
 pub over_passes-most : (f : PassView → ℕ) (m : ℕ) (vs : List View) → EachPass (λ p. f p ≤ m) vs → over_passes f vs ≤ m * passes_left vs
 over_passes-most f m [] e = omega arith
 over_passes-most f m (OfPass p ∷ vs) e = let r = over_passes-most f m vs e.1 in let h : f p ≤ m = e.0 in omega arith

@@ -49,6 +49,6 @@ none_found : {X : Type 0} (p : X → Bool) (xs : List X) → ((x : X) → p x �
 none_found p [] h = refl
 none_found p (x ∷ xs) h = subst (λ (b : Bool). (if b then Some x else find p xs) ≡ None) (sym (h x)) (none_found p xs h)
 
--- where no reason holds against a step it is enabled
+-- if no reason holds against a step it is enabled
 pub unhindered : (p : NotEnabled → Bool) → ((why : NotEnabled) → p why ≡ false) → IsEnabled p
 unhindered p h = none_found p order h

@@ -46,7 +46,7 @@ place_of [] k v e = absurd (some-ne-none v (sym e))
 place_of (x ∷ xs) zero v e = omega arith
 place_of (x ∷ xs) (suc k) v e = let r = place_of xs k v e in omega arith
 
--- what a pass needs that stands so
+-- what a pass in this state needs
 pub record PassNeeds (cells : Cells) (q : PassStanding) (e : PassEvent) : Type 0 where
   pub adds : cells.shared.value + added e < 2 ^ 50
   pub takes : taken_off e ≤ cells.shared.value
@@ -56,7 +56,7 @@ pub record PassNeeds (cells : Cells) (q : PassStanding) (e : PassEvent) : Type 0
   pub fits : q.held + given e (pass_reply e cells) ≤ HELD_LIMIT
   pub holds : dropped e (pass_reply e cells) ≤ q.held
 
--- what is so of both answers is so of the one that is given
+-- what holds of both replies holds of the one that is given
 given_if : (e : PassEvent) (x y : Reply) (n : ℕ) (b : Bool) → given e x ≤ n → given e y ≤ n → given e (if b then x else y) ≤ n
 given_if e x y n true h g = h
 given_if e x y n false h g = g

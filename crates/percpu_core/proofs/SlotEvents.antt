@@ -71,7 +71,7 @@ module _ (o : Origin) (cells : Cells) (c : ControlView) (vs : List View) (l : La
   nought : to_mark p.standing.pending ≡ 0
   nought = ap to_mark idle
 
-  -- a step that answers so and changes nothing but what the pass may have begun to read
+  -- a step with this reply that changes nothing except what the pass may have begun to read
   abbrev still_view : PassEvent → Reply → PassView
   still_view e r = record (pass_view_after e cells p) { standing = standing_after e r p.standing; floor = p.floor; releases = p.releases + won r }
 

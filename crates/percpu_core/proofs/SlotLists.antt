@@ -21,7 +21,7 @@ use Rattle.percpu_core.specs.LimitLaw.{AreSmall}
 same_delta : (d e : ℤ) → int_eq e d ≡ true → e ≡ d
 same_delta d e h = grind (arith, ints, nat_tests)
 
--- an exchange is won where the slot is open with the delta that is expected
+-- an exchange is won if the slot is open with the expected delta
 pub open_with : (d : ℤ) (s : Slot) → is_open_with d s ≡ true → s ≡ Open d
 open_with d Closed h = cc
 open_with d (Open e) h = ap Open (same_delta d e h)

@@ -1,4 +1,4 @@
--- What the word of a slot tells of the slot, and what the collecting takes off the shared word: for a gate whose memory is numbers.
+-- What the word of a slot says of the slot, and what the collecting takes off the shared word: for a gate whose memory is numbers.
 use Rattle.std.proofs.Common.{◌≡◌, ℕ, ◌-◌, ◌<◌, ◌≤◌, Bool, true, false, nat_eq, refl, arith, ap, int_eq}
 use Rattle.std.specs.Prelude.{ℤ, pos, negsuc, ◌-ℤ◌}
 use Rattle.std.proofs.lemmas.Int.{ints}
@@ -36,7 +36,7 @@ same_spelling e d h g true is = let same = same_delta e d is in grind (arith, na
     same_delta e d h = grind (arith, ints, nat_tests)
 same_spelling e d h g false is = grind (arith, nat_tests)
 
--- an exchange that expects the word of a delta is won exactly where the slot is open with that delta
+-- an exchange that expects the word of a delta is won if and only if the slot is open with that delta
 pub expected_word : (s : Slot) (d : ℤ) → IsDelta (delta s) → IsDelta d → nat_eq (slot_spelling s) (delta_spelling d) ≡ is_open_with d s
 expected_word Closed d h g = not_same closed_mark (delta_spelling d) (spelling_is_the_sum d g).1
 expected_word (Open e) d h g = same_spelling e d h g (int_eq e d) refl

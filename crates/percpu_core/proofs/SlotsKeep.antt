@@ -1,4 +1,4 @@
--- A step of the control on the slots keeps the laws, where the sum law holds of what it leaves and the rest is as the phase after it says.
+-- A step of the control on the slots keeps the laws, if the sum law holds of what it leaves and the rest is as the phase after it says.
 use Rattle.std.proofs.Common.{◌≡◌, ℕ, ◌+◌, ◌*◌, ◌<◌, ◌≤◌, Bool, true, false, List, length, arith, ap, sym, ◌∙◌, subst}
 use Rattle.std.specs.Prelude.{ℤ, pos, ◌+ℤ◌, ◌-ℤ◌, neg_ℤ, ◌≤ℤ◌}
 use Rattle.percpu_words.specs.SharedWord.{bias}

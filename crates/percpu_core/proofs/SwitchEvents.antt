@@ -24,7 +24,7 @@ use Rattle.percpu_core.proofs.SlotLists.{OpenAs, slot_there, open_deltas-set, sm
 use Rattle.percpu_core.proofs.ControlSetting.{After}
 use Rattle.percpu_core.proofs.SlotsKeep.{changed, standing_at, slots_keep}
 
--- what the collecting leaves, where the sum law holds before
+-- what the collecting leaves, if the sum law holds before
 moved_is : (u : ℤ) (v n : ℕ) (a : ℤ) → pos v +ℤ a +ℤ u -ℤ pos (bias * 1) ≡ pos n → a ≡ pos 0 → (pos (moved_by u v - bias) +ℤ a +ℤ pos 0 -ℤ pos (bias * 0) ≡ pos v +ℤ a +ℤ u -ℤ pos (bias * 1)) × (moved_by u v - bias ≡ n)
 moved_is (pos m) v n a e h = (omega (arith, ints), omega (arith, ints))
 moved_is (negsuc m) v n a e h = (omega (arith, ints), omega (arith, ints))

@@ -31,7 +31,7 @@ abbrev pub open_deltas : List Slot → ℤ
 open_deltas [] = pos 0
 open_deltas (s ∷ ss) = delta s +ℤ open_deltas ss
 
--- the number that spells a slot whose delta is within its limit
+-- the number that encodes a slot whose delta is within its limit
 abbrev pub slot_spelling : Slot → ℕ
 slot_spelling Closed = closed_mark
 slot_spelling (Open d) = delta_spelling d
@@ -45,7 +45,7 @@ abbrev pub is_open_with : ℤ → Slot → Bool
 is_open_with d Closed = false
 is_open_with d (Open e) = int_eq e d
 
--- an exchange of the slot's delta for another: nothing changes where the slot hasn't the delta that is expected
+-- an exchange of the slot's delta for another: nothing changes if the slot doesn't have the expected delta
 abbrev pub exchanged : ℕ → ℤ → ℤ → List Slot → List Slot
 exchanged i d e slots = if is_open_with d (slot_at slots i) then slice_set slots i (Open e) else slots
 

@@ -33,7 +33,7 @@ knows_zero_after (StoreWord k v) s knows = true
 knows_zero_after ClearDead s knows = false
 knows_zero_after _ s knows = knows
 
--- after each step but the one that takes in a pass
+-- the control's view after each step, except the step that takes in a pass
 abbrev pub control_view_after : ControlEvent → Cells → ControlView → ControlView
 control_view_after e cells c = record {
   standing = control_standing_after e (control_reply e c.standing cells) (length cells.slots) cells.shared.dead c.standing;

@@ -1,4 +1,4 @@
--- The steps of the control: when each may be taken, what it answers and what it changes.
+-- The steps of the control: when each may be taken, its reply and what it changes.
 use Rattle.std.specs.Prelude.{ℕ, ◌+◌, ◌-◌, ◌<◌, ◌≤◌, ◌==◌, ℤ, pos, negsuc, ◌+ℤ◌, Bool, true, false, not, nat_lt, nat_le, ◌||◌, ◌&&◌, if◌then◌else◌, List, slice_set, Option, Some, is_none}
 use Rattle.percpu_words.specs.SharedWord.{SharedWord, spelling, bias, dead_mark}
 use Rattle.percpu_core.specs.declared.limits.TheConstants.{KILL_LIMIT}
@@ -36,7 +36,7 @@ abbrev pub is_nothing : Pending → Bool
 is_nothing Nothing = true
 is_nothing _ = false
 
--- the pass that joins still owes something, or holds something
+-- the pass that joins still has a pending step, or holds a reference
 abbrev pub joins_mid_call : Option PassStanding → ControlEvent → Bool
 joins_mid_call (Some p) (Join k) = not (is_nothing p.pending)
 joins_mid_call _ _ = false
@@ -45,7 +45,7 @@ abbrev pub joins_holding : Option PassStanding → ControlEvent → Bool
 joins_holding (Some p) (Join k) = nat_lt 0 p.held
 joins_holding _ _ = false
 
--- of so many slots one may be closed, all of them are closed, one may be opened
+-- at a gate with this many slots: a slot may be closed; all slots are closed; a slot may be opened
 abbrev pub has_slot_to_close : ℕ → Phase → Bool
 has_slot_to_close slots LiveSlots = true
 has_slot_to_close slots (Closing i) = nat_lt i slots
@@ -59,7 +59,7 @@ abbrev pub is_opening : Phase → Bool
 is_opening (Opening i) = true
 is_opening _ = false
 
--- the step belongs to this phase, at a gate with so many slots. A guarded word is stored in the phase dead with ZERO set
+-- the step belongs to this phase, at a gate with this many slots. A guarded word is stored in the phase dead with ZERO set
 abbrev pub is_in_turn : ℕ → Bool → ControlStanding → ControlEvent → Bool
 is_in_turn slots zero c MarkDead = is_live c.phase
 is_in_turn slots zero c Close = has_slot_to_close slots c.phase
@@ -84,7 +84,7 @@ abbrev pub names_no_pass : Option PassStanding → ControlEvent → Bool
 names_no_pass p (Join k) = is_none p
 names_no_pass p _ = false
 
--- whether the reason holds against the step, of a control that stands so, at a gate of these sizes with ZERO set or not; p is the pass that is to join
+-- whether the reason holds against the step, for a control in this state, at a gate of these sizes with ZERO set or clear; p is the pass that is to join
 abbrev pub hinders_control : Sizes → Bool → Option PassStanding → ControlStanding → ControlEvent → NotEnabled → Bool
 hinders_control sizes zero p c e NoSuchActor = names_no_pass p e
 hinders_control sizes zero p c e NoSuchWord = stores_no_word sizes.words e
@@ -94,7 +94,7 @@ hinders_control sizes zero p c e StillHeld = joins_holding p e
 hinders_control sizes zero p c e WornOut = wears_out c.kills e
 hinders_control sizes zero p c e _ = false
 
--- what the control is answered, where it stands so and finds this memory. A slot that is closed tells its delta
+-- the reply to the control in this state, given the memory that it finds. The reply to closing a slot is its delta
 abbrev pub control_reply : ControlEvent → ControlStanding → Cells → Reply
 control_reply Close c cells = Collected (delta (slot_at cells.slots (next_slot c.phase)))
 control_reply DropBase c cells = left_reply (minus 1 cells.shared)
@@ -102,7 +102,7 @@ control_reply Mark c cells = mark_reply cells.shared
 control_reply LookShared c cells = Shared (spelling cells.shared)
 control_reply _ c cells = Done
 
--- the phase after the step, at a gate with so many slots and DEAD set or not. A slot is closed or opened at a time, from the first to the last
+-- the phase after the step, at a gate with this many slots and DEAD set or clear. One slot is closed or opened at a time, from the first to the last
 abbrev pub phase_after : ControlEvent → ℕ → Bool → Phase → Phase
 phase_after MarkDead slots dead LiveSlots = Closing 0
 phase_after MarkDead slots dead _ = AllCollected
@@ -117,12 +117,12 @@ phase_after AddBias slots dead _ = Opening 0
 phase_after OpenNext slots dead phase = if next_slot phase + 1 == slots then LiveSlots else Opening (next_slot phase + 1)
 phase_after _ slots dead phase = phase
 
--- a signed number added to a number, which by the sum law is no less than what is taken off
+-- a signed number added to a number. By the sum law the number is large enough for what is subtracted
 abbrev pub moved_by : ℤ → ℕ → ℕ
 moved_by (pos n) value = value + n
 moved_by (negsuc n) value = value - (n + 1)
 
--- the sum of what was closed comes to the shared word, and the bias off it, in one step
+-- the sum of the closed deltas is added to the shared word and the bias removed, in one step
 abbrev pub collected : ℤ → SharedWord → SharedWord
 collected sum s = record s { value = moved_by sum s.value - bias }
 
@@ -137,7 +137,7 @@ shared_after_control ClearDead sum s = record s { zero = false; dead = false }
 shared_after_control AddBias sum s = plus bias s
 shared_after_control _ sum s = s
 
--- the step leaves a value that fits: it takes off what is there, and leaves room for what it adds
+-- the value after the step fits: the shared value has what the step subtracts, and room for what it adds
 abbrev pub ValueFits : ControlEvent → ℤ → ℕ → Type 0
 ValueFits Collect sum value = (bias ≤ moved_by sum value) × (moved_by sum value < dead_mark)
 ValueFits DropBase sum value = 1 ≤ value
@@ -145,7 +145,7 @@ ValueFits TakeBase sum value = value + 1 < dead_mark
 ValueFits AddBias sum value = value + bias < dead_mark
 ValueFits _ sum value = Unit {0}
 
--- the slot that the step closes or opens is among so many
+-- the slot that the step closes or opens is among this many
 abbrev pub NextIsThere : ControlEvent → Phase → ℕ → Type 0
 NextIsThere Close phase slots = next_slot phase < slots
 NextIsThere OpenNext phase slots = next_slot phase < slots
@@ -177,7 +177,7 @@ abbrev pub kills_after : ControlEvent → ℕ → ℕ
 kills_after MarkDead kills = kills + 1
 kills_after _ kills = kills
 
--- the delta of the slot that was closed, as the answer tells it
+-- the delta of the slot that was closed, from the reply
 abbrev pub closed_delta : Reply → ℤ
 closed_delta (Collected d) = d
 closed_delta _ = pos 0
@@ -192,7 +192,7 @@ abbrev pub is_to_mark : Reply → Bool
 is_to_mark ToMark = true
 is_to_mark _ = false
 
--- where the control stands once its step is answered, at a gate with so many slots and DEAD set or not
+-- the state of the control after the reply to its step, at a gate with this many slots and DEAD set or clear
 abbrev pub control_standing_after : ControlEvent → Reply → ℕ → Bool → ControlStanding → ControlStanding
 control_standing_after e r slots dead c = record {
   phase = phase_after e slots dead c.phase;

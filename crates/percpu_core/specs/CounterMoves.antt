@@ -1,4 +1,4 @@
--- Which move of the plain counter an answered event is.
+-- The move of the plain counter that an event with its reply is.
 use Rattle.std.specs.Prelude.{◌≡◌, Option, Some, None}
 use Rattle.percpu_core.specs.declared.event.Event.{Event}
 use Rattle.percpu_core.specs.declared.event.Event.TheVariants.{Pass, Control}

@@ -27,7 +27,7 @@ pub record IsOver (s : State) : Type 0 where
   pub at_rest : is_at_rest s.control.phase ≡ true
   pub marked : s.control.to_mark ≡ false
 
--- 1 where the event clears DEAD with ZERO set
+-- 1 if the event clears DEAD with ZERO set
 abbrev pub clears_zero : State → Event → ℕ
 clears_zero s (Control ClearDead) = count s.cells.shared.zero
 clears_zero s _ = 0
@@ -42,16 +42,16 @@ abbrev pub IsTryRefused : Event × Reply → Type 0
 IsTryRefused (Pass k AddTry, Refused) = Unit {0}
 IsTryRefused (e, r) = ⊥
 
--- what a run tells once it is over
+-- what holds of a run that is over
 pub record NothingIsLost (o : Opening) (events : List Event) (replies : List Reply) (last : State) : Type 0 where
-  -- a dead gate has ZERO set, and a live one hasn't: no zero is left that nobody has marked
+  -- a dead gate has ZERO set, and a live gate hasn't: every zero has been marked
   pub at_zero : last.cells.shared.zero ≡ is_phase Dead last.control.phase
-  -- the releases are the answers Last, and with 1 for a dead start they are the zeros cleared and 1 for a dead gate
+  -- the releases are the replies Last; with 1 for a dead start they are the zeros cleared and 1 for a dead gate
   pub told : last.releases ≡ sum_by won replies
   pub releases : last.releases + count (starts_dead o.start) ≡ zeros_cleared (first_state o) events + count (is_phase Dead last.control.phase)
-  -- each kill has one at most
+  -- each kill has at most one release
   pub at_most : last.releases + o.kills ≤ last.control.kills
-  -- a gate that didn't start dead refused nobody where it was never killed, and nobody but tries for a live gate where it had no release
+  -- a gate that didn't start dead refused no try if it was never killed, and only tries for a live gate if it had no release
   pub never_killed : starts_dead o.start ≡ false → last.control.kills ≡ o.kills → All (λ r. r ≡ Refused → ⊥) replies
   pub never_released : starts_dead o.start ≡ false → last.releases ≡ 0 → All (λ x. IsTryRefused x → ⊥) (zip events replies)
 

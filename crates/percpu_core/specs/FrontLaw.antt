@@ -1,4 +1,4 @@
--- The front law: what the front says of the phase, and what a pass knows of it.
+-- The front law: how the front depends on the phase, and what a pass knows of it.
 use Rattle.std.specs.Prelude.{◌≡◌, ◌%◌, ◌≤◌, List}
 use Rattle.percpu_core.specs.declared.view.View.{View}
 use Rattle.percpu_core.specs.declared.view.ControlView.{ControlView}

@@ -1,4 +1,4 @@
--- What holds whichever steps the seats of a gate take, and in whatever order.
+-- The laws that hold whichever steps the seats of a gate take, and in whatever order.
 use Rattle.std.specs.Prelude.{◌≡◌, ℕ, ◌+◌, ◌*◌, ◌^◌, ◌<◌, ◌≤◌, false, None, List, sum_by, unsigned_abs}
 use Rattle.percpu_words.specs.SlotWord.{most_delta}
 use Rattle.percpu_core.specs.declared.limits.TheConstants.{SLOT_LIMIT}
@@ -20,12 +20,12 @@ pub record Reaches (o : Opening) (events : List Event) (replies : List Reply) (l
   pub within : IsWithinLimits o
   pub run : Run (first_state o) events replies last
 
--- all laws hold of the memory and the views to which the events lead, and a world keeps of them what the machine says
+-- all laws hold of the memory and the views to which the events lead, and the state that a world keeps is that of the machine
 abbrev pub LawsAlways : Type 0
 LawsAlways = (o : Opening) (events : List Event) (replies : List Reply) (last : State) → Reaches o events replies last
     → let m = snapshot_after_all (first_snapshot o) events in Laws (origin_of o) m.cells m.control m.others × (kept m ≡ last)
 
--- a release is won only where the initial reference is out and nothing is held
+-- a release is won only when the initial reference is out and nothing is held
 abbrev pub ReleasedAtZero : Type 0
 ReleasedAtZero = (o : Opening) (events : List Event) (replies : List Reply) (last : State) (e : Event) → Reaches o events replies last → refusal last e ≡ None
     → reply last e ≡ Last → (holds_base last.control.phase ≡ false) × (held_in_all last ≡ 0)
@@ -45,7 +45,7 @@ abbrev pub ReleasedOnceInALife : Type 0
 ReleasedOnceInALife = (o : Opening) (events : List Event) (replies : List Reply) (mid : State) → Reaches o events replies mid
     → (more : List Event) (answers : List Reply) (last : State) → Run mid more answers last → sum_by won answers ≤ sum_by kill more + 1
 
--- each enabled event is a move of the plain counter, the one of the list, or changes none of its four facts
+-- each enabled event is the move of the plain counter that `move_of` lists for it, or changes none of the counter's four facts
 abbrev pub MovesOfTheCounter : Type 0
 MovesOfTheCounter = (o : Opening) (events : List Event) (replies : List Reply) (last : State) (e : Event) → Reaches o events replies last → refusal last e ≡ None
     → MayMove (counter_of last) (move_of e (reply last e)) (counter_of (after last e))

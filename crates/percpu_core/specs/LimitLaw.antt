@@ -17,7 +17,7 @@ abbrev pub AreSmall : List Slot → Type 0
 AreSmall [] = Unit {0}
 AreSmall (s ∷ ss) = IsDelta (delta s) × AreSmall ss
 
--- two fronts belong to each kill: how many of them are still to come
+-- the number of fronts that are still to be stored for the latest kill; each kill has two
 abbrev pub fronts_due : Phase → Bool → ℕ
 fronts_due (Closing i) killing = 2 * count killing
 fronts_due Collected killing = 2
@@ -27,7 +27,7 @@ fronts_due Reviving killing = 1
 fronts_due _ killing = 0
 
 pub record LimitLaw (origin : Origin) (cells : Cells) (control : ControlView) (others : List View) : Type 0 where
-  -- so many passes haven't joined yet
+  -- this many passes haven't joined yet
   pub passes : control.passes ≤ PASS_LIMIT
   pub held : EachPass (λ p. p.standing.held ≤ HELD_LIMIT) others
   pub some_slot : 1 ≤ length cells.slots

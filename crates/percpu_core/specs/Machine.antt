@@ -1,4 +1,4 @@
--- The machine of a gate: what a world keeps, which events are enabled, and what each answers and changes.
+-- The machine of a gate: what a world keeps, which events are enabled, and the reply to each and what it changes.
 use Rattle.std.specs.Prelude.{◌≡◌, ℕ, ◌+◌, Bool, Option, Some, None, option_map, List, [], ◌∷◌, sum_by, find, length, slice_index_or, slice_set}
 use Rattle.percpu_core.specs.declared.event.Event.{Event}
 use Rattle.percpu_core.specs.declared.event.Event.TheVariants.{Pass, Control}
@@ -15,7 +15,7 @@ use Rattle.percpu_core.specs.Cells.{Cells, sizes_of}
 use Rattle.percpu_core.specs.PassSteps.{hinders_pass, pass_reply, cells_after_pass, standing_after}
 use Rattle.percpu_core.specs.ControlSteps.{hinders_control, control_reply, cells_after_control, control_standing_after}
 
--- what a world keeps: the memory, where the control and each pass stand (a joined pass is gone), and the releases of all seats
+-- what a world keeps: the memory, the states of the control and of each pass (a joined pass is gone), and the releases of all seats
 pub record State : Type 0 where
   pub cells : Cells
   pub control : ControlStanding
@@ -26,11 +26,11 @@ pub record State : Type 0 where
 abbrev pub order : List NotEnabled
 order = NoSuchActor ∷ NoSuchSlot ∷ NoSuchWord ∷ MidCall ∷ WrongPhase ∷ NothingHeld ∷ BadAmount ∷ HeldFull ∷ StillHeld ∷ WornOut ∷ []
 
--- no reason holds against a step of which this tells whether one does
+-- no reason holds against a step, given whether each reason does
 abbrev pub IsEnabled : (NotEnabled → Bool) → Type 0
 IsEnabled hinders = find hinders order ≡ None
 
--- where the pass of that number stands
+-- the state of this pass
 abbrev pub pass_at : State → ℕ → Option PassStanding
 pass_at s k = slice_index_or s.passes k None
 

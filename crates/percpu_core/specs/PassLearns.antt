@@ -9,14 +9,14 @@ use Rattle.percpu_core.specs.Views.{count}
 use Rattle.percpu_core.specs.PassSteps.{pass_reply, standing_after}
 use Rattle.percpu_core.specs.Machine.{won}
 
--- a pass looks for marks where it asks for them or tries, not where it only counts
+-- a pass looks for marks if it asks for them or tries, not if it only counts
 abbrev pub looks_for_marks : PassEvent → Bool
 looks_for_marks AddTry = true
 looks_for_marks AddLive = true
 looks_for_marks LookShared = true
 looks_for_marks _ = false
 
--- who comes to hold a reference where he held none begins to read anew
+-- a pass that takes its first reference begins to read anew
 abbrev pub begun : PassView → List WordRead
 begun p = if p.standing.held == 0 then [] else p.read
 

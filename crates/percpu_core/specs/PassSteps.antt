@@ -1,4 +1,4 @@
--- The steps of a pass: when each may be taken, what it answers and what it changes.
+-- The steps of a pass: when each may be taken, its reply and what it changes.
 use Rattle.std.specs.Prelude.{ℕ, ◌+◌, ◌-◌, ◌==◌, ℤ, pos, ◌+ℤ◌, ◌-ℤ◌, unsigned_abs, Bool, true, false, not, nat_lt, nat_le, ◌||◌, ◌&&◌, if◌then◌else◌, List, slice_index}
 use Rattle.percpu_words.specs.SharedWord.{SharedWord, spelling}
 use Rattle.percpu_words.specs.SlotWord.{most_delta}
@@ -38,13 +38,13 @@ is_mid_call OneToUndo _ = true
 is_mid_call ZeroToMark Mark = false
 is_mid_call ZeroToMark _ = true
 
--- there is nothing to undo or to mark
+-- the step undoes or marks, and there is nothing to undo or to mark
 abbrev pub is_out_of_turn : Pending → PassEvent → Bool
 is_out_of_turn Nothing Undo = true
 is_out_of_turn Nothing Mark = true
 is_out_of_turn _ _ = false
 
--- how many references the step needs to be held
+-- the number of references that the pass has to hold before the step
 abbrev pub needed : PassEvent → ℕ
 needed (AddGet n) = 1
 needed (Sub n) = n
@@ -65,7 +65,7 @@ has_bad_amount (Take s d n) = n == 0 || not (is_delta d && is_delta (d +ℤ pos 
 has_bad_amount (Give s d n) = n == 0 || not (is_delta d && is_delta (d -ℤ pos n))
 has_bad_amount _ = false
 
--- there is no room for the references
+-- the pass has no room for the references that the step takes
 abbrev pub overfills : ℕ → PassEvent → Bool
 overfills held AddTry = nat_lt HELD_LIMIT (held + 1)
 overfills held AddLive = nat_lt HELD_LIMIT (held + 1)
@@ -73,7 +73,7 @@ overfills held (AddGet n) = nat_lt HELD_LIMIT (held + n)
 overfills held (Take s d n) = nat_lt HELD_LIMIT (held + n)
 overfills held _ = false
 
--- whether the reason holds against the step, of a pass that stands so at a gate of these sizes
+-- whether the reason holds against the step, for a pass in this state at a gate of these sizes
 abbrev pub hinders_pass : Sizes → PassStanding → PassEvent → NotEnabled → Bool
 hinders_pass sizes p e NoSuchSlot = names_no_slot sizes.slots e
 hinders_pass sizes p e NoSuchWord = names_no_word sizes.words e
@@ -95,20 +95,20 @@ minus n s = record s { value = s.value - n }
 abbrev pub marked : SharedWord → SharedWord
 marked s = record s { zero = s.zero || is_dead_alone s }
 
--- what a subtraction answers, by what it leaves
+-- the reply to a subtraction, given the word after it
 abbrev pub left_reply : SharedWord → Reply
 left_reply s = if is_dead_alone s then ToMark else NotLast
 
--- what the exchange of DEAD alone answers, by what it finds
+-- the reply to the exchange of DEAD alone, by what it finds
 abbrev pub mark_reply : SharedWord → Reply
 mark_reply s = if is_dead_alone s then Last else Lost
 
--- what a look at a slot answers
+-- the reply to a look at a slot
 abbrev pub look_reply : Slot → Reply
 look_reply ClosedSlot = Closed
 look_reply (Open d) = Opened d
 
--- what an exchange of a slot's delta answers, by what it finds
+-- the reply to an exchange of a slot's delta, by what it finds
 abbrev pub exchange_reply : ℤ → Slot → Reply
 exchange_reply d s = if is_open_with d s then Won else Lost
 
@@ -146,7 +146,7 @@ slots_after_pass _ slots = slots
 abbrev pub cells_after_pass : PassEvent → Cells → Cells
 cells_after_pass e c = record c { shared = shared_after_pass e c.shared; slots = slots_after_pass e c.slots }
 
--- what a step adds to the shared value, and takes off it
+-- the number that a step adds to the shared value, and the number that it subtracts
 abbrev pub added : PassEvent → ℕ
 added AddTry = 1
 added AddLive = 1
@@ -158,7 +158,7 @@ taken_off (Sub n) = n
 taken_off Undo = 1
 taken_off _ = 0
 
--- references that a step gives where it is answered Given or Won, and that it drops
+-- references that a step gives if its reply is Given or Won, and that it drops
 abbrev pub given : PassEvent → Reply → ℕ
 given AddTry Given = 1
 given AddLive Given = 1
@@ -171,7 +171,7 @@ dropped (Sub n) r = n
 dropped (Give s d n) Won = n
 dropped _ r = 0
 
--- what is pending once a step is answered
+-- what is pending after the reply to a step
 abbrev pub pending_after : Reply → Pending
 pending_after Refused = OneToUndo
 pending_after ToMark = ZeroToMark

@@ -1,4 +1,4 @@
--- The phase law: what each phase says of the slots and of DEAD.
+-- The phase law: the phase determines which slots are open and whether DEAD is set.
 use Rattle.std.specs.Prelude.{◌≡◌, ℕ, ◌<◌, ◌≤◌, Some, slice_get, length}
 use Rattle.percpu_core.specs.declared.slot.Slot.{Slot}
 use Rattle.percpu_core.specs.declared.phase.Phase.TheVariants.{Opening}

@@ -46,7 +46,7 @@ has_bias (Closing i) = true
 has_bias (Opening i) = true
 has_bias _ = false
 
--- DEAD is clear while the gate is live or opening, and set from a kill on; while slots are closed it is set where that is for a kill
+-- DEAD is clear while the gate is live or opens its slots, and set from a kill to the revival; while slots are being closed it is set if a kill closes them
 abbrev pub is_dead_in : Phase → Bool → Bool
 is_dead_in LiveSlots killing = false
 is_dead_in LiveAtomic killing = false

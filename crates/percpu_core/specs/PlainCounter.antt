@@ -1,7 +1,7 @@
 -- What a reference counter means, and how it may move. It knows no slot, bias or mark.
 use Rattle.std.specs.Prelude.{◌≡◌, ℕ, ◌+◌, ◌-◌, ◌≤◌, Bool, true, false}
 
--- how many references are held, whether the initial one is held besides, whether the counter was killed and whether it was released
+-- how many references are held, whether the initial reference is held as well, whether the counter was killed and whether it was released
 pub record PlainCounter : Type 0 where
   pub held : ℕ
   pub base : Bool

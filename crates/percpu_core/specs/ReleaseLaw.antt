@@ -18,7 +18,7 @@ pub record ReleaseLaw (origin : Origin) (cells : Cells) (control : ControlView) 
   pub kills : control.revivals + count cells.shared.dead + origin.kills ≡ control.standing.kills + count origin.dead
   -- the control's number of passes not yet joined is the number of views that aren't spent
   pub passes : control.passes ≡ passes_left others
-  -- where DEAD was found set, there was a kill or the start was dead; where ZERO was found set, there was a zero
+  -- if DEAD was found set, there was a kill or the start was dead; if ZERO was found set, there was a zero
   pub found_dead : EachPass (λ p. p.found_dead ≡ true → 1 ≤ control.revivals + count cells.shared.dead) others
   pub found_zero : EachPass (λ p. p.found_zero ≡ true → 1 ≤ control.zeros_cleared + count cells.shared.zero) others
   pub control_found_dead : control.found_dead ≡ true → 1 ≤ control.revivals + count cells.shared.dead

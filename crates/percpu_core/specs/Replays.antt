@@ -10,7 +10,7 @@ abbrev pub fault_number : ReplayFault → ℕ
 fault_number Memory = 1
 fault_number (Stuck at why) = 2
 
--- want of memory changes nothing; else the events before the refused one were taken, and the world stands there
+-- refused memory changes nothing; otherwise the events before the refused one were taken, and the world is left there
 abbrev pub Stops : State → List Event → ReplayFault → State → Type 0
 Stops old events Memory new = new ≡ old
 Stops old events (Stuck at why) new = (e : Event) × (replies : List Reply) × (slice_get events at ≡ Some e) × Run old (take at events) replies new × (refusal new e ≡ Some why)

@@ -1,4 +1,4 @@
--- Each step of a seat keeps the laws: in the shape in which a table of words and views asks it.
+-- Each step of a seat keeps the laws, in the form that a table of words and views requires.
 use Rattle.std.specs.Prelude.{◌≡◌, ℕ, ◌+◌, ◌≤◌, true, None, List, [], ◌∷◌, ◌++◌, slice_set}
 use mathlib.Core.Option.{some}
 use lib.ListN.{get_elem?}
@@ -32,17 +32,17 @@ PassStepsKeepLaws = (o : Origin) (cells : Cells) (views : List View) (i : ℕ) (
     → IsEnabled (hinders_pass (sizes_of cells) p.standing e)
     → Lawful o (cells_after_pass e cells) (slice_set views i (OfPass (pass_view_after e cells p)))
 
--- so does a step of the control but the taking in of a pass; to store a guarded word it has to know that ZERO is set, as then it is
+-- so does a step of the control except the taking in of a pass; to store a guarded word it has to know that ZERO is set, and then it is
 abbrev pub ControlStepsKeepLaws : Type 0
 ControlStepsKeepLaws = (o : Origin) (cells : Cells) (views : List View) (i : ℕ) (c : ControlView) (e : ControlEvent) → Lawful o cells views → Sees views i (OfControl c)
     → ((k : ℕ) → e ≡ Join k → ⊥) → IsEnabled (hinders_control (sizes_of cells) cells.shared.zero None c.standing e)
     → Lawful o (cells_after_control e c.standing cells) (slice_set views i (OfControl (control_view_after e cells c)))
 
--- what the control knows of ZERO is so
+-- what the control knows of ZERO is true
 abbrev pub KnownZeroIsSet : Type 0
 KnownZeroIsSet = (o : Origin) (cells : Cells) (views : List View) (i : ℕ) (c : ControlView) → Lawful o cells views → Sees views i (OfControl c) → c.knows_zero ≡ true → cells.shared.zero ≡ true
 
--- the control may take in a pass that holds and owes nothing
+-- the control may take in a pass that holds no reference and has no pending step
 abbrev pub JoiningKeepsLaws : Type 0
 JoiningKeepsLaws = (o : Origin) (cells : Cells) (views : List View) (i j : ℕ) (c : ControlView) (p : PassView) → Lawful o cells views → Sees views i (OfControl c) → Sees views j (OfPass p)
     → p.standing.held ≡ 0 → p.standing.pending ≡ Nothing → Lawful o cells (slice_set (slice_set views i (OfControl (joined c p))) j Spent)
@@ -51,7 +51,7 @@ JoiningKeepsLaws = (o : Origin) (cells : Cells) (views : List View) (i j : ℕ) 
 abbrev pub with_one_more : ControlView → ControlView
 with_one_more c = record c { passes = c.passes + 1 }
 
--- a new pass may be split from the control while it has fewer than the most
+-- a new pass may be split from the control while it has fewer than the maximum
 abbrev pub SplittingKeepsLaws : Type 0
 SplittingKeepsLaws = (o : Origin) (cells : Cells) (views : List View) (i : ℕ) (c : ControlView) → Lawful o cells views → Sees views i (OfControl c) → c.passes + 1 ≤ PASS_LIMIT
     → Lawful o cells (slice_set views i (OfControl (with_one_more c)) ++ OfPass first_pass ∷ [])

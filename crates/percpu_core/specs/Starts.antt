@@ -37,7 +37,7 @@ abbrev pub starts_dead : Start → Bool
 starts_dead Dead = true
 starts_dead _ = false
 
--- live with the initial reference, and with the bias where slots are open; or dead at zero
+-- live with the initial reference, and with the bias if slots are open; or dead at zero
 abbrev pub first_shared : Start → SharedWord
 first_shared Slots = record { zero = false; dead = false; value = bias + 1 }
 first_shared Atomic = record { zero = false; dead = false; value = 1 }

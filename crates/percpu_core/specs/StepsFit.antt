@@ -1,4 +1,4 @@
--- What an enabled step of a seat finds: numbers that have room for it, and slots that are there.
+-- Each enabled step of a seat fits: numbers have room for it, and its slot exists.
 use Rattle.std.specs.Prelude.{ℕ, ◌+◌, ◌*◌, ◌<◌, ◌≤◌, List, Option, length, unsigned_abs}
 use Rattle.percpu_words.specs.SharedWord.{dead_mark}
 use Rattle.percpu_words.specs.SlotWord.{most_delta}
@@ -19,13 +19,13 @@ use Rattle.percpu_core.specs.ReleaseLaw.{Origin}
 use Rattle.percpu_core.specs.Laws.{Lawful}
 use Rattle.percpu_core.specs.SeatLaws.{Sees}
 
--- the shared value has what a pass's step takes off it and room for what it adds, and each slot's delta is within its limit
+-- the shared value has what a pass's step subtracts and room for what it adds, and each slot's delta is within its limit
 pub record PassFits (cells : Cells) (e : PassEvent) : Type 0 where
   pub takes : taken_off e ≤ cells.shared.value
   pub adds : cells.shared.value + added e < dead_mark
   pub slots : AreSmall cells.slots
 
--- the shared value has what the control's step takes off it and room for what it adds, the slot that it closes or opens is there, and each delta, closed or not, is within its limit
+-- the shared value has what the control's step subtracts and room for what it adds, the slot that it closes or opens exists, and each delta, closed or not, is within its limit
 pub record ControlFits (cells : Cells) (c : ControlView) (e : ControlEvent) : Type 0 where
   pub value : ValueFits e c.standing.uncollected cells.shared.value
   pub next : NextIsThere e c.standing.phase (length cells.slots)

@@ -6,7 +6,7 @@ use Rattle.percpu_core.specs.declared.view.PassView.{PassView}
 use Rattle.percpu_core.specs.declared.view.View.{View}
 use Rattle.percpu_core.specs.declared.view.View.TheVariants.{OfControl, OfPass, Spent}
 
--- 1 where the test holds
+-- 1 if the test holds
 abbrev pub count : Bool → ℕ
 count true = 1
 count false = 0
@@ -47,13 +47,13 @@ releases_of_passes others = over_passes (λ p. p.releases) others
 abbrev pub passes_left : List View → ℕ
 passes_left others = over_passes (λ p. 1) others
 
--- the view is a pass's of which P holds, or spent
+-- the view is spent, or it is the view of a pass and P holds of it
 abbrev pub IfPass : (PassView → Type 0) → View → Type 0
 IfPass P (OfPass p) = P p
 IfPass P (OfControl c) = ⊥
 IfPass P Spent = Unit {0}
 
--- each of these views is one
+-- each of these views is spent, or it is the view of a pass and P holds of it
 abbrev pub EachPass : (PassView → Type 0) → List View → Type 0
 EachPass P [] = Unit {0}
 EachPass P (v ∷ vs) = IfPass P v × EachPass P vs

@@ -1,4 +1,4 @@
-//! Where the control stands between two of its steps.
+//! The state of the control between two of its steps.
 ghost use Rattle.std.specs.Prelude.{◌≡◌, ◌<◌, ◌≤◌, ◌^◌, find, unsigned_abs};
 ghost use Rattle.percpu_core.specs.ControlSteps as steps;
 ghost use Rattle.percpu_core.specs.Machine.{order};
@@ -12,8 +12,8 @@ use crate::phase::Phase;
 use crate::reply::Reply;
 use crate::sizes::Sizes;
 
-/// The phase, the kills so far (those that the gate started with included), whether the control has a zero
-/// to mark, and the sum of the deltas that it has closed and not collected yet.
+/// The phase, the number of kills so far (including those that the gate started with), whether the control has a zero
+/// to mark, and the sum of the deltas that it has closed and not yet collected.
 #[derive(Clone, Copy, Debug, PartialEq, Eq)]
 pub struct ControlStanding {
     pub phase: Phase,
@@ -23,8 +23,8 @@ pub struct ControlStanding {
 }
 
 impl ControlStanding {
-    /// Why the step may not be taken, at a gate of these sizes with ZERO set or not;
-    /// `joining` is the pass that is to join. The order of the tests is part of the answer.
+    /// Why the step isn't enabled, at a gate of these sizes with ZERO set or clear; `joining` is the pass that is to
+    /// join. The order of the tests is part of the result.
     pub(crate) fn refusal(
         self,
         sizes: Sizes,
@@ -51,15 +51,14 @@ impl ControlStanding {
         }
     }
 
-    /// Whether a zero is to be marked first.
+    /// Whether a zero has to be marked first.
     fn must_mark(self, event: ControlEvent) -> bool
         ensures { result ≡ steps.must_mark self.to_mark event }
     {
         self.to_mark && !matches!(event, ControlEvent::Mark)
     }
 
-    /// Whether the step belongs to this phase. A guarded word is stored in the phase dead with ZERO
-    /// set.
+    /// Whether the step belongs to this phase. A guarded word is stored in the phase Dead, with ZERO set.
     fn is_in_turn(self, slots: usize, zero: bool, event: ControlEvent) -> bool
         ensures { result ≡ steps.is_in_turn slots zero self event }
     {
@@ -87,8 +86,7 @@ impl ControlStanding {
         self.kills >= KILL_LIMIT && matches!(event, ControlEvent::MarkDead)
     }
 
-    /// Where the control stands once its step is answered, at a gate with so many slots and DEAD set or
-    /// not.
+    /// The state of the control after the reply to a step, at a gate with this many slots and DEAD set or clear.
     pub(crate) fn after(
         self,
         event: ControlEvent,
@@ -118,14 +116,14 @@ impl ControlStanding {
     }
 }
 
-/// Whether the pass that is to join isn't there.
+/// Whether the pass that is to join doesn't exist.
 fn names_no_pass(joining: Option<PassStanding>, event: ControlEvent) -> bool
     ensures { result ≡ steps.names_no_pass joining event }
 {
     joining.is_none() && matches!(event, ControlEvent::Join(_))
 }
 
-/// Whether the pass that is to join still owes something.
+/// Whether the pass that is to join still has a pending step.
 fn joins_mid_call(joining: Option<PassStanding>, event: ControlEvent) -> bool
     ensures { result ≡ steps.joins_mid_call joining event }
 {
@@ -135,7 +133,7 @@ fn joins_mid_call(joining: Option<PassStanding>, event: ControlEvent) -> bool
     }
 }
 
-/// Whether the pass that is to join still holds something.
+/// Whether the pass that is to join still holds a reference.
 fn joins_holding(joining: Option<PassStanding>, event: ControlEvent) -> bool
     ensures { result ≡ steps.joins_holding joining event }
 {

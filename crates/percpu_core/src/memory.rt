@@ -1,8 +1,8 @@
-//! Want of memory.
+//! Refused memory.
 use std::alloc::AllocError;
 use thiserror::Error;
 
-/// A growth was refused.
+/// An allocation was refused.
 #[derive(Clone, Copy, Debug, PartialEq, Eq, Error)]
 #[error("memory")]
 pub struct Memory;

@@ -4,7 +4,7 @@ ghost use Rattle.percpu_core.specs.Numbers.{refusal_number};
 
 use thiserror::Error;
 
-/// Why a step can't be taken now, the first reason in the order in which they are tested.
+/// Why a step isn't enabled now: the first reason, in the order in which they are tested.
 #[derive(Clone, Copy, Debug, PartialEq, Eq, Error)]
 pub enum NotEnabled {
     #[error("no such actor")]

@@ -11,7 +11,7 @@ pub enum ReplayFault {
     /// There was no room for all replies.
     #[error("memory")]
     Memory,
-    /// The event at this place, from 0, wasn't enabled.
+    /// The event at this index, from 0, wasn't enabled.
     #[error("event {at}: {why}")]
     Stuck { at: usize, why: NotEnabled },
 }

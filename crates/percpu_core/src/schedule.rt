@@ -9,10 +9,10 @@ use crate::reply::Reply;
 use crate::world::World;
 use std::alloc::{AllocError, Global};
 
-/// Takes the events one after another, and gives their replies.
+/// Takes the events one after another, and returns their replies.
 ///
-/// Room for all replies is taken first, so `Memory` changes nothing. After `Stuck` the world stands
-/// before the event that was refused.
+/// Memory for all replies is allocated first, so `Memory` changes nothing. After `Stuck` the world is as it was before
+/// the event that wasn't enabled.
 pub fn replay(alloc: Global, world: &mut World, events: &[Event]) -> Result<Vec<Reply>, ReplayFault>
     ensures ok { IfOk result (λ replies. Run world.old events.now replies.items world.new) }
     ensures sizes { SameSizes world.old world.new }

@@ -1,4 +1,4 @@
-//! What steps find on the shared word, and what they leave there.
+//! The replies to steps on the shared word, and the word after them.
 ghost use Rattle.std.specs.Prelude.{◌≡◌, ◌<◌, ◌≤◌};
 ghost use Rattle.percpu_words.specs.SharedWord.{parts, bias, dead_mark};
 ghost use Rattle.percpu_core.specs.Cells.{is_dead_alone};
@@ -8,7 +8,7 @@ ghost use Rattle.percpu_core.specs.ControlSteps as control;
 use crate::reply::Reply;
 use percpu_words::{BIAS, DEAD, ZERO};
 
-/// The answer of a subtraction that left this word.
+/// The reply to a subtraction that left this word.
 pub(crate) fn left_reply(word: u64) -> Reply
     ensures { result ≡ steps.left_reply (parts word) }
 {
@@ -19,7 +19,7 @@ pub(crate) fn left_reply(word: u64) -> Reply
     }
 }
 
-/// The answer of the exchange that found this word.
+/// The reply to an exchange that found this word.
 pub(crate) fn mark_reply(word: u64) -> Reply
     ensures { result ≡ steps.mark_reply (parts word) }
 {
@@ -37,7 +37,7 @@ pub(crate) fn marked(word: u64) -> u64
     if word == DEAD { DEAD | ZERO } else { word }
 }
 
-/// The word once the sum of the closed deltas has come to it, and the bias was taken off.
+/// The word after the sum of the closed deltas is added and the bias removed.
 pub(crate) fn collected(sum: i64, word: u64) -> u64
     requires there { bias ≤ control.moved_by sum (parts word).value }
     requires room { control.moved_by sum (parts word).value < dead_mark }

@@ -1,6 +1,6 @@
 //! The sizes of a gate.
 
-/// How many slots and guarded words a gate has.
+/// The number of slots and of guarded words of a gate.
 #[derive(Clone, Copy, Debug, PartialEq, Eq)]
 pub struct Sizes {
     pub slots: usize,

@@ -7,11 +7,11 @@ ghost use Rattle.percpu_core.specs.PassSteps as steps;
 use crate::reply::Reply;
 use percpu_words::{CLOSED, slot_word};
 
-/// What a slot holds: nothing while it is closed, else what was taken on it less what was given back on it.
+/// What a slot holds: nothing while it is closed, otherwise its delta.
 ///
-/// Linux: one processor's count (`percpu_count_ptr`, include/linux/percpu-refcount.h). There a gate that goes
-/// atomic waits until no processor counts on its own any more, and reads each count then; here each slot is
-/// closed by an exchange, which tells its last delta.
+/// Linux: one processor's count (`percpu_count_ptr`, include/linux/percpu-refcount.h). A gate that goes atomic there
+/// waits until no processor counts on its own any more, and then reads each count. Here each slot is closed by an
+/// exchange, which returns its last delta.
 #[derive(Clone, Copy, Debug, PartialEq, Eq)]
 pub enum Slot {
     Closed,
@@ -30,7 +30,7 @@ impl Slot {
         }
     }
 
-    /// What it counts; a closed slot counts nothing.
+    /// The delta; 0 for a closed slot.
     pub(crate) fn delta(self) -> i64
         ensures { result ≡ cells.delta self }
     {
@@ -40,7 +40,7 @@ impl Slot {
         }
     }
 
-    /// Whether it is open with this delta.
+    /// Whether the slot is open with this delta.
     pub(crate) fn is_open_with(self, seen: i64) -> bool
         ensures { result ≡ cells.is_open_with seen self }
     {
@@ -50,7 +50,7 @@ impl Slot {
         }
     }
 
-    /// What a look at it answers.
+    /// The reply to a look at the slot.
     pub(crate) fn look_reply(self) -> Reply
         ensures { result ≡ steps.look_reply self }
     {
@@ -60,7 +60,7 @@ impl Slot {
         }
     }
 
-    /// What an exchange of the delta `seen` answers.
+    /// The reply to an exchange that expects the delta `seen`.
     pub(crate) fn exchange_reply(self, seen: i64) -> Reply
         ensures { result ≡ steps.exchange_reply seen self }
     {

@@ -43,7 +43,7 @@ impl Start {
         }
     }
 
-    /// The mode that a gate with this start has, or comes back in.
+    /// The mode that a gate with this start has, or has once it is revived.
     pub fn mode(self) -> Mode
         ensures { result ≡ first_mode self }
     {
@@ -53,7 +53,7 @@ impl Start {
         }
     }
 
-    /// The front at the start: two for each kill, and the odd one of a dead start.
+    /// The front at the start: 2 for each kill, and 1 more if the gate starts dead.
     pub fn front(self, kills: u64) -> u64
         requires { kills ≤ KILL_LIMIT }
         ensures { result ≡ first_front self kills }
@@ -64,7 +64,7 @@ impl Start {
         }
     }
 
-    /// What each slot is at the start.
+    /// The state of each slot at the start.
     pub fn slot(self) -> Slot
         ensures { result ≡ first_slot self }
     {

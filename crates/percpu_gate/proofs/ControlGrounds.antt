@@ -1,4 +1,4 @@
--- What an answer of the control's step shows.
+-- What the reply to the control's step shows.
 use Rattle.std.proofs.Common.{◌≡◌, ℕ, ◌+◌, ◌*◌, ◌%◌, ◌≤◌, Bool, true, false, ◌||◌, refl, ap, sym, ◌∙◌, arith}
 use Rattle.std.specs.Prelude.{pos}
 use Rattle.percpu_words.specs.SharedWord.{SharedWord, spelling, parts}
@@ -78,7 +78,7 @@ pub few_after_mark : {g : GateFacts} (old new : ControlView) (r : Reply) → Con
 few_after_mark old new r s = let few = (moment_known old s.moment).releases in let is : new.releases ≡ old.releases + won (control_reply events.Mark old.standing s.moment.cells) = ap (λ (c : ControlView). c.releases) s.learned in
     let one = won-most (control_reply events.Mark old.standing s.moment.cells) in omega arith
 
--- what is known of ZERO is so where the initial reference is taken back
+-- what is known of ZERO is true when the initial reference is taken back
 pub known_at_zero : {g : GateFacts} (old : ControlView) (zero : Bool) → FindsZero g old zero → old.knows_zero ≡ true → zero ≡ true
 known_at_zero old zero t known = sym t.found ∙ (moment_known old t.moment).zero known
 

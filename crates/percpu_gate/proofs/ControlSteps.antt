@@ -1,4 +1,4 @@
--- What the control's steps share: where each is allowed, what it tells, and who takes it.
+-- What the control's steps share: when each is allowed, what it returns, and which seat takes it.
 use Rattle.std.proofs.Common.{◌≡◌, ℕ, ◌+◌, true, [], get_or, set, length, None, ap, sym, ◌∙◌, subst}
 use Rattle.atomic_table.specs.Seated.{TableId}
 use Rattle.atomic_table.specs.Table.{Me, Allows}
@@ -16,7 +16,7 @@ use Rattle.percpu_core.specs.Machine.{IsEnabled}
 use Rattle.percpu_gate.specs.declared.rule.GateKey.{GateKey}
 use Rattle.percpu_gate.specs.declared.rule.SeatView.{SeatView}
 use Rattle.percpu_gate.specs.Layout.{shared_place, front_place, Spell}
-use Rattle.percpu_gate.specs.Rule.{Ruled, sizes_at, seated, Took, control_after, shared_number, next_front_number}
+use Rattle.percpu_gate.specs.Rule.{Ruled, sizes_at, seated, Took, moves_after, control_after, shared_number, next_front_number}
 use Rattle.percpu_gate.specs.Seats.{GateFacts, gate_of, facts_of, control_of, SitsAsControl, ControlStep}
 use Rattle.percpu_gate.proofs.Allowed.{ControlAt, Enabled, control_allowed}
 use Rattle.percpu_gate.proofs.Places.{shared_written, front_written}
@@ -24,7 +24,7 @@ use Rattle.percpu_gate.proofs.Known.{ControlKnows, moment_known}
 
 -- the control of the gate of this key sits at it
 pub control_at : (k : GateKey) (table table' : TableId) (me : Me (Unit {0}) SeatView) → SitsAsControl me → gate_of table me.0 ≡ facts_of (record { id = table'; key = k }) → ControlAt k me
-control_at k table table' me sits own = sits ∙ (λ j. (record { slots = (own j).slots; start = (own j).start; words = (own j).words; view = OfControl (control_of me.0.view) }, []))
+control_at k table table' me sits own = sits ∙ (λ j. (record { slots = (own j).slots; start = (own j).start; words = (own j).words; view = OfControl (control_of me.0.view); steps = me.0.steps; moves = me.0.moves }, []))
 
 -- enabled, whatever of ZERO
 abbrev pub Free : GateKey → ControlEvent → Me (Unit {0}) SeatView → Type 0
@@ -67,14 +67,22 @@ module _ (k : GateKey) (slots id : ℕ) (me : Me (Unit {0}) SeatView) (sits : Co
         },
       ))
 
+  -- a step taken at the gate, which is counted if it closes or opens a slot
+  abbrev pub Stepped : TableId → ControlEvent → Me (Unit {0}) SeatView → Reply → Type 0
+  Stepped table e new reply = ControlStep (at_gate k table) e c (control_of new.0.view) reply × (new.0.moves ≡ moves_after e me.0.moves)
+
   pub took : (table : TableId) (e : ControlEvent) (word : Cells → ℕ) (found : ℕ) (new : Me (Unit {0}) SeatView) (reply : Reply) → Took (control_after e) word me found new
-      → ((cells : Cells) → ControlKnows cells c → found ≡ word cells → reply ≡ control_reply e c.standing cells) → ControlStep (at_gate k table) e c (control_of new.0.view) reply
-  took table e word found new reply t answer = let own : Took (control_after e) word (seated k (OfControl c), []) found new = subst (λ (m : Me (Unit {0}) SeatView). Took (control_after e) word m found new) sits t in record {
-    moment = own.moment;
-    learned = ap (λ (m : Me (Unit {0}) SeatView). control_of m.0.view) own.learned;
-    answered = answer own.moment.cells (moment_known c own.moment) own.word_found;
-  }
+      → ((cells : Cells) → ControlKnows cells c → found ≡ word cells → reply ≡ control_reply e c.standing cells) → Stepped table e new reply
+  took table e word found new reply t answer =
+      let own : Took (control_after e) word (seated k (OfControl c) me.0.steps me.0.moves, []) found new = subst (λ (m : Me (Unit {0}) SeatView). Took (control_after e) word m found new) sits t in (
+        record {
+          moment = own.moment;
+          learned = ap (λ (m : Me (Unit {0}) SeatView). control_of m.0.view) own.learned;
+          answered = answer own.moment.cells (moment_known c own.moment) own.word_found;
+        },
+        ap (λ (m : Me (Unit {0}) SeatView). m.0.moves) own.learned,
+      )
 
   module _ (table : TableId) (found : ℕ) (new : Me (Unit {0}) SeatView) where
-    pub done_as : (e : ControlEvent) (word : Cells → ℕ) → ((s : ControlStanding) (cells : Cells) → Done ≡ control_reply e s cells) → Took (control_after e) word me found new → ControlStep (at_gate k table) e c (control_of new.0.view) Done
+    pub done_as : (e : ControlEvent) (word : Cells → ℕ) → ((s : ControlStanding) (cells : Cells) → Done ≡ control_reply e s cells) → Took (control_after e) word me found new → Stepped table e new Done
     done_as e word silent t = took table e word found new Done t (λ cells q is. silent c.standing cells)

@@ -29,7 +29,7 @@ use Rattle.percpu_gate.specs.Seats.{GateFacts, Moment, zero_at}
 use Rattle.percpu_gate.specs.ControlCalls.{IsBetweenCalls, exit_refusal}
 use Rattle.percpu_gate.specs.Exits.{Ended}
 
--- where no pass is left, passes count nothing
+-- if no pass is left, passes count nothing
 none_left : (f : PassView → ℕ) (vs : List View) → passes_left vs ≡ 0 → over_passes f vs ≡ 0
 none_left f [] none = refl
 none_left f (OfPass p ∷ vs) none = absurd (omega arith)
@@ -112,7 +112,7 @@ of_moment o cells (OfControl d ∷ vs) zero c l sees fresh marked between refusa
     ends o cells c vs (subst (λ (x : ControlView). Laws o cells x vs) (same_control d c sees) l) fresh marked between refusal none
 of_moment o cells (OfControl d ∷ vs) (suc i) c l sees fresh marked between refusal none = absurd (EachPass-at _ vs i (OfControl c) l.limit.held sees)
 
--- no pass is left where the end isn't refused
+-- no pass is left if the end isn't refused
 none_by : (mid some_out : Bool) (n : ℕ) → (if mid then Some MidSwitch else (if some_out then Some (PassesOut n) else None)) ≡ None → some_out ≡ false
 none_by true some_out n is = cc
 none_by false true n is = cc

@@ -1,4 +1,4 @@
--- What an answer of a pass's step shows.
+-- What the reply to a pass's step shows.
 use Rattle.std.proofs.Common.{◌≡◌, inl, inr, subst, List, [], ◌∷◌, Some, ℕ, ◌+◌, ◌-◌, ◌≤◌, Bool, true, false, ◌||◌, refl, ap, sym, ◌∙◌, arith}
 use Rattle.percpu_words.specs.SharedWord.{SharedWord, spelling, parts}
 use Rattle.percpu_words.proofs.SharedWordSteps.{parts_of_spelling}
@@ -38,7 +38,7 @@ pub found_zero : {g : GateFacts} (old new : PassView) (w : ℕ) → PassStep g e
 found_zero old new w s zero = let is = sym (ap (λ (x : SharedWord). x.zero) (exact old new w s)) ∙ zero in
     (ap (λ (v : PassView). v.found_zero) s.learned ∙ or_true old.found_zero s.moment.cells.shared.zero is, (moment_knows old s.moment).none_at_zero is)
 
--- a look at the marks leaves all but what it found
+-- a look at the marks leaves everything except what it found
 abbrev looked : {g : GateFacts} (old new : PassView) (w : ℕ) → old.standing.pending ≡ Nothing → PassStep g events.LookShared old new (Shared w) → PassLook g old new
 looked old new w none s = record {
   moment = s.moment;
@@ -59,7 +59,7 @@ looked old new w none s = record {
     won : old.releases + 0 ≡ old.releases
     won = omega arith
 
--- and tells the mark that it found
+-- and records the mark that it found
 pub looked_for_dead : {g : GateFacts} (old new : PassView) (w : ℕ) (is_dead : Bool) → old.standing.pending ≡ Nothing → is_dead ≡ (parts w).dead → PassStep g events.LookShared old new (Shared w)
     → (look : PassLook g old new) × (is_dead ≡ dead_at look.moment)
 looked_for_dead old new w is_dead none is s = (looked old new w none s, is ∙ ap (λ (x : SharedWord). x.dead) (exact old new w s))

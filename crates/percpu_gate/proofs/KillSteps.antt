@@ -20,11 +20,11 @@ use Rattle.percpu_gate.specs.declared.rule.GateKey.{GateKey}
 use Rattle.percpu_gate.specs.declared.rule.SeatView.{SeatView}
 use Rattle.percpu_gate.specs.Layout.{shared_place, front_place}
 use Rattle.percpu_gate.specs.Rule.{Ruled, sizes_at, Took, control_after, shared_number, next_front_number}
-use Rattle.percpu_gate.specs.Seats.{control_of, ControlStep, left, marked, put_of}
+use Rattle.percpu_gate.specs.Seats.{control_of, left, marked, put_of}
 use Rattle.percpu_gate.proofs.Allowed.{ControlAt}
 use Rattle.percpu_gate.proofs.Known.{ControlKnows}
 use Rattle.percpu_gate.proofs.SharedWords as shared
-use Rattle.percpu_gate.proofs.ControlSteps.{Free, at_gate, on_shared, stores_front, took}
+use Rattle.percpu_gate.proofs.ControlSteps.{Free, Stepped, on_shared, stores_front, took}
 
 module _ (k : GateKey) (slots id : ℕ) (me : Me (Unit {0}) SeatView) (sits : ControlAt k me) where
   abbrev c : ControlView
@@ -50,11 +50,11 @@ module _ (k : GateKey) (slots id : ℕ) (me : Me (Unit {0}) SeatView) (sits : Co
 
   module _ (table : TableId) (found : ℕ) (new : Me (Unit {0}) SeatView) where
     pub base_dropped_as : Free k events.DropBase me → Took (control_after events.DropBase) shared_number me found new
-        → ControlStep (at_gate k table) events.DropBase c (control_of new.0.view) (left (nat_eq ((found + (2 ^ 64 - 1)) % 2 ^ 64) dead_mark))
+        → Stepped k slots id me sits table events.DropBase new (left (nat_eq ((found + (2 ^ 64 - 1)) % 2 ^ 64) dead_mark))
     base_dropped_as free t = took k slots id me sits table events.DropBase shared_number found new _ t (λ cells q is. let small = q.small in let has = base_in free cells q in
         ap (λ (w : ℕ). left (nat_eq w dead_mark)) (ap (λ (w : ℕ). (w + (2 ^ 64 - 1)) % 2 ^ 64) is ∙ subtracting cells.shared 1 has (omega arith))
         ∙ ap left (shared.alone_is (minus 1 cells.shared) (omega arith)) ∙ shared.left_answer (is_dead_alone (minus 1 cells.shared)))
 
-    pub zero_marked_as : Took (control_after events.Mark) shared_number me found new → ControlStep (at_gate k table) events.Mark c (control_of new.0.view) (marked (put_of (nat_eq found dead_mark)))
+    pub zero_marked_as : Took (control_after events.Mark) shared_number me found new → Stepped k slots id me sits table events.Mark new (marked (put_of (nat_eq found dead_mark)))
     zero_marked_as t = took k slots id me sits table events.Mark shared_number found new _ t (λ cells q is. let small = q.small in
         ap (λ (b : Bool). marked (put_of b)) (ap (λ (n : ℕ). nat_eq n dead_mark) is ∙ shared.alone_is cells.shared (omega arith)) ∙ shared.mark_answer (is_dead_alone cells.shared))

@@ -1,4 +1,4 @@
--- What the laws tell a seat of a gate at a moment.
+-- What the laws say to a seat of a gate at a moment.
 use Rattle.std.specs.Prelude.{ℤ, Option}
 use Rattle.std.proofs.Common.{length, ◌≡◌, ℕ, zero, suc, ◌+◌, ◌*◌, ◌%◌, ◌^◌, ◌<◌, ◌≤◌, true, false, List, [], ◌∷◌, refl, ap, sym, ◌∙◌, subst, arith}
 use mathlib.Core.Option.{some}
@@ -146,7 +146,7 @@ control_knows o cells (OfControl d ∷ vs) (suc i) c l sees = absurd (EachPass-a
 pub moment_known : {slots words : ℕ} {start : Start} (c : ControlView) (m : MomentOf slots start words (OfControl c)) → ControlKnows m.cells c
 moment_known c m = control_knows _ m.cells m.views m.seat c m.lawful m.sees
 
--- where there is a pass, the control has one out
+-- if there is a pass, the control has one out
 pub pass_is_out : (o : Origin) (cells : Cells) (views : List View) (id other : ℕ) (c : ControlView) (p : PassView) → Lawful o cells views → Sees views id (OfControl c) → Sees views other (OfPass p) → 0 < c.passes
 pass_is_out o cells [] id other c p l sees there = absurd l
 pass_is_out o cells (OfPass q ∷ vs) id other c p l sees there = absurd l

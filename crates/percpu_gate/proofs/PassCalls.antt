@@ -37,7 +37,7 @@ mark_wins : (r : Put) → won (marked r) ≡ released r
 mark_wins Last = refl
 mark_wins NotLast = refl
 
--- what a step leaves that counts alone, once its answer is known
+-- what a step leaves that only counts, given its reply
 pub counted : (p : PassView) (held held' won won' : ℕ) (owes owes' : Pending) → held ≡ held' → won ≡ won' → owes ≡ owes'
     → record p { standing = record { held = held; pending = owes }; releases = p.releases + won; found_dead = p.found_dead || false; found_zero = p.found_zero || false }
     ≡ counts p held' won' owes'

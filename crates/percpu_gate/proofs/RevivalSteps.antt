@@ -29,7 +29,10 @@ module _ (k : GateKey) (slots id : ℕ) (me : Me (Unit {0}) SeatView) (sits : Co
   stores_next_front n next free = stores_front k slots id me sits events.NextFront (λ j e. cc) n next (λ cells. (free, refl, refl))
 
   module _ (table : TableId) (found : ℕ) (new : Me (Unit {0}) SeatView) where
-    pub base_taken_as : Took (control_after events.TakeBase) shared_number me found new → ControlFinds (at_gate k table) events.TakeBase c (control_of new.0.view) found
-    base_taken_as t = let own : Took (control_after events.TakeBase) shared_number (seated k (OfControl c), []) found new =
-        subst (λ (m : Me (Unit {0}) SeatView). Took (control_after events.TakeBase) shared_number m found new) sits t in
-        record { moment = own.moment; learned = ap (λ (m : Me (Unit {0}) SeatView). control_of m.0.view) own.learned; word_found = own.word_found }
+    pub base_taken_as : Took (control_after events.TakeBase) shared_number me found new
+        → ControlFinds (at_gate k table) events.TakeBase c (control_of new.0.view) found × (new.0.moves ≡ me.0.moves)
+    base_taken_as t = let own : Took (control_after events.TakeBase) shared_number (seated k (OfControl c) me.0.steps me.0.moves, []) found new =
+        subst (λ (m : Me (Unit {0}) SeatView). Took (control_after events.TakeBase) shared_number m found new) sits t in (
+          record { moment = own.moment; learned = ap (λ (m : Me (Unit {0}) SeatView). control_of m.0.view) own.learned; word_found = own.word_found },
+          ap (λ (m : Me (Unit {0}) SeatView). m.0.moves) own.learned,
+        )

@@ -1,4 +1,4 @@
--- What the shared word's number tells of its parts.
+-- What the shared word's number says of its parts.
 use Rattle.std.proofs.Common.{◌≡◌, ℕ, ◌+◌, ◌<◌, Bool, true, false, ◌||◌, nat_eq, if◌then◌else◌, refl, ap, sym, ◌∙◌, arith}
 use mathlib.Core.Bool.{not}
 use prog.Atomic.{either}
@@ -28,7 +28,7 @@ marking_by s small false is = ap (λ (z : Bool). spelling record s { zero = z })
 pub marking : (s : SharedWord) → s.value < dead_mark → either (nat_eq (spelling s) dead_mark) (dead_mark + zero_mark) (spelling s) ≡ spelling (marked_word s)
 marking s small = ap (λ (b : Bool). either b (dead_mark + zero_mark) (spelling s)) (alone_is s small) ∙ marking_by s small (is_dead_alone s) refl
 
--- one answer tells one number
+-- one reply has one number
 pub shared_is : (a b : ℕ) → Shared a ≡ Shared b → a ≡ b
 shared_is a b e = cc
 

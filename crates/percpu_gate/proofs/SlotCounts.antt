@@ -111,7 +111,7 @@ look_leaves s old new o idle step = step.learned
     ∙ counted old _ old.standing.held _ 0 _ Nothing (omega arith) (ap won (sym step.answered) ∙ look_wins_none o) (ap pending_after (sym step.answered) ∙ look_owes_none o)
     ∙ calm old idle
 
--- the exchange was won where the slot was open with the delta that was seen
+-- the exchange was won if the slot was open with the delta that was seen
 won_is : (b found : Bool) → exchanged b ≡ (if found then Won else Lost) → found ≡ b
 won_is true true is = refl
 won_is true false is = cc

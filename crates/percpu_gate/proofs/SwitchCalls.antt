@@ -75,7 +75,7 @@ calm c phase sum unmarked = λ j. record c { standing = record { phase = phase; 
     none_more : c.releases + 0 ≡ c.releases
     none_more = omega arith
 
--- where a kill goes from a live phase
+-- the phase to which a kill goes from a live one
 kill_from : (slots : ℕ) (dead : Bool) (phase : Phase) → Phase
 kill_from slots dead LiveSlots = Closing 0
 kill_from slots dead _ = Collected
@@ -184,7 +184,7 @@ collected slots old new unmarked turn s = s.learned ∙ calm old (if s.moment.ce
 pub bias_added : {g : GateFacts} (old new : ControlView) → old.standing.to_mark ≡ false → ControlStep g events.AddBias old new Done → new ≡ in_phase (Opening 0) old
 bias_added old new unmarked s = s.learned ∙ calm old (Opening 0) old.standing.uncollected unmarked
 
--- the phase once so many of the slots are open, or closed
+-- the phase when this many of the slots are open, or closed
 abbrev pub opened_to : ℕ → ℕ → Phase
 opened_to slots i = if i == slots then LiveSlots else Opening i
 

@@ -23,14 +23,14 @@ use Rattle.percpu_gate.specs.declared.rule.GateKey.{GateKey}
 use Rattle.percpu_gate.specs.declared.rule.SeatView.{SeatView}
 use Rattle.percpu_gate.specs.Layout.{shared_place, slot_place, slot_of}
 use Rattle.percpu_gate.specs.Rule.{Spelled, Ruled, sizes_at, Took, control_after, shared_number, slot_number}
-use Rattle.percpu_gate.specs.Seats.{control_of, ControlStep}
+use Rattle.percpu_gate.specs.Seats.{control_of}
 use Rattle.percpu_gate.proofs.Allowed.{ControlAt, control_allowed, sizes_are}
 use Rattle.percpu_gate.proofs.Known.{ControlKnows}
 use Rattle.percpu_gate.proofs.Places.{shared_written, slot_written}
 use Rattle.percpu_gate.proofs.SlotSteps.{small_anywhere, slot_of_place}
-use Rattle.percpu_gate.proofs.ControlSteps.{Free, at_gate, on_shared, took}
+use Rattle.percpu_gate.proofs.ControlSteps.{Free, Stepped, on_shared, took}
 
--- the delta that a slot's word tells, where a closed one tells none
+-- the delta that a slot's word encodes, if a closed one encodes none
 told_delta : (t : Slot) (r : Option ℤ) → ((d : ℤ) → (r ≡ Some d) ↔ Spells (slot_spelling t) d) → IsDelta (delta t) → unwrap_or r (pos 0) ≡ delta t
 told_delta Closed None told h = refl
 told_delta (Open d) None told h = let is : None ≡ Some d = (told d).1 (h, refl) in cc
@@ -72,7 +72,7 @@ module _ (k : GateKey) (slots id : ℕ) (me : Me (Unit {0}) SeatView) (sits : Co
   closes_at i is free = subst (λ (x : ℕ). Allows (Ruled k) slots id me (slot_place i) (λ _. closed_mark) (Took (control_after events.Close) (slot_number x) me)) (sym (slot_of_place i))
       (subst (λ (x : ℕ). Allows (Ruled k) slots id me (slot_place x) (λ _. closed_mark) (Took (control_after events.Close) (slot_number x) me)) (sym is) (closes_slot free))
 
-  -- what is taken off the shared word where the sum is collected: the bias less the sum
+  -- what is taken off the shared word when the sum is collected: the bias less the sum
   takes_off : (n : ℕ) → pos n ≡ pos bias -ℤ c.standing.uncollected → Free k events.Collect me → (cells : Cells) (ws : List ℕ) → ControlKnows cells c → Spelled k ws cells
       → (n ≤ cells.shared.value) × (cells.shared.value - n ≡ moved_by c.standing.uncollected cells.shared.value - bias)
   takes_off n is free cells ws q z = collecting_takes c.standing.uncollected cells.shared.value n is (fits events.Collect (λ x. free) cells ws q z).value.0
@@ -92,10 +92,10 @@ module _ (k : GateKey) (slots id : ℕ) (me : Me (Unit {0}) SeatView) (sits : Co
 
   module _ (table : TableId) (found : ℕ) (new : Me (Unit {0}) SeatView) where
     pub slot_closed_as : (r : Option ℤ) → ((d : ℤ) → (r ≡ Some d) ↔ Spells found d) → Took (control_after events.Close) (slot_number (next_slot c.standing.phase)) me found new
-        → ControlStep (at_gate k table) events.Close c (control_of new.0.view) (Collected (unwrap_or r (pos 0)))
+        → Stepped k slots id me sits table events.Close new (Collected (unwrap_or r (pos 0)))
     slot_closed_as r told t = took k slots id me sits table events.Close (slot_number (next_slot c.standing.phase)) found new _ t (λ cells q is.
         ap Collected (told_delta (slot_at cells.slots (next_slot c.standing.phase)) r (subst (λ (w : ℕ). (d : ℤ) → (r ≡ Some d) ↔ Spells w d) is told) (small_anywhere cells.slots (next_slot c.standing.phase) q.deltas)))
 
     pub closed_at : (i : ℕ) (r : Option ℤ) → i ≡ next_slot c.standing.phase → ((d : ℤ) → (r ≡ Some d) ↔ Spells found d) → Took (control_after events.Close) (slot_number (slot_of (slot_place i))) me found new
-        → ControlStep (at_gate k table) events.Close c (control_of new.0.view) (Collected (unwrap_or r (pos 0)))
+        → Stepped k slots id me sits table events.Close new (Collected (unwrap_or r (pos 0)))
     closed_at i r is told t = slot_closed_as r told (subst (λ (x : ℕ). Took (control_after events.Close) (slot_number x) me found new) (slot_of_place i ∙ is) t)

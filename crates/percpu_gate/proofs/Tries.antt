@@ -1,4 +1,4 @@
--- What a try found and leaves: its count on a slot or by an addition, and what it takes back where it is refused.
+-- What a try found and leaves: its count on a slot or by an addition, and what it takes back if it is refused.
 use Rattle.std.proofs.Common.{◌≡◌, ℕ, ◌+◌, ◌-◌, ◌%◌, ◌<◌, ◌≤◌, ◌==◌, Bool, true, false, not, ◌||◌, if◌then◌else◌, ◌⊎◌, inl, inr, List, [], refl, ap, sym, ◌∙◌, arith}
 use Rattle.percpu_core.specs.declared.pass_event.PassEvent.TheVariants as events
 use Rattle.percpu_core.specs.declared.pass_standing.PassStanding.{PassStanding}
@@ -58,7 +58,7 @@ or_found : (a b : Bool) → b ≡ true → (a || b) ≡ true
 or_found true b is = refl
 or_found false b is = is
 
--- so one that held a reference is given another
+-- so a pass that held a reference gets another
 pub given_again : {g : GateFacts} (old : PassView) (r : Tried) → TryFinds g old r → 0 < old.standing.held → r ≡ Tried.Given
 given_again old Tried.Given t some = refl
 given_again old (Tried.Refused r) t some = let none = refused_at_zero old (Tried.Refused r) t refl in absurd (omega arith)
@@ -195,7 +195,7 @@ pub floor_after_try : {g : GateFacts} (slot : ℕ) (old mid new : PassView) (b :
     → new.floor ≡ (if is_refused r then old.floor else next_even old.floor)
 floor_after_try slot old mid new b r t is same = end_leaves_floor mid new r is ∙ floor_by_count slot old mid b t ∙ ap (λ (x : Bool). if x then old.floor else next_even old.floor) (sym same)
 
--- what a live gate gave: 1 more where the try is given
+-- what a live gate gave: 1 more if the try is given
 end_leaves_live : (mid new : PassView) (r : Tried) → new ≡ after_try r mid → new.live_given ≡ mid.live_given
 end_leaves_live mid new Tried.Given is = ap (λ (v : PassView). v.live_given) is
 end_leaves_live mid new (Tried.Refused r) is = ap (λ (v : PassView). v.live_given) is
@@ -210,7 +210,7 @@ pub given_live : {g : GateFacts} (slot : ℕ) (old mid new : PassView) (b : Bool
     → new.live_given ≡ old.live_given + taken r
 given_live slot old mid new b r t is same = end_leaves_live mid new r is ∙ t.live_given ∙ ap (λ (n : ℕ). old.live_given + n) (count_is b r same)
 
--- where an odd front was seen, one that is given has a greater floor
+-- if an odd front was seen, a reference that is given has a greater floor
 pub given_later : (seen floor new : ℕ) (refused : Bool) → seen ≤ floor → new ≡ (if refused then floor else next_even floor) → refused ≡ false → seen % 2 ≡ 1 → seen + 1 ≤ new
 given_later seen floor new true most is given odd = cc
 given_later seen floor new false most is given odd = omega arith
@@ -283,7 +283,7 @@ slot_live slot old new t = let seen = t.moment refl in let is = t.won refl in re
 abbrev Unwon : PassView → PassView → Type 0
 Unwon old mid = (mid ≡ old) ⊎ ((old.standing.held ≡ 0) × (mid ≡ record old { read = [] }))
 
--- all but what was read is as before
+-- everything except what was read is unchanged
 record Alike (old mid : PassView) : Type 0 where
   pub all : mid ≡ record old { read = mid.read }
   pub read : 0 < old.standing.held → mid.read ≡ old.read

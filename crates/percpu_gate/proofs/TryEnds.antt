@@ -1,4 +1,4 @@
--- What a pass keeps beside its seat, after a try.
+-- What a pass keeps outside its seat, after a try.
 use Rattle.std.proofs.Common.{◌≡◌, ℕ, ◌+◌, ◌*◌, ◌<◌, ◌≤◌, ap, ◌∙◌, arith}
 use Rattle.percpu_core.specs.declared.limits.TheConstants.{HELD_LIMIT, KILL_LIMIT}
 use Rattle.percpu_core.specs.declared.pass_standing.PassStanding.{PassStanding}

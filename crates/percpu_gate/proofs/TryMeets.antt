@@ -1,4 +1,4 @@
--- What a try met: one addition of its call found its mark or not, or none was made where a slot gave.
+-- What a try met: one addition of its call found its mark or not, or none was made if a slot gave.
 use Rattle.std.proofs.Common.{◌≡◌, ℕ, ◌+◌, Bool, true, false, not, ◌⊎◌, inl, inr, [], refl, ap, sym, ◌∙◌, subst, arith}
 use Rattle.percpu_core.specs.declared.pass_event.PassEvent.TheVariants as events
 use Rattle.percpu_core.specs.declared.view.PassView.{PassView}
@@ -18,7 +18,7 @@ none_then old mid new a b = record { looks = b.looks ∙ a.looks; dead = b.dead 
 abbrev one_then : {g : GateFacts} (old mid new : PassView) → OneAddition g old mid → FindsNothing mid new → OneAddition g old new
 one_then old mid new a b = record { moment = a.moment; looks = b.looks ∙ a.looks; dead = b.dead ∙ a.dead; zero = b.zero ∙ a.zero }
 
--- the steps behind the addition of a try find nothing
+-- the steps after the addition of a try find nothing
 end_finds_nothing : (mid new : PassView) (r : Tried) → new ≡ after_try r mid → FindsNothing mid new
 end_finds_nothing mid new Given is = record { looks = ap (λ (v : PassView). v.looks) is; dead = ap (λ (v : PassView). v.found_dead_times) is; zero = ap (λ (v : PassView). v.found_zero_times) is }
 end_finds_nothing mid new (Refused r) is = record { looks = ap (λ (v : PassView). v.looks) is; dead = ap (λ (v : PassView). v.found_dead_times) is; zero = ap (λ (v : PassView). v.found_zero_times) is }
@@ -43,7 +43,7 @@ live_added old new b s found = inr (
   found,
 )
 
--- where a slot gives nothing is added
+-- if a slot gives nothing is added
 pub slot_meets : {g : GateFacts} (mark : Cells → Bool) (slot : ℕ) (old new : PassView) → SlotTake g slot 1 old new true → TryMeets g mark old new false
 slot_meets mark slot old new t = let is = t.won refl in inl (
   refl,
@@ -70,7 +70,7 @@ meets_after_loss g mark old mid new refused lost (inr one) = let before = moment
   ap mark before.1 ∙ one.1,
 )
 
--- so a try finds its mark once more exactly where it is refused
+-- so a try finds its mark once more if and only if it is refused
 no_more : (n : ℕ) (refused : Bool) → refused ≡ false → n ≡ n + count refused
 no_more n true is = cc
 no_more n false is = omega arith
@@ -83,7 +83,7 @@ pub dead_times : {g : GateFacts} (old new : PassView) (refused : Bool) → TryMe
 dead_times old new refused (inl none) = none.1.dead ∙ no_more old.found_dead_times refused none.0
 dead_times old new refused (inr one) = one.0.dead ∙ ap (λ (b : Bool). old.found_dead_times + count b) one.1
 
--- who found ZERO found DEAD too
+-- a pass that found ZERO found DEAD too
 pub both_times : {g : GateFacts} (old new : PassView) (refused : Bool) → TryMeets g has_zero old new refused → refused ≡ true → new.found_dead_times ≡ old.found_dead_times + 1
 both_times old new refused (inl none) is = let no = none.0 in cc
 both_times old new refused (inr one) is = one.0.dead ∙ ap (λ (b : Bool). old.found_dead_times + count b) ((moment_knows old one.0.moment).zero_is_dead (one.1 ∙ is))

@@ -14,10 +14,10 @@ use Rattle.percpu_gate.specs.declared.rule.GateKey.{GateKey}
 use Rattle.percpu_gate.specs.declared.rule.SeatView.{SeatView}
 use Rattle.percpu_gate.specs.Layout.{shared_place, word_place}
 use Rattle.percpu_gate.specs.Rule.{Ruled, sizes_at, Took, control_after, shared_number}
-use Rattle.percpu_gate.specs.Seats.{control_of, ControlStep}
+use Rattle.percpu_gate.specs.Seats.{control_of}
 use Rattle.percpu_gate.proofs.Allowed.{ControlAt, control_allowed}
 use Rattle.percpu_gate.proofs.Places.{word_written}
-use Rattle.percpu_gate.proofs.ControlSteps.{Free, at_gate, on_shared, took}
+use Rattle.percpu_gate.proofs.ControlSteps.{Free, Stepped, on_shared, took}
 
 module _ (k : GateKey) (slots id : ℕ) (me : Me (Unit {0}) SeatView) (sits : ControlAt k me) where
   abbrev c : ControlView
@@ -39,5 +39,5 @@ module _ (k : GateKey) (slots id : ℕ) (me : Me (Unit {0}) SeatView) (sits : Co
       ))
 
   module _ (table : TableId) (found : ℕ) (new : Me (Unit {0}) SeatView) where
-    pub looked_as : Took (control_after events.LookShared) shared_number me found new → ControlStep (at_gate k table) events.LookShared c (control_of new.0.view) (Shared found)
+    pub looked_as : Took (control_after events.LookShared) shared_number me found new → Stepped k slots id me sits table events.LookShared new (Shared found)
     looked_as t = took k slots id me sits table events.LookShared shared_number found new _ t (λ cells q is. ap Shared is)

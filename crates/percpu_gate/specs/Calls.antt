@@ -1,4 +1,4 @@
--- What the calls of a pass leave, and what each answer means.
+-- The effect of the calls of a pass, and the meaning of each result.
 use Rattle.std.specs.Prelude.{◌≡◌, ℕ, ◌+◌, ◌%◌, ◌<◌, ◌≤◌, ◌⊎◌, Bool, true, false, not, ◌||◌, List, [], ◌∷◌}
 use Rattle.percpu_core.specs.declared.pass_standing.Pending.{Pending}
 use Rattle.percpu_core.specs.declared.pass_standing.Pending.TheVariants.{Nothing, OneToUndo, ZeroToMark}
@@ -14,7 +14,7 @@ use Rattle.percpu_gate.specs.declared.tried.Tried.{Tried}
 use Rattle.percpu_gate.specs.declared.tried.Tried.TheVariants.{Given, Refused}
 use Rattle.percpu_gate.specs.Seats.{GateFacts, Moment, dead_at, zero_at, front_at, slot_open_at}
 
--- so many references are held, and there is nothing to undo or to mark
+-- this many references are held, and there is nothing to undo or to mark
 abbrev pub holding : ℕ → PassStanding
 holding n = record { held = n; pending = Nothing }
 
@@ -35,21 +35,21 @@ abbrev pub is_refused : Tried → Bool
 is_refused Given = false
 is_refused (Refused r) = true
 
--- what a put leaves: so many references, and one release more where it was the last
+-- a pass's view after a put: this many references are held, and one more release is counted if the put was the last
 abbrev pub after_put : Put → ℕ → PassView → PassView
 after_put r held p = record p { standing = holding held; releases = p.releases + released r }
 
--- what is owed where a subtraction left a zero to mark, or none
+-- what is pending after a subtraction that left a zero to mark, or none
 abbrev pub owed : Bool → Pending
 owed true = ZeroToMark
 owed false = Nothing
 
--- what is owed after the addition of a try that was given, or refused
+-- what is pending after the addition of a try that was given, or refused
 abbrev pub to_take_back : Bool → Pending
 to_take_back true = Nothing
 to_take_back false = OneToUndo
 
--- what the end of a try leaves: a refused one takes back what it added, and that may be the last put
+-- a pass's view after the end of a try: a refused try removes its addition, and that may be the last put
 abbrev pub after_try : Tried → PassView → PassView
 after_try Given p = p
 after_try (Refused r) p = after_put r p.standing.held p
@@ -58,30 +58,30 @@ after_try (Refused r) p = after_put r p.standing.held p
 abbrev pub StaysFound : PassView → PassView → Type 0
 StaysFound old new = (old.found_dead ≡ true → new.found_dead ≡ true) × (old.found_zero ≡ true → new.found_zero ≡ true)
 
--- what a try leaves
+-- the effect of a try
 pub record TryLeaves (old new : PassView) (r : Tried) : Type 0 where
-  -- Given raises what is held by 1, and Refused leaves it
+  -- Given adds 1 to the references held, and Refused doesn't change them
   pub held : new.standing ≡ holding (old.standing.held + taken r)
   pub releases : new.releases ≡ old.releases + released_by r
   pub seen_front : new.seen_front ≡ old.seen_front
-  -- a floor only rises, and where the try is refused it stays
+  -- a floor only rises, and if the try is refused it stays
   pub floor : old.floor ≤ new.floor
   pub same_floor : is_refused r ≡ true → new.floor ≡ old.floor
   pub front_loads : new.front_loads ≡ old.front_loads
-  -- so does the count of what a live gate gave
+  -- the count of references from a live gate never falls
   pub live_given : old.live_given ≤ new.live_given
-  -- the guarded words that were read stay known while a reference is held, and reading begins anew where none was
+  -- the guarded words that were read stay known while a reference is held, and reading begins anew if none was
   pub read : 0 < old.standing.held → new.read ≡ old.read
   pub anew : old.standing.held ≡ 0 → new.read ≡ []
   pub found : StaysFound old new
 
--- what a try found, at a moment: ZERO set where it is refused, and clear where it is given. What the pass counts (`TryMeets`) binds it to the call
+-- what a try found, at a moment: ZERO set if it is refused, and clear if it is given. What the pass counts (`TryMeets`) ties it to the call
 pub record TryFinds (g : GateFacts) (old : PassView) (r : Tried) : Type 0 where
   pub moment : Moment g (OfPass old)
   pub zero : zero_at moment ≡ is_refused r
   pub dead : is_refused r ≡ true → dead_at moment ≡ true
 
--- what a try for a live gate found, at a moment, bound in the same way: DEAD set where it is refused. Where it is given, DEAD clear or its slot open, at an even front
+-- what a try for a live gate found, at a moment, bound in the same way: DEAD set if it is refused. If it is given, DEAD clear or its slot open, at an even front
 pub record LiveTryFinds (g : GateFacts) (slot : ℕ) (old : PassView) (r : Tried) : Type 0 where
   pub moment : Moment g (OfPass old)
   pub refused : is_refused r ≡ true → dead_at moment ≡ true
@@ -94,7 +94,7 @@ pub record FindsNothing (old new : PassView) : Type 0 where
   pub dead : new.found_dead_times ≡ old.found_dead_times
   pub zero : new.found_zero_times ≡ old.found_zero_times
 
--- one step of the call looked for marks, at this moment, and the pass counts those that it found. No load is counted, so it is an addition, made by this very call
+-- one step of the call looked for marks, at this moment, and the pass counts the marks that it found. No load is counted, so the step is an addition of this call
 pub record OneAddition (g : GateFacts) (old new : PassView) : Type 0 where
   pub moment : Moment g (OfPass old)
   pub looks : new.looks ≡ old.looks
@@ -108,7 +108,7 @@ has_dead c = c.shared.dead
 abbrev pub has_zero : Cells → Bool
 has_zero c = c.shared.zero
 
--- a try is refused exactly where its one addition found this mark; or its slot gave, and nothing was added
+-- a try is refused if and only if its one addition found this mark; or its slot gave, and nothing was added
 abbrev pub TryMeets : GateFacts → (Cells → Bool) → PassView → PassView → Bool → Type 0
 TryMeets g mark old new refused = ((refused ≡ false) × FindsNothing old new) ⊎ ((addition : OneAddition g old new) × (mark addition.moment.cells ≡ refused))
 
@@ -118,7 +118,7 @@ pub record GetLeaves (old new : PassView) (n : ℕ) : Type 0 where
   pub floor : old.floor ≤ new.floor
   pub live_given : old.live_given ≤ new.live_given
 
--- what a look at the marks of a gate leaves: all but what it found, which is counted and stays found
+-- a pass's view after a look at the marks of a gate: only the look and the marks that it found are added
 abbrev pub after_look : Bool → Bool → PassView → PassView
 after_look dead zero p = record p {
   looks = p.looks + 1;
@@ -128,7 +128,7 @@ after_look dead zero p = record p {
   found_zero = p.found_zero || zero;
 }
 
--- a look at the marks, at a moment of its call: a load more is counted, and what it found, so it is a step of this very call
+-- a look at the marks, at a moment of its call: one more load is counted, with what it found, so the look is a step of this call
 pub record PassLook (g : GateFacts) (old new : PassView) : Type 0 where
   pub moment : Moment g (OfPass old)
   pub leaves : new ≡ after_look (dead_at moment) (zero_at moment) old

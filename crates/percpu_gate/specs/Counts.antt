@@ -1,4 +1,4 @@
--- What a call's count leaves: on a slot, or of a try on a slot or the shared word.
+-- The effect of a call's count: on a slot, or of a try on a slot or the shared word.
 use Rattle.std.specs.Prelude.{◌≡◌, ℕ, ◌+◌, ◌%◌, ◌<◌, ◌≤◌, ◌⊎◌, Bool, true, false, not, ◌||◌, []}
 use Rattle.percpu_core.specs.declared.view.PassView.{PassView}
 use Rattle.percpu_core.specs.declared.view.View.TheVariants.{OfPass}
@@ -14,17 +14,17 @@ pub record OpenMoment (g : GateFacts) (slot : ℕ) (old : PassView) : Type 0 whe
   pub zero_clear : zero_at moment ≡ false
   pub even : front_at moment % 2 ≡ 0
 
--- the view of a pass that has taken so many references on a slot
+-- the view of a pass that has taken this many references on a slot
 abbrev pub taken_on_slot : ℕ → PassView → PassView
 taken_on_slot n p = record p { standing = holding (p.standing.held + n); read = begun p; floor = next_even p.floor; live_given = p.live_given + 1 }
 
--- a take on a slot: where it was won the slot was open, and where it wasn't nothing changed but what a pass that holds nothing has read
+-- a take on a slot: if it won, the slot was open; otherwise nothing changed except what a pass that holds nothing has read
 pub record SlotTake (g : GateFacts) (slot n : ℕ) (old new : PassView) (is_won : Bool) : Type 0 where
   pub moment : is_won ≡ true → OpenMoment g slot old
   pub won : is_won ≡ true → new ≡ taken_on_slot n old
   pub not_won : is_won ≡ false → (new ≡ old) ⊎ ((old.standing.held ≡ 0) × (new ≡ record old { read = [] }))
 
--- what the count of a try leaves, by whether the reference is given
+-- the effect of a try's count, given whether the reference was taken
 pub record TryAdds (old new : PassView) (is_given : Bool) : Type 0 where
   pub standing : new.standing ≡ record { held = old.standing.held + count is_given; pending = to_take_back is_given }
   pub releases : new.releases ≡ old.releases
@@ -37,7 +37,7 @@ pub record TryAdds (old new : PassView) (is_given : Bool) : Type 0 where
   pub anew : old.standing.held ≡ 0 → new.read ≡ []
   pub found : StaysFound old new
 
--- the count of a try: where it isn't given it found ZERO set, which the pass records
+-- the count of a try: if it isn't given it found ZERO set, which the pass records
 pub record TryCounts (g : GateFacts) (old new : PassView) (is_given : Bool) : Type 0 where
   pub moment : Moment g (OfPass old)
   pub zero : zero_at moment ≡ not is_given
@@ -46,7 +46,7 @@ pub record TryCounts (g : GateFacts) (old new : PassView) (is_given : Bool) : Ty
   pub meets : TryMeets g has_zero old new (not is_given)
   pub found : is_given ≡ false → (new.found_dead ≡ true) × (new.found_zero ≡ true)
 
--- the count of a try for a live gate: where it isn't given it found DEAD set, and where it is given DEAD clear or its slot open
+-- the count of a try for a live gate: if it isn't given it found DEAD set, and if it is given DEAD clear or its slot open
 pub record LiveCounts (g : GateFacts) (slot : ℕ) (old new : PassView) (is_given : Bool) : Type 0 where
   pub moment : Moment g (OfPass old)
   pub refused : is_given ≡ false → dead_at moment ≡ true

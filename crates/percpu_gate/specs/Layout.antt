@@ -1,4 +1,4 @@
--- Where the words of a gate lie in its table.
+-- The places of a gate's words in its table.
 use Rattle.std.specs.Prelude.{◌≡◌, ℕ, ◌+◌, ◌-◌, ◌*◌, ◌/◌, ◌<◌, List, length, slice_index}
 use Rattle.percpu_words.specs.SharedWord.{spelling}
 use Rattle.percpu_core.specs.Cells.{Cells, slot_at, slot_spelling}
@@ -14,19 +14,19 @@ front_place = 32
 abbrev pub word_place : ℕ → ℕ
 word_place k = 33 + k
 
--- a slot is hot in every thread, so it is alone on 128 bytes
+-- a slot is written by its thread all the time, so it has 128 bytes to itself
 abbrev pub slot_place : ℕ → ℕ
 slot_place i = 64 + 16 * i
 
--- which slot stands at a place
+-- the slot at a place
 abbrev pub slot_of : ℕ → ℕ
 slot_of place = (place - 64) / 16
 
--- the words of a gate with so many slots, up to the end of the last one's 128 bytes
+-- the words of a gate with this many slots, up to the end of the last one's 128 bytes
 abbrev pub words_in_all : ℕ → ℕ
 words_in_all slots = slot_place slots
 
--- the words spell this memory; those between are free
+-- the words encode this memory; the words between these are free
 pub record Spell (ws : List ℕ) (c : Cells) : Type 0 where
   pub shared : slice_index ws shared_place ≡ spelling c.shared
   pub front : slice_index ws front_place ≡ c.front

@@ -3,6 +3,7 @@ pub mod Rule
 pub mod Modes
 pub mod Seats
 pub mod Calls
+pub mod Steps
 pub mod Counts
 pub mod ControlCalls
 pub mod Exits

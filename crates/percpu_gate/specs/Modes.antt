@@ -6,7 +6,7 @@ use Rattle.percpu_core.specs.Phases.{live_in}
 use Rattle.percpu_words.specs.declared.mode.Mode.{Mode}
 use Rattle.percpu_words.specs.declared.mode.Mode.TheVariants.{Atomic, Slots}
 
--- a live gate is in the mode that is wanted; a dead one, or one that a kill is on the way to, comes back in it
+-- a live gate is in the mode that is wanted; a dead gate, or a gate whose kill is under way, is revived in it
 abbrev pub IsWanted : Mode → Phase → Type 0
 IsWanted m LiveSlots = m ≡ Slots
 IsWanted m LiveAtomic = m ≡ Atomic

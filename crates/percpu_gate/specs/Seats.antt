@@ -1,4 +1,4 @@
--- What the seats of a gate are to a caller.
+-- The seats of a gate as a caller sees them.
 use Rattle.std.specs.Prelude.{◌≡◌, ℕ, ℤ, Bool, true, false, Option, Some, None, List, []}
 use Rattle.atomic_table.specs.Seated.{TableId}
 use Rattle.atomic_table.specs.Table.{Me}
@@ -26,10 +26,10 @@ use Rattle.percpu_words.specs.SharedWord.{spelling}
 use Rattle.percpu_gate.specs.declared.rule.GateKey.{GateKey}
 use Rattle.percpu_gate.specs.declared.rule.SeatView.{SeatView}
 use Rattle.percpu_words.specs.declared.mode.Mode.{Mode}
-use Rattle.percpu_gate.specs.Rule.{MomentOf}
+use Rattle.percpu_gate.specs.Rule.{MomentOf, Steps}
 use Rattle.percpu_core.specs.Starts.{first_mode}
 
--- which table a gate has, and what it was told
+-- the table of a gate, and what is known of it
 pub record TableFacts : Type 0 where
   pub id : TableId
   pub key : GateKey
@@ -44,35 +44,38 @@ pub record GateFacts : Type 0 where
 abbrev pub facts_of : TableFacts → GateFacts
 facts_of t = record { id = t.id; slots = t.key.slots; start = t.key.start; words = t.key.count }
 
--- which gate a pass belongs to, and what it knows
+-- which gate a pass belongs to, what it knows, and the steps that it took there
 pub record PassFacts : Type 0 where
   pub gate : GateFacts
   pub view : PassView
+  pub steps : Steps
 
--- the same of the control's seat
+-- which gate the control's seat belongs to, what it knows, and how many slots it has closed and opened there
 pub record ControlSeatFacts : Type 0 where
   pub gate : GateFacts
   pub view : ControlView
+  pub moves : ℕ
 
--- which gate the control belongs to, what it knows, and the mode that it wants
+-- the same for the control, and the mode that it wants
 pub record ControlFacts : Type 0 where
   pub gate : GateFacts
   pub view : ControlView
+  pub moves : ℕ
   pub wants : Mode
 
--- the gate that a seat was told of
+-- the gate that a seat knows
 abbrev pub gate_of : TableId → SeatView → GateFacts
 gate_of id w = record { id = id; slots = w.slots; start = w.start; words = w.words }
 
 -- what a pass and the control of a new gate know
 abbrev pub fresh_pass : GateFacts → PassFacts
-fresh_pass g = record { gate = g; view = first_pass }
+fresh_pass g = record { gate = g; view = first_pass; steps = [] }
 
 abbrev pub fresh_control : GateFacts → ℕ → List ℕ → ControlFacts
-fresh_control g passes words = record { gate = g; view = first_control (opening g.slots passes g.start 0 words); wants = first_mode g.start }
+fresh_control g passes words = record { gate = g; view = first_control (opening g.slots passes g.start 0 words); moves = 0; wants = first_mode g.start }
 
 -- A gate that was made as this one (its slots, start and number of guarded words), between two steps, seen by a seat with this view. It carries no identity:
--- that it is a moment of this gate, and of this call, is bound by what the seat knows afterwards, as what it counts or has read
+-- what the seat knows afterwards, such as its counts and reads, ties it to this gate and this call
 abbrev pub Moment : GateFacts → View → Type 0
 Moment g v = MomentOf g.slots g.start g.words v
 
@@ -119,7 +122,7 @@ pub record ControlStep (g : GateFacts) (e : ControlEvent) (old new : ControlView
   pub learned : new ≡ control_view_after e moment.cells old
   pub answered : reply ≡ control_reply e old.standing moment.cells
 
--- the same where the control is told the shared word that it found
+-- the same if the control gets the shared word that it found
 pub record ControlFinds (g : GateFacts) (e : ControlEvent) (old new : ControlView) (found : ℕ) : Type 0 where
   pub moment : Moment g (OfControl old)
   pub learned : new ≡ control_view_after e moment.cells old
@@ -130,32 +133,32 @@ pub record FindsDelta (g : GateFacts) (slot : ℕ) (old : ControlView) (d : ℤ)
   pub moment : Moment g (OfControl old)
   pub found : slot_at moment.cells.slots slot ≡ Open d
 
--- the control found ZERO set, or not, at a moment. That it was its own gate's, what it knows of ZERO from then on binds
+-- the control found ZERO set, or not, at a moment. What it knows of ZERO afterwards ties this moment to its own gate
 pub record FindsZero (g : GateFacts) (old : ControlView) (zero : Bool) : Type 0 where
   pub moment : Moment g (OfControl old)
   pub found : zero_at moment ≡ zero
 
--- what a try answers, by whether it was given
+-- the reply to a try, by whether it was given
 abbrev pub tried : Bool → Reply
 tried true = Given
 tried false = Refused
 
--- what a look at a slot answers, by the delta that it tells
+-- the reply to a look at a slot, by the delta that it finds
 abbrev pub looked : Option ℤ → Reply
 looked None = Closed
 looked (Some d) = Opened d
 
--- what an exchange answers
+-- the reply to an exchange
 abbrev pub exchanged : Bool → Reply
 exchanged true = Won
 exchanged false = Lost
 
--- what a subtraction answers, by whether it left a zero to mark
+-- the reply to a subtraction, by whether it left a zero to mark
 abbrev pub left : Bool → Reply
 left true = ToMark
 left false = NotLast
 
--- what the exchange that marks zero answers
+-- the reply to the exchange that marks zero
 abbrev pub marked : PutAnswer → Reply
 marked Put.Last = Last
 marked Put.NotLast = Lost

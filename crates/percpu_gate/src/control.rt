@@ -1,5 +1,5 @@
-//! The control of a gate: what it is and tells, and its end. It kills the gate (`kill`), stores guarded words
-//! once nothing is held (`words`), and brings it back (`revival`).
+//! The control of a gate: its state and its end. It kills the gate (`kill`), switches its mode (`switch`), stores
+//! guarded words once nothing is held (`words`), and revives the gate (`revival`).
 ghost use Rattle.std.specs.Prelude.{◌≡◌, ℕ, ◌≤◌, true, false};
 ghost use Rattle.percpu_core.specs.declared.limits.TheConstants.{PASS_LIMIT};
 ghost use Rattle.percpu_core.specs.Phases.{is_live, live_in};
@@ -21,7 +21,7 @@ use percpu_core::{Phase, Start};
 use percpu_words::Mode;
 use std::marker::Model;
 
-/// The one control of a gate: it kills the gate, and knows the phase, the kills and the releases.
+/// The one control of a gate. It kills the gate, and knows the phase and the numbers of kills and releases.
 ///
 /// It moves between threads by ownership.
 #[derive(Drop)]
@@ -33,7 +33,7 @@ pub struct Control<const W: usize> {
     releases: u64,
     words: [u64; W],
     passes: u32,
-    /// The sum of the deltas of the slots that a kill has closed and not collected yet.
+    /// The sum of the deltas of the slots that a kill has closed and not yet collected.
     uncollected: i64,
     wants: Mode,
 }
@@ -48,7 +48,7 @@ impl<const W: usize> Model for Control<W> {
 
     ghost Value = { ControlFacts };
 
-    ghost view = { λ c. record { gate = c.seat.gate; view = c.seat.view; wants = c.wants } };
+    ghost view = { λ c. record { gate = c.seat.gate; view = c.seat.view; moves = c.seat.moves; wants = c.wants } };
 
     ghost invariant = { λ c. (c.seat.view.standing ≡ record (standing c.phase c.kills) { uncollected = c.uncollected }) × IsBetweenCalls c.phase × HasRoom c.phase c.kills c.front
         × (c.seat.view.front ≡ c.front) × (c.seat.view.releases ≡ c.releases) × (c.seat.view.words ≡ c.words) × (c.seat.view.passes ≡ c.passes)
@@ -58,11 +58,11 @@ impl<const W: usize> Model for Control<W> {
 }
 
 impl<const W: usize> Control<W> {
-    /// The control of a new gate that has made so many passes.
+    /// The control of a new gate that has made this many passes.
     pub(crate) fn new(seat: ControlSeat, start: Start, words: [u64; W], passes: u32) -> Control<W>
         requires passes { passes ≤ PASS_LIMIT }
         requires view { (slots : ℕ) × (seat.view ≡ first_control (opening slots passes start 0 words)) }
-        ensures { result ≡ record { gate = seat.gate; view = seat.view; wants = first_mode start } }
+        ensures { result ≡ record { gate = seat.gate; view = seat.view; moves = seat.moves; wants = first_mode start } }
     {
         Control {
             seat,
@@ -77,7 +77,7 @@ impl<const W: usize> Control<W> {
         }
     }
 
-    /// Where the control stands: live, closing, collected, confirmed or dead.
+    /// The phase: live, closing, collected, confirmed or dead.
     #[inline]
     pub fn phase(&self) -> Phase
         ensures value { result ≡ self.now.view.standing.phase }
@@ -87,7 +87,7 @@ impl<const W: usize> Control<W> {
         self.phase
     }
 
-    /// The kills so far.
+    /// The number of kills so far.
     #[inline]
     pub fn kills(&self) -> u64
         ensures { result ≡ self.now.view.standing.kills }
@@ -95,8 +95,8 @@ impl<const W: usize> Control<W> {
         self.kills
     }
 
-    /// The mode of a live gate, and the one in which a gate that is dead, or that a kill is under way on, comes
-    /// back. Linux: `force_atomic` (lib/percpu-refcount.c).
+    /// The mode of a live gate; of a dead gate, or during a kill, the mode in which it will be revived. Linux:
+    /// `force_atomic` (lib/percpu-refcount.c).
     #[inline]
     pub fn wants(&self) -> Mode
         ensures value { result ≡ self.now.wants }
@@ -105,7 +105,7 @@ impl<const W: usize> Control<W> {
         self.wants
     }
 
-    /// The releases that the control has won, and those that retired passes had won.
+    /// The number of releases that the control and the retired passes have won.
     #[inline]
     pub fn releases(&self) -> u64
         ensures { result ≡ self.now.view.releases }
@@ -113,7 +113,7 @@ impl<const W: usize> Control<W> {
         self.releases
     }
 
-    /// The passes that aren't retired.
+    /// The number of passes that aren't retired.
     #[inline]
     pub fn passes(&self) -> u32
         ensures { result ≡ self.now.view.passes }
@@ -121,8 +121,7 @@ impl<const W: usize> Control<W> {
         self.passes
     }
 
-    /// Ends a pass that holds nothing, and adds its releases to the control's. A control that has no pass
-    /// out changes nothing; no caller has a pass then.
+    /// Ends a pass that holds nothing, and adds its releases to the control's.
     pub fn retire(&mut self, gate: &Gate<W>, pass: Pass<W>)
         requires own { (self.old.gate ≡ gate.now) × (pass.gate ≡ gate.now) }
         requires none { pass.view.standing.held ≡ 0 }
@@ -130,14 +129,15 @@ impl<const W: usize> Control<W> {
     {
         let (seat, releases) = pass.into_parts();
         self.seat.take_in(&gate.table, seat);
+        // Always so, by the laws: this pass was counted.
         if self.passes > 0 {
             self.releases += releases;
             self.passes -= 1;
         }
     }
 
-    /// Why the gate may not end where so many passes are out: MidSwitch, PassesOut. Who keeps passes that he has given to
-    /// nobody, and retires them before the end, leaves these out. Linux: `percpu_ref_exit` (lib/percpu-refcount.c).
+    /// Why the gate may not end if this many passes are out: MidSwitch, PassesOut. Don't count passes that were never
+    /// handed out, if they are retired before the end. Linux: `percpu_ref_exit` (lib/percpu-refcount.c).
     pub fn refuse_exit(&self, out: u32) -> Option<ExitWhy>
         ensures { result ≡ exit_refusal self.now.view.standing.phase out }
     {
@@ -150,9 +150,9 @@ impl<const W: usize> Control<W> {
         }
     }
 
-    /// The seat, of a control that ends.
+    /// The seat of a control that ends.
     pub(crate) fn into_seat(self) -> ControlSeat
-        ensures seat { result ≡ record { gate = self.entry.gate; view = self.entry.view } }
+        ensures seat { result ≡ record { gate = self.entry.gate; view = self.entry.view; moves = self.entry.moves } }
         ensures stands { (self.entry.view.standing.to_mark ≡ false) × IsBetweenCalls self.entry.view.standing.phase }
     {
         self.seat

@@ -1,10 +1,10 @@
-//! What the control refuses.
+//! Refusals of the control.
 ghost use Rattle.std.specs.Prelude.{◌≡◌};
 ghost use Rattle.percpu_gate.specs.ControlCalls.{fault_number};
 
 use thiserror::Error;
 
-/// Why the control refuses a call. Everything is as before.
+/// Why the control refuses a call. The call has changed nothing.
 #[derive(Clone, Copy, Debug, PartialEq, Eq, Error)]
 pub enum ControlFault {
     /// The gate is killed already. Linux: a second kill warns (`percpu_ref_kill_and_confirm`).
@@ -13,10 +13,10 @@ pub enum ControlFault {
     /// The gate is live.
     #[error("not dead")]
     NotDead,
-    /// The count has not reached zero.
+    /// The count hasn't reached zero.
     #[error("not zero")]
     NotZero,
-    /// A kill begun by `mark_dead` has not reached `drop_base`.
+    /// A kill that `mark_dead` began hasn't reached `drop_base`.
     #[error("mid switch")]
     MidSwitch,
     /// The gate was killed 2^40 times.

@@ -1,4 +1,4 @@
-//! What each atomic step of the control tells it: which event of the core's machine it was.
+//! The event of the core's machine that each atomic step of the control was.
 ghost use Rattle.std.specs.Prelude.{◌-◌};
 ghost use Rattle.percpu_core.specs.declared.control_event.ControlEvent.TheVariants as events;
 ghost use Rattle.percpu_gate.specs.Layout.{slot_of};

@@ -1,4 +1,4 @@
-//! The atomic steps of the control, each one event of the core's machine.
+//! The atomic steps of the control, each of which is one event of the core's machine.
 ghost use Rattle.std.specs.Prelude.{◌≡◌, ◌*◌, ◌+◌, ◌<◌, ◌≤◌, [], None, true};
 ghost use Rattle.percpu_core.specs.declared.control_event.ControlEvent.TheVariants as events;
 ghost use Rattle.percpu_core.specs.declared.phase.Phase.TheVariants.{LiveAtomic, Confirmed, Dead};
@@ -8,8 +8,7 @@ ghost use Rattle.percpu_core.specs.declared.limits.TheConstants.{KILL_LIMIT, PAS
 ghost use Rattle.percpu_core.specs.Machine.{IsEnabled};
 ghost use Rattle.percpu_core.specs.ControlSteps.{hinders_control};
 ghost use Rattle.percpu_core.specs.Phases.{is_live};
-ghost use Rattle.percpu_gate.specs.Seats.{FindsZero, SitsAsControl, facts_of, gate_of, control_of, ControlFinds, ControlStep, left, marked};
-ghost use Rattle.percpu_core.specs.Snapshots.{first_pass};
+ghost use Rattle.percpu_gate.specs.Seats.{FindsZero, fresh_pass, SitsAsControl, facts_of, gate_of, control_of, ControlFinds, ControlStep, left, marked};
 ghost use Rattle.percpu_core.specs.SeatLaws.{with_one_more};
 ghost use Rattle.percpu_gate.specs.Rule.{sizes_at, after_retire};
 ghost use Rattle.percpu_gate.specs.Calls.{holding};
@@ -40,7 +39,7 @@ impl Model for ControlSeat {
 
     ghost Value = { ControlSeatFacts };
 
-    ghost view = { λ c. record { gate = gate_of c.seat.table_id c.seat.me.0; view = control_of c.seat.me.0.view } };
+    ghost view = { λ c. record { gate = gate_of c.seat.table_id c.seat.me.0; view = control_of c.seat.me.0.view; moves = c.seat.me.0.moves } };
 
     ghost invariant = { λ c. SitsAsControl c.seat.me };
 }
@@ -49,24 +48,24 @@ impl ControlSeat {
     /// The control's seat at a table.
     pub(crate) fn of(seat: Seat<(), SeatView>) -> ControlSeat
         requires { SitsAsControl seat.me }
-        ensures { result ≡ record { gate = gate_of seat.table_id seat.me.0; view = control_of seat.me.0.view } }
+        ensures { result ≡ record { gate = gate_of seat.table_id seat.me.0; view = control_of seat.me.0.view; moves = seat.me.0.moves } }
     {
         ControlSeat { seat }
     }
 
-    /// The seat, of a control that ends.
+    /// The seat of a control that ends.
     pub(crate) fn into_seat(self) -> Seat<(), SeatView>
         ensures { (gate_of result.table_id result.me.0 ≡ self.gate) × (result.me ≡ (record result.me.0 { view = OfControl self.view }, [])) }
     {
         self.seat
     }
 
-    /// A seat of a new pass. A control has at most 1,024.
+    /// Returns a seat for a new pass. A control makes at most 1,024.
     pub(crate) fn make_pass(&mut self, gate: &GateTable) -> PassSeat
         requires own { self.old.gate ≡ facts_of gate.now }
         requires few { self.old.view.passes < PASS_LIMIT }
         ensures view { self.new ≡ record self.old { view = with_one_more self.old.view } }
-        ensures pass { result ≡ record { gate = self.old.gate; view = first_pass } }
+        ensures pass { result ≡ fresh_pass self.old.gate }
     {
         PassSeat::of(gate.table.shared.split_seat::<MakesPass>(&mut self.seat))
     }
@@ -102,45 +101,49 @@ impl ControlSeat {
         requires enabled { IsEnabled (hinders_control (sizes_at gate.now.key) true None self.old.view.standing events.Confirm) }
         ensures own { self.new.gate ≡ self.old.gate }
         ensures step { ControlStep (facts_of gate.now) events.Confirm self.old.view self.new.view Done }
+        ensures moves { self.new.moves ≡ self.old.moves }
     {
         gate.table
             .shared
             .store::<Confirms>(&mut self.seat, FRONT, front);
     }
 
-    /// Drops the initial reference. Whether that left DEAD alone.
+    /// Drops the initial reference. Returns whether that left DEAD alone.
     #[inline]
     pub(crate) fn drop_base(&mut self, gate: &GateTable) -> bool
         requires own { self.old.gate ≡ facts_of gate.now }
         requires enabled { IsEnabled (hinders_control (sizes_at gate.now.key) true None self.old.view.standing events.DropBase) }
         ensures own { self.new.gate ≡ self.old.gate }
         ensures step { ControlStep (facts_of gate.now) events.DropBase self.old.view self.new.view (left result) }
+        ensures moves { self.new.moves ≡ self.old.moves }
     {
         let shared = &gate.table.shared;
         let found = shared.fetch_sub::<DropsBase>(&mut self.seat, SHARED, 1);
         found.wrapping_sub(1) == DEAD
     }
 
-    /// One exchange of DEAD alone for DEAD and ZERO. Winning it is the release.
+    /// Exchanges DEAD alone for DEAD and ZERO, once. A win is the release.
     #[inline]
     pub(crate) fn mark(&mut self, gate: &GateTable) -> Put
         requires own { self.old.gate ≡ facts_of gate.now }
         requires enabled { IsEnabled (hinders_control (sizes_at gate.now.key) true None self.old.view.standing events.Mark) }
         ensures own { self.new.gate ≡ self.old.gate }
         ensures step { ControlStep (facts_of gate.now) events.Mark self.old.view self.new.view (marked result) }
+        ensures moves { self.new.moves ≡ self.old.moves }
     {
         let shared = &gate.table.shared;
         let found = shared.compare_exchange::<MarksZero>(&mut self.seat, SHARED, DEAD, DEAD | ZERO);
         Put::of(found == DEAD)
     }
 
-    /// Takes the initial reference back. The shared word as it was.
+    /// Takes the initial reference back. Returns the shared word as it was.
     #[inline]
     pub(crate) fn take_base(&mut self, gate: &GateTable) -> u64
         requires own { self.old.gate ≡ facts_of gate.now }
         requires enabled { IsEnabled (hinders_control (sizes_at gate.now.key) true None self.old.view.standing events.TakeBase) }
         ensures own { self.new.gate ≡ self.old.gate }
         ensures step { ControlFinds (facts_of gate.now) events.TakeBase self.old.view self.new.view result }
+        ensures moves { self.new.moves ≡ self.old.moves }
     {
         let shared = &gate.table.shared;
         shared.fetch_add::<TakesBase>(&mut self.seat, SHARED, 1)
@@ -154,6 +157,7 @@ impl ControlSeat {
         requires enabled { IsEnabled (hinders_control (sizes_at gate.now.key) true None self.old.view.standing events.NextFront) }
         ensures own { self.new.gate ≡ self.old.gate }
         ensures step { ControlStep (facts_of gate.now) events.NextFront self.old.view self.new.view Done }
+        ensures moves { self.new.moves ≡ self.old.moves }
     {
         gate.table
             .shared
@@ -167,6 +171,7 @@ impl ControlSeat {
         requires enabled { IsEnabled (hinders_control (sizes_at gate.now.key) true None self.old.view.standing events.ClearDead) }
         ensures own { self.new.gate ≡ self.old.gate }
         ensures step { ControlStep (facts_of gate.now) events.ClearDead self.old.view self.new.view Done }
+        ensures moves { self.new.moves ≡ self.old.moves }
     {
         let shared = &gate.table.shared;
         shared.fetch_and::<ClearsDead>(&mut self.seat, SHARED, DEAD - 1);
@@ -180,6 +185,7 @@ impl ControlSeat {
         requires enabled { IsEnabled (hinders_control (sizes_at gate.now.key) true None self.old.view.standing (events.StoreWord k v)) }
         ensures own { self.new.gate ≡ self.old.gate }
         ensures step { ControlStep (facts_of gate.now) (events.StoreWord k v) self.old.view self.new.view Done }
+        ensures moves { self.new.moves ≡ self.old.moves }
     {
         let place = FIRST_WORD + k as usize;
         gate.table
@@ -194,13 +200,14 @@ impl ControlSeat {
         requires enabled { IsEnabled (hinders_control (sizes_at gate.now.key) true None self.old.view.standing events.LookShared) }
         ensures own { self.new.gate ≡ self.old.gate }
         ensures step { ControlStep (facts_of gate.now) events.LookShared self.old.view self.new.view (Shared result) }
+        ensures moves { self.new.moves ≡ self.old.moves }
     {
         gate.table
             .shared
             .load::<LooksAtMarks>(&mut self.seat, SHARED)
     }
 
-    /// Drops the initial reference and marks the zero that this left, if it left one.
+    /// Drops the initial reference, and marks the zero if that left DEAD alone.
     pub(crate) fn drop_initial(&mut self, gate: &GateTable) -> Put
         requires own { self.old.gate ≡ facts_of gate.now }
         requires confirmed { self.old.view.standing ≡ standing Confirmed self.old.view.standing.kills }
@@ -214,8 +221,8 @@ impl ControlSeat {
         }
     }
 
-    /// Takes the initial reference back, stores the next front and clears both marks. Whether ZERO was set
-    /// when the reference was taken.
+    /// Takes the initial reference back, stores the next front and clears both marks. Returns whether ZERO was set when
+    /// the reference was taken.
     pub(crate) fn revive(&mut self, gate: &GateTable, front: u64) -> bool
         requires own { self.old.gate ≡ facts_of gate.now }
         requires dead { self.old.view.standing ≡ standing Dead self.old.view.standing.kills }

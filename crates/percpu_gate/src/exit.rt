@@ -9,7 +9,7 @@ use thiserror::Error;
 /// Why a gate may not end.
 #[derive(Clone, Copy, Debug, PartialEq, Eq, Error)]
 pub enum ExitWhy {
-    /// A kill begun by `mark_dead` has not reached `drop_base`.
+    /// A kill that `mark_dead` began hasn't reached `drop_base`.
     #[error("mid switch")]
     MidSwitch,
     /// This many passes aren't retired.
@@ -29,7 +29,7 @@ impl ExitWhy {
     }
 }
 
-/// A gate that may not end comes back with its control, both as they were.
+/// A gate that may not end, with its control, both unchanged.
 #[derive(Drop)]
 pub struct ExitFault<const W: usize> {
     pub why: ExitWhy,
@@ -46,13 +46,13 @@ impl<const W: usize> ExitFault<W> {
     }
 }
 
-/// What is left of a gate that has ended.
+/// The last facts of a gate that has ended.
 #[derive(Clone, Copy, Debug, PartialEq, Eq)]
 pub struct Final<const W: usize> {
     /// Whether it was dead.
     pub dead: bool,
     pub kills: u64,
-    /// The releases that were won, by all its seats.
+    /// The number of releases that all its seats have won.
     pub releases: u64,
     /// The guarded words.
     pub words: [u64; W],

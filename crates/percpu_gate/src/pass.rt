@@ -1,4 +1,4 @@
-//! A pass: what a thread counts with.
+//! A pass, with which a thread counts.
 ghost use Rattle.std.specs.Prelude.{◌≡◌, ◌*◌, ℕ, ◌∷◌, ◌+◌, ◌-◌, ◌%◌, ◌<◌, ◌≤◌, ◌^◌, true, false, if◌then◌else◌};
 ghost use Rattle.percpu_core.specs.declared.limits.TheConstants.{KILL_LIMIT};
 ghost use Rattle.percpu_core.specs.declared.pass_event.PassEvent.TheVariants as events;
@@ -8,6 +8,7 @@ ghost use Rattle.percpu_core.specs.Views.{count};
 ghost use Rattle.percpu_core.specs.Snapshots.{first_pass};
 ghost use Rattle.percpu_gate.specs.declared.tried.Tried.TheVariants.{Given};
 ghost use Rattle.percpu_gate.specs.Seats.{PassStep, dead_at, zero_at};
+ghost use Rattle.percpu_gate.specs.Steps.{TrySteps, GetSteps, PutSteps, LookSteps};
 ghost use Rattle.percpu_gate.specs.Calls.{holding, is_refused, taken, after_put, has_dead, has_zero, TryLeaves, TryFinds, LiveTryFinds, TryMeets, GetLeaves, PassLook, LookLeaves, HasRead};
 
 use crate::gate::Gate;
@@ -17,10 +18,10 @@ use percpu_core::HELD_LIMIT;
 use percpu_words::{is_dead, is_zero};
 use std::marker::Model;
 
-/// What a thread counts with: a pass of one gate, which knows how many references it holds.
+/// A thread's right to count on one gate, with the number of references that it holds.
 ///
-/// A pass moves between threads by ownership. One that is dropped keeps what it held. There are 64 unused bytes on
-/// each side of it, so that passes which threads use in place, as those of a `Vec`, share no 128 bytes.
+/// A pass moves between threads by ownership. Dropping a pass doesn't drop the references that it holds. 64 unused
+/// bytes on each side keep neighbouring passes, as in a `Vec`, off each other's cache lines.
 #[derive(Drop)]
 #[repr(C)]
 pub struct Pass<const W: usize> {
@@ -46,7 +47,8 @@ impl<const W: usize> Model for Pass<W> {
         × (p.seat.view.seen_front ≡ p.seen_front) × (p.seen_front ≤ p.seat.view.floor) × (p.seat.view.releases ≡ p.releases) × (p.releases ≤ 2 * KILL_LIMIT) };
 }
 
-/// Counts so many releases more, and stores nothing where there are none: a store delays the exchange that comes next.
+/// Adds to the number of releases. It stores nothing if there is none, because a store delays the exchange that comes
+/// next.
 #[inline]
 fn count_releases(releases: &mut u64, more: u64)
     requires few { releases.old + more < 2 ^ 64 }
@@ -73,7 +75,7 @@ impl<const W: usize> Pass<W> {
         }
     }
 
-    /// The references that this pass holds: 0 to 65,535.
+    /// The number of references that this pass holds: 0 to 65,535.
     #[inline]
     pub fn held(&self) -> u32
         ensures value { self.now.view.standing ≡ holding result }
@@ -82,7 +84,7 @@ impl<const W: usize> Pass<W> {
         self.held
     }
 
-    /// The greatest front that this pass has seen, 0 before it has seen one.
+    /// The greatest front that this pass has seen; 0 if it has seen none.
     #[inline]
     pub fn seen_front(&self) -> u64
         ensures value { result ≡ self.now.view.seen_front }
@@ -91,8 +93,8 @@ impl<const W: usize> Pass<W> {
         self.seen_front
     }
 
-    /// Takes a reference unless the gate has reached zero. A pass that holds one already always gets it.
-    /// Linux: `percpu_ref_tryget` (include/linux/percpu-refcount.h).
+    /// Takes a reference unless the gate has reached zero. A pass that holds one already always gets another. Linux:
+    /// `percpu_ref_tryget` (include/linux/percpu-refcount.h).
     #[inline]
     pub fn try_get(&mut self, gate: &Gate<W>, slot: u32) -> Tried
         requires own { self.old.gate ≡ gate.now }
@@ -100,6 +102,7 @@ impl<const W: usize> Pass<W> {
         requires room { self.old.view.standing.held < HELD_LIMIT }
         ensures own { self.new.gate ≡ self.old.gate }
         ensures leaves { TryLeaves self.old.view self.new.view result }
+        ensures steps { TrySteps events.AddTry slot result self.old.steps self.new.steps }
         ensures finds { TryFinds gate.now self.old.view result }
         ensures again { 0 < self.old.view.standing.held → result ≡ Given }
         ensures meets { TryMeets gate.now has_zero self.old.view self.new.view (is_refused result) }
@@ -114,8 +117,8 @@ impl<const W: usize> Pass<W> {
         answer
     }
 
-    /// Takes a reference unless the gate was killed; while a kill closes the slots, one that is still open may give.
-    /// Once the pass has seen the odd front `f` of a kill, a reference that it is given belongs to a later life: its
+    /// Takes a reference unless the gate was killed. While a kill closes the slots, a slot that is still open may give
+    /// one. Once the pass has seen the odd front `f` of a kill, a reference that it gets belongs to a later life: its
     /// floor is `f + 1` or more. Linux: `percpu_ref_tryget_live` (include/linux/percpu-refcount.h).
     #[inline]
     pub fn try_get_live(&mut self, gate: &Gate<W>, slot: u32) -> Tried
@@ -124,6 +127,7 @@ impl<const W: usize> Pass<W> {
         requires room { self.old.view.standing.held < HELD_LIMIT }
         ensures own { self.new.gate ≡ self.old.gate }
         ensures leaves { TryLeaves self.old.view self.new.view result }
+        ensures steps { TrySteps events.AddLive slot result self.old.steps self.new.steps }
         ensures finds { LiveTryFinds gate.now slot self.old.view result }
         ensures floor { self.new.view.floor ≡ (if is_refused result then self.old.view.floor else next_even self.old.view.floor) }
         ensures live { self.new.view.live_given ≡ self.old.view.live_given + taken result }
@@ -139,7 +143,7 @@ impl<const W: usize> Pass<W> {
         answer
     }
 
-    /// Takes `n` references more, for a pass that holds one. Linux: `percpu_ref_get_many`
+    /// Takes `n` more references, for a pass that holds one. Linux: `percpu_ref_get_many`
     /// (include/linux/percpu-refcount.h).
     #[inline]
     pub fn get(&mut self, gate: &Gate<W>, slot: u32, n: u32)
@@ -150,6 +154,7 @@ impl<const W: usize> Pass<W> {
         requires room { self.old.view.standing.held + n ≤ HELD_LIMIT }
         ensures own { self.new.gate ≡ self.old.gate }
         ensures leaves { GetLeaves self.old.view self.new.view n }
+        ensures steps { GetSteps slot n self.old.steps self.new.steps }
     {
         self.seat.count_get(&gate.table, slot, n);
         self.held += n;
@@ -165,6 +170,7 @@ impl<const W: usize> Pass<W> {
         requires held { n ≤ self.old.view.standing.held }
         ensures own { self.new.gate ≡ self.old.gate }
         ensures view { self.new.view ≡ after_put result (self.old.view.standing.held - n) self.old.view }
+        ensures steps { PutSteps slot n result self.old.steps self.new.steps }
     {
         let answer = self.seat.count_put(&gate.table, slot, n);
         self.held -= n;
@@ -172,13 +178,14 @@ impl<const W: usize> Pass<W> {
         answer
     }
 
-    /// The front, which only grows: odd from the confirmation of a kill to the first step of the next life,
-    /// which stores the next even one.
+    /// The front, which only grows: it is odd from the confirmation of a kill, or from a dead start, until the revival
+    /// stores the next one, just before it clears DEAD.
     #[inline]
     pub fn front(&mut self, gate: &Gate<W>) -> u64
         requires own { self.old.gate ≡ gate.now }
         ensures own { self.new.gate ≡ self.old.gate }
         ensures step { PassStep gate.now events.LoadFront self.old.view self.new.view (Number result) }
+        ensures steps { self.new.steps ≡ (events.LoadFront, Number result) ∷ self.old.steps }
         ensures view { self.new.view ≡ record self.old.view { seen_front = result; floor = result; front_loads = self.old.view.front_loads + 1 } }
         ensures floor { self.old.view.floor ≤ result }
         ensures greatest { self.old.view.seen_front ≤ result }
@@ -187,13 +194,14 @@ impl<const W: usize> Pass<W> {
         self.seen_front
     }
 
-    /// Whether the gate was killed and isn't revived yet, at this load. Linux: `percpu_ref_is_dying`
+    /// Whether one load finds the gate killed and not revived yet. Linux: `percpu_ref_is_dying`
     /// (include/linux/percpu-refcount.h).
     #[inline]
     pub fn is_dying(&mut self, gate: &Gate<W>) -> bool
         requires own { self.old.gate ≡ gate.now }
         ensures own { self.new.gate ≡ self.old.gate }
         ensures step { (look : PassLook gate.now self.old.view self.new.view) × (result ≡ dead_at look.moment) }
+        ensures steps { LookSteps (λ s. s.dead) result self.old.steps self.new.steps }
         ensures leaves { LookLeaves self.old.view self.new.view }
         ensures times { self.new.view.found_dead_times ≡ self.old.view.found_dead_times + count result }
         ensures ground { result ≡ true → self.new.view.found_dead ≡ true }
@@ -201,13 +209,14 @@ impl<const W: usize> Pass<W> {
         is_dead(self.seat.look(&gate.table))
     }
 
-    /// Whether the count has reached zero since the kill, at this load. Linux: `percpu_ref_is_zero`
-    /// (include/linux/percpu-refcount.h).
+    /// Whether one load finds that the count has reached zero since the kill. Linux: `percpu_ref_is_zero`
+    /// (lib/percpu-refcount.c).
     #[inline]
     pub fn is_zero(&mut self, gate: &Gate<W>) -> bool
         requires own { self.old.gate ≡ gate.now }
         ensures own { self.new.gate ≡ self.old.gate }
         ensures step { (look : PassLook gate.now self.old.view self.new.view) × (result ≡ zero_at look.moment) }
+        ensures steps { LookSteps (λ s. s.zero) result self.old.steps self.new.steps }
         ensures leaves { LookLeaves self.old.view self.new.view }
         ensures times { self.new.view.found_zero_times ≡ self.old.view.found_zero_times + count result }
         ensures ground { result ≡ true → (self.new.view.found_zero ≡ true) × (self.new.view.standing.held ≡ 0) }
@@ -215,7 +224,7 @@ impl<const W: usize> Pass<W> {
         is_zero(self.seat.look(&gate.table))
     }
 
-    /// The guarded word `k`, for a pass that holds a reference: one value for as long as it holds one.
+    /// The guarded word `k`, for a pass that holds a reference. Its value stays the same as long as the pass holds one.
     #[inline]
     pub fn word(&mut self, gate: &Gate<W>, k: u32) -> u64
         requires own { self.old.gate ≡ gate.now }
@@ -223,13 +232,14 @@ impl<const W: usize> Pass<W> {
         requires word { k < W }
         ensures own { self.new.gate ≡ self.old.gate }
         ensures step { PassStep gate.now (events.LoadWord k) self.old.view self.new.view (Number result) }
+        ensures steps { self.new.steps ≡ (events.LoadWord k, Number result) ∷ self.old.steps }
         ensures view { self.new.view ≡ record self.old.view { read = record { word = k; value = result } ∷ self.old.view.read } }
         ensures same { (v : ℕ) → HasRead k v self.old.view.read → result ≡ v }
     {
         self.seat.load_word(&gate.table, k)
     }
 
-    /// The seat, of a pass that ends, and the releases that it won.
+    /// The seat of a pass that ends, and the number of releases that it won.
     pub(crate) fn into_parts(self) -> (PassSeat, u64)
         ensures seat { (result.0 ≡ self.entry) × (self.entry.view.standing.held ≡ 0 → result.0.view.standing ≡ holding 0) }
         ensures releases { (result.1 ≡ self.entry.view.releases) × (result.1 ≤ 2 * KILL_LIMIT) }

@@ -1,4 +1,4 @@
-//! What a revival answers.
+//! The result of a revival.
 
 /// Whether a revived gate had reached zero.
 #[derive(Clone, Copy, Debug, PartialEq, Eq)]

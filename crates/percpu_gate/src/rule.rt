@@ -1,10 +1,11 @@
-//! The rule of a gate's table: the laws of the core.
+//! The rule of a gate's table: the laws of `percpu_core`.
 ghost use Rattle.std.specs.Prelude.{◌≡◌, ◌≤◌, length, take};
 
 use atomic_table::TableRule;
-use percpu_core::{Start, View, WORD_LIMIT};
+use percpu_core::{PassEvent, Reply, Start, View, WORD_LIMIT};
+use std::collections::LinkedList;
 
-/// What a gate is made with, which never changes.
+/// What a gate was made with. It never changes.
 #[derive(Drop)]
 pub(crate) struct GateKey {
     pub slots: u32,
@@ -15,7 +16,7 @@ pub(crate) struct GateKey {
 }
 
 impl GateKey {
-    /// The key of a gate with so many slots and these guarded words.
+    /// The key of a gate with this many slots and these guarded words.
     pub(crate) fn new(slots: u32, start: Start, words: &[u64]) -> GateKey
         requires { length words.now ≤ WORD_LIMIT }
         ensures key { (result.slots ≡ slots) × (result.start ≡ start) × (result.count ≡ length words.now) }
@@ -33,16 +34,20 @@ impl GateKey {
     }
 }
 
-/// What a seat knows: how its gate was made, which never changes, and its view. No value of it is made.
+/// What a seat knows: how its gate was made, its view, and the steps that it took. It exists only in proofs.
 pub(crate) struct SeatView {
     pub slots: u32,
     pub start: Start,
     /// The number of guarded words.
     pub words: usize,
     pub view: View,
+    /// The steps of a pass, each with its reply, the last one first.
+    pub steps: LinkedList<(PassEvent, Reply)>,
+    /// How many slots the control has closed and opened.
+    pub moves: u64,
 }
 
-/// The laws, over the memory that the table's words spell.
+/// The laws, over the memory that the words of the table encode.
 pub(crate) struct GateRule;
 
 impl TableRule<(), SeatView, GateKey> for GateRule {

@@ -1,4 +1,4 @@
-//! The words of a gate, which its seats step on.
+//! The words of a gate, on which its seats step.
 ghost use Rattle.std.specs.Prelude.{◌≡◌, ◌≤◌, length, take, IfOk};
 ghost use Rattle.percpu_core.specs.declared.limits.TheConstants.{SLOT_LIMIT, WORD_LIMIT};
 ghost use Rattle.percpu_core.specs.Cells.{slot_spelling};
@@ -17,22 +17,22 @@ use percpu_words::{CLOSED, slot_word};
 use std::alloc::{AllocError, Global};
 use std::marker::Model;
 
-/// Where the shared word lies: 128 bytes into the block, so that what the heap has before it is on another line.
+/// Index of the shared word: 128 bytes into the block, so that whatever precedes the block is on another line.
 pub(crate) const SHARED: usize = 16;
 
-/// Where the front lies.
+/// Index of the front.
 pub(crate) const FRONT: usize = 32;
 
-/// Where the first guarded word lies.
+/// Index of the first guarded word.
 pub(crate) const FIRST_WORD: usize = 33;
 
-/// Where the first slot lies, apart from the words before it by more than 128 bytes.
+/// Index of the first slot, more than 128 bytes after the words before it.
 const FIRST_SLOT: usize = 64;
 
-/// A slot is hot in every thread, so it is alone on 128 bytes.
+/// A slot is written by its thread all the time, so it has 128 bytes to itself.
 const WORDS_OF_A_SLOT: usize = 16;
 
-/// Where a slot lies.
+/// Index of a slot.
 #[inline]
 pub(crate) fn place_of(slot: u32) -> usize
     ensures { result ≡ slot_place slot }
@@ -71,7 +71,7 @@ fn first_slot_word(start: Start) -> u64
     }
 }
 
-/// The words of a gate that isn't shared yet. Those that nothing steps on are as the slots are.
+/// The words of a gate that isn't shared yet. Unused words have the same value as the slots.
 fn first_words(alloc: Global, key: &GateKey) -> Result<Vec<u64>, AllocError>
     requires count { key.now.count ≤ WORD_LIMIT }
     requires slots { key.now.slots ≤ SLOT_LIMIT }
@@ -80,7 +80,7 @@ fn first_words(alloc: Global, key: &GateKey) -> Result<Vec<u64>, AllocError>
     ensures count { IfOk result (λ ws. length (take key.now.count key.now.words) ≡ key.now.count) }
 {
     let slot = first_slot_word(key.start);
-    // It ends where one slot more would begin.
+    // The words end where another slot would begin.
     let size = place_of(key.slots);
     let mut words = Vec::with_capacity(alloc, size)?;
     words.resize(SHARED, slot)?;
@@ -99,6 +99,7 @@ impl GateTable {
         requires slots { (1 ≤ key.now.slots) × (key.now.slots ≤ SLOT_LIMIT) }
         ensures table { IfOk result (λ r. (r.0.key ≡ key.now) × (r.1.gate ≡ facts_of r.0)) }
         ensures control { IfOk result (λ r. r.1.view ≡ record (first_control (opening_of key.now)) { passes = 0 }) }
+        ensures moves { IfOk result (λ r. r.1.moves ≡ 0) }
     {
         let words = first_words(alloc, key)?;
         let (table, seat) = Table::of_words(alloc, words.as_slice(), key)?;
@@ -115,7 +116,7 @@ impl GateTable {
         closed.free();
     }
 
-    /// The slots of the gate.
+    /// The number of slots of the gate.
     #[inline]
     pub(crate) fn slots(&self) -> u32
         ensures value { result ≡ self.now.key.slots }

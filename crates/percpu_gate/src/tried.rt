@@ -1,9 +1,9 @@
-//! What the counting calls answer.
+//! The results of the counting calls.
 ghost use Rattle.std.specs.Prelude.{◌≡◌};
 ghost use Rattle.percpu_gate.specs.Calls.{released, taken, released_by};
 ghost use Rattle.percpu_gate.specs.Seats.{put_of};
 
-/// What a put answers.
+/// The result of a put.
 #[derive(Clone, Copy, Debug, PartialEq, Eq)]
 pub enum Put {
     /// The count isn't known to be at zero.
@@ -14,7 +14,7 @@ pub enum Put {
 }
 
 impl Put {
-    /// The answer where the exchange that marks zero was won, or lost.
+    /// The result after the exchange that marks zero was won, or lost.
     #[inline]
     pub(crate) fn of(is_won: bool) -> Put
         ensures { result ≡ put_of is_won }
@@ -34,17 +34,17 @@ impl Put {
     }
 }
 
-/// What a try answers.
+/// The result of a try.
 #[derive(Clone, Copy, Debug, PartialEq, Eq)]
 pub enum Tried {
     /// The reference is held.
     Given,
-    /// No reference was given. The try had added 1, and putting that back answered this.
+    /// No reference was taken. The try had added 1; this is the result of putting it back.
     Refused(Put),
 }
 
 impl Tried {
-    /// The references that it gives: 1 or 0.
+    /// The number of references that the try took: 1 or 0.
     #[inline]
     pub(crate) fn taken(self) -> u32
         ensures { result ≡ taken self }

@@ -1,4 +1,4 @@
--- What a gate that has ended leaves, of an open control whose passes were taken in, but for those that it gave out.
+-- What a gate that has ended leaves, of an open control whose passes were taken in, except those that it gave out.
 use Rattle.std.proofs.Common.{◌≡◌, ℕ, Bool, true, false, ◌<◌, nat_le, if◌then◌else◌, Some, None, refl, ap, sym, subst, ◌∙◌, arith}
 use Rattle.std.proofs.lemmas.Bool.{leb-false}
 use Rattle.std.proofs.lemmas.Option.{none-some}
@@ -8,7 +8,7 @@ use Rattle.percpu_gate.specs.declared.exit.ExitWhy.TheVariants as whys
 use Rattle.percpu_gate.specs.ControlCalls.{exit_refusal}
 use Rattle.percpu_gate.specs.Seats.{GateFacts, ControlFacts}
 use Rattle.percpu_gate.specs.Exits.{Ended}
-use Rattle.percpu_gate_c.specs.declared.gate_number.GateNumber.{GateNumber}
+use Rattle.c_answers.specs.declared.drawn_number.DrawnNumber.{DrawnNumber}
 use Rattle.percpu_gate_c.specs.declared.life.Final.{Final}
 use Rattle.percpu_gate_c.specs.Opened.{ControlOpened}
 use Rattle.percpu_gate_c.specs.ControlCalls.{with_passes}
@@ -20,7 +20,7 @@ none_out true some out at is = absurd (none-some _ (sym is))
 none_out false true out at is = absurd (none-some _ (sym is))
 none_out false false out at is = let few : out < 1 = leb-false 1 out at in omega arith
 
-pub final_of : {gate : GateFacts} {number : GateNumber} {waiting : ℕ} {control over : ControlFacts} (out : ℕ) {c : ControlOpened} {f : Final} → c ≡ record { number = number; waiting = waiting; control = control } → gate ≡ control.gate
+pub final_of : {gate : GateFacts} {number : DrawnNumber} {waiting : ℕ} {control over : ControlFacts} (out : ℕ) {c : ControlOpened} {f : Final} → c ≡ record { number = number; waiting = waiting; control = control } → gate ≡ control.gate
     → over ≡ with_passes out control → exit_refusal control.view.standing.phase out ≡ None
     → f.dead ≡ is_phase Dead over.view.standing.phase → f.kills ≡ over.view.standing.kills → f.releases ≡ over.view.releases → f.words ≡ over.view.words → Ended gate over.view → IsFinal c f
 final_of {gate = gate} {control = control} {over = over} out {f = f} is own taken may dead kills releases words lost =

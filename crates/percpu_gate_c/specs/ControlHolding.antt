@@ -1,4 +1,4 @@
--- What a handle owns: nothing where it is closed, and where it is open the box of its control.
+-- What a handle owns: nothing if it is closed, and the box of its control if it is open.
 use Rattle.std.specs.Prelude.{Option, Some, None}
 use base.Fml.{Fml, ftrue}
 use base.Stored.{Coded}

@@ -1,4 +1,4 @@
--- What the steps of a kill leave, made one by one, and when C may not make them.
+-- The effect of the steps of a kill, made one by one, and when C may not make them.
 use Rattle.std.specs.Prelude.{◌≡◌, ℕ, ◌+◌, ◌%◌, ℤ, false, nat_lt, nat_eq, if◌then◌else◌, Option, Some, None, Result, Ok, Err}
 use Rattle.percpu_words.specs.SlotWord.{IsDelta}
 use Rattle.percpu_core.specs.Phases.{next_slot}
@@ -8,14 +8,15 @@ use Rattle.percpu_gate.specs.declared.control_fault.ControlFault.{ControlFault}
 use Rattle.percpu_gate.specs.declared.tried.Put.{Put}
 use Rattle.percpu_gate.specs.ControlCalls.{IsBetweenCalls, fault_of, kill_refusal, to_close, after_mark_dead, after_close, after_collect, after_confirm, after_drop_base}
 use Rattle.percpu_gate.specs.Seats.{FindsDelta}
-use Rattle.percpu_gate_c.specs.declared.misuse.Misuse.{Misuse}
-use Rattle.percpu_gate_c.specs.declared.misuse.Misuse.TheVariants.{Step}
+use Rattle.c_answers.specs.declared.misuse.Misuse.{Misuse}
+use Rattle.c_answers.specs.declared.misuse.Misuse.TheVariants.{Step}
+use Rattle.c_answers.specs.Numbers.{number_of}
+use Rattle.c_answers.specs.Ran.{RanOn}
 use Rattle.percpu_gate_c.specs.Opened.{ControlOpened}
-use Rattle.percpu_gate_c.specs.Numbers.{number_of, gate_number}
-use Rattle.percpu_gate_c.specs.Ran.{RanOn}
-use Rattle.percpu_gate_c.specs.ControlCalls.{knowing, OrRefused}
+use Rattle.percpu_gate_c.specs.Numbers.{gate_number}
+use Rattle.percpu_gate_c.specs.ControlCalls.{knowing, moving, OrRefused}
 
--- where the control stands
+-- the state of the control
 abbrev pub phase_of : ControlOpened → Phase
 phase_of c = c.control.view.standing.phase
 
@@ -27,7 +28,7 @@ close_misuse_in phase slots = Some Step
 abbrev pub close_misuse : ControlOpened → Option Misuse
 close_misuse c = close_misuse_in (phase_of c) c.control.gate.slots
 
--- they are collected once a kill has closed all
+-- the slots are collected once a kill has closed all of them
 abbrev pub collect_misuse_in : Phase → ℕ → Option Misuse
 collect_misuse_in (Closing i) slots = if nat_eq i slots then None else Some Step
 collect_misuse_in phase slots = Some Step
@@ -51,37 +52,37 @@ drop_misuse_in phase = Some Step
 abbrev pub drop_misuse : ControlOpened → Option Misuse
 drop_misuse c = drop_misuse_in (phase_of c)
 
--- what `mark_dead` leaves, and the number of slots that are now to be closed
+-- the effect of `mark_dead`, and the number of slots that have to be closed now
 pub record BegunKill (old new : ControlOpened) (r : Result ℕ ControlFault) : Type 0 where
   pub refused : fault_of r ≡ kill_refusal (phase_of old) old.control.view.standing.kills
   pub begun : OrRefused old new (λ slots. (slots ≡ to_close (phase_of old) old.control.gate.slots) × (new ≡ knowing old (after_mark_dead old.control.view))) r
 
--- what `close_next` leaves, which has found this delta on the slot
+-- the effect of `close_next`, which has found this delta on the slot
 pub record ClosedSlot (old new : ControlOpened) (delta : ℤ) : Type 0 where
-  pub view : new ≡ knowing old (after_close delta old.control.view)
+  pub view : new ≡ moving 1 (after_close delta old.control.view) old
   pub found : FindsDelta old.control.gate (next_slot old.control.view.standing.phase) old.control.view delta
   pub small : IsDelta delta
 
--- what `collect` leaves
+-- the effect of `collect`
 pub record CollectedSlots (old new : ControlOpened) (r : Unit {0}) : Type 0 where
   pub view : new ≡ knowing old (after_collect old.control.view)
   pub phase : phase_of new ≡ Collected
 
--- what `confirm` leaves, and the odd front of the kill
+-- the effect of `confirm`, and the odd front of the kill
 pub record ConfirmedKill (old new : ControlOpened) (front : ℕ) : Type 0 where
   pub view : new ≡ knowing old (after_confirm old.control.view)
   pub next : front ≡ old.control.view.front + 1
   pub odd : front % 2 ≡ 1
 
--- what `drop_base` leaves, by whether that put was the last
+-- the effect of `drop_base`, given whether its put was the last
 pub record DroppedBase (old new : ControlOpened) (put : Put) : Type 0 where
   pub view : new ≡ knowing old (after_drop_base put old.control.view)
 
--- the phase that the control tells, and its number
+-- the phase that the control returns, and its number
 pub record TellsPhase (old new : ControlOpened) (phase : Phase) : Type 0 where
   pub same : new ≡ old
   pub value : phase ≡ phase_of old
-  -- it is one in which a control stands between two calls, with no zero to mark
+  -- it is a phase that a control can have between two calls, with no zero to mark
   pub between : IsBetweenCalls phase
   pub settled : old.control.view.standing.to_mark ≡ false
 
@@ -96,12 +97,12 @@ phase_number Reviving = 6
 phase_number Fronted = 7
 phase_number (Opening i) = 8
 
--- what `mark_dead` writes: the number of slots, or what was there
+-- the value that `mark_dead` writes: the number of slots, or the old value if the call is refused
 abbrev pub slots_written : Result (Result ℕ ControlFault) Misuse → ℕ → ℕ
 slots_written (Ok (Ok slots)) there = slots
 slots_written (Ok (Err why)) there = there
 slots_written (Err why) there = there
 
--- the same of a handle, which may be closed, by the number that C is answered
+-- the same for a handle, which may be closed, by the number that C gets
 abbrev pub Begins : Option ControlOpened → Option ControlOpened → ℕ → ℕ → ℕ → Type 0
 Begins old new there here result = (answer : Result (Result ℕ ControlFault) Misuse) × (result ≡ number_of (gate_number (λ _. 0)) answer) × (here ≡ slots_written answer there) × RanOn (λ _. None) BegunKill old new answer

@@ -2,7 +2,6 @@ pub mod Opened
 pub mod PassHolding
 pub mod ControlHolding
 pub mod Numbers
-pub mod Ran
 pub mod PassCalls
 pub mod ControlCalls
 pub mod KillSteps

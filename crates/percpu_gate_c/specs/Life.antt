@@ -1,4 +1,4 @@
--- How gates and their handles come and go.
+-- The beginning and the end of gates and their handles.
 use Rattle.std.specs.Prelude.{◌≡◌, ℕ, ◌+◌, ◌-◌, ◌⊎◌, nat_eq, nat_lt, if◌then◌else◌, Option, Some, None, Result, Ok, Err, List}
 use Rattle.percpu_core.specs.Phases.{is_phase}
 use Rattle.percpu_core.specs.declared.phase.Phase.TheVariants.{Dead}
@@ -7,14 +7,14 @@ use Rattle.percpu_core.specs.declared.start.Start.TheVariants as starts
 use Rattle.percpu_gate.specs.declared.exit.ExitWhy.{ExitWhy}
 use Rattle.percpu_gate.specs.ControlCalls.{exit_refusal, exit_number}
 use Rattle.percpu_gate.specs.Exits.{Ended}
-use Rattle.percpu_gate_c.specs.declared.gate_number.GateNumber.{GateNumber}
-use Rattle.percpu_gate_c.specs.declared.misuse.Misuse.{Misuse}
-use Rattle.percpu_gate_c.specs.declared.misuse.Misuse.TheVariants.{Closed, Open, Size}
+use Rattle.c_answers.specs.declared.drawn_number.DrawnNumber.{DrawnNumber}
+use Rattle.c_answers.specs.declared.misuse.Misuse.{Misuse}
+use Rattle.c_answers.specs.declared.misuse.Misuse.TheVariants.{Closed, Open, Size}
 use Rattle.percpu_gate_c.specs.declared.life.Final.{Final}
 use Rattle.percpu_gate_c.specs.Opened.{PassOpened, ControlOpened}
 use Rattle.percpu_gate_c.specs.ControlCalls.{Made, NewControl, Next, Retires, size_misuse}
 
--- the number of a handle's gate, that whoever made it drew; 0 where the handle is closed
+-- the number of a handle's gate, drawn when the gate was made; 0 if the handle is closed
 abbrev pub pass_number : Option PassOpened → ℕ
 pass_number None = 0
 pass_number (Some p) = p.number.drawn
@@ -27,21 +27,21 @@ control_number (Some c) = c.number.drawn
 abbrev pub start_named : ℕ → Start
 start_named n = if nat_eq n 0 then starts.Slots else (if nat_eq n 1 then starts.Atomic else starts.Dead)
 
--- there are three of these
+-- the misuse of a new gate's start and sizes; there are three starts
 abbrev pub new_misuse : ℕ → ℕ → ℕ → Option Misuse
 new_misuse start slots passes = if nat_lt 2 start then Some Size else size_misuse slots passes
 
--- what making a gate with these numbers leaves of a handle
-abbrev pub HasMade : GateNumber → ℕ → ℕ → ℕ → List ℕ → Option ControlOpened → Option ControlOpened → Result (Unit {0}) Misuse → Type 0
+-- the effect on a handle of making a gate with these numbers
+abbrev pub HasMade : DrawnNumber → ℕ → ℕ → ℕ → List ℕ → Option ControlOpened → Option ControlOpened → Result (Unit {0}) Misuse → Type 0
 HasMade number slots passes start words old new answer = Made (new_misuse start slots passes) (NewControl number slots passes (start_named start) words) old new answer
 
--- what giving the next pass to a handle leaves: it is to be closed
+-- the effect of giving the next pass to a handle, which has to be closed
 abbrev pub Gives : ControlOpened → ControlOpened → Option PassOpened → Option PassOpened → Result (Unit {0}) Misuse → Type 0
 Gives old new (Some p) after answer = (answer ≡ Err Open) × (new ≡ old) × (after ≡ Some p)
 Gives old new None after (Ok r) = (p : PassOpened) × (after ≡ Some p) × Next old new (Ok p)
 Gives old new None after (Err why) = (after ≡ None) × Next old new (Err why)
 
--- the same of a control handle, which may be closed
+-- the same for a control handle, which may be closed
 abbrev pub Given : Option ControlOpened → Option ControlOpened → Option PassOpened → Option PassOpened → Result (Unit {0}) Misuse → Type 0
 Given None new before after answer = (answer ≡ Err Closed) × (new ≡ None) × (after ≡ before)
 Given (Some old) None before after answer = ⊥
@@ -56,13 +56,13 @@ abbrev pub NumbersTellOn : Option ControlOpened → Option PassOpened → Type 0
 NumbersTellOn None p = Unit {0}
 NumbersTellOn (Some c) p = NumbersTell c p
 
--- what retiring leaves of the two handles
+-- the effect of retiring on the two handles
 abbrev pub Retired : Option ControlOpened → Option ControlOpened → Option PassOpened → Option PassOpened → Result (Unit {0}) Misuse → Type 0
 Retired None new before after answer = (answer ≡ Err Closed) × (new ≡ None) × (after ≡ before)
 Retired (Some old) None before after answer = ⊥
 Retired (Some old) (Some new) before after answer = Retires old new before after answer
 
--- what is left of a gate that has ended, with no release lost
+-- the last facts of a gate that has ended, with no release lost
 pub record IsFinal (c : ControlOpened) (f : Final) : Type 0 where
   pub dead : f.dead ≡ is_phase Dead c.control.view.standing.phase
   pub kills : f.kills ≡ c.control.view.standing.kills
@@ -75,7 +75,7 @@ pub record IsFinal (c : ControlOpened) (f : Final) : Type 0 where
 abbrev pub end_refusal : ControlOpened → Option ExitWhy
 end_refusal c = exit_refusal c.control.view.standing.phase (c.control.view.passes - c.waiting)
 
--- what ending a gate leaves: refused with everything as it was, or ended. (Somebody else's share of the gate is answered 45, with everything as it was, but that the control is gone where it has no new box: 44. No way of using handles leads there)
+-- the effect of ending a gate: it is refused with everything unchanged, or it has ended. (If somebody else has a share of the gate, which no use of handles leads to, the number is 37 with everything unchanged, or 36 if the control gets no new box: then the control is gone)
 abbrev pub ExitsOpen : Option ExitWhy → ControlOpened → Option ControlOpened → Final → Final → ℕ → Type 0
 ExitsOpen (Some why) c new there here result = (result ≡ 16 + exit_number why) × (new ≡ Some c) × (here ≡ there)
 ExitsOpen None c new there here result = ((new ≡ None) × (result ≡ 0) × IsFinal c here) ⊎ ((here ≡ there) × (((new ≡ Some c) × (result ≡ 37)) ⊎ ((new ≡ None) × (result ≡ 36))))

@@ -1,14 +1,14 @@
--- What an open handle leads to: the number of its gate, and what the pass or the control knows.
+-- What an open handle leads to: the number of its gate, and the facts of the pass or the control.
 use Rattle.std.specs.Prelude.{ℕ}
 use Rattle.percpu_gate.specs.Seats.{PassFacts, ControlFacts}
-use Rattle.percpu_gate_c.specs.declared.gate_number.GateNumber.{GateNumber}
+use Rattle.c_answers.specs.declared.drawn_number.DrawnNumber.{DrawnNumber}
 
 pub record PassOpened : Type 0 where
-  pub number : GateNumber
+  pub number : DrawnNumber
   pub pass : PassFacts
 
 pub record ControlOpened : Type 0 where
-  pub number : GateNumber
+  pub number : DrawnNumber
   -- the passes that no handle has had yet
   pub waiting : ℕ
   pub control : ControlFacts

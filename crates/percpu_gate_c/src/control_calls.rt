@@ -1,17 +1,17 @@
-//! The calls of the control. A closed handle answers Closed, and a question of it false.
+//! The calls of the control. A closed handle returns Closed, or false from a question.
 ghost use Rattle.percpu_words.specs.declared.mode.Mode.TheVariants as modes;
-ghost use Rattle.percpu_gate_c.specs.Numbers.{gate_number, put_number, revived_number};
-ghost use Rattle.percpu_gate_c.specs.Ran.{Answers, Asks, Writes};
-ghost use Rattle.percpu_gate_c.specs.PassCalls.{no_misuse};
+ghost use Rattle.c_answers.specs.Numbers.{put_number};
+ghost use Rattle.c_answers.specs.Ran.{Answers, Asks, Writes, no_misuse};
+ghost use Rattle.percpu_gate_c.specs.Numbers.{gate_number, revived_number};
 ghost use Rattle.percpu_gate_c.specs.ControlCalls.{Killed, SawZero, Reinited, Resurrected, Switched, StoredWord, store_misuse, Told, ToldWords};
 
 use crate::control_handle::ControlHandle;
-use crate::misuse::Misuse;
-use crate::number::{of_done, of_kill, of_revived, write, write_words};
+use crate::number::{of_done, of_kill, of_revived};
 use crate::open_pass::WORDS;
+use c_answers::{Misuse, write};
 
 /// Kills the gate. 1 is the release. Linux: `percpu_ref_kill` (include/linux/percpu-refcount.h).
-#[tactic(auto, using(crate::proofs::Closed::closed_answers))]
+#[tactic(auto, using(c_answers::proofs::Closed::closed_answers))]
 #[unsafe(no_mangle)]
 pub extern "C" fn percpu_gate_kill(control: &mut ControlHandle) -> u32
     ensures { Answers (gate_number put_number) no_misuse Killed control.old.held.control control.new.held.control result }
@@ -24,7 +24,7 @@ pub extern "C" fn percpu_gate_kill(control: &mut ControlHandle) -> u32
     of_kill(answer)
 }
 
-/// Whether the count has reached zero. Linux: `percpu_ref_is_zero` (include/linux/percpu-refcount.h).
+/// Whether the count has reached zero. Linux: `percpu_ref_is_zero` (lib/percpu-refcount.c).
 #[unsafe(no_mangle)]
 pub extern "C" fn percpu_gate_control_is_zero(control: &mut ControlHandle) -> bool
     ensures { Asks SawZero control.old.held.control control.new.held.control result }
@@ -38,7 +38,7 @@ pub extern "C" fn percpu_gate_control_is_zero(control: &mut ControlHandle) -> bo
 }
 
 /// Revives a gate that has reached zero. Linux: `percpu_ref_reinit` (lib/percpu-refcount.c).
-#[tactic(auto, using(crate::proofs::Closed::closed_answers))]
+#[tactic(auto, using(c_answers::proofs::Closed::closed_answers))]
 #[unsafe(no_mangle)]
 pub extern "C" fn percpu_gate_reinit(control: &mut ControlHandle) -> u32
     ensures { Answers (gate_number (λ _. 0)) no_misuse Reinited control.old.held.control control.new.held.control result }
@@ -51,8 +51,8 @@ pub extern "C" fn percpu_gate_reinit(control: &mut ControlHandle) -> u32
     of_done(answer)
 }
 
-/// Revives a dead gate. 4 where it had reached zero. Linux: `percpu_ref_resurrect` (lib/percpu-refcount.c).
-#[tactic(auto, using(crate::proofs::Closed::closed_answers))]
+/// Revives a dead gate. Returns 4 if it had reached zero. Linux: `percpu_ref_resurrect` (lib/percpu-refcount.c).
+#[tactic(auto, using(c_answers::proofs::Closed::closed_answers))]
 #[unsafe(no_mangle)]
 pub extern "C" fn percpu_gate_resurrect(control: &mut ControlHandle) -> u32
     ensures { Answers (gate_number revived_number) no_misuse Resurrected control.old.held.control control.new.held.control result }
@@ -67,7 +67,7 @@ pub extern "C" fn percpu_gate_resurrect(control: &mut ControlHandle) -> u32
 
 /// Counts on the shared word alone from now on. Linux: `percpu_ref_switch_to_atomic_sync`
 /// (lib/percpu-refcount.c).
-#[tactic(auto, using(crate::proofs::Closed::closed_answers))]
+#[tactic(auto, using(c_answers::proofs::Closed::closed_answers))]
 #[unsafe(no_mangle)]
 pub extern "C" fn percpu_gate_switch_to_atomic(control: &mut ControlHandle) -> u32
     ensures { Answers (gate_number (λ _. 0)) no_misuse (Switched modes.Atomic) control.old.held.control control.new.held.control result }
@@ -81,7 +81,7 @@ pub extern "C" fn percpu_gate_switch_to_atomic(control: &mut ControlHandle) -> u
 }
 
 /// Counts on slots from now on. Linux: `percpu_ref_switch_to_percpu` (lib/percpu-refcount.c).
-#[tactic(auto, using(crate::proofs::Closed::closed_answers))]
+#[tactic(auto, using(c_answers::proofs::Closed::closed_answers))]
 #[unsafe(no_mangle)]
 pub extern "C" fn percpu_gate_switch_to_slots(control: &mut ControlHandle) -> u32
     ensures { Answers (gate_number (λ _. 0)) no_misuse (Switched modes.Slots) control.old.held.control control.new.held.control result }
@@ -95,7 +95,7 @@ pub extern "C" fn percpu_gate_switch_to_slots(control: &mut ControlHandle) -> u3
 }
 
 /// Stores the guarded word `k`, while the gate is dead and at zero.
-#[tactic(auto, using(crate::proofs::Closed::closed_answers))]
+#[tactic(auto, using(c_answers::proofs::Closed::closed_answers))]
 #[unsafe(no_mangle)]
 pub extern "C" fn percpu_gate_store_word(control: &mut ControlHandle, k: u32, v: u64) -> u32
     ensures { Answers (gate_number (λ _. 0)) (store_misuse k) (StoredWord k v) control.old.held.control control.new.held.control result }
@@ -108,8 +108,8 @@ pub extern "C" fn percpu_gate_store_word(control: &mut ControlHandle, k: u32, v:
     of_done(answer)
 }
 
-/// Writes the kills so far.
-#[tactic(auto, using(crate::proofs::Closed::closed_writes))]
+/// Writes the number of kills so far.
+#[tactic(auto, using(c_answers::proofs::Closed::closed_writes))]
 #[unsafe(no_mangle)]
 pub extern "C" fn percpu_gate_kill_count(control: &mut ControlHandle, kills: &mut u64) -> u32
     ensures { Writes no_misuse (Told (λ c. c.standing.kills)) control.old.held.control control.new.held.control kills.old kills.new result }
@@ -122,8 +122,8 @@ pub extern "C" fn percpu_gate_kill_count(control: &mut ControlHandle, kills: &mu
     write(answer, kills)
 }
 
-/// Writes the releases of the control and of retired passes.
-#[tactic(auto, using(crate::proofs::Closed::closed_writes))]
+/// Writes the number of releases of the control and of retired passes.
+#[tactic(auto, using(c_answers::proofs::Closed::closed_writes))]
 #[unsafe(no_mangle)]
 pub extern "C" fn percpu_gate_release_count(control: &mut ControlHandle, releases: &mut u64) -> u32
     ensures { Writes no_misuse (Told (λ c. c.releases)) control.old.held.control control.new.held.control releases.old releases.new result }
@@ -136,8 +136,8 @@ pub extern "C" fn percpu_gate_release_count(control: &mut ControlHandle, release
     write(answer, releases)
 }
 
-/// Writes the guarded words. (A pass reads them one by one, while it holds a reference.)
-#[tactic(auto, using(crate::proofs::Closed::closed_writes))]
+/// Writes the guarded words. (A pass reads them one by one while it holds a reference.)
+#[tactic(auto, using(c_answers::proofs::Closed::closed_writes))]
 #[unsafe(no_mangle)]
 pub extern "C" fn percpu_gate_all_words(
     control: &mut ControlHandle,
@@ -146,9 +146,9 @@ pub extern "C" fn percpu_gate_all_words(
     ensures { Writes no_misuse ToldWords control.old.held.control control.new.held.control words.old words.new result }
 {
     let Some(mut open) = control.take() else {
-        return write_words(Err(Misuse::Closed), words);
+        return write(Err(Misuse::Closed), words);
     };
     let answer = open.words();
     control.put_back(open);
-    write_words(answer, words)
+    write(answer, words)
 }

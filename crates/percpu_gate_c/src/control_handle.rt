@@ -1,15 +1,15 @@
-//! The control, to C.
+//! The control's handle for C.
 ghost use Rattle.std.specs.Prelude.{◌≡◌, Some, None, is_some, IsSome, IfOk, IfErr};
-ghost use Rattle.percpu_gate_c.specs.declared.misuse.Misuse.TheVariants.{Open, Memory};
+ghost use Rattle.c_answers.specs.declared.misuse.Misuse.TheVariants.{Open, Memory};
 ghost use Rattle.percpu_gate_c.specs.ControlHolding.{opened};
 
 use crate::control_held::ControlHeld;
-use crate::misuse::Misuse;
 use crate::open_control::OpenControl;
+use c_answers::Misuse;
 use std::alloc::Global;
 use std::mem;
 
-/// The control handle: to C a `bool` and a pointer, all zero where it is closed.
+/// The control's handle: for C a `bool` and a pointer, all zero if it is closed.
 #[derive(Drop)]
 #[repr(C)]
 pub struct ControlHandle {
@@ -32,7 +32,7 @@ impl ControlHandle {
         }
     }
 
-    /// The box of an open handle, which is left closed.
+    /// Takes the box of an open handle, which is closed afterwards.
     pub fn take(&mut self) -> Option<Box<OpenControl>>
         ensures control { opened result ≡ self.old.held.control }
         ensures closed { self.new.held.control ≡ None }
@@ -45,7 +45,7 @@ impl ControlHandle {
         Some(mem::replace(&mut self.held, nothing).into_box())
     }
 
-    /// Its allocator, where it is closed. Refuses Open.
+    /// The allocator of a closed handle. Refuses with Open.
     pub fn closed(&self) -> Result<Global, Misuse>
         ensures closed { IfOk result (λ _. self.now.held.control ≡ None) }
         ensures open { IfErr result (λ why. (why ≡ Open) × IsSome self.now.held.control) }
@@ -57,7 +57,7 @@ impl ControlHandle {
         }
     }
 
-    /// Opens a closed handle, in a new box. Refuses Memory.
+    /// Opens a closed handle, in a new box. Refuses with Memory.
     pub fn open(&mut self, control: OpenControl) -> Result<(), Misuse>
         requires closed { self.old.held.control ≡ None }
         ensures open { IfOk result (λ _. self.new.held.control ≡ Some control) }

@@ -1,4 +1,4 @@
-//! The box of a handle, under a pointer that C may keep.
+//! The box of a handle, behind a pointer that C may keep.
 ghost use Rattle.std.specs.Prelude.{◌≡◌, Some, None, Option};
 ghost use Rattle.percpu_gate_c.specs.ControlHolding.{control_owns, control_coded};
 ghost use Rattle.percpu_gate_c.specs.declared.open_control.OpenControl.{OpenControl};
@@ -9,8 +9,8 @@ use std::alloc::Global;
 use std::marker::Model;
 use std::ptr;
 
-/// A box of a control, or nothing. The pointer's type hides the control's, which C may not know. One that is let go
-/// keeps its box.
+/// A box of a control, or nothing. The pointer's type hides the control's, which C may not know. Dropping it doesn't
+/// free the box.
 #[derive(Drop)]
 #[repr(C)]
 pub struct ControlHeld {
@@ -24,7 +24,7 @@ impl Model for ControlHeld {
 }
 
 impl ControlHeld {
-    /// Nothing.
+    /// Returns nothing.
     pub(crate) fn nothing(alloc: Global) -> ControlHeld
         ensures { result.control ≡ None }
     {
@@ -32,14 +32,14 @@ impl ControlHeld {
         ControlHeld { at, alloc }
     }
 
-    /// This box.
+    /// Holds this box.
     pub(crate) fn of(control: Box<OpenControl>) -> ControlHeld
         ensures { result.control ≡ Some control.value }
     {
         ControlHeld::of_loose(Loose::of(control))
     }
 
-    /// Its box.
+    /// Returns the box.
     pub(crate) fn into_box(self) -> Box<OpenControl>
         requires open { (s : OpenControl) × (self.control ≡ Some s) }
         ensures { self.control ≡ Some result.value }

@@ -1,15 +1,14 @@
-//! The steps of a kill one by one, for C that acts at its confirmation. A closed handle answers Closed, and a step out
-//! of its turn Step.
-ghost use Rattle.percpu_gate_c.specs.Numbers.{put_number};
-ghost use Rattle.percpu_gate_c.specs.Ran.{Answers, Writes};
-ghost use Rattle.percpu_gate_c.specs.PassCalls.{no_misuse};
+//! The steps of a kill one by one, for C that acts at its confirmation. A closed handle returns Closed, and a step out
+//! of its turn returns Step.
+ghost use Rattle.c_answers.specs.Numbers.{put_number};
+ghost use Rattle.c_answers.specs.Ran.{Answers, Writes, no_misuse};
 ghost use Rattle.percpu_gate_c.specs.KillSteps.{Begins, ClosedSlot, close_misuse, CollectedSlots, collect_misuse, ConfirmedKill, confirm_misuse, DroppedBase, drop_misuse, TellsPhase, phase_number};
 
 use crate::control_handle::ControlHandle;
-use crate::misuse::Misuse;
-use crate::number::{of_closed, of_phase, of_put, of_unit, write, write_slots};
+use crate::number::{of_closed, of_phase, write_slots};
+use c_answers::{Misuse, of_put, of_unit, write};
 
-/// Begins a kill, and writes how many slots are now to be closed: none where counts are on the shared word. Linux:
+/// Begins a kill, and writes how many slots have to be closed now: 0 if all counts are on the shared word. Linux:
 /// `percpu_ref_kill_and_confirm` (lib/percpu-refcount.c), which sets `__PERCPU_REF_DEAD`.
 #[tactic(auto, using(crate::proofs::Closed::closed_begins))]
 #[unsafe(no_mangle)]
@@ -26,7 +25,7 @@ pub extern "C" fn percpu_gate_mark_dead(control: &mut ControlHandle, slots: &mut
 
 /// Closes the next slot of a kill. Linux: the switch to atomic mode in `percpu_ref_kill_and_confirm`
 /// (lib/percpu-refcount.c).
-#[tactic(auto, using(crate::proofs::Closed::closed_answers))]
+#[tactic(auto, using(c_answers::proofs::Closed::closed_answers))]
 #[unsafe(no_mangle)]
 pub extern "C" fn percpu_gate_close_next(control: &mut ControlHandle) -> u32
     ensures { Answers (λ _. 0) close_misuse ClosedSlot control.old.held.control control.new.held.control result }
@@ -39,9 +38,9 @@ pub extern "C" fn percpu_gate_close_next(control: &mut ControlHandle) -> u32
     of_closed(answer)
 }
 
-/// Brings what was counted on the closed slots to the shared word. Linux: `percpu_ref_switch_to_atomic_rcu`
+/// Adds what was counted on the closed slots to the shared word. Linux: `percpu_ref_switch_to_atomic_rcu`
 /// (lib/percpu-refcount.c).
-#[tactic(auto, using(crate::proofs::Closed::closed_answers))]
+#[tactic(auto, using(c_answers::proofs::Closed::closed_answers))]
 #[unsafe(no_mangle)]
 pub extern "C" fn percpu_gate_collect(control: &mut ControlHandle) -> u32
     ensures { Answers (λ _. 0) collect_misuse CollectedSlots control.old.held.control control.new.held.control result }
@@ -56,7 +55,7 @@ pub extern "C" fn percpu_gate_collect(control: &mut ControlHandle) -> u32
 
 /// Confirms a kill, and writes its odd front. Linux: the `confirm_kill` callback of `percpu_ref_kill_and_confirm`
 /// (lib/percpu-refcount.c).
-#[tactic(auto, using(crate::proofs::Closed::closed_writes))]
+#[tactic(auto, using(c_answers::proofs::Closed::closed_writes))]
 #[unsafe(no_mangle)]
 pub extern "C" fn percpu_gate_confirm(control: &mut ControlHandle, front: &mut u64) -> u32
     ensures { Writes confirm_misuse ConfirmedKill control.old.held.control control.new.held.control front.old front.new result }
@@ -71,7 +70,7 @@ pub extern "C" fn percpu_gate_confirm(control: &mut ControlHandle, front: &mut u
 
 /// Drops the initial reference, which ends a kill. 1 is the release. Linux: the put of
 /// `percpu_ref_kill_and_confirm` (lib/percpu-refcount.c).
-#[tactic(auto, using(crate::proofs::Closed::closed_answers))]
+#[tactic(auto, using(c_answers::proofs::Closed::closed_answers))]
 #[unsafe(no_mangle)]
 pub extern "C" fn percpu_gate_drop_base(control: &mut ControlHandle) -> u32
     ensures { Answers put_number drop_misuse DroppedBase control.old.held.control control.new.held.control result }
@@ -86,7 +85,7 @@ pub extern "C" fn percpu_gate_drop_base(control: &mut ControlHandle) -> u32
 
 /// The number of the control's phase: live on slots (0), live on the shared word alone (1), closing (2), collected
 /// (3), confirmed (4), dead (5).
-#[tactic(auto, using(crate::proofs::Closed::closed_answers))]
+#[tactic(auto, using(c_answers::proofs::Closed::closed_answers))]
 #[unsafe(no_mangle)]
 pub extern "C" fn percpu_gate_phase(control: &mut ControlHandle) -> u32
     ensures { Answers phase_number no_misuse TellsPhase control.old.held.control control.new.held.control result }

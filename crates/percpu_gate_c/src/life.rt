@@ -1,19 +1,17 @@
-//! How gates and their handles come and go.
+//! The beginning and the end of gates and their handles.
 ghost use Rattle.std.specs.Prelude.{◌≡◌, None};
+ghost use Rattle.c_answers.specs.Ran.{Tells};
 ghost use Rattle.percpu_gate_c.specs.ControlCalls.{Retires};
 ghost use Rattle.percpu_gate_c.specs.Life.{Exits, Given, Gives, HasMade, NumbersTell, NumbersTellOn, Retired, control_number, pass_number, start_named};
-ghost use Rattle.percpu_gate_c.specs.Ran.{Tells};
 
 use crate::control_handle::ControlHandle;
-use crate::gate_number::GateNumber;
-use crate::misuse::Misuse;
-use crate::number::of_unit;
 use crate::open_control::OpenControl;
 use crate::open_pass::WORDS;
 use crate::pass_handle::PassHandle;
+use c_answers::{DrawnNumber, Misuse, of_unit};
 use percpu_gate::Start;
 
-/// What is left of a gate that has ended.
+/// The last facts of a gate that has ended.
 #[derive(Debug, Drop)]
 #[repr(C)]
 pub struct Final {
@@ -23,7 +21,7 @@ pub struct Final {
     pub words: [u64; WORDS],
 }
 
-/// How a gate starts, by its number.
+/// The start with this number.
 fn start_of(start: u32) -> Start
     ensures { result ≡ start_named start }
 {
@@ -34,10 +32,10 @@ fn start_of(start: u32) -> Start
     }
 }
 
-/// The control of a new gate, for a closed handle. Refuses Open, Size, Memory.
+/// The control of a new gate, for a closed handle. Refuses with Open, Size or Memory.
 fn make(
     control: &mut ControlHandle,
-    number: &GateNumber,
+    number: &DrawnNumber,
     slots: u32,
     passes: u32,
     start: u32,
@@ -53,13 +51,13 @@ fn make(
     control.open(open)
 }
 
-/// A gate of so many slots (1 to 512) and passes (1 to 1,024) with eight guarded words, for a closed control handle.
-/// It starts with its slots open (0), with them closed (1), or dead and at zero (2). Refuses Open, Size, Memory.
-/// Linux: `percpu_ref_init` (lib/percpu-refcount.c).
+/// Makes a gate with this many slots (1 to 512) and passes (1 to 1,024) and with eight guarded words, for a closed
+/// control handle. It starts with its slots open (0), with them closed (1), or dead and at zero (2). Refuses with Open,
+/// Size or Memory. Linux: `percpu_ref_init` (lib/percpu-refcount.c).
 #[unsafe(no_mangle)]
 pub extern "C" fn percpu_gate_new_numbered(
     control: &mut ControlHandle,
-    number: &GateNumber,
+    number: &DrawnNumber,
     slots: u32,
     passes: u32,
     start: u32,
@@ -70,7 +68,7 @@ pub extern "C" fn percpu_gate_new_numbered(
     of_unit(make(control, number, slots, passes, start, words))
 }
 
-/// The next pass of this control, for a closed handle.
+/// Gives the next pass of this control to a closed handle.
 fn give(chosen: &mut OpenControl, pass: &mut PassHandle) -> Result<(), Misuse>
     ensures { Gives chosen.old chosen.new pass.old.held.pass pass.new.held.pass result }
 {
@@ -80,7 +78,7 @@ fn give(chosen: &mut OpenControl, pass: &mut PassHandle) -> Result<(), Misuse>
     Ok(())
 }
 
-/// The next pass of the gate, for a closed pass handle. Refuses Closed, Open, NoPass, Memory.
+/// Gives the next pass of the gate to a closed pass handle. Refuses with Closed, Open, NoneWaits or Memory.
 #[tactic(auto, using(crate::proofs::Closed::closed_given))]
 #[unsafe(no_mangle)]
 pub extern "C" fn percpu_gate_next_pass(control: &mut ControlHandle, pass: &mut PassHandle) -> u32
@@ -94,7 +92,7 @@ pub extern "C" fn percpu_gate_next_pass(control: &mut ControlHandle, pass: &mut 
     of_unit(answer)
 }
 
-/// The number of a pass's gate, or 0 of a closed handle.
+/// The number of a pass's gate, or 0 for a closed handle.
 #[unsafe(no_mangle)]
 pub extern "C" fn percpu_gate_pass_number(pass: &mut PassHandle) -> u64
     ensures number { result ≡ pass_number pass.old.held.pass }
@@ -108,7 +106,7 @@ pub extern "C" fn percpu_gate_pass_number(pass: &mut PassHandle) -> u64
     number
 }
 
-/// The number of a control's gate, or 0 of a closed handle.
+/// The number of a control's gate, or 0 for a closed handle.
 #[unsafe(no_mangle)]
 pub extern "C" fn percpu_gate_control_number(control: &mut ControlHandle) -> u64
     ensures number { result ≡ control_number control.old.held.control }
@@ -122,7 +120,7 @@ pub extern "C" fn percpu_gate_control_number(control: &mut ControlHandle) -> u64
     number
 }
 
-/// Frees what a pass handle has, and closes it. Its gate counts the pass as out for ever, if it wasn't retired.
+/// Frees the box of a pass handle, and closes it. If the pass wasn't retired, its gate counts it as out forever.
 #[unsafe(no_mangle)]
 pub extern "C" fn percpu_gate_free_pass(pass: &mut PassHandle)
     ensures { pass.new.held.pass ≡ None }
@@ -130,7 +128,7 @@ pub extern "C" fn percpu_gate_free_pass(pass: &mut PassHandle)
     drop(pass.take());
 }
 
-/// Frees what a control handle has, and closes it.
+/// Frees the box of a control handle, and closes it.
 #[unsafe(no_mangle)]
 pub extern "C" fn percpu_gate_free_control(control: &mut ControlHandle)
     ensures { control.new.held.control ≡ None }
@@ -138,7 +136,7 @@ pub extern "C" fn percpu_gate_free_control(control: &mut ControlHandle)
     drop(control.take());
 }
 
-/// The pass of a handle is taken in by the control, unless that is refused.
+/// Has the control take in the pass of a handle, unless that is refused.
 fn retire(chosen: &mut OpenControl, pass: &mut PassHandle) -> Result<(), Misuse>
     requires numbers { NumbersTell chosen.old pass.old.held.pass }
     ensures { Retires chosen.old chosen.new pass.old.held.pass pass.new.held.pass result }
@@ -154,7 +152,7 @@ fn retire(chosen: &mut OpenControl, pass: &mut PassHandle) -> Result<(), Misuse>
     Ok(())
 }
 
-/// Ends a pass that holds nothing. Refuses Closed, OtherGate, StillHeld.
+/// Ends a pass that holds nothing. Refuses with Closed, Foreign or StillHeld.
 #[tactic(auto, using(crate::proofs::Closed::closed_retired))]
 #[unsafe(no_mangle)]
 pub extern "C" fn percpu_gate_retire(control: &mut ControlHandle, pass: &mut PassHandle) -> u32
@@ -169,10 +167,10 @@ pub extern "C" fn percpu_gate_retire(control: &mut ControlHandle, pass: &mut Pas
     of_unit(answer)
 }
 
-/// Ends a gate, and closes the handle: takes in the passes that nobody asked for. Refuses Closed; 20 in the middle of a
-/// kill, 22 where passes that were given out aren't retired. Somebody else's share of the gate, which no way of using handles leads to, is answered InUse,
-/// with everything as it was, or Memory where the control has no new box: it is gone then. Linux: `percpu_ref_exit`
-/// (lib/percpu-refcount.c).
+/// Ends a gate, and closes the handle; takes in the passes that nobody asked for. Refuses with Closed; returns 20
+/// during a kill, and 22 if passes that were given out aren't retired. If somebody else has a share of the gate, which
+/// no use of handles leads to, it returns InUse with everything unchanged, or Memory if the control gets no new box:
+/// then the control is gone. Linux: `percpu_ref_exit` (lib/percpu-refcount.c).
 #[unsafe(no_mangle)]
 pub extern "C" fn percpu_gate_exit(control: &mut ControlHandle, last: &mut Final) -> u32
     ensures { Exits control.old.held.control control.new.held.control last.old last.new result }

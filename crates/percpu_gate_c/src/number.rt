@@ -1,25 +1,14 @@
-//! The numbers that C is answered.
-ghost use Rattle.std.specs.Prelude.{◌≡◌, ◌≤◌, ◌+◌};
+//! The numbers that only the library of the gate returns to C.
+ghost use Rattle.std.specs.Prelude.{◌≡◌, ◌+◌};
 ghost use Rattle.percpu_gate.specs.ControlCalls.{fault_number};
-ghost use Rattle.percpu_gate_c.specs.Numbers.{gate_number, number_of, revived_number, put_number, tried_number};
-ghost use Rattle.percpu_gate_c.specs.Ran.{written};
+ghost use Rattle.c_answers.specs.Numbers.{number_of, put_number};
+ghost use Rattle.percpu_gate_c.specs.Numbers.{gate_number, revived_number, tried_number};
 ghost use Rattle.percpu_gate_c.specs.KillSteps.{phase_number, slots_written};
 
-use crate::misuse::Misuse;
-use crate::open_pass::WORDS;
+use c_answers::{Misuse, put_number};
 use percpu_gate::{ControlFault, Phase, Put, Revived, Tried};
 
-fn put_number(put: Put) -> u32
-    ensures number { result ≡ put_number put }
-    ensures small { result ≤ 1 }
-{
-    match put {
-        Put::NotLast => 0,
-        Put::Last => 1,
-    }
-}
-
-/// What a try answers: 0 where the reference is given; where it isn't, 2, or 3 where that was the last put.
+/// The number of a try: 0 if the reference was taken; otherwise 2, or 3 if the try's put was the last.
 pub fn of_tried(answer: Result<Tried, Misuse>) -> u32
     ensures { result ≡ number_of tried_number answer }
 {
@@ -30,62 +19,14 @@ pub fn of_tried(answer: Result<Tried, Misuse>) -> u32
     }
 }
 
-/// What a put answers: 0, or 1 where it was the last.
-pub fn of_put(answer: Result<Put, Misuse>) -> u32
-    ensures { result ≡ number_of put_number answer }
-{
-    match answer {
-        Ok(put) => put_number(put),
-        Err(why) => why.number(),
-    }
-}
-
-/// 0 where all went well.
-pub fn of_unit(answer: Result<(), Misuse>) -> u32
-    ensures { result ≡ number_of (λ _. 0) answer }
-{
-    match answer {
-        Ok(()) => 0,
-        Err(why) => why.number(),
-    }
-}
-
-/// Writes what was read. 0 where all went well.
-pub fn write(answer: Result<u64, Misuse>, here: &mut u64) -> u32
-    ensures number { result ≡ number_of (λ _. 0) answer }
-    ensures written { here.new ≡ written answer here.old }
-{
-    match answer {
-        Ok(value) => {
-            *here = value;
-            0
-        }
-        Err(why) => why.number(),
-    }
-}
-
-/// Writes the guarded words. 0 where all went well.
-pub fn write_words(answer: Result<[u64; WORDS], Misuse>, here: &mut [u64; WORDS]) -> u32
-    ensures number { result ≡ number_of (λ _. 0) answer }
-    ensures written { here.new ≡ written answer here.old }
-{
-    match answer {
-        Ok(words) => {
-            *here = words;
-            0
-        }
-        Err(why) => why.number(),
-    }
-}
-
-/// A refusal of the gate: 16 more than its number.
+/// The number of a refusal by the gate, plus 16.
 fn of_fault(why: ControlFault) -> u32
     ensures { result ≡ 16 + fault_number why }
 {
     16 + u32::from(why.number())
 }
 
-/// What a kill answers: as a put, or the gate's refusal.
+/// The number of a kill: that of its put, or of the gate's refusal.
 pub fn of_kill(answer: Result<Result<Put, ControlFault>, Misuse>) -> u32
     ensures { result ≡ number_of (gate_number put_number) answer }
 {
@@ -96,7 +37,7 @@ pub fn of_kill(answer: Result<Result<Put, ControlFault>, Misuse>) -> u32
     }
 }
 
-/// 0 where the gate did it.
+/// 0 if the gate did it.
 pub fn of_done(answer: Result<Result<(), ControlFault>, Misuse>) -> u32
     ensures { result ≡ number_of (gate_number (λ _. 0)) answer }
 {
@@ -107,7 +48,7 @@ pub fn of_done(answer: Result<Result<(), ControlFault>, Misuse>) -> u32
     }
 }
 
-/// 4 where the count had reached zero, else 0.
+/// 4 if the count had reached zero, else 0.
 pub fn of_revived(answer: Result<Result<Revived, ControlFault>, Misuse>) -> u32
     ensures { result ≡ number_of (gate_number revived_number) answer }
 {
@@ -119,7 +60,7 @@ pub fn of_revived(answer: Result<Result<Revived, ControlFault>, Misuse>) -> u32
     }
 }
 
-/// Writes the slots that a kill has to close. 0 where it is begun.
+/// Writes the number of slots that a kill has to close. Returns 0 if the kill has begun.
 pub fn write_slots(answer: Result<Result<u32, ControlFault>, Misuse>, slots: &mut u32) -> u32
     ensures number { result ≡ number_of (gate_number (λ _. 0)) answer }
     ensures written { slots.new ≡ slots_written answer slots.old }
@@ -134,7 +75,7 @@ pub fn write_slots(answer: Result<Result<u32, ControlFault>, Misuse>, slots: &mu
     }
 }
 
-/// 0 where a slot is closed. (Its delta is the control's to sum.)
+/// 0 if a slot was closed. (The control sums up its delta.)
 pub fn of_closed(answer: Result<i64, Misuse>) -> u32
     ensures { result ≡ number_of (λ _. 0) answer }
 {

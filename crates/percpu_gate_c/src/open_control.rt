@@ -1,17 +1,16 @@
-//! What an open control handle leads to.
+//! The box of an open control handle.
 ghost use Rattle.std.specs.Prelude.{◌≡◌, ◌+◌, ◌-◌, None, All, IfSome, MatchResult, length, option_to_list};
+ghost use Rattle.c_answers.specs.Ran.{Ran, misuse_of};
 ghost use Rattle.percpu_gate_c.specs.Life.{IsFinal, end_refusal};
 ghost use Rattle.percpu_gate.specs.Rule.{after_retire};
 ghost use Rattle.percpu_gate.specs.Seats.{fresh_pass};
 ghost use Rattle.percpu_words.specs.declared.mode.Mode.TheVariants as modes;
-ghost use Rattle.percpu_gate_c.specs.Ran.{Ran, misuse_of};
 ghost use Rattle.percpu_gate_c.specs.ControlCalls.{Makes, NewControl, size_misuse, Next, value_of, Killed, SawZero, Reinited, Resurrected, Switched, StoredWord, store_misuse, Told, ToldWords, retire_misuse, knowing, with_passes};
 ghost use Rattle.percpu_gate_c.specs.KillSteps.{BegunKill, ClosedSlot, close_misuse, CollectedSlots, collect_misuse, ConfirmedKill, confirm_misuse, DroppedBase, drop_misuse, TellsPhase};
 
-use crate::gate_number::GateNumber;
 use crate::life::Final;
-use crate::misuse::Misuse;
 use crate::open_pass::{OpenPass, WORDS};
+use c_answers::{DrawnNumber, Misuse};
 use percpu_gate::{
     Control, ControlFault, ExitWhy, Gate, PASS_LIMIT, Pass, Phase, Put, Revived, SLOT_LIMIT, Start,
 };
@@ -25,7 +24,7 @@ use std::sync::Arc;
 pub struct OpenControl {
     before: [u64; 16],
     gate: Arc<Gate<WORDS>>,
-    number: GateNumber,
+    number: DrawnNumber,
     waiting: Vec<Pass<WORDS>>,
     spare: Option<Pass<WORDS>>,
     control: Control<WORDS>,
@@ -78,10 +77,10 @@ fn take_in_all(
 }
 
 impl OpenControl {
-    /// The control of a new gate. Refuses Size, Memory.
+    /// Makes the control of a new gate. Refuses with Size or Memory.
     pub fn new(
         alloc: Global,
-        number: GateNumber,
+        number: DrawnNumber,
         slots: u32,
         passes: u32,
         start: Start,
@@ -109,7 +108,7 @@ impl OpenControl {
         })
     }
 
-    /// The next pass that waits. Refuses NoPass, Memory.
+    /// The next pass that no handle has had yet. Refuses with NoneWaits or Memory.
     pub fn next_pass(&mut self, alloc: Global) -> Result<Box<OpenPass>, Misuse>
         ensures { Next self.old self.new (value_of result) }
     {
@@ -118,7 +117,7 @@ impl OpenControl {
             None => self.waiting.pop(),
         };
         let Some(pass) = next else {
-            return Err(Misuse::NoPass);
+            return Err(Misuse::NoneWaits);
         };
         let Ok(gate) = Arc::try_clone(&self.gate) else {
             self.spare = Some(pass);
@@ -140,14 +139,14 @@ impl OpenControl {
         Ok(self.control.kill(&self.gate))
     }
 
-    /// Begins a kill. The number of slots that are to be closed.
+    /// Begins a kill. Returns the number of slots that have to be closed.
     pub fn mark_dead(&mut self) -> Result<Result<u32, ControlFault>, Misuse>
         ensures { Ran None BegunKill self.old self.new result }
     {
         Ok(self.control.mark_dead(&self.gate))
     }
 
-    /// Closes the next slot of a kill. Its delta. Refuses Step.
+    /// Closes the next slot of a kill. Returns its delta. Refuses with Step.
     pub fn close_next(&mut self) -> Result<i64, Misuse>
         ensures { Ran (close_misuse self.old) ClosedSlot self.old self.new result }
     {
@@ -159,7 +158,7 @@ impl OpenControl {
         }
     }
 
-    /// Collects the slots that a kill has closed. Refuses Step.
+    /// Collects the slots that a kill has closed. Refuses with Step.
     pub fn collect(&mut self) -> Result<(), Misuse>
         ensures { Ran (collect_misuse self.old) CollectedSlots self.old self.new result }
     {
@@ -172,7 +171,7 @@ impl OpenControl {
         }
     }
 
-    /// Confirms a kill. Its front. Refuses Step.
+    /// Confirms a kill. Returns its front. Refuses with Step.
     pub fn confirm(&mut self) -> Result<u64, Misuse>
         ensures { Ran (confirm_misuse self.old) ConfirmedKill self.old self.new result }
     {
@@ -182,7 +181,7 @@ impl OpenControl {
         }
     }
 
-    /// Drops the initial reference, which ends a kill. Refuses Step.
+    /// Drops the initial reference, which ends a kill. Refuses with Step.
     pub fn drop_base(&mut self) -> Result<Put, Misuse>
         ensures { Ran (drop_misuse self.old) DroppedBase self.old self.new result }
     {
@@ -192,7 +191,7 @@ impl OpenControl {
         }
     }
 
-    /// Where the control stands.
+    /// The phase of the control.
     pub fn phase(&mut self) -> Result<Phase, Misuse>
         ensures { Ran None TellsPhase self.old self.new result }
     {
@@ -234,7 +233,7 @@ impl OpenControl {
         Ok(self.control.switch_to_slots(&self.gate))
     }
 
-    /// Stores a guarded word. Refuses Word.
+    /// Stores a guarded word. Refuses with Word.
     pub fn store_word(&mut self, k: u32, v: u64) -> Result<Result<(), ControlFault>, Misuse>
         ensures { Ran (store_misuse k self.old) (StoredWord k v) self.old self.new result }
     {
@@ -244,14 +243,14 @@ impl OpenControl {
         Ok(self.control.store_word(&self.gate, k, v))
     }
 
-    /// The kills so far.
+    /// The number of kills so far.
     pub fn kills(&mut self) -> Result<u64, Misuse>
         ensures { Ran None (Told (λ c. c.standing.kills)) self.old self.new result }
     {
         Ok(self.control.kills())
     }
 
-    /// The releases of the control and of retired passes.
+    /// The number of releases of the control and of retired passes.
     pub fn releases(&mut self) -> Result<u64, Misuse>
         ensures { Ran None (Told (λ c. c.releases)) self.old self.new result }
     {
@@ -265,13 +264,13 @@ impl OpenControl {
         Ok(self.control.words())
     }
 
-    /// Why this pass may not be retired. Refuses OtherGate, StillHeld.
+    /// Why this pass may not be retired. Refuses with Foreign or StillHeld.
     pub fn refuse_retire(&self, pass: &OpenPass) -> Result<(), Misuse>
         ensures { misuse_of result ≡ retire_misuse self.now pass.now }
     {
         let number = pass.number();
         if self.number.counter != number.counter || self.number.drawn != number.drawn {
-            Err(Misuse::OtherGate)
+            Err(Misuse::Foreign)
         } else if pass.held() != 0 {
             Err(Misuse::StillHeld)
         } else {
@@ -289,13 +288,13 @@ impl OpenControl {
     }
 
     /// The number of its gate.
-    pub fn number(&self) -> GateNumber
+    pub fn number(&self) -> DrawnNumber
         ensures { result ≡ self.now.number }
     {
         self.number
     }
 
-    /// The passes that were given out and aren't retired.
+    /// The number of passes that were given out and aren't retired.
     fn given_out(&self) -> u32
         ensures { result ≡ self.now.control.view.passes - self.now.waiting }
     {
@@ -310,8 +309,8 @@ impl OpenControl {
         self.control.refuse_exit(self.given_out())
     }
 
-    /// Ends the gate, once the passes that nobody asked for are taken in. Itself where somebody has a share of the
-    /// gate, which no way of using handles leads to.
+    /// Ends the gate, after taking in the passes that nobody asked for. Returns itself if somebody has a share of the
+    /// gate, which no use of handles leads to.
     pub fn end(self) -> Result<Final, OpenControl>
         requires retired { end_refusal self ≡ None }
         ensures { MatchResult result (λ f. IsFinal self f) (λ back. back ≡ self) }

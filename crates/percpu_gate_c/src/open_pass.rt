@@ -1,10 +1,9 @@
-//! What an open pass handle leads to.
+//! The box of an open pass handle.
 ghost use Rattle.std.specs.Prelude.{◌≡◌, None};
-ghost use Rattle.percpu_gate_c.specs.Ran.{Ran, misuse_of};
+ghost use Rattle.c_answers.specs.Ran.{Ran, misuse_of};
 ghost use Rattle.percpu_gate_c.specs.PassCalls.{held_by, slot_misuse, take_misuse, get_misuse, put_misuse, word_misuse, TryGot, LiveTryGot, Got, HasPut, ReadFront, LookedForDead, LookedForZero, ReadWord};
 
-use crate::gate_number::GateNumber;
-use crate::misuse::Misuse;
+use c_answers::{DrawnNumber, Misuse};
 use percpu_gate::{Gate, HELD_LIMIT, Pass, Put, Tried};
 use std::marker::Model;
 use std::sync::Arc;
@@ -12,16 +11,15 @@ use std::sync::Arc;
 /// The guarded words of each gate.
 pub const WORDS: usize = 8;
 
-/// A pass with its gate, and the number that tells the gate from others.
+/// A pass with its gate, and the gate's unique number.
 ///
-/// There are 128 unused bytes before and behind what calls write, so that boxes of different threads share no
-/// 128 bytes.
+/// 128 unused bytes before and after what calls write keep the boxes of different threads from sharing 128 bytes.
 #[derive(Drop)]
 #[repr(C)]
 pub struct OpenPass {
     before: [u64; 8],
     gate: Arc<Gate<WORDS>>,
-    number: GateNumber,
+    number: DrawnNumber,
     pass: Pass<WORDS>,
     after: [u64; 8],
 }
@@ -40,7 +38,7 @@ impl Model for OpenPass {
 
 impl OpenPass {
     /// A pass of this gate.
-    pub fn new(gate: Arc<Gate<WORDS>>, number: GateNumber, pass: Pass<WORDS>) -> OpenPass
+    pub fn new(gate: Arc<Gate<WORDS>>, number: DrawnNumber, pass: Pass<WORDS>) -> OpenPass
         requires own { pass.gate ≡ gate.value }
         ensures { result ≡ record { number = number; pass = pass } }
     {
@@ -75,15 +73,15 @@ impl OpenPass {
         }
     }
 
-    /// Takes a reference unless the gate has reached zero. Refuses Slot, HeldFull.
+    /// Takes a reference unless the gate has reached zero. Refuses with Slot or HeldFull.
     pub fn try_get(&mut self, slot: u32) -> Result<Tried, Misuse>
-        ensures { Ran (take_misuse slot self.old) TryGot self.old self.new result }
+        ensures { Ran (take_misuse slot self.old) (TryGot slot) self.old self.new result }
     {
         self.refuse_take(slot)?;
         Ok(self.pass.try_get(&self.gate, slot))
     }
 
-    /// Takes a reference unless the gate was killed. Refuses Slot, HeldFull.
+    /// Takes a reference unless the gate was killed. Refuses with Slot or HeldFull.
     pub fn try_get_live(&mut self, slot: u32) -> Result<Tried, Misuse>
         ensures { Ran (take_misuse slot self.old) (LiveTryGot slot) self.old self.new result }
     {
@@ -91,9 +89,9 @@ impl OpenPass {
         Ok(self.pass.try_get_live(&self.gate, slot))
     }
 
-    /// Takes `n` references more. Refuses Slot, NotHeld, Amount, HeldFull.
+    /// Takes `n` more references. Refuses with Slot, NotHeld, Amount or HeldFull.
     pub fn get(&mut self, slot: u32, n: u32) -> Result<(), Misuse>
-        ensures { Ran (get_misuse slot n self.old) (Got n) self.old self.new result }
+        ensures { Ran (get_misuse slot n self.old) (Got slot n) self.old self.new result }
     {
         self.refuse_slot(slot)?;
         let held = self.pass.held();
@@ -110,9 +108,9 @@ impl OpenPass {
         Ok(())
     }
 
-    /// Drops `n` references. Refuses Slot, Amount, NotHeld.
+    /// Drops `n` references. Refuses with Slot, Amount or NotHeld.
     pub fn put(&mut self, slot: u32, n: u32) -> Result<Put, Misuse>
-        ensures { Ran (put_misuse slot n self.old) (HasPut n) self.old self.new result }
+        ensures { Ran (put_misuse slot n self.old) (HasPut slot n) self.old self.new result }
     {
         self.refuse_slot(slot)?;
         if n == 0 {
@@ -145,7 +143,7 @@ impl OpenPass {
         self.pass.is_zero(&self.gate)
     }
 
-    /// A guarded word. Refuses NotHeld, Word.
+    /// A guarded word. Refuses with NotHeld or Word.
     pub fn word(&mut self, k: u32) -> Result<u64, Misuse>
         ensures { Ran (word_misuse k self.old) (ReadWord k) self.old self.new result }
     {
@@ -159,7 +157,7 @@ impl OpenPass {
     }
 
     /// The number of its gate.
-    pub fn number(&self) -> GateNumber
+    pub fn number(&self) -> DrawnNumber
         ensures { result ≡ self.now.number }
     {
         self.number

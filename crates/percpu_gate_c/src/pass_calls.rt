@@ -1,18 +1,19 @@
-//! The calls of a pass. A closed handle answers Closed, and a question of it false.
-ghost use Rattle.percpu_gate_c.specs.Numbers.{put_number, tried_number};
-ghost use Rattle.percpu_gate_c.specs.Ran.{Answers, Asks, Writes};
-ghost use Rattle.percpu_gate_c.specs.PassCalls.{take_misuse, get_misuse, put_misuse, word_misuse, no_misuse, TryGot, LiveTryGot, Got, HasPut, ReadFront, LookedForDead, LookedForZero, ReadWord};
+//! The calls of a pass. A closed handle returns Closed, or false from a question.
+ghost use Rattle.c_answers.specs.Numbers.{put_number};
+ghost use Rattle.c_answers.specs.Ran.{Answers, Asks, Writes, no_misuse};
+ghost use Rattle.percpu_gate_c.specs.Numbers.{tried_number};
+ghost use Rattle.percpu_gate_c.specs.PassCalls.{take_misuse, get_misuse, put_misuse, word_misuse, TryGot, LiveTryGot, Got, HasPut, ReadFront, LookedForDead, LookedForZero, ReadWord};
 
-use crate::misuse::Misuse;
-use crate::number::{of_put, of_tried, of_unit, write};
+use crate::number::of_tried;
 use crate::pass_handle::PassHandle;
+use c_answers::{Misuse, of_put, of_unit, write};
 
 /// Takes a reference unless the gate has reached zero. Linux: `percpu_ref_tryget`
 /// (include/linux/percpu-refcount.h).
-#[tactic(auto, using(crate::proofs::Closed::closed_answers))]
+#[tactic(auto, using(c_answers::proofs::Closed::closed_answers))]
 #[unsafe(no_mangle)]
 pub extern "C" fn percpu_gate_try_get(pass: &mut PassHandle, slot: u32) -> u32
-    ensures { Answers tried_number (take_misuse slot) TryGot pass.old.held.pass pass.new.held.pass result }
+    ensures { Answers tried_number (take_misuse slot) (TryGot slot) pass.old.held.pass pass.new.held.pass result }
 {
     let Some(mut open) = pass.take() else {
         return of_tried(Err(Misuse::Closed));
@@ -24,7 +25,7 @@ pub extern "C" fn percpu_gate_try_get(pass: &mut PassHandle, slot: u32) -> u32
 
 /// Takes a reference unless the gate was killed. Linux: `percpu_ref_tryget_live`
 /// (include/linux/percpu-refcount.h).
-#[tactic(auto, using(crate::proofs::Closed::closed_answers))]
+#[tactic(auto, using(c_answers::proofs::Closed::closed_answers))]
 #[unsafe(no_mangle)]
 pub extern "C" fn percpu_gate_try_get_live(pass: &mut PassHandle, slot: u32) -> u32
     ensures { Answers tried_number (take_misuse slot) (LiveTryGot slot) pass.old.held.pass pass.new.held.pass result }
@@ -37,12 +38,11 @@ pub extern "C" fn percpu_gate_try_get_live(pass: &mut PassHandle, slot: u32) -> 
     of_tried(answer)
 }
 
-/// Takes `n` references more, of a pass that holds one. Linux: `percpu_ref_get_many`
-/// (include/linux/percpu-refcount.h).
-#[tactic(auto, using(crate::proofs::Closed::closed_answers))]
+/// Takes `n` more references of a pass that holds one. Linux: `percpu_ref_get_many` (include/linux/percpu-refcount.h).
+#[tactic(auto, using(c_answers::proofs::Closed::closed_answers))]
 #[unsafe(no_mangle)]
 pub extern "C" fn percpu_gate_get(pass: &mut PassHandle, slot: u32, n: u32) -> u32
-    ensures { Answers (λ _. 0) (get_misuse slot n) (Got n) pass.old.held.pass pass.new.held.pass result }
+    ensures { Answers (λ _. 0) (get_misuse slot n) (Got slot n) pass.old.held.pass pass.new.held.pass result }
 {
     let Some(mut open) = pass.take() else {
         return of_unit(Err(Misuse::Closed));
@@ -53,10 +53,10 @@ pub extern "C" fn percpu_gate_get(pass: &mut PassHandle, slot: u32, n: u32) -> u
 }
 
 /// Drops `n` references. 1 is the release. Linux: `percpu_ref_put_many` (include/linux/percpu-refcount.h).
-#[tactic(auto, using(crate::proofs::Closed::closed_answers))]
+#[tactic(auto, using(c_answers::proofs::Closed::closed_answers))]
 #[unsafe(no_mangle)]
 pub extern "C" fn percpu_gate_put(pass: &mut PassHandle, slot: u32, n: u32) -> u32
-    ensures { Answers put_number (put_misuse slot n) (HasPut n) pass.old.held.pass pass.new.held.pass result }
+    ensures { Answers put_number (put_misuse slot n) (HasPut slot n) pass.old.held.pass pass.new.held.pass result }
 {
     let Some(mut open) = pass.take() else {
         return of_put(Err(Misuse::Closed));
@@ -79,7 +79,7 @@ pub extern "C" fn percpu_gate_is_dying(pass: &mut PassHandle) -> bool
     yes
 }
 
-/// Whether the count has reached zero. Linux: `percpu_ref_is_zero` (include/linux/percpu-refcount.h).
+/// Whether the count has reached zero. Linux: `percpu_ref_is_zero` (lib/percpu-refcount.c).
 #[unsafe(no_mangle)]
 pub extern "C" fn percpu_gate_is_zero(pass: &mut PassHandle) -> bool
     ensures { Asks LookedForZero pass.old.held.pass pass.new.held.pass result }
@@ -93,7 +93,7 @@ pub extern "C" fn percpu_gate_is_zero(pass: &mut PassHandle) -> bool
 }
 
 /// Writes the front.
-#[tactic(auto, using(crate::proofs::Closed::closed_writes))]
+#[tactic(auto, using(c_answers::proofs::Closed::closed_writes))]
 #[unsafe(no_mangle)]
 pub extern "C" fn percpu_gate_front(pass: &mut PassHandle, front: &mut u64) -> u32
     ensures { Writes no_misuse ReadFront pass.old.held.pass pass.new.held.pass front.old front.new result }
@@ -107,7 +107,7 @@ pub extern "C" fn percpu_gate_front(pass: &mut PassHandle, front: &mut u64) -> u
 }
 
 /// Writes the guarded word `k`.
-#[tactic(auto, using(crate::proofs::Closed::closed_writes))]
+#[tactic(auto, using(c_answers::proofs::Closed::closed_writes))]
 #[unsafe(no_mangle)]
 pub extern "C" fn percpu_gate_word(pass: &mut PassHandle, k: u32, word: &mut u64) -> u32
     ensures { Writes (word_misuse k) (ReadWord k) pass.old.held.pass pass.new.held.pass word.old word.new result }

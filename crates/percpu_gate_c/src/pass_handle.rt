@@ -1,15 +1,15 @@
-//! A pass, to C.
+//! A pass's handle for C.
 ghost use Rattle.std.specs.Prelude.{◌≡◌, Some, None, is_some, IsSome, IfOk, IfErr};
-ghost use Rattle.percpu_gate_c.specs.declared.misuse.Misuse.TheVariants.{Open};
+ghost use Rattle.c_answers.specs.declared.misuse.Misuse.TheVariants.{Open};
 ghost use Rattle.percpu_gate_c.specs.PassHolding.{opened};
 
-use crate::misuse::Misuse;
 use crate::open_pass::OpenPass;
 use crate::pass_held::PassHeld;
+use c_answers::Misuse;
 use std::alloc::Global;
 use std::mem;
 
-/// A pass handle: to C a `bool` and a pointer, all zero where it is closed.
+/// A pass's handle: for C a `bool` and a pointer, all zero if it is closed.
 #[derive(Drop)]
 #[repr(C)]
 pub struct PassHandle {
@@ -32,7 +32,7 @@ impl PassHandle {
         }
     }
 
-    /// The box of an open handle, which is left closed.
+    /// Takes the box of an open handle, which is closed afterwards.
     pub fn take(&mut self) -> Option<Box<OpenPass>>
         ensures pass { opened result ≡ self.old.held.pass }
         ensures closed { self.new.held.pass ≡ None }
@@ -45,7 +45,7 @@ impl PassHandle {
         Some(mem::replace(&mut self.held, nothing).into_box())
     }
 
-    /// Its allocator, where it is closed. Refuses Open.
+    /// The allocator of a closed handle. Refuses with Open.
     pub fn closed(&self) -> Result<Global, Misuse>
         ensures closed { IfOk result (λ _. self.now.held.pass ≡ None) }
         ensures open { IfErr result (λ why. (why ≡ Open) × IsSome self.now.held.pass) }
@@ -62,7 +62,7 @@ impl PassHandle {
         requires closed { self.old.held.pass ≡ None }
         ensures { self.new.held.pass ≡ Some pass.value }
     {
-        // One by one, since the bytes between them needn't be stored: what is stored delays the exchange that comes next.
+        // Field by field, since the bytes between them needn't be stored: a store delays the exchange that comes next.
         self.held = PassHeld::of(pass);
         self.is_open = true;
     }

@@ -1,4 +1,4 @@
-//! The box of a handle, under a pointer that C may keep.
+//! The box of a handle, behind a pointer that C may keep.
 ghost use Rattle.std.specs.Prelude.{◌≡◌, Some, None, Option};
 ghost use Rattle.percpu_gate_c.specs.PassHolding.{pass_owns, pass_coded};
 ghost use Rattle.percpu_gate_c.specs.declared.open_pass.OpenPass.{OpenPass};
@@ -9,8 +9,8 @@ use std::alloc::Global;
 use std::marker::Model;
 use std::ptr;
 
-/// A box of a pass, or nothing. The pointer's type hides the pass's, which C may not know. One that is let go
-/// keeps its box.
+/// A box of a pass, or nothing. The pointer's type hides the pass's, which C may not know. Dropping it doesn't free the
+/// box.
 #[derive(Drop)]
 #[repr(C)]
 pub struct PassHeld {
@@ -24,7 +24,7 @@ impl Model for PassHeld {
 }
 
 impl PassHeld {
-    /// Nothing.
+    /// Returns nothing.
     pub(crate) fn nothing(alloc: Global) -> PassHeld
         ensures { result.pass ≡ None }
     {
@@ -32,14 +32,14 @@ impl PassHeld {
         PassHeld { at, alloc }
     }
 
-    /// This box.
+    /// Holds this box.
     pub(crate) fn of(pass: Box<OpenPass>) -> PassHeld
         ensures { result.pass ≡ Some pass.value }
     {
         PassHeld::of_loose(Loose::of(pass))
     }
 
-    /// Its box.
+    /// Returns the box.
     pub(crate) fn into_box(self) -> Box<OpenPass>
         requires open { (s : OpenPass) × (self.pass ≡ Some s) }
         ensures { self.pass ≡ Some result.value }

@@ -1,5 +1,5 @@
-//! A life through the exports, and each misuse. What the program does with C's threads, sanitizers and a failing
-//! `malloc` is tested by c/tests.
+//! A life through the exports, and each misuse. c/tests tests what the library does with C's threads, sanitizers and a
+//! failing `malloc`.
 mod amounts;
 mod ends;
 mod freed;
@@ -11,7 +11,6 @@ use crate::control_calls::{
     percpu_gate_switch_to_atomic, percpu_gate_switch_to_slots,
 };
 use crate::control_handle::ControlHandle;
-use crate::gate_number::GateNumber;
 use crate::kill_steps::{
     percpu_gate_close_next, percpu_gate_collect, percpu_gate_confirm, percpu_gate_drop_base,
     percpu_gate_mark_dead, percpu_gate_phase,
@@ -27,20 +26,21 @@ use crate::pass_calls::{
     percpu_gate_try_get, percpu_gate_try_get_live, percpu_gate_word,
 };
 use crate::pass_handle::PassHandle;
+use c_answers::DrawnNumber;
 use std::process::Abort;
 
 const WORDS: [u64; 8] = [7, 1, 2, 3, 4, 5, 6, 9];
 
-/// The number of a test's gate.
-const NUMBER: GateNumber = GateNumber {
+/// The number of the tests' gate.
+const NUMBER: DrawnNumber = DrawnNumber {
     counter: 1,
     drawn: 1,
 };
 
-/// What a handle leads to may cross threads.
+/// The box of a handle may cross threads.
 fn crosses<T: Send>() {}
 
-/// A control and a pass of a new gate with two slots and two passes.
+/// Returns a control and a pass of a new gate with two slots and two passes.
 fn opened(rt: HostRuntime) -> (ControlHandle, PassHandle) {
     crosses::<OpenPass>();
     crosses::<OpenControl>();
@@ -75,7 +75,8 @@ fn a_life(rt: HostRuntime) {
     percpu_gate_free_control(&mut control);
 }
 
-/// In each life zero is found once it is reached and not before, a word is stored and the gate revived, with a pass out.
+/// In each life zero is found once it is reached and not before, a word is stored and the gate revived, with a pass
+/// out.
 #[test]
 fn three_lives(rt: HostRuntime) {
     let (mut control, mut pass) = opened(rt);
@@ -192,7 +193,7 @@ fn switches_and_revivals(rt: HostRuntime) {
     percpu_gate_free_pass(&mut pass);
 }
 
-/// What was counted on each slot, which C isn't told.
+/// What was counted on each slot, which C can't see.
 #[test]
 fn counts_on_the_slot_asked_for(rt: HostRuntime) {
     let (mut control, mut pass) = opened(rt);

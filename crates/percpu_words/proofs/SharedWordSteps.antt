@@ -40,7 +40,7 @@ parts-or_dead w h = let both = or_add_and w 4611686018427387904 in
 pub parts-and_value : (w : ℕ) → parts (bit_and w (dead_mark - 1)) ≡ record (parts w) { zero = false; dead = false }
 parts-and_value w = let low : bit_and w 4611686018427387903 ≡ w % 4611686018427387904 = and_mask w 62 in grind arith
 
--- a number is DEAD alone where its parts are
+-- a number is DEAD alone if its parts are
 pub parts-dead : parts dead_mark ≡ record { zero = false; dead = true; value = 0 }
 parts-dead = refl
 

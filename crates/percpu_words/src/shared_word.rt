@@ -9,8 +9,8 @@ pub const ZERO: u64 = 1 << 63;
 /// The mark of a gate that was killed. Linux: `__PERCPU_REF_DEAD` (include/linux/percpu-refcount.h).
 pub const DEAD: u64 = 1 << 62;
 
-/// What the value has on top of the count while slots are open or being closed, so that what the slots hold can't bring
-/// it to zero. Linux: `PERCPU_COUNT_BIAS` (lib/percpu-refcount.c), which is half the range of a word there.
+/// Added to the value while slots are open or being closed, so that what the slots hold can't bring it to zero. Linux:
+/// `PERCPU_COUNT_BIAS` (lib/percpu-refcount.c), which is half the range of a word there.
 pub const BIAS: u64 = 1 << 48;
 
 /// Whether the word has the mark `ZERO`.
@@ -29,7 +29,7 @@ pub fn is_dead(word: u64) -> bool
     word & DEAD != 0
 }
 
-/// The count in the word, with whatever bias is in it.
+/// The count in the word, with the bias if it has one.
 #[inline]
 pub fn value(word: u64) -> u64
     ensures { result ≡ (parts word).value }
@@ -37,8 +37,8 @@ pub fn value(word: u64) -> u64
     word & (DEAD - 1)
 }
 
-/// The marks and the value determine the word, and the word them; and the constants are the numbers of the marks and of
-/// the bias.
+/// The marks and the value determine the word, and the word determines them. The constants are the numbers of the marks
+/// and of the bias.
 pub fn shared_word_is_its_parts()
     ensures zero { ZERO ≡ zero_mark }
     ensures dead { DEAD ≡ dead_mark }
@@ -47,14 +47,14 @@ pub fn shared_word_is_its_parts()
     ensures spelling_of_parts { SpellingOfParts }
 {}
 
-/// A step that adds to the value or subtracts from it changes neither mark.
+/// A step that adds to the value, or subtracts from it, changes neither mark.
 #[tactic(auto, using(crate::proofs::SharedWordSteps::adding, crate::proofs::SharedWordSteps::subtracting))]
 pub fn counting_keeps_the_marks()
     ensures adding { AddingKeepsMarks }
     ensures subtracting { SubtractingKeepsMarks }
 {}
 
-/// A step that sets or clears marks leaves the value.
+/// A step that sets or clears marks leaves the value unchanged.
 #[tactic(auto, using(crate::proofs::SharedWordSteps::setting_dead, crate::proofs::SharedWordSteps::clearing_marks))]
 pub fn marking_keeps_the_value()
     ensures setting { SettingDead }

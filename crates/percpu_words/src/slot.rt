@@ -6,7 +6,7 @@ ghost use Rattle.percpu_words.specs.SlotWords.{SpellingIsTheSum, SpelledApart};
 /// The word of a closed slot.
 pub const CLOSED: u64 = 1 << 63;
 
-/// A delta is at most this, and at least as much below 0.
+/// Maximum delta; `-DELTA_MAX` is the minimum.
 pub const DELTA_MAX: i64 = 1 << 20;
 
 /// The word of the delta 0.
@@ -25,7 +25,7 @@ pub fn is_closed(word: u64) -> bool
     word == CLOSED
 }
 
-/// The word of an open slot with this delta, which the caller sees to be within its limit.
+/// The word of an open slot with this delta. The caller ensures that the delta is within its limit.
 #[inline]
 pub fn slot_word(delta: i64) -> u64
     requires { IsDelta delta }
@@ -34,7 +34,7 @@ pub fn slot_word(delta: i64) -> u64
     (MIDDLE + delta) as u64
 }
 
-/// The delta that the word spells; `None` for a closed slot, and for every other word that spells none.
+/// The delta that the word encodes; `None` for a closed slot and for any other word that encodes no delta.
 #[inline]
 pub fn slot_delta(word: u64) -> Option<i64>
     ensures { (d : ℤ) → (result ≡ Some d) ↔ Spells word d }
@@ -45,8 +45,8 @@ pub fn slot_delta(word: u64) -> Option<i64>
     Some(word as i64 - MIDDLE)
 }
 
-/// Each delta within the limit has one spelling, which no other delta has, nor a closed slot; and the constants are the
-/// number of a closed slot and the limit.
+/// Each delta within the limit has one word, which no other delta and no closed slot has. The constants are the number
+/// of a closed slot and the limit.
 pub fn each_delta_has_its_word()
     ensures closed { CLOSED ≡ closed_mark }
     ensures limit { DELTA_MAX ≡ pos most_delta }

@@ -1,5 +1,5 @@
-//! A gate that is asked call after call, until its end. Each call's conditions are tested when it is made, so a row of calls needs
-//! no proof of its own.
+//! A gate on which calls are made one after another, until it ends. The conditions of each call are tested when it is made, so a
+//! row of calls needs no proof of its own.
 ghost use Rattle.std.specs.Prelude.{◌≡◌, ◌<◌, ◌≤◌, true};
 ghost use Rattle.percpu_gate.specs.ControlCalls.{HasSlotToClose};
 
@@ -15,7 +15,7 @@ pub(crate) struct GatePlayer {
     gate: Gate<8>,
     control: Control<8>,
     passes: Vec<Pass<8>>,
-    /// The number of each pass, at its place.
+    /// The number of each pass, at its index.
     numbers: Vec<u32>,
     /// How many guarded words the row names. The gate has eight.
     words: usize,
@@ -32,14 +32,14 @@ impl Model for GatePlayer {
     ghost invariant = { λ p. (p.control.gate ≡ p.gate) × All (λ q. q.gate ≡ p.gate) p.passes.items };
 }
 
-/// Whether the row names this guarded word.
+/// Returns whether the row names this guarded word.
 fn is_named(k: u32, words: usize) -> bool
     ensures { result ≡ true → k < 8 }
 {
     k < 8 && (k as usize) < words
 }
 
-/// Plays a call of a pass that stays.
+/// Makes a call of a pass, except `Retire` and `Lose`.
 fn play_pass(gate: &Gate<8>, pass: &mut Pass<8>, words: usize, call: PassCall) -> Answer
     requires own { pass.old.gate ≡ gate.now }
     ensures { pass.new.gate ≡ pass.old.gate }
@@ -70,7 +70,7 @@ fn play_pass(gate: &Gate<8>, pass: &mut Pass<8>, words: usize, call: PassCall) -
     }
 }
 
-/// Whether a kill has one of so many slots to close.
+/// Returns whether a kill has a slot left to close, of this many.
 fn is_closing(phase: Phase, slots: u32) -> bool
     ensures { result ≡ true → HasSlotToClose phase slots }
 {
@@ -80,7 +80,7 @@ fn is_closing(phase: Phase, slots: u32) -> bool
     }
 }
 
-/// Plays a call of the control of a gate that goes on.
+/// Makes a call of the control, except `Exit`.
 fn play_control(gate: &Gate<8>, control: &mut Control<8>, words: usize, call: ControlCall) -> Answer
     requires own { control.old.gate ≡ gate.now }
     ensures { control.new.gate ≡ control.old.gate }
@@ -118,7 +118,7 @@ fn play_control(gate: &Gate<8>, control: &mut Control<8>, words: usize, call: Co
 }
 
 impl GatePlayer {
-    /// A new gate of these sizes, with these words first.
+    /// Returns a new gate of these sizes, whose first words are these.
     pub(crate) fn new(
         alloc: Global,
         slots: u32,
@@ -146,7 +146,8 @@ impl GatePlayer {
         })
     }
 
-    /// The answer to a call of the pass with this number, if it is there. Behind a pass that is retired or lost the others move up.
+    /// Returns the answer to a call of the pass with this number, if it is there. After a pass is retired or lost, those behind it
+    /// move up.
     pub(crate) fn ask_pass(&mut self, number: u32, call: PassCall) -> Answer {
         let Some(at) = self.numbers.iter().position(|it| *it == number) else {
             return Answer::PassedOver;
@@ -170,7 +171,7 @@ impl GatePlayer {
         }
     }
 
-    /// Ends the gate, and appends its end. A gate that may not end goes on.
+    /// Ends the gate, and appends its end. Returns the gate if it may not end.
     fn exit(self, out: &mut Vec<u8>) -> Result<Option<GatePlayer>, AllocError> {
         let GatePlayer {
             gate,
@@ -199,7 +200,7 @@ impl GatePlayer {
     }
 }
 
-/// Appends the answer to a call of the control. Behind its end there is no gate.
+/// Appends the answer to a call of the control. After its end there is no gate.
 pub(crate) fn ask_control(
     gate: &mut Option<GatePlayer>,
     out: &mut Vec<u8>,

@@ -41,12 +41,12 @@ pub(crate) enum ControlCall {
     Exit,
 }
 
-/// A number of 32 bits. One that is greater names nothing, and nor does the greatest.
+/// Returns a number of 32 bits. A greater one becomes the greatest, which names nothing.
 pub(crate) fn short(number: u64) -> u32 {
     u32::try_from(number).unwrap_or(u32::MAX)
 }
 
-/// The call of a pass that a line spells, if it spells one.
+/// Returns the call of a pass that a line spells, if it spells one.
 pub(crate) fn of_pass(name: &[u8], numbers: &[u64]) -> Option<PassCall> {
     Some(match (name, numbers) {
         (b"try", [slot]) => PassCall::TryGet { slot: short(*slot) },
@@ -71,7 +71,7 @@ pub(crate) fn of_pass(name: &[u8], numbers: &[u64]) -> Option<PassCall> {
     })
 }
 
-/// The call of the control that a line spells, if it spells one.
+/// Returns the call of the control that a line spells, if it spells one.
 pub(crate) fn of_control(name: &[u8], numbers: &[u64]) -> Option<ControlCall> {
     Some(match (name, numbers) {
         (b"kill", []) => ControlCall::Kill,

@@ -18,11 +18,11 @@ use std::alloc::Global;
 use std::io::{Read, Write};
 use std::process::ExitCode;
 
-/// The most bytes that are read: one more than the longest text has.
+/// Maximum number of bytes read: one more than the longest text.
 const MOST_READ: usize = LONGEST_TEXT + 1;
 
-/// Plays the calls that `reader` has, writes their answers, and gives the program's status: 0, or 2 if the text has a fault, and 4
-/// if reading, writing or memory was refused. Then there is a line of the fault.
+/// Makes the calls that `reader` has, writes their answers, and returns the exit status: 0, 2 if the text has a fault, or 4 if
+/// reading or writing failed or memory was refused. If it isn't 0, writes a line with the fault to `errors`.
 fn command<R: Read, W: Write, E: Write>(
     alloc: Global,
     reader: &mut Counted<R>,

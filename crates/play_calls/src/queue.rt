@@ -1,5 +1,5 @@
-//! A queue that is asked call after call, until its end. Each call's conditions are tested when it is made, so a row of calls needs
-//! no proof of its own.
+//! A queue on which calls are made one after another, until it ends. The conditions of each call are tested when it is made, so a
+//! row of calls needs no proof of its own.
 ghost use Rattle.std.specs.Prelude.{◌≡◌, ◌≤◌, IfOk};
 
 use crate::answer::{Answer, push_end};
@@ -10,13 +10,13 @@ use freeze_queue::{
 use std::alloc::{AllocError, Global};
 use std::marker::Model;
 
-/// A queue, its freezer, its tags, and those that were given back for its removal.
+/// A queue, its freezer, its tags, and the tags that were given back for its removal.
 #[derive(Drop)]
 pub(crate) struct QueuePlayer {
     queue: BlockQueue,
     freezer: Freezer,
     tags: Vec<Tag>,
-    /// The number of each tag, at its place.
+    /// The number of each tag, at its index.
     numbers: Vec<u32>,
     given_back: Vec<Tag>,
 }
@@ -32,7 +32,7 @@ impl Model for QueuePlayer {
     ghost invariant = { λ t. (t.freezer.queue ≡ t.queue) × All (λ g. g.queue ≡ t.queue) t.tags.items × All (λ g. (g.queue ≡ t.queue) × (g.entered ≡ false)) t.given_back.items };
 }
 
-/// Plays a call of a tag that stays.
+/// Makes a call of a tag, except `GiveBack` and `Lose`.
 fn play_tag(queue: &BlockQueue, tag: &mut Tag, call: TagCall) -> Answer
     requires own { tag.old.queue ≡ queue.now }
     ensures { tag.new.queue ≡ tag.old.queue }
@@ -54,7 +54,7 @@ fn play_tag(queue: &BlockQueue, tag: &mut Tag, call: TagCall) -> Answer
     }
 }
 
-/// The limits of a device that takes what these do, with other settings.
+/// Returns limits with the same hardware limit as these, and with other settings.
 fn limits_like(limits: Limits, max: u32, chunk: u32, physical: u32) -> Result<Limits, LimitFault>
     ensures { IfOk result (λ l. l.hardware ≡ limits.hardware) }
 {
@@ -63,7 +63,7 @@ fn limits_like(limits: Limits, max: u32, chunk: u32, physical: u32) -> Result<Li
     Ok(made)
 }
 
-/// Plays a call of the freezer of a queue that goes on.
+/// Makes a call of the freezer, except `Remove`.
 fn play_freezer(queue: &BlockQueue, freezer: &mut Freezer, call: FreezerCall) -> Answer
     requires own { freezer.old.queue ≡ queue.now }
     ensures { freezer.new.queue ≡ freezer.old.queue }
@@ -91,7 +91,7 @@ fn play_freezer(queue: &BlockQueue, freezer: &mut Freezer, call: FreezerCall) ->
 }
 
 impl QueuePlayer {
-    /// A new queue of these sizes, for a device of these limits.
+    /// Returns a new queue of these sizes, for a device of these limits.
     pub(crate) fn new(
         alloc: Global,
         slots: u32,
@@ -112,8 +112,8 @@ impl QueuePlayer {
         })
     }
 
-    /// Appends the answer to a call of the tag with this number, if it is there. Behind one that is given back or lost the others move
-    /// up.
+    /// Appends the answer to a call of the tag with this number, if it is there. After a tag is given back or lost, those behind it
+    /// move up.
     pub(crate) fn ask_tag(
         &mut self,
         out: &mut Vec<u8>,
@@ -142,7 +142,7 @@ impl QueuePlayer {
         }
     }
 
-    /// Removes the queue, and appends its end. A queue that may not end goes on.
+    /// Removes the queue, and appends its end. Returns the queue if it may not end.
     fn remove(self, out: &mut Vec<u8>) -> Result<Option<QueuePlayer>, AllocError> {
         let QueuePlayer {
             queue,
@@ -178,7 +178,7 @@ impl QueuePlayer {
     }
 }
 
-/// Appends the answer to a call of the freezer. Behind its end there is no queue.
+/// Appends the answer to a call of the freezer. After its end there is no queue.
 pub(crate) fn ask_freezer(
     queue: &mut Option<QueuePlayer>,
     out: &mut Vec<u8>,

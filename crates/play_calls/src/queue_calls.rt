@@ -27,7 +27,7 @@ pub(crate) enum FreezerCall {
     Remove,
 }
 
-/// The call of a tag that a line spells, if it spells one.
+/// Returns the call of a tag that a line spells, if it spells one.
 pub(crate) fn of_tag(name: &[u8], numbers: &[u64]) -> Option<TagCall> {
     Some(match (name, numbers) {
         (b"try", [slot]) => TagCall::Enter { slot: short(*slot) },
@@ -41,7 +41,7 @@ pub(crate) fn of_tag(name: &[u8], numbers: &[u64]) -> Option<TagCall> {
     })
 }
 
-/// The call of the freezer that a line spells, if it spells one.
+/// Returns the call of the freezer that a line spells, if it spells one.
 pub(crate) fn of_freezer(name: &[u8], numbers: &[u64]) -> Option<FreezerCall> {
     Some(match (name, numbers) {
         (b"freeze", []) => FreezerCall::Freeze,

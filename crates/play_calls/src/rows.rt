@@ -1,4 +1,4 @@
-//! A text of calls, and a line for each call's answer.
+//! A text of calls, and a line for the answer to each.
 ghost use Rattle.std.specs.Prelude.{◌≤◌};
 
 use crate::answer::Answer;
@@ -14,21 +14,21 @@ use line_text::{
 };
 use std::alloc::Global;
 
-/// The gate or the queue that a text asks, until its end.
+/// The gate or the queue on which a text makes its calls, until it ends.
 #[derive(Drop)]
 enum Player {
     Gate(Option<GatePlayer>),
     Queue(Option<QueuePlayer>),
 }
 
-/// Whether these words are `calls 1`.
+/// Returns whether these words are `calls 1`.
 fn is_version(mut words: Words<'_>) -> bool {
     let name = words.next().is_some_and(|word| is_word(word, "calls"));
     let number = words.next().is_some_and(|word| is_word(word, "1"));
     name && number && words.next().is_none()
 }
 
-/// The fault of a line.
+/// Returns the fault of a line.
 fn refused(line: u32, why: Why) -> ScriptFault {
     ScriptFault::Parse(ParseFault { line, why })
 }
@@ -43,7 +43,7 @@ fn take_version(text: &mut Statements<'_>) -> Result<(), ScriptFault> {
     }
 }
 
-/// Whether the line behind the version begins with `queue`.
+/// Returns whether the line after the version begins with `queue`.
 fn is_of_queue(bytes: &[u8]) -> Result<bool, ScriptFault> {
     let mut text = Statements::new(bytes)?;
     take_version(&mut text)?;
@@ -51,7 +51,7 @@ fn is_of_queue(bytes: &[u8]) -> Result<bool, ScriptFault> {
     Ok(words.next().is_some_and(|word| is_word(word, "queue")))
 }
 
-/// The gate of the line `world SLOTS PASSES START 0 [WORD ..]`.
+/// Returns the gate of the line `world SLOTS PASSES START 0 [WORD ..]`.
 fn first_gate(alloc: Global, text: &mut Statements<'_>) -> Result<GatePlayer, ScriptFault> {
     let world = next_world(alloc, text)?;
     match (world.slots, world.passes) {
@@ -63,7 +63,7 @@ fn first_gate(alloc: Global, text: &mut Statements<'_>) -> Result<GatePlayer, Sc
     }
 }
 
-/// The queue of the line `queue SLOTS TAGS HARDWARE`.
+/// Returns the queue of the line `queue SLOTS TAGS HARDWARE`.
 fn first_queue(alloc: Global, text: &mut Statements<'_>) -> Result<QueuePlayer, ScriptFault> {
     let (line, mut words) = text.next_or(Why::NoWorld)?;
     let _queue = words.next();
@@ -79,7 +79,7 @@ fn first_queue(alloc: Global, text: &mut Statements<'_>) -> Result<QueuePlayer, 
     made.map_err(|_refused| ScriptFault::Memory)
 }
 
-/// The gate or the queue that a text begins with.
+/// Returns the gate or the queue with which a text begins.
 fn first_player(
     alloc: Global,
     bytes: &[u8],
@@ -94,7 +94,7 @@ fn first_player(
     })
 }
 
-/// The numbers behind a call's name.
+/// Returns the numbers after a call's name.
 fn numbers(alloc: Global, line: u32, words: Words<'_>) -> Result<Vec<u64>, ScriptFault> {
     let mut all = Vec::new(alloc);
     for word in words {
@@ -103,12 +103,12 @@ fn numbers(alloc: Global, line: u32, words: Words<'_>) -> Result<Vec<u64>, Scrip
     Ok(all)
 }
 
-/// The call that a line spells, or the fault of a word that names none.
+/// Returns the call that a line spells, or the fault of a word that names none.
 fn known<T>(line: u32, asked: Option<T>) -> Result<T, ScriptFault> {
     asked.ok_or(refused(line, Why::UnknownWord))
 }
 
-/// The number of a pass or a tag.
+/// Returns the number of a pass or a tag.
 fn number_of(line: u32, actor: &[u8]) -> Result<u32, ScriptFault> {
     if is_all_digits(actor) {
         Ok(at_line(line, short_number(actor, 0, u32::MAX))?)
@@ -178,7 +178,7 @@ fn play(
     Ok(push_text(out, "\n")?)
 }
 
-/// The answers of the calls of a text, a line for each, or the first fault of the text.
+/// Returns the answers of the calls of a text, a line for each, or the first fault of the text.
 pub(crate) fn answered(alloc: Global, bytes: &[u8]) -> Result<Vec<u8>, ScriptFault> {
     let mut text = Statements::new(bytes)?;
     let mut player = first_player(alloc, bytes, &mut text)?;

@@ -20,25 +20,25 @@ use percpu_gate::{Control, Mode, Put};
 use queue_limits::Limits;
 use std::marker::Model;
 
-/// The most freezes that may be under way at once.
+/// Maximum number of freezes under way at once.
 pub const MOST_DEPTH: u32 = 1_000;
 
-/// What a freeze that has begun answers.
+/// The result of starting a freeze.
 #[derive(Clone, Copy, Debug, PartialEq, Eq)]
 pub struct Frozen {
-    /// The freezes that aren't thawed yet, this one too.
+    /// The number of freezes that aren't thawed yet, including this freeze.
     pub depth: u32,
-    /// `Last` where this freeze found nobody in the queue: it is drained, and nobody else is told so. Else look by
-    /// `poll_drained`; where that says no, whoever drops last is told.
+    /// `Last` if this freeze found nobody in the queue: it is drained, and no other call returns that. Otherwise call
+    /// `poll_drained`; if it returns false, a later put or refused try returns `Last`, unless the queue is thawed first.
     pub put: Put,
 }
 
-/// What a thaw answers.
+/// The result of a thaw.
 #[derive(Clone, Copy, Debug, PartialEq, Eq)]
 pub struct Thawed {
-    /// The freezes that are left.
+    /// The number of freezes that are left.
     pub depth: u32,
-    /// Whether the queue is live again: those who wait to enter are to be woken.
+    /// Whether the queue is live again: then the threads that wait to enter have to be woken.
     pub live: bool,
 }
 
@@ -65,7 +65,7 @@ impl Model for Freezer {
 }
 
 impl Freezer {
-    /// The freezer of a new queue, which counts on its slots.
+    /// The freezer of a new queue that counts on its slots.
     pub(crate) fn new(control: Control<LIMIT_WORDS>, limits: Limits) -> Freezer
         requires new { control ≡ after_switch Slots (fresh_control control.gate control.view.passes (to_words limits)) }
         requires live { control.gate.start ≡ Atomic }
@@ -78,8 +78,8 @@ impl Freezer {
         }
     }
 
-    /// The freezes that aren't thawed yet: 0 to 1,000. The queue is live exactly where there is none. Linux:
-    /// `mq_freeze_depth` (include/linux/blkdev.h).
+    /// The number of freezes that aren't thawed yet: 0 to 1,000. The queue is live if it is 0. Linux: `mq_freeze_depth`
+    /// (include/linux/blkdev.h).
     #[inline]
     pub fn depth(&self) -> u32
         ensures value { result ≡ self.now.depth }
@@ -90,7 +90,7 @@ impl Freezer {
         self.depth
     }
 
-    /// The tags of the queue that it hasn't taken back: all of them, until the queue ends.
+    /// The number of tags that the freezer hasn't taken back: all of the queue's, until the queue ends.
     #[inline]
     pub fn tags(&self) -> u32
         ensures { result ≡ self.now.tags }
@@ -108,15 +108,15 @@ impl Freezer {
         self.limits
     }
 
-    /// Begins a freeze: the depth that this gives, and whether the queue is drained by it. The first one kills the gate, so
-    /// that no tag enters from then on but to look. Refuses DepthFull, WornOut. Linux: `blk_freeze_queue_start`
-    /// (block/blk-mq.c).
+    /// Begins a freeze. Returns the depth, and `Last` if this call drained the queue. The first freeze kills the gate,
+    /// so that no tag enters from then on, except to look. Refuses with DepthFull or WornOut. Linux:
+    /// `blk_freeze_queue_start` (block/blk-mq.c).
     pub fn start_freeze(&mut self, queue: &BlockQueue) -> Result<Frozen, FreezeFault>
         requires own { self.old.queue ≡ queue.now }
         ensures refused { fault_of result ≡ freeze_refusal self.old }
         ensures unchanged { OnErr result (self.new ≡ self.old) }
         ensures frozen { IfOk result (λ f. (f.depth ≡ self.old.depth + 1) × (self.new ≡ after_freeze f.put self.old)) }
-        // Only the kill drops a reference: a nested freeze is never told that it was the last.
+        // Only the kill drops a reference, so a nested freeze never returns `Last`.
         ensures nested { IfOk result (λ f. 0 < self.old.depth → f.put ≡ NotLast) }
     {
         if self.depth >= MOST_DEPTH {
@@ -136,8 +136,8 @@ impl Freezer {
         })
     }
 
-    /// Whether the queue is frozen and every tag has left, at this look. Once it was true it is true until the
-    /// last thaw. Linux: `percpu_ref_is_zero` in `blk_mq_freeze_queue_wait` (block/blk-mq.c).
+    /// Whether one look finds the queue frozen and drained. Once it has returned true it does so until the last thaw.
+    /// Linux: `percpu_ref_is_zero` in `blk_mq_freeze_queue_wait` (block/blk-mq.c).
     pub fn poll_drained(&mut self, queue: &BlockQueue) -> bool
         requires own { self.old.queue ≡ queue.now }
         ensures look { self.new ≡ after_look result self.old }
@@ -148,8 +148,8 @@ impl Freezer {
         self.control.is_zero(&queue.gate)
     }
 
-    /// Sets the limits of a drained queue. Refuses NotFrozen, NotDrained. Linux: `queue_limits_commit_update`
-    /// (block/blk-settings.c), under a freeze.
+    /// Sets the limits of a drained queue. Refuses with NotFrozen or NotDrained. Linux: from 6.9 on
+    /// `queue_limits_commit_update` (block/blk-settings.c), under a freeze.
     pub fn set(&mut self, queue: &BlockQueue, limits: Limits) -> Result<(), FreezeFault>
         requires own { self.old.queue ≡ queue.now }
         requires hardware { limits.hardware ≡ self.old.queue.hardware }
@@ -168,7 +168,7 @@ impl Freezer {
         Ok(())
     }
 
-    /// Counts in this mode from now on; a frozen queue does once it is thawed. Depth and limits stay. Linux:
+    /// Counts in this mode from now on; if the queue is frozen, once it is thawed. Depth and limits stay. Linux:
     /// `percpu_ref_switch_to_atomic_sync`, `percpu_ref_switch_to_percpu` (lib/percpu-refcount.c).
     pub fn mode(&mut self, queue: &BlockQueue, mode: Mode)
         requires own { self.old.queue ≡ queue.now }
@@ -181,16 +181,16 @@ impl Freezer {
         prove!(switched.is_ok());
     }
 
-    /// Ends a freeze: the depth that is left, and whether the queue is live again: then those who wait to enter are to be
-    /// woken. The last thaw brings the gate back, drained or not. Refuses NotFrozen. Linux: `blk_mq_unfreeze_queue`
-    /// (block/blk-mq.c).
+    /// Ends a freeze. Returns the depth that is left, and whether the queue is live again: then the threads that wait
+    /// to enter have to be woken. The last thaw revives the gate, drained or not. Refuses with NotFrozen. Linux:
+    /// `blk_mq_unfreeze_queue` (block/blk-mq.c).
     pub fn thaw(&mut self, queue: &BlockQueue) -> Result<Thawed, FreezeFault>
         requires own { self.old.queue ≡ queue.now }
         ensures refused { fault_of result ≡ thaw_refusal self.old }
         ensures unchanged { OnErr result (self.new ≡ self.old) }
         ensures thawed { IfOk result (λ t. HasThawed queue.now.gate self.old self.new t.depth) }
         ensures live { IfOk result (λ t. (t.depth ≡ self.new.depth) × (t.live ≡ self.new.live)) }
-        // Where the freezer knew the queue to be drained, the revival found it so: that drain is counted.
+        // If the freezer knew that the queue was drained, the revival found it so, and counts that drain.
         ensures drained { IfOk result (λ t. self.old.drained ≡ true → self.new ≡ after_thaw true self.old) }
     {
         if self.depth == 0 {

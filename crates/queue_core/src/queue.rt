@@ -1,14 +1,16 @@
-//! The queue: what tags enter and leave.
+//! The queue that tags enter and leave.
 ghost use Rattle.std.specs.Prelude.{◌≡◌, ◌+◌, ◌<◌, ◌≤◌, true, false, All, map, replicate, IfSome, IfOk};
 ghost use Rattle.percpu_core.specs.declared.limits.TheConstants.{SLOT_LIMIT};
 ghost use Rattle.percpu_gate.specs.Seats.{fresh_pass};
-ghost use Rattle.queue_core.specs.Queue.{IsQueue, first_tag, first_freezer, after_asking, after_leaving};
+ghost use Rattle.queue_core.specs.Queue.{IsQueue, first_tag, first_freezer, come_to, after_asking, after_leaving};
 ghost use Rattle.percpu_core.specs.Views.{count};
+ghost use Rattle.percpu_core.specs.declared.pass_event.PassEvent.TheVariants as events;
+ghost use Rattle.percpu_gate.specs.Steps.{TrySteps, PutSteps};
 ghost use Rattle.percpu_gate.specs.Calls.{is_refused, taken, has_dead, has_zero, LiveTryFinds, TryFinds, TryMeets};
 ghost use Rattle.queue_core.specs.AtTheGate.{AreInForce, HoldsOff};
-ghost use Rattle.queue_core.specs.Readings.{IsTag};
+ghost use Rattle.queue_core.specs.Readings.{IsTag, AskSteps};
 ghost use Rattle.queue_core.specs.Entering.{tried, after_try};
-ghost use Rattle.queue_core.specs.Staying.{has_left, after_stay, FindsDead};
+ghost use Rattle.queue_core.specs.Staying.{has_left, after_stay, FindsDead, StaySteps};
 
 use crate::freezer::Freezer;
 use crate::limit_words::{LIMIT_WORDS, load_words};
@@ -18,14 +20,14 @@ use queue_limits::Limits;
 use std::alloc::{AllocError, Global};
 use std::marker::Model;
 
-/// The most tags of a queue.
+/// Maximum number of tags of a queue.
 pub const MOST_TAGS: u32 = 1_023;
 
 /// A queue, its freezer and its tags.
 pub type NewQueue = (BlockQueue, Freezer, Vec<Tag>);
 
-/// A queue that requests enter and leave, and that can be frozen. Threads share it by reference. Linux:
-/// `struct request_queue` (include/linux/blkdev.h).
+/// A queue that requests enter and leave and that can be frozen. Threads share it by reference. Linux: `struct
+/// request_queue` (include/linux/blkdev.h).
 #[derive(Drop)]
 pub struct BlockQueue {
     pub(crate) gate: Gate<LIMIT_WORDS>,
@@ -42,7 +44,7 @@ impl Model for BlockQueue {
     ghost invariant = { λ q. IsQueue (record { gate = q.gate; hardware = q.hardware }) };
 }
 
-/// A tag for each of these passes, which are new.
+/// Makes a tag for each of these new passes.
 fn make_tags(
     alloc: Global,
     passes: Vec<Pass<LIMIT_WORDS>>,
@@ -59,8 +61,9 @@ fn make_tags(
 }
 
 impl BlockQueue {
-    /// A live queue of these limits that counts on its slots (1 to 512), with so many tags (1 to 1,023), none of
-    /// them entered, and its freezer. Memory where a growth was refused. Linux: `blk_mq_alloc_queue` (block/blk-mq.c).
+    /// Returns a live queue with these limits that counts on its slots (1 to 512), its freezer, and this many tags (1
+    /// to 1,023), none of which is entered. Returns Memory if an allocation was refused. Linux: `blk_mq_init_queue`,
+    /// from 6.9 on `blk_mq_alloc_queue` (block/blk-mq.c).
     pub fn new(alloc: Global, limits: Limits, slots: u32, tags: u32) -> Result<NewQueue, Memory>
         requires slots { (1 ≤ slots) × (slots ≤ SLOT_LIMIT) }
         requires tags { (1 ≤ tags) × (tags ≤ MOST_TAGS) }
@@ -78,33 +81,36 @@ impl BlockQueue {
         Ok((queue, Freezer::new(control, limits), made))
     }
 
-    /// The slots of the queue: 1 to 512.
+    /// The number of slots: 1 to 512.
     #[inline]
     pub fn slots(&self) -> u32
         ensures value { result ≡ self.now.gate.slots }
         ensures kept { IsQueue self.now }
     {
-        // The type's facts speak of all fields, so the clause needs the whole queue read.
+        // The type's facts are about all fields, so the clause needs the whole queue to be read.
         let _ = self.hardware;
         self.gate.slots()
     }
 
-    /// Enters unless the queue is frozen. A refusal tells what its drop was answered: where that was the last, the
-    /// freezer is to be woken. Linux: `blk_queue_enter` with BLK_MQ_REQ_NOWAIT (block/blk-core.c).
+    /// Enters unless the queue is frozen. A refused try has held a reference briefly: if dropping it was the last put,
+    /// wake the freezer. Linux: `blk_queue_enter` with BLK_MQ_REQ_NOWAIT (block/blk-core.c).
     ///
-    /// A refused try is counted for a moment, and so puts the drain off; in Linux `percpu_ref_tryget_live` looks at its
-    /// mark first and counts nothing then. So who tries again and again lets time pass between.
+    /// A refused try is counted briefly, and so delays the drain; in Linux `percpu_ref_tryget_live` looks at its mark
+    /// first, and counts nothing if it is set. So let time pass between tries.
     #[inline]
     pub fn try_enter(&self, tag: &mut Tag, slot: u32) -> Entry
         requires own { tag.old.queue ≡ self.now }
         requires slot { slot < self.now.gate.slots }
         requires out { tag.old.entered ≡ false }
-        ensures leaves { tag.new ≡ after_try result tag.new.seat tag.old }
+        ensures leaves { tag.new ≡ come_to tag.new.steps (after_try result tag.new.seat tag.old) }
+        // The try looks at its slot once, and counts on the shared word only if the slot is closed or full, or the exchange is lost.
+        ensures steps { TrySteps events.AddLive slot (tried result) tag.old.steps tag.new.steps }
         ensures frozen { is_refused (tried result) ≡ true → tag.new.seat.found_dead ≡ true }
         ensures finds { LiveTryFinds self.now.gate slot tag.old.seat (tried result) }
-        // What Entered found is of the very step that took the reference: the gate, while it was live, gave it.
+        // What Entered found comes from the very step that took the reference: DEAD was clear, or the slot was still
+        // open.
         ensures counted { tag.new.seat.live_given ≡ tag.old.seat.live_given + taken (tried result) }
-        // A refusal found DEAD at the one addition of this very call, also where the tag was refused before.
+        // A refusal found DEAD at the one addition of this very call, even if the tag was refused before.
         ensures meets { TryMeets self.now.gate has_dead tag.old.seat tag.new.seat (is_refused (tried result)) }
         ensures times { tag.new.seat.found_dead_times ≡ tag.old.seat.found_dead_times + count (is_refused (tried result)) }
     {
@@ -114,18 +120,19 @@ impl BlockQueue {
         }
     }
 
-    /// Enters a queue that may be frozen, to look at what is under way, unless it is drained. Until the tag leaves it
-    /// holds the drain off, and may read the limits. Linux: `percpu_ref_tryget` of `q_usage_counter`, as for timeouts and
-    /// for going over tags (block/blk-mq.c, block/blk-mq-tag.c).
+    /// Enters a queue that may be frozen, to look at what is in flight, unless it is drained. Until the tag leaves it
+    /// keeps the queue from draining, and may read the limits. Linux: `percpu_ref_tryget` of `q_usage_counter`, as for timeouts
+    /// and iterating over tags (block/blk-mq.c, block/blk-mq-tag.c).
     #[inline]
     pub fn try_enter_frozen(&self, tag: &mut Tag, slot: u32) -> Entry
         requires own { tag.old.queue ≡ self.now }
         requires slot { slot < self.now.gate.slots }
         requires out { tag.old.entered ≡ false }
-        ensures leaves { tag.new ≡ after_try result tag.new.seat tag.old }
+        ensures leaves { tag.new ≡ come_to tag.new.steps (after_try result tag.new.seat tag.old) }
+        ensures steps { TrySteps events.AddTry slot (tried result) tag.old.steps tag.new.steps }
         ensures drained { is_refused (tried result) ≡ true → tag.new.seat.found_zero ≡ true }
         ensures finds { TryFinds self.now.gate tag.old.seat (tried result) }
-        // A refusal found ZERO at the one addition of this very call, also where the tag was refused before.
+        // A refusal found ZERO at the one addition of this very call, even if the tag was refused before.
         ensures meets { TryMeets self.now.gate has_zero tag.old.seat tag.new.seat (is_refused (tried result)) }
         ensures times { tag.new.seat.found_zero_times ≡ tag.old.seat.found_zero_times + count (is_refused (tried result)) }
         ensures holds_off { HoldsOff tag.new }
@@ -136,30 +143,33 @@ impl BlockQueue {
         }
     }
 
-    /// Leaves. `Last` where that was the last drop of a freeze: the queue is drained, and the freezer is to be woken. Linux:
-    /// `blk_queue_exit` (block/blk-core.c).
+    /// Leaves. Returns `Last` if this was the last put of a freeze: the queue is drained, and the freezer has to be
+    /// woken. Linux: `blk_queue_exit` (block/blk-core.c).
     #[inline]
     pub fn leave(&self, tag: &mut Tag, slot: u32) -> Put
         requires own { tag.old.queue ≡ self.now }
         requires slot { slot < self.now.gate.slots }
         requires entered { tag.old.entered ≡ true }
-        ensures { tag.new ≡ after_leaving result tag.old }
+        ensures leaves { tag.new ≡ come_to tag.new.steps (after_leaving result tag.old) }
+        ensures steps { PutSteps slot 1 result tag.old.steps tag.new.steps }
     {
         tag.pass.put(&self.gate, slot, 1)
     }
 
-    /// Stays entered between two requests, for the price of one load, unless the queue is frozen: then it leaves. Where it
-    /// stays, its limits are those that it has. Where its drop was the last, the freezer is to be woken. Linux: the
-    /// requests that a plug keeps, each with its reference of `q_usage_counter` (block/blk-mq.c).
+    /// Stays entered between two requests, for the cost of one load. If the queue is frozen, it leaves instead. A tag
+    /// that stays keeps its limits. If leaving was the last put, wake the freezer. Linux: the requests that a plug
+    /// keeps, each with its reference on `q_usage_counter` (block/blk-mq.c).
     ///
-    /// A thread that stays and then sleeps holds up every freeze, so it leaves before it waits.
+    /// A thread that stays and then sleeps delays every freeze, so leave before waiting.
     #[inline]
     pub fn stay(&self, tag: &mut Tag, slot: u32) -> Stay
         requires own { tag.old.queue ≡ self.now }
         requires slot { slot < self.now.gate.slots }
         requires entered { tag.old.entered ≡ true }
-        // The one load of this very call is counted with what it found, so no answer comes from an earlier load, or from none.
-        ensures leaves { tag.new ≡ after_stay result tag.old }
+        // The one load of this very call is counted with what it found, so the result can't come from an earlier load,
+        // or from none.
+        ensures leaves { tag.new ≡ come_to tag.new.steps (after_stay result tag.old) }
+        ensures steps { StaySteps slot result tag.old.steps tag.new.steps }
         ensures finds { FindsDead self.now.gate tag.old.seat (has_left result) }
         ensures times { tag.new.seat.found_dead_times ≡ tag.old.seat.found_dead_times + count (has_left result) }
         ensures looks { tag.new.seat.looks ≡ tag.old.seat.looks + 1 }
@@ -170,13 +180,14 @@ impl BlockQueue {
         Stay::Stayed
     }
 
-    /// The limits in force, for an entered tag: the same at each call until it leaves, in whichever threads the
-    /// calls are made.
+    /// The limits in force, for an entered tag: the same at each call until it leaves, whichever threads make the
+    /// calls.
     #[inline]
     pub fn limits(&self, tag: &mut Tag) -> Limits
         requires own { tag.old.queue ≡ self.now }
         requires entered { tag.old.entered ≡ true }
-        ensures told { tag.new ≡ after_asking result tag.new.seat tag.old }
+        ensures told { tag.new ≡ come_to tag.new.steps (after_asking result tag.new.seat tag.old) }
+        ensures steps { AskSteps tag.old.steps tag.new.steps }
         ensures kept { IsTag tag.new }
         ensures in_force { AreInForce self.now.gate self.now.hardware tag.old.seat result }
         ensures same { IfSome tag.old.limits (λ l. result ≡ l) }

@@ -1,7 +1,8 @@
-//! A tag: the right to have one request under way.
+//! A tag: the right to have one request in flight.
 ghost use Rattle.std.specs.Prelude.{◌≡◌, true, false, None};
 ghost use Rattle.percpu_gate.specs.Seats.{fresh_pass};
-ghost use Rattle.queue_core.specs.Queue.{first_tag};
+ghost use Rattle.percpu_gate.specs.Steps.{LookSteps};
+ghost use Rattle.queue_core.specs.Queue.{first_tag, come_to};
 ghost use Rattle.queue_core.specs.Readings.{IsTag};
 ghost use Rattle.queue_core.specs.Staying.{after_asking_to_stay, FindsDead};
 
@@ -9,30 +10,29 @@ use crate::limit_words::LIMIT_WORDS;
 use percpu_gate::{Gate, Pass, Put};
 use std::marker::Model;
 
-/// What an attempt to enter answers.
+/// The result of an attempt to enter.
 #[derive(Clone, Copy, Debug, PartialEq, Eq)]
 pub enum Entry {
     /// The tag is entered, until it leaves.
     Entered,
-    /// The tag isn't entered. The try was counted for a moment, and dropping that was answered so: where it was the
-    /// last, the queue is drained, and the freezer is to be woken.
+    /// The tag isn't entered. The failed try held a reference briefly; this is the result of dropping it. If it is
+    /// `Last`, the queue is drained, and the freezer has to be woken.
     Refused(Put),
 }
 
-/// What a tag that wants to stay entered is answered.
+/// The result of `stay`.
 #[derive(Clone, Copy, Debug, PartialEq, Eq)]
 pub enum Stay {
-    /// The queue is live: the tag is entered still, with the limits that it has.
+    /// The queue is live. The tag is still entered, with the same limits.
     Stayed,
-    /// The queue is frozen, so the tag has left, and dropping its reference was answered so: where it was the last, the
-    /// queue is drained, and the freezer is to be woken.
+    /// The queue is frozen, so the tag has left; this is the result of dropping its reference. If it is `Last`, the
+    /// queue is drained, and the freezer has to be woken.
     Left(Put),
 }
 
-/// The right to have one request under way in one queue. Linux: a request's tag (block/blk-mq-tag.c).
+/// The right to have one request in flight in one queue. Linux: a request's tag (block/blk-mq-tag.c).
 ///
-/// It moves between threads with its request. One that is dropped while it is entered keeps the queue from
-/// ever being drained.
+/// It moves between threads with its request. Leaking an entered tag keeps the queue from draining forever.
 #[derive(Drop)]
 pub struct Tag {
     pub(crate) pass: Pass<LIMIT_WORDS>,
@@ -61,7 +61,7 @@ impl Tag {
         Tag { pass, hardware }
     }
 
-    /// Whether it has entered its queue and not left.
+    /// Whether the tag has entered its queue and not left.
     #[inline]
     pub fn entered(&self) -> bool
         ensures value { result ≡ self.now.entered }
@@ -71,12 +71,13 @@ impl Tag {
         self.pass.held() == 1
     }
 
-    /// Whether the gate was killed and isn't revived yet, at one load.
+    /// Whether one load finds the gate killed and not revived yet.
     #[inline]
     pub(crate) fn is_dying(&mut self, gate: &Gate<LIMIT_WORDS>) -> bool
         requires own { self.old.queue.gate ≡ gate.now }
         requires entered { self.old.entered ≡ true }
-        ensures looked { self.new ≡ after_asking_to_stay result self.old }
+        ensures looked { self.new ≡ come_to self.new.steps (after_asking_to_stay result self.old) }
+        ensures steps { LookSteps (λ s. s.dead) result self.old.steps self.new.steps }
         ensures finds { FindsDead gate.now self.old.seat result }
     {
         self.pass.is_dying(gate)

@@ -131,7 +131,7 @@ first_by_mask bounds start left past size beyond e =
 pub first_within : (bounds : Bounds) (start left : ℕ) → left ≤ reach bounds start → first_piece bounds start left ≡ left
 first_within = first_whole
 
--- where a block is one sector, the first piece is what is left as far as the reach goes
+-- if a block is one sector, the first piece is what is left as far as the reach goes
 pub first_of_one : (bounds : Bounds) (start left : ℕ) → bounds.physical ≡ 1 → first_piece bounds start left ≡ min left (reach bounds start)
 first_of_one bounds start left one =
     let none : (start + reach bounds start) % bounds.physical ≡ 0 = ap (λ p. (start + reach bounds start) % p) one ∙ mod-one (start + reach bounds start) in

@@ -15,7 +15,7 @@ use Rattle.queue_limits.proofs.Splits.{sum-cons}
 abbrev IsLongest : Bounds → ℕ → ℕ → Type 0
 IsLongest bounds at n = ¬ (IsWithinReach bounds at (n + 1))
 
--- a first piece has what is left as far as the reach goes, and nothing else is one
+-- a first piece has what is left as far as the reach goes, and nothing else does
 first_least : (bounds : Bounds) (start left n : ℕ) → bounds.physical ≡ 1 → IsFirstPiece bounds start left n → n ≡ min left (reach bounds start)
 first_least bounds start left n one first = one_first bounds start left n (first_piece bounds start left) first (first_is_first bounds start left) ∙ first_of_one bounds start left one
 

@@ -1,5 +1,5 @@
--- Bounds: what limits are. Pieces: what a range is cut into. Greedy: which list that is. LongestPieces: what the list is where a physical
--- block is one sector. Words: limits as three words. FaultNumber: the numbers of the refusals.
+-- Bounds: what limits are. Pieces: what a range is cut into. Greedy: which list that is. LongestPieces: what the list is if a physical block is one sector.
+-- Words: limits as three words. FaultNumber: the numbers of the faults.
 pub mod Bounds
 pub mod FaultNumber
 pub mod Greedy

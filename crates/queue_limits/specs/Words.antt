@@ -6,8 +6,8 @@ use Rattle.queue_limits.specs.declared.limits.TheConstants.{CHUNK_LIMIT}
 abbrev pub to_words : Bounds → List ℕ
 to_words limits = limits.max ∷ limits.chunk ∷ limits.physical ∷ []
 
--- any three words are read: a first that is 0 or above the hardware limit as that limit, a second that no chunk has as 0, a third that no
--- physical block has as 1
+-- any three words are read: a first word that is 0 or above the hardware limit as that limit, a second that can't be a chunk as 0, and a third that can't be a
+-- physical block as 1
 abbrev pub from_words : ℕ → List ℕ → Bounds
 from_words hardware words =
     let max = slice_index words 0 in

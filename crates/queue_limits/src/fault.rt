@@ -4,11 +4,11 @@ ghost use Rattle.queue_limits.specs.FaultNumber.{number_of};
 
 use thiserror::Error;
 
-/// Why limits are refused. Where several apply, [`Limits::new`](crate::Limits::new) answers
-/// `HardwareRange` first, then `AboveHardware`, then `ChunkTooLarge`.
+/// Why limits are refused. If several reasons apply, [`Limits::new`](crate::Limits::new) returns `HardwareRange` first,
+/// then `AboveHardware`, then `ChunkTooLarge`.
 #[derive(Clone, Copy, Debug, PartialEq, Eq, Error)]
 pub enum LimitFault {
-    /// The most sectors of a request are more than the hardware takes.
+    /// The maximum of a request is more than the hardware takes.
     #[error("more sectors than the hardware takes")]
     AboveHardware,
     /// The chunk has more than 65,535 sectors.
@@ -17,13 +17,13 @@ pub enum LimitFault {
     /// The hardware limit isn't from 1 to 65,535 sectors.
     #[error("a hardware limit outside 1 to 65535 sectors")]
     HardwareRange,
-    /// The physical block hasn't a power of two of sectors, or more than 32,768.
+    /// The physical block isn't a power of two of sectors, or has more than 32,768.
     #[error("a physical block that isn't a power of two from 1 to 32768 sectors")]
     BadPhysical,
 }
 
 impl LimitFault {
-    /// The fault's number, from 1 in the order of declaration.
+    /// Returns the fault's number, counted from 1 in order of declaration.
     pub fn number(&self) -> u8
         ensures { result ≡ number_of self.now }
     {

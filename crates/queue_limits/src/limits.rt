@@ -9,18 +9,18 @@ use crate::fault::LimitFault;
 use crate::pieces::Pieces;
 use std::marker::Model;
 
-/// The greatest hardware limit, in sectors.
+/// Maximum hardware limit, in sectors.
 pub const HARDWARE_LIMIT: u32 = 65_535;
 
-/// The greatest chunk, in sectors.
+/// Maximum chunk, in sectors.
 pub const CHUNK_LIMIT: u32 = 65_535;
 
-/// The greatest physical block, in sectors.
+/// Maximum physical block, in sectors.
 pub const PHYSICAL_LIMIT: u32 = 32_768;
 
-/// The limits of a queue, in sectors of 512 bytes: what the hardware takes in one request, the most that
-/// the queue sends in one, the chunk that no request may cross (0: none), and the physical block, with the end of which a
-/// request that is cut shall end (1: any sector).
+/// The limits of a queue, in sectors of 512 bytes: what the hardware takes in one request; the maximum that the queue sends in one;
+/// the chunk that no request may cross (0 for none); and the physical block, at whose end a request that is cut should end (1 for
+/// any sector).
 ///
 /// Linux: `struct queue_limits` (`max_hw_sectors`, `max_sectors`, `chunk_sectors`, `physical_block_size`).
 #[derive(Clone, Copy, Debug, PartialEq, Eq)]
@@ -44,11 +44,11 @@ impl Model for Limits {
 }
 
 impl Limits {
-    /// Limits of `hw` sectors a request by hardware, of `max` by choice (0: as many as the hardware
-    /// takes), and a chunk of `chunk` sectors (0: none; it need not be a power of two). A physical block is one sector.
+    /// Returns limits under which the hardware takes `hw` sectors in a request, the queue sends at most `max` (0: as many as the
+    /// hardware takes), and a chunk has `chunk` sectors (0: none; it need not be a power of two). A physical block is one sector.
     ///
-    /// Refused, in this order: `HardwareRange` where `hw` isn't from 1 to 65,535, `AboveHardware` where
-    /// `max` is above `hw`, `ChunkTooLarge` where `chunk` is above 65,535.
+    /// Returns, tested in this order, `HardwareRange` if `hw` isn't from 1 to 65,535, `AboveHardware` if `max` is above `hw`, and
+    /// `ChunkTooLarge` if `chunk` is above 65,535.
     #[tactic(auto, using(crate::proofs::PowersOfTwo::one_is_a_size))]
     pub fn new(hw: u32, max: u32, chunk: u32) -> Result<Self, LimitFault>
         ensures made { IfOk result (λ l. l ≡ record { hardware = hw; max = (if max == 0 then hw else max); chunk = chunk; physical = 1 }) }
@@ -75,9 +75,8 @@ impl Limits {
         }
     }
 
-    /// The limits that a queue starts with: as many sectors a request as the hardware takes, no chunk, and a
-    /// physical block of one sector.
-    /// Refused with `HardwareRange` where `hw` isn't from 1 to 65,535.
+    /// Returns the limits that a queue starts with: as many sectors in a request as the hardware takes, no chunk, and a physical
+    /// block of one sector. Returns `HardwareRange` if `hw` isn't from 1 to 65,535.
     pub fn start(hw: u32) -> Result<Self, LimitFault>
         ensures made { IfOk result (λ l. l ≡ record { hardware = hw; max = hw; chunk = 0; physical = 1 }) }
         ensures allowed { IfOk result AreAllowed }
@@ -87,7 +86,7 @@ impl Limits {
         Limits::new(hw, 0, 0)
     }
 
-    /// What the hardware takes in one request, in sectors: 1 to 65,535.
+    /// Returns how many sectors the hardware takes in one request, 1 to 65,535.
     pub fn hw(&self) -> u32
         ensures value { result ≡ self.now.hardware }
         ensures allowed { AreAllowed self.now }
@@ -95,7 +94,7 @@ impl Limits {
         self.hardware
     }
 
-    /// The most sectors of one request: 1 to `hw()`.
+    /// Returns the maximum number of sectors of a request, 1 to `hw()`.
     pub fn max(&self) -> u32
         ensures value { result ≡ self.now.max }
         ensures allowed { AreAllowed self.now }
@@ -103,7 +102,7 @@ impl Limits {
         self.max
     }
 
-    /// The sectors of a chunk, or 0 for none: at most 65,535.
+    /// Returns the number of sectors of a chunk, 1 to 65,535, or 0 for none.
     pub fn chunk(&self) -> u32
         ensures value { result ≡ self.now.chunk }
         ensures allowed { AreAllowed self.now }
@@ -111,7 +110,7 @@ impl Limits {
         self.chunk
     }
 
-    /// The sectors of a physical block: a power of two from 1 to 32,768.
+    /// Returns the number of sectors of a physical block, a power of two from 1 to 32,768.
     pub fn physical(&self) -> u32
         ensures value { result ≡ self.now.physical }
         ensures allowed { AreAllowed self.now }
@@ -119,8 +118,8 @@ impl Limits {
         self.physical
     }
 
-    /// Sets the most sectors of one request; 0 restores what the hardware takes. Refused with
-    /// `AboveHardware` where `max` is above `hw()`: the old limits stay.
+    /// Sets the maximum number of sectors of a request; 0 restores what the hardware takes. Returns `AboveHardware` if `max` is
+    /// above `hw()`; then the limits are unchanged.
     ///
     /// Linux: `queue_max_sectors_store` (block/blk-sysfs.c), in kilobytes there.
     pub fn set_max(&mut self, max: u32) -> Result<(), LimitFault>
@@ -137,8 +136,8 @@ impl Limits {
         Ok(())
     }
 
-    /// Sets the sectors of a chunk; 0 is none. Refused with `ChunkTooLarge` where `chunk` is above 65,535:
-    /// the old limits stay.
+    /// Sets the number of sectors of a chunk; 0 means none. Returns `ChunkTooLarge` if `chunk` is above 65,535; then the limits are
+    /// unchanged.
     pub fn set_chunk(&mut self, chunk: u32) -> Result<(), LimitFault>
         ensures set { OnOk result (self.new ≡ record self.old { chunk = chunk }) }
         ensures chunk_too_large { IsErrOf result LimitFault.ChunkTooLarge ↔ (CHUNK_LIMIT < chunk) }
@@ -153,10 +152,10 @@ impl Limits {
         Ok(())
     }
 
-    /// Sets the sectors of a physical block. Refused with `BadPhysical` where `physical` isn't a power of two from 1 to 32,768:
-    /// the old limits stay.
+    /// Sets the number of sectors of a physical block. Returns `BadPhysical` if `physical` isn't a power of two from 1 to 32,768;
+    /// then the limits are unchanged.
     ///
-    /// Linux: `blk_validate_limits` (block/blk-settings.c), in bytes there, where such a size is the driver's mistake.
+    /// Linux: `blk_validate_limits` (block/blk-settings.c), in bytes there, where any other size is the driver's mistake.
     pub fn set_physical(&mut self, physical: u32) -> Result<(), LimitFault>
         ensures set { OnOk result (self.new ≡ record self.old { physical = physical }) }
         ensures bad_physical { IsErrOf result LimitFault.BadPhysical ↔ (is_physical_size physical ≡ false) }
@@ -171,7 +170,7 @@ impl Limits {
         Ok(())
     }
 
-    /// The limits that can change, as three words: `max()`, `chunk()` and `physical()`.
+    /// Returns the limits that can change, as three words: `max()`, `chunk()` and `physical()`.
     pub fn to_words(&self) -> [u64; 3]
         ensures { result ≡ to_words self.now }
     {
@@ -182,15 +181,15 @@ impl Limits {
         ]
     }
 
-    /// The limits that three words tell, for a hardware limit of 1 to 65,535 sectors. Any words will do: a
-    /// first word of 0 or above `hw` is read as `hw`, a second above 65,535 as 0, a third that isn't a power of two from 1 to
-    /// 32,768 as 1.
+    /// Returns the limits that three words encode, for a hardware limit of 1 to 65,535 sectors. Any words are accepted: a first
+    /// word of 0 or above `hw` is read as `hw`, a second above 65,535 as 0, and a third that isn't a power of two from 1 to 32,768
+    /// as 1.
     #[tactic(auto, using(crate::proofs::PowersOfTwo::one_is_a_size))]
     pub fn from_words(hw: u32, words: [u64; 3]) -> Self
         requires { IsHardwareLimit hw }
         ensures read { result ≡ from_words hw words }
         ensures allowed { AreAllowed result }
-        // What limits told of themselves is read as these limits.
+        // The words of any limits with this hardware limit are read back as these limits.
         ensures back { (limits : Bounds) → AreAllowed limits → limits.hardware ≡ hw → words ≡ to_words limits → result ≡ limits }
     {
         let [max, chunk, physical] = words;
@@ -211,7 +210,7 @@ impl Limits {
         }
     }
 
-    /// The length, in sectors, of the first piece of the `left` sectors from `start` on.
+    /// Returns the length, in sectors, of the first piece of the `left` sectors that start at `start`.
     ///
     /// Linux: `get_max_io_size` (block/blk-merge.c).
     pub fn next_piece(&self, start: u64, left: u32) -> u32
@@ -222,7 +221,7 @@ impl Limits {
         self.first_piece(start, left)
     }
 
-    /// The lengths, in sectors, of the pieces of the `count` sectors from `start` on, in order.
+    /// Returns the lengths, in sectors, of the pieces of the `count` sectors that start at `start`, in order.
     ///
     /// Linux: `bio_split_rw` (block/blk-merge.c), called until nothing is left.
     pub fn pieces(&self, start: u64, count: u32) -> Pieces
@@ -232,7 +231,8 @@ impl Limits {
         Pieces::new(*self, start, count)
     }
 
-    // A rest within the reach stays whole. Else the piece ends with a physical block, so that the next begins with one.
+    // Returns all that is left if it is within reach. Otherwise the piece ends where a physical block ends, so that the next piece
+    // begins with a block.
     pub(crate) fn first_piece(&self, start: u64, left: u32) -> u32
         requires place { start < 2 ^ 33 }
         ensures length { result ≡ first_piece self.now start left }
@@ -242,7 +242,7 @@ impl Limits {
         if left <= reach {
             return left;
         }
-        // The remainder by a power of two.
+        // The remainder of a division by a power of two.
         let past = (start + u64::from(reach)) & (u64::from(self.physical) - 1);
         if past < u64::from(reach) {
             reach - past as u32
@@ -251,7 +251,7 @@ impl Limits {
         }
     }
 
-    // The sectors of a piece end at the next boundary of a chunk, or before it where `max` comes first.
+    // Returns how many sectors a piece may have: up to the next boundary of a chunk, or `max` if that is less.
     fn reach(&self, start: u64) -> u32
         ensures length { result ≡ reach self.now start }
         ensures allowed { AreAllowed self.now }
@@ -263,7 +263,7 @@ impl Limits {
     }
 }
 
-// How far it is from `start` to the next multiple of the chunk.
+// Returns the number of sectors from `start` to the next multiple of the chunk.
 fn sectors_to_boundary(start: u64, chunk: u32) -> u32
     requires { 0 < chunk }
     ensures { result ≡ chunk - start % chunk }
@@ -273,7 +273,7 @@ fn sectors_to_boundary(start: u64, chunk: u32) -> u32
     to_boundary as u32
 }
 
-// Whether a physical block may have that many sectors.
+// Returns whether a physical block may have this many sectors.
 fn is_block_size(sectors: u64) -> bool
     ensures { result ≡ is_physical_size sectors }
 {

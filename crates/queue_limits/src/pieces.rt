@@ -8,8 +8,8 @@ ghost use Rattle.queue_limits.specs.Pieces.{IsSplit};
 use crate::limits::Limits;
 use std::marker::Model;
 
-/// The lengths of the pieces that are left of a range, in sectors: an iterator that
-/// [`Limits::pieces`](crate::Limits::pieces) makes. Contracts see it as the list of these lengths.
+/// An iterator over the lengths, in sectors, of the pieces that are left of a range, made by
+/// [`Limits::pieces`](crate::Limits::pieces). In contracts it is the list of these lengths.
 #[derive(Debug, Drop)]
 pub struct Pieces {
     limits: Limits,
@@ -34,7 +34,7 @@ impl Pieces {
         requires { start < 2 ^ 32 }
         ensures { IsSplit limits start left result }
     {
-        // Bound so that the proof learns what the type keeps of its numbers.
+        // The call gives the proof what the type ensures about its numbers.
         let _max = limits.max();
         Pieces {
             limits,
@@ -61,8 +61,8 @@ impl Iterator for Pieces {
         Some(length)
     }
 
-    /// At most as many pieces as are left, and above 0 where any is; and the sectors that are left, since each piece
-    /// has one at least.
+    /// Returns bounds of the number of pieces that are left. The lower bound is at least 1 if any is left; the upper bound is the
+    /// number of sectors that are left, since each piece has at least one.
     fn size_hint(&self) -> (usize, Option<usize>)
         ensures lower { IsWithinCount result.0 (item_count (λ s. s) self.now) }
         ensures upper { IfSome result.1 (UpTo (item_count (λ s. s) self.now)) }

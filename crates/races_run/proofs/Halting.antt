@@ -1,4 +1,4 @@
--- What the program's status tells where a replay ends with a fault.
+-- What the program's status means if a replay ends with a fault.
 use Rattle.std.proofs.Common.{◌≡◌, ◌⊎◌, ℕ, List, Option, IfSome, IfNone, OnSome, IsErr, IsOkAnd, Result, Ok, Err, lit<, refl, inl, inr, arith}
 use Rattle.counted_io.specs.Failures.{GivesUp, HasFailed}
 use Rattle.counted_io.specs.Reading.{IfKnown}

@@ -1,6 +1,6 @@
--- Answer: what an input is answered. Beside: the outcomes that one of two gates alone has, as they are printed. Faults: what a fault
--- says, and its status. Replays: what a replay on Linux's percpu_ref is answered with. Requests: what the words after the program's name
--- ask for. Statuses: what the program's status tells.
+-- Answer: the answer to an input. Beside: the outcomes that only one of two gates has, as they are printed. Faults: the facts about a fault,
+-- and its status. Replays: the answer to a replay on Linux's percpu_ref. Requests: the task that the arguments
+-- ask for. Statuses: the meaning of the program's status.
 pub mod Answer
 pub mod Beside
 pub mod Faults

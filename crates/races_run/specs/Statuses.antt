@@ -1,4 +1,4 @@
--- What the program's status tells. `left` tells the bytes that a reader has left, and `held` those that a writer holds, where they are known.
+-- The meaning of the program's status. `left` has the bytes that a reader has left, and `held` those that a writer holds, if they are known.
 use Rattle.std.specs.Prelude.{◌≡◌, ◌⊎◌, [], ◌∷◌, ℕ, ◌<◌, List, Option, Contains, IfSome, length, take}
 use Rattle.counted_io.specs.Failures.{GivesUp, HasFailed}
 use Rattle.counted_io.specs.Reading.{IfKnown}
@@ -9,17 +9,17 @@ use Rattle.races_run.specs.Answer.{IsAnsweredBy, IsRefused, IsWithin}
 use Rattle.races_run.specs.Requests.{Asks}
 use Rattle.races_run.specs.declared.request.Request.{Request}
 
--- the writer failed, by more than an interruption or as often as an interrupted write is tried
+-- the writer failed, with a fault other than an interruption or after the maximum number of interrupted tries
 abbrev pub HasGivenUp : {W : Type 0} → Tally W → Tally W → Type 0
 HasGivenUp old new = HasFailed old new × GivesUp TRIES old new
 
--- of the answer to what the reader had, the writer took the first bytes, so many and not all, and no more
+-- the writer took exactly this many first bytes of the answer to the reader's input, and not all
 abbrev pub WritesPart : {R W : Type 0} → Request → (R → Option (List ℕ)) → (W → Option (List ℕ)) → Tally R → Tally W → Tally W → ℕ → Type 0
 WritesPart request left held reader old new written =
     IfKnown left reader (λ input. IsAnsweredBy request input (λ text. (written < length text) × Takes held old new (take written text)))
 
--- what the status tells: 0 that the answer to the race was written, as the request has it, and exactly its text, and the states that are kept are within the bound,
--- if there is one; 2 that the input is no race, and nothing was written; 4 that nothing was written, or that the writer failed for good once it had
+-- the meaning of the status: 0, exactly the answer to the race was written, for this request, and the number of states that are kept is within the bound,
+-- if there is one; 2, the input is no race, and nothing was written; 4, nothing was written, or the writer failed for good after it had taken
 -- the first bytes of the answer, not all
 pub record TellsOutcomes {R W : Type 0} (request : Request) (left : R → Option (List ℕ)) (held : W → Option (List ℕ)) (most : Option ℕ) (reader : Tally R) (old new : Tally W) (status : ℕ) : Type 0 where
   pub statuses : Contains (0 ∷ 2 ∷ 4 ∷ []) status
@@ -30,6 +30,6 @@ pub record TellsOutcomes {R W : Type 0} (request : Request) (left : R → Option
   pub partly : status ≡ 4 → TakesNothing held old new
       ⊎ (HasGivenUp old new × IfKnown left reader (λ input. IsAnsweredBy request input (TakesPart held old new)))
 
--- whatever the words ask for, with which bound, the status tells that
+-- whatever the arguments ask for, with any bound or none, the status has this meaning
 abbrev pub TellsAsAsked : {R W : Type 0} → List (List ℕ) → (R → Option (List ℕ)) → (W → Option (List ℕ)) → Tally R → Tally W → Tally W → ℕ → Type 0
 TellsAsAsked words left held reader old new status = (request : Request) (most : Option ℕ) → Asks words request most → TellsOutcomes request left held most reader old new status

@@ -1,4 +1,4 @@
-//! The task that the words after the program's name ask for.
+//! The task that the arguments ask for.
 ghost use Rattle.std.specs.Prelude.{◌≡◌, ◌↔◌, ℕ, IsTrue, Option, Some, map, string_bytes};
 ghost use Rattle.std.specs.Str.{bytes_eq};
 ghost use Rattle.races_run.specs.Requests.{Asks, AsksReplay, Bounds, request_in};
@@ -11,11 +11,12 @@ use races_text::Form;
 /// A task of the program.
 #[derive(Clone, Copy, Debug, PartialEq, Eq)]
 pub enum Task {
-    /// Answer this of the race that comes in, keeping so many states at most in a search, if a number is given.
+    /// Answer this request about the race on standard input. A search keeps at most this many states, if a number is
+    /// given.
     Answer(Request, Option<u64>),
-    /// Replay the schedule on Linux's percpu_ref that comes in.
+    /// Replay the schedule on Linux's percpu_ref that is on standard input.
     Replay,
-    /// Say how the program is called.
+    /// Print how the program is called.
     Usage,
 }
 
@@ -25,7 +26,7 @@ fn is_spelled(word: &String, text: &str) -> bool
     is_word(word.as_bytes(), text)
 }
 
-// The request that the first word makes, and the words behind it.
+// The request that the first argument makes, and the arguments after it.
 fn request_in(words: &[String]) -> (Request, &[String])
     ensures { (result.0, map string_bytes result.1.now) ≡ request_in (map string_bytes words.now) }
 {
@@ -43,7 +44,7 @@ fn request_in(words: &[String]) -> (Request, &[String])
     }
 }
 
-// The bound on the states that the words set; None where they are no bound.
+// The bound on the states that the arguments set, if any; `None` if the arguments aren't a bound.
 fn bound_in(words: &[String]) -> Option<Option<u64>>
     ensures { (most : Option ℕ) → (result ≡ Some most) ↔ Bounds (map string_bytes words.now) most }
 {
@@ -59,7 +60,7 @@ fn bound_in(words: &[String]) -> Option<Option<u64>>
     }
 }
 
-// Whether the words ask for a replay.
+// Whether the arguments ask for a replay.
 fn asks_replay(words: &[String]) -> bool
     ensures { IsTrue result ↔ AsksReplay (map string_bytes words.now) }
 {
@@ -69,9 +70,9 @@ fn asks_replay(words: &[String]) -> bool
     }
 }
 
-/// The task that `words`, those after the program's name, ask for: `--replay` alone, or else first what is asked of a race, by
-/// `--outcomes`, `--summary`, `--beside` or no word, and then the states that a search keeps at most, by `--states` and a number from
-/// 1. Anything else asks how the program is called.
+/// Returns the task that `words`, the arguments, ask for. `--replay` alone asks for a replay. A request about a race is
+/// `--outcomes`, `--summary`, `--beside` or no word, and then, if a search has to be bounded, `--states` and the maximum number of
+/// states that it keeps, from 1. Anything else asks for the usage.
 pub fn requested(words: &[String]) -> Task
     ensures answer { (request : Request) (most : Option ℕ) → (result ≡ Task.Answer request most) ↔ Asks (map string_bytes words.now) request most }
     ensures replay { (result ≡ Task.Replay) ↔ AsksReplay (map string_bytes words.now) }

@@ -1,4 +1,4 @@
-//! Why a race isn't answered.
+//! The reasons for which a race isn't answered.
 ghost use Rattle.std.specs.Prelude.{◌≡◌};
 ghost use Rattle.races_run.specs.Faults.{number_of, status_of};
 
@@ -8,7 +8,7 @@ use percpu_core::Memory;
 use race_outcomes::SearchFault;
 use thiserror::Error;
 
-/// Why a race isn't answered, or not by all of its answer.
+/// Why a race isn't answered, or not completely.
 #[derive(Clone, Copy, Debug, PartialEq, Eq, Error)]
 pub enum Fault {
     /// Memory was refused.
@@ -20,7 +20,7 @@ pub enum Fault {
     /// The writer failed.
     #[error("write")]
     Write {
-        /// How many bytes of the answer went out before, from its first on.
+        /// The number of bytes of the answer that were written.
         written: u64,
     },
     /// The input is no race.
@@ -45,7 +45,7 @@ impl Fault {
         }
     }
 
-    /// The status that the program ends with: 2 where the input is no race, and else 4.
+    /// The program's exit status: 2 if the input is no race, otherwise 4.
     pub fn status(&self) -> u8
         ensures { result ≡ status_of self.now }
     {

@@ -17,14 +17,14 @@ use std::alloc::Global;
 use std::io;
 use std::io::{ErrorKind, Read, Write};
 
-/// How the program is called.
+/// The usage line.
 const USAGE: &str =
     "usage: gate_races [--outcomes | --summary | --beside] [--states N], with a race on standard input, or gate_races --replay";
 
-/// The status where the answer didn't go out, for any reason but the input.
+/// The status if the answer wasn't written for any reason other than the input.
 const NOT_ANSWERED: u8 = 4;
 
-/// Answers the race that `reader` has, and tells the program's status, with a line to `errors` where it isn't 0.
+/// Answers the race in `reader`. Returns the program's status, and writes a line to `errors` if it isn't 0.
 fn outcomes_reported<R: Read, W: Write, E: Write, H: Watch>(
     alloc: Global,
     request: Request,
@@ -47,12 +47,13 @@ fn outcomes_reported<R: Read, W: Write, E: Write, H: Watch>(
     }
 }
 
-/// Writes to `writer` the answer to the race that `reader` has, and tells the program's status: 0 where it
-/// went out. `args`, the words after the program's name, say what is asked of the race: the answers to its questions, its
-/// outcomes, or those that it has on this gate or on Linux's percpu_ref alone. Any other status comes with a line to `errors`: 2 where the input is no race, and 4 where reading,
-/// writing or memory was refused, or a search would keep more states than `args` have behind `--states`, or they ask for
-/// nothing that there is. They are looked at before anything is read.
-/// Where `errors` fails, the line is lost and the status stays. `watch` learns how far the search is.
+/// Writes to `writer` the answer to the race in `reader`, and returns the program's status: 0 if the answer was written.
+/// `args`, the program's arguments, decide what is written: the answers to the race's questions, its outcomes, or the outcomes
+/// that it has only on this gate or only on Linux's percpu_ref; with `--replay`, the replay of the schedule in `reader`. Status 3
+/// means that this replay was written, and stopped at a step that isn't taken. Status 2 or 4 comes with a line to `errors`: 2 if
+/// the input is no race or schedule; 4 if reading, writing or memory was refused, if a search would keep more states than `args`
+/// allow by `--states`, or if the arguments ask for something unknown. They are checked before anything is read. If `errors`
+/// fails, the line is lost and the status stays. It reports to `watch` how far the search is.
 pub fn command<R: Read, W: Write, E: Write, H: Watch>(
     alloc: Global,
     args: &[String],
@@ -66,12 +67,12 @@ pub fn command<R: Read, W: Write, E: Write, H: Watch>(
     ensures replay { AsksReplay (map string_bytes args.now)
         → TellsReplay R.remaining W.contents reader.old writer.old writer.new result }
 
-    // Where the words ask for nothing that there is, nothing is read and nothing is written.
+    // If the arguments ask for something unknown, nothing is read and nothing is written.
     ensures usage { ¬ (AsksSomething (map string_bytes args.now)) → result ≡ 4 }
     ensures unread { ¬ (AsksSomething (map string_bytes args.now)) → reader.new ≡ reader.old }
     ensures unwritten { ¬ (AsksSomething (map string_bytes args.now)) → writer.new ≡ writer.old }
 
-    // If the reader or the writer broke, the status says so before all else.
+    // If the reader or the writer broke, the status is 4, whatever else happened.
     ensures broken { IsFourIfBroken reader.old reader.new writer.old writer.new result }
     ensures taken { TakesUpTo R.remaining reader.old reader.new MOST_READ }
 {
@@ -87,8 +88,8 @@ pub fn command<R: Read, W: Write, E: Write, H: Watch>(
     }
 }
 
-/// Tells that the words after the program's name can't be had, and the program's status: for want of memory,
-/// or because one of them is no text, so that they ask for nothing that there is.
+/// Reports that the arguments couldn't be read, and returns the program's status: memory was refused, or one of them
+/// isn't text, so that they ask for something unknown.
 pub fn refuse_words<E: Write>(errors: &mut E, why: &io::Error) -> u8
     ensures { result ≡ 4 }
 {

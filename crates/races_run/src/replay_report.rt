@@ -1,4 +1,4 @@
-//! A replay, told as a status.
+//! The status of a replay.
 ghost use Rattle.counted_io.specs.Failures.{IsFourIfBroken};
 ghost use Rattle.counted_io.specs.Reading.{TakesUpTo};
 ghost use Rattle.races_run.specs.Replays.{TellsReplay};
@@ -10,11 +10,11 @@ use gate_replay::Replayed;
 use std::alloc::Global;
 use std::io::{Read, Write};
 
-/// The status where a step of the schedule wasn't taken.
+/// The status if a step of the schedule wasn't taken.
 const STUCK: u8 = 3;
 
-/// Replays the schedule on Linux's percpu_ref that `reader` has, and tells the program's status, with a line to `errors` where there
-/// was a fault. A replay that ends at a step that isn't taken is no fault: its last line says so.
+/// Replays the schedule on Linux's percpu_ref in `reader`. Returns the program's status, and writes a line to
+/// `errors` if there was a fault. A replay that ends at a step that isn't taken is no fault: its last line says so.
 pub(crate) fn replay_reported<R: Read, W: Write, E: Write>(
     alloc: Global,
     reader: &mut Counted<R>,

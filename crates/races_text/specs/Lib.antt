@@ -1,11 +1,11 @@
--- What the contracts of this crate cite: the calls of a line by their words (CallWords), how the calls of a pass (PassCalls) and of
--- the control (ControlCalls) are spelled, and what they wait for (Waits), which race a text means (Races), of one gate or several (Raced);
--- how a line tells a world (Worlds), a step (Steps) and what calls were answered (Answers), what is printed of outcomes (Shown), also in a
--- line for each (Summaries), and the schedules of a race of one gate (Schedules) and of several (GatesSchedules); how questions
--- (QuestionLines) and the answers in them (AnswerWords) are spelled, what questions are answered (Verdicts), and what is written of a race
--- with questions (Written); how the calls (LinuxCalls) and the steps (LinuxSteps) of a race on Linux's percpu_ref are printed, what is replied
--- to a step (LinuxReplies), and its schedules (LinuxSchedules); which step a line says (LinuxStepWords), that the lines of calls are read as
--- they are printed (LinuxLines), and what is shown of a schedule that is replayed (LinuxReplays).
+-- The definitions that this crate's contracts cite. Reading: the calls of a line by their words (CallWords), the spelling of the calls of a pass
+-- (PassCalls) and of the control (ControlCalls), the conditions that they wait for (Waits), the race that a text describes (Races), of one gate or
+-- several (Raced), and the spelling of questions (QuestionLines) and of the answers in them (AnswerWords). Printing: a world (Worlds), a step
+-- (Steps), the answers to calls (Answers), outcomes (Shown), a line for each outcome (Summaries), the schedules of a race of one gate (Schedules) and
+-- of several (GatesSchedules), the answers to questions (Verdicts), and the answer to a race with questions (Written). Races on Linux's percpu_ref:
+-- their calls (LinuxCalls) and steps (LinuxSteps) as they are printed, the replies to steps (LinuxReplies), their schedules (LinuxSchedules),
+-- the step that a line names (LinuxStepWords), that lines of calls are read as they are printed (LinuxLines), and the replay of a schedule
+-- (LinuxReplays).
 pub mod AnswerWords
 pub mod Answers
 pub mod CallWords

@@ -1,4 +1,4 @@
--- Which step of an actor the words of a line say.
+-- The step of an actor that the words of a line name.
 use Rattle.std.specs.Prelude.{◌≡◌, ⊤, ℕ, ◌==◌, ◌≤◌, Bool, true, false, ◌&&◌, if◌then◌else◌, List, [], ◌∷◌, Result, Ok, Err, codes}
 use Rattle.std.specs.List.{list_all}
 use Rattle.std.specs.Str.{bytes_eq}
@@ -22,7 +22,7 @@ use Rattle.races_text.specs.declared.linux_step.LinuxStep.TheVariants.{Load, Loa
 abbrev pub alone : LinuxStep → List (List ℕ) → Result LinuxStep Why
 alone step words = no_words words >>= λ none. Ok step
 
--- the second word of a step has to be this
+-- a step whose second word has to be this
 abbrev pub ended_by : List ℕ → LinuxStep → List (List ℕ) → Result LinuxStep Why
 ended_by last step words = one_word words >>= λ word. if bytes_eq word last then Ok step else Err UnknownWord
 
@@ -30,7 +30,7 @@ abbrev pub load_of : List (List ℕ) → Result LinuxStep Why
 load_of [] = Ok Load
 load_of (word ∷ words) = no_words words >>= λ none. if bytes_eq word (codes "again") then Ok LoadAgain else Err UnknownWord
 
--- the flag, which one step or the other is about
+-- the step on DEAD or the step on ATOMIC, as the second word says
 abbrev pub flag_step : LinuxStep → LinuxStep → List (List ℕ) → Result LinuxStep Why
 flag_step on_dead on_atomic words =
     one_word words >>= λ word.
@@ -59,7 +59,7 @@ abbrev pub is_one : Change → Bool
 is_one (Plus n) = n == 1
 is_one (Minus n) = false
 
--- unless it is zero, 1 alone is counted
+-- a count on the shared count; `unless zero` is allowed only for 1
 abbrev pub counted_unless : Bool → Change → Result LinuxStep Why
 counted_unless false change = Ok (OnCount change)
 counted_unless true change = if is_one change then Ok CountUnlessZero else Err OutOfRange
@@ -90,7 +90,7 @@ short_step name words =
     else if bytes_eq name (codes "confirm") then alone Confirm words
     else Err UnknownWord
 
--- a step, by its first word and those behind it
+-- a step, by its first word and the words after it
 abbrev pub step_by : List ℕ → List (List ℕ) → Result LinuxStep Why
 step_by name words =
     if bytes_eq name (codes "load") then load_of words
@@ -106,7 +106,7 @@ abbrev pub step_of : List (List ℕ) → Result LinuxStep Why
 step_of [] = Err MissingWord
 step_of (name ∷ words) = step_by name words
 
--- the step of the actor with this number
+-- the step of the actor of this number
 abbrev pub numbered : (ℕ → LinuxTurn) → List ℕ → List (List ℕ) → Result (LinuxTurn × LinuxStep) Why
 numbered turn number words =
     number_32 number >>= λ k.
@@ -120,7 +120,7 @@ callback_of (number ∷ words) = numbered Callback number words
 abbrev pub control_of : List (List ℕ) → Result (LinuxTurn × LinuxStep) Why
 control_of words = step_of words >>= λ step. Ok (Control, step)
 
--- a pass is named by digits, however many, the control by `c`, and a callback by `rcu` and its number
+-- digits, however many, name a pass, `c` names the control, and `rcu` with a number names a callback
 abbrev pub turn_of : List (List ℕ) → Result (LinuxTurn × LinuxStep) Why
 turn_of [] = Err UnknownWord
 turn_of (first ∷ words) =
@@ -133,14 +133,14 @@ abbrev pub HasRange : Change → Type 0
 HasRange (Plus n) = n ≤ 4294967295
 HasRange (Minus n) = n ≤ 4294967295
 
--- a line can say this step: its numbers fit, and the flag that it waits for has a name
+-- a line can have this step: its numbers fit, and the flag that it waits for has a name
 abbrev pub IsStep : LinuxStep → Type 0
 IsStep (Counter slot change) = (slot ≤ 4294967295) × HasRange change
 IsStep (OnCount change) = HasRange change
 IsStep (Await awaited) = CanWait awaited
 IsStep step = ⊤
 
--- the words that are printed of such a step are those of the step
+-- the words that are printed for such a step are read as the step
 abbrev pub StepsReadBack : Type 0
 StepsReadBack = (step : LinuxStep) → IsStep step → step_of (step_words step) ≡ Ok step
 
@@ -150,6 +150,6 @@ IsActor (Pass k) = k ≤ 4294967295
 IsActor Control = ⊤
 IsActor (Callback k) = k ≤ 4294967295
 
--- the words of the line that is printed of such a step are those of the actor and the step
+-- the words of the line that is printed for such a step are read as the actor and the step
 abbrev pub TurnsReadBack : Type 0
 TurnsReadBack = (turn : LinuxTurn) (step : LinuxStep) → IsActor turn → IsStep step → turn_of (words_of (step_text turn step)) ≡ Ok (turn, step)

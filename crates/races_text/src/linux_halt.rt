@@ -1,4 +1,4 @@
-//! The steps that a schedule on Linux's percpu_ref says, and why one isn't taken.
+//! The steps of a schedule on Linux's percpu_ref, and why a step isn't taken.
 ghost use Rattle.std.specs.Prelude.{◌≡◌, ◌++◌, true, IfNone, OnOk};
 ghost use Rattle.linux_world.specs.Points.{IsNext};
 ghost use Rattle.races_text.specs.LinuxReplays as replays;
@@ -10,10 +10,10 @@ use linux_world::{LinuxMoment, LinuxTurn};
 use race_world::Race;
 use std::alloc::AllocError;
 
-/// A step of an actor, as a line says it.
+/// A step of an actor, as a line names it.
 #[derive(Clone, Copy, Debug, PartialEq, Eq)]
 pub(crate) struct SaidStep {
-    /// The number of the line, from 1.
+    /// The line number, from 1.
     pub(crate) line: u32,
     pub(crate) turn: LinuxTurn,
     pub(crate) step: LinuxStep,
@@ -22,17 +22,17 @@ pub(crate) struct SaidStep {
 /// Why a step isn't taken.
 #[derive(Clone, Copy, Debug, PartialEq, Eq)]
 pub(crate) enum Halt {
-    /// No pass has that number, or no callback of that number was given to RCU yet.
+    /// No pass has this number, or no callback of this number was given to RCU yet.
     NoSuchActor,
-    /// Each of its calls has its answer, or the callback has returned.
+    /// Each call of the actor has its answer, or the callback has returned.
     NoStepLeft,
-    /// The next step of the actor is another one, this.
+    /// The actor's next step is this one, not the named one.
     NextIs(LinuxStep),
     /// The lock is held, a switch is under way, the condition doesn't hold, or the grace period hasn't ended.
     MustWait,
 }
 
-// Whether the actor is there.
+// Whether the actor exists.
 fn is_there(moment: &LinuxMoment, turn: LinuxTurn) -> bool
     ensures { result ≡ is_there moment.now turn }
 {
@@ -43,7 +43,7 @@ fn is_there(moment: &LinuxMoment, turn: LinuxTurn) -> bool
     }
 }
 
-// Why an actor, whose next step is this one and which may go or not, doesn't take the step that is said.
+// Why an actor with this next step, which may be allowed to go or not, doesn't take the named step.
 fn halt_at(next: Option<LinuxStep>, said: LinuxStep, may_go: bool) -> Option<Halt>
     ensures why { result ≡ replays.halt_at next said may_go }
     ensures goes { IfNone result (may_go ≡ true) }
@@ -57,7 +57,7 @@ fn halt_at(next: Option<LinuxStep>, said: LinuxStep, may_go: bool) -> Option<Hal
     if may_go { None } else { Some(Halt::MustWait) }
 }
 
-/// Why the step that is said isn't taken; None where the actor may take it.
+/// Why the named step isn't taken; `None` if the actor may take it.
 pub(crate) fn why_not_taken(race: &Race, moment: &LinuxMoment, said: SaidStep) -> Option<Halt>
     ensures why { result ≡ replays.halt_of race.now moment.now said }
     ensures goes { IfNone result (IsNext race.now moment.now said.turn) }
@@ -83,7 +83,7 @@ fn push_halt(out: &mut Vec<u8>, why: Halt) -> Result<(), AllocError>
     }
 }
 
-/// Appends the line of a step that isn't taken, and that stands on this line of the schedule.
+/// Appends the line for a step that isn't taken, given its line number in the schedule.
 pub(crate) fn push_stuck(out: &mut Vec<u8>, line: u32, why: Halt) -> Result<(), AllocError>
     ensures { OnOk result (out.new.items ≡ out.old.items ++ stuck_line line why) }
 {
@@ -94,8 +94,8 @@ pub(crate) fn push_stuck(out: &mut Vec<u8>, line: u32, why: Halt) -> Result<(), 
     push_text(out, "\n")
 }
 
-/// A step that is said is the next one of its actor only where both are the same, their numbers and conditions included. The contract is
-/// the law; the function does nothing.
+/// A named step is its actor's next step only if both are the same, including their numbers and conditions. The
+/// contract is the law; the function does nothing.
 #[tactic(auto, using(crate::proofs::StepsApart::steps_are_apart))]
 pub fn steps_are_apart()
     ensures { StepsAreApart }

@@ -1,4 +1,4 @@
-//! The steps of a race on Linux's percpu_ref, as a line says them.
+//! Reading the steps of a race on Linux's percpu_ref.
 ghost use Rattle.std.specs.Prelude.{◌≡◌};
 ghost use Rattle.linux_world.specs.declared.turn.LinuxTurn.TheVariants.{Pass};
 ghost use Rattle.races_text.specs.LinuxStepWords as words_of;
@@ -19,7 +19,7 @@ fn alone(step: LinuxStep, words: Words<'_>) -> Result<LinuxStep, Why>
     Ok(step)
 }
 
-// A step whose second word has to be this.
+// A step whose second word has to be `last`.
 fn ended_by(last: &str, step: LinuxStep, words: Words<'_>) -> Result<LinuxStep, Why>
     ensures { result ≡ words_of.ended_by last.now step words.entry }
 {
@@ -44,7 +44,7 @@ fn load(mut words: Words<'_>) -> Result<LinuxStep, Why>
     }
 }
 
-// The step that is about DEAD, or the one about ATOMIC.
+// The step on DEAD or the step on ATOMIC, as the second word says.
 fn flag_step(on_dead: LinuxStep, on_atomic: LinuxStep, words: Words<'_>) -> Result<LinuxStep, Why>
     ensures { result ≡ flag_step on_dead on_atomic words.entry }
 {
@@ -105,7 +105,7 @@ fn is_one(change: Change) -> bool
     }
 }
 
-// A count on the count of all processors. Unless that is zero, 1 alone is counted.
+// A count on the count that all processors share. `unless zero` is allowed only for 1.
 fn counted_unless(unless: bool, change: Change) -> Result<LinuxStep, Why>
     ensures { result ≡ counted_unless unless change }
 {
@@ -164,7 +164,7 @@ fn short_step(name: &[u8], words: Words<'_>) -> Result<LinuxStep, Why>
     }
 }
 
-// A step, by its first word and those behind it.
+// A step, given its first word and the rest.
 fn step_by(name: &[u8], words: Words<'_>) -> Result<LinuxStep, Why>
     ensures { result ≡ step_by name.now words.entry }
 {
@@ -218,8 +218,8 @@ fn control_turn(words: Words<'_>) -> Result<(LinuxTurn, LinuxStep), Why>
     Ok((LinuxTurn::Control, step))
 }
 
-/// The actor and its step that the words of a line say. A first word of digits alone is the number of a pass, however long it is, `c` is
-/// the control, and `rcu` and a number are a callback.
+/// The actor and the step that the words of a line name. A first word of digits alone is the number of a pass, however
+/// long it is, `c` is the control, and `rcu` with a number is a callback.
 pub(crate) fn turn(mut words: Words<'_>) -> Result<(LinuxTurn, LinuxStep), Why>
     ensures { result ≡ turn_of words.entry }
 {
@@ -235,8 +235,8 @@ pub(crate) fn turn(mut words: Words<'_>) -> Result<(LinuxTurn, LinuxStep), Why>
     }
 }
 
-/// The words that are printed of a step are read as that step, where its numbers fit and the flag that it waits for has a name. So is
-/// the line of an actor and its step. The contract is the law; the function does nothing.
+/// If the numbers of a step fit and the flag that it waits for has a name, the words that are printed for the step are read as that
+/// step. The same holds of the line of an actor and its step. The contract is the law; the function does nothing.
 #[tactic(auto, using(crate::proofs::StepsBack::steps_read_back, crate::proofs::TurnsBack::turns_read_back))]
 pub fn printed_steps_read_back()
     ensures steps { StepsReadBack }

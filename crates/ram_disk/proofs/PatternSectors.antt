@@ -10,7 +10,7 @@ use Rattle.ram_disk.specs.Sector.{IsSector, bytes_of, filled_with}
 use Rattle.ram_disk.specs.Pattern.{pattern_byte, pattern_bytes, pattern_sector, pattern_sectors}
 use Rattle.ram_disk.proofs.SectorBytes.{bytes_of-push}
 
--- a pattern's sector, where a sector has so many bytes
+-- a pattern's sector, if a sector has this many bytes
 abbrev sector_of : ℕ → List ℕ → ℕ → List ℕ
 sector_of size pattern number = map (λ place. pattern_byte pattern (number * size + place)) (range_with_len 0 size)
 

@@ -69,7 +69,7 @@ next_run runs last byte count bytes is apart some =
       maximal = NeighboursDiffer-push runs last (byte, count) apart is.maximal;
     }
 
--- ---- the same, where the last run is read at its index
+-- ---- the same, if the last run is read at its index
 
 split_last : (runs : List (ℕ × ℕ)) (last : ℕ × ℕ) → 0 < length runs → last ≡ get_or runs (length runs - 1) last → runs ≡ take (length runs - 1) runs ++ last ∷ []
 split_last runs last some is =
@@ -110,7 +110,7 @@ StartsElsewhere-append : (byte count : ℕ) (bytes : List ℕ) → 0 < count →
 StartsElsewhere-append byte zero bytes some starts = absurd (omega arith)
 StartsElsewhere-append byte (suc count) bytes some starts = starts refl
 
--- where two lists of copies of a byte go on with another byte, they have as many copies and go on alike
+-- if two lists of copies of a byte go on with another byte, they have as many copies and go on alike
 same_copies : (byte count other : ℕ) (bytes others : List ℕ) → StartsElsewhere byte bytes → StartsElsewhere byte others → replicate count byte ++ bytes ≡ replicate other byte ++ others → (count ≡ other) × (bytes ≡ others)
 same_copies byte zero zero bytes others starts ends e = (refl, e)
 same_copies byte zero (suc other) bytes others starts ends e = absurd (subst (StartsElsewhere byte) e starts refl)
@@ -167,7 +167,7 @@ pub same_from_IsRuns : (bytes : List ℕ) (runs others : List (ℕ × ℕ)) → 
 same_from_IsRuns bytes runs others first second =
     same_runs runs others first.not_empty second.not_empty first.maximal second.maximal (first.whole ∙ sym second.whole)
 
--- ---- a list of runs of which all but the last are taken away while it grows
+-- ---- a list of runs of which all except the last are taken away while it grows
 
 All-front : (runs others : List (ℕ × ℕ)) → All IsPositive (runs ++ others) → All IsPositive runs
 All-front [] others positive = All-nil IsPositive
@@ -228,7 +228,7 @@ more_runs taken (run ∷ left) (first ∷ grown) bytes more some is next =
       maximal = NeighboursDiffer-others taken run first left grown same is.maximal next.maximal;
     }
 
--- where bytes came there are runs
+-- if bytes came there are runs
 pub some_runs : (runs : List (ℕ × ℕ)) (bytes more : List ℕ) → 0 < length more → IsRuns runs (bytes ++ more) → length runs ≡ 0 → ⊥
 some_runs [] bytes more some is none = let e = ap length is.whole in omega (arith, e, some, length-append bytes more)
 some_runs (run ∷ runs) bytes more some is none = omega (arith, none)

@@ -71,7 +71,7 @@ equal_parts size (suc count) byte =
     ∙ replicate-append-replicate size (count * size) byte
     ∙ ap (λ n. replicate n byte) all
 
--- sectors of one byte are so many of that byte
+-- sectors of one byte are this many of that byte
 pub bytes_of-replicate-filled_with : (count byte : ℕ) → bytes_of (replicate count (filled_with byte)) ≡ replicate (count * SECTOR_BYTES) byte
 unfolding filled_with
 bytes_of-replicate-filled_with count byte = equal_parts SECTOR_BYTES count byte

@@ -7,10 +7,10 @@ use Rattle.ram_disk.specs.Sector.{IsSector}
 abbrev pub IsDisk : List (List ℕ) → Type 0
 IsDisk disk = (1 ≤ length disk) × (length disk ≤ MAX_SECTORS) × All IsSector disk
 
--- what a read of so many sectors from a place on gives
+-- what a read of this many sectors, starting with a sector, gives
 abbrev pub sectors_read : ℕ → ℕ → List (List ℕ) → List (List ℕ)
 sectors_read start count disk = take count (drop start disk)
 
--- the disk after sectors are written over those from a place on
+-- the disk after sectors are written to it, starting at a place
 abbrev pub sectors_written : ℕ → List (List ℕ) → List (List ℕ) → List (List ℕ)
 sectors_written start sectors disk = take start disk ++ sectors ++ drop (start + length sectors) disk

@@ -1,7 +1,7 @@
--- The maximal runs of equal bytes. A run is a byte and how often it stands in a row.
+-- The maximal runs of equal bytes. A run is a byte and how often it is repeated.
 use Rattle.std.specs.Prelude.{◌≡◌, ◌≢◌, ℕ, ◌<◌, List, [], ◌∷◌, ◌++◌, All, replicate}
 
--- the bytes that runs stand for, one run after another
+-- the bytes of runs, one run after another
 abbrev pub bytes_of_runs : List (ℕ × ℕ) → List ℕ
 bytes_of_runs [] = []
 bytes_of_runs (run ∷ runs) = replicate run.1 run.0 ++ bytes_of_runs runs

@@ -9,24 +9,24 @@ use Rattle.ram_disk.specs.Sector.{IsSector, bytes_of}
 abbrev pub sector_at : List (List ℕ) → ℕ → List ℕ
 sector_at disk number = slice_index_or disk number []
 
--- a sector is one of so many from a place on
+-- a sector is one of this many, starting with a sector
 abbrev pub IsWithin : ℕ → ℕ → ℕ → Type 0
 IsWithin start count sector = (start ≤ sector) × (sector < start + count)
 
--- no sector is in both of two ranges, each told by its start and its count
+-- no sector is in both of two ranges, each given by its start and its count
 abbrev pub AreDisjoint : ℕ → ℕ → ℕ → ℕ → Type 0
 AreDisjoint start count other others = (sector : ℕ) → IsWithin start count sector → IsWithin other others sector → ⊥
 
--- sectors that are written over those from a place on fit the disk
+-- sectors that are written, starting at a place, fit on the disk
 abbrev pub Fits : ℕ → List (List ℕ) → List (List ℕ) → Type 0
 Fits start sectors disk = start + length sectors ≤ length disk
 
--- a sector that is written is the one that was handed in for its place
+-- a sector that is written is the sector given for its place
 abbrev pub WritesItsSectors : Type 0
 WritesItsSectors = (disk sectors : List (List ℕ)) (start place : ℕ) → Fits start sectors disk → place < length sectors
     → sector_at (sectors_written start sectors disk) (start + place) ≡ sector_at sectors place
 
--- every other sector stays
+-- every other sector is unchanged
 abbrev pub KeepsOtherSectors : Type 0
 KeepsOtherSectors = (disk sectors : List (List ℕ)) (start sector : ℕ) → Fits start sectors disk → (IsWithin start (length sectors) sector → ⊥)
     → sector_at (sectors_written start sectors disk) sector ≡ sector_at disk sector
@@ -46,7 +46,7 @@ abbrev pub ReadsTheirBytes : Type 0
 ReadsTheirBytes = (disk : List (List ℕ)) (start count : ℕ) → All IsSector disk → start + count ≤ length disk
     → bytes_of (sectors_read start count disk) ≡ take (count * SECTOR_BYTES) (drop (start * SECTOR_BYTES) (bytes_of disk))
 
--- a write of sectors is a write of their bytes: those before and those behind stay
+-- a write of sectors is a write of their bytes: those before and after stay
 abbrev pub WritesTheirBytes : Type 0
 WritesTheirBytes = (disk sectors : List (List ℕ)) (start : ℕ) → All IsSector disk → Fits start sectors disk
     → bytes_of (sectors_written start sectors disk)

@@ -10,10 +10,10 @@ use crate::{DiskFault, Sector, runs};
 use std::alloc::Global;
 use std::marker::Model;
 
-/// How many sectors a disk has at most.
+/// Maximum number of sectors of a disk.
 pub const MAX_SECTORS: u32 = 4096;
 
-/// A disk of 1 to 4,096 sectors. Contracts see the list of its sectors, each a list of 512 bytes.
+/// A disk of 1 to 4,096 sectors. In contracts it is the list of its sectors, each a list of 512 bytes.
 #[derive(Drop)]
 pub struct Disk {
     sectors: Vec<Sector>,
@@ -31,7 +31,7 @@ impl Model for Disk {
 }
 
 impl Disk {
-    /// A disk of this many sectors of zeros. `Memory` is its only refusal.
+    /// Returns a disk of this many sectors of zeros. Returns `Memory` if memory is refused.
     ///
     /// Linux: a new `brd` device reads as zeros, since it has no pages yet (drivers/block/brd.c).
     pub fn new(alloc: Global, sectors: u32) -> Result<Disk, DiskFault>
@@ -45,7 +45,7 @@ impl Disk {
         Ok(Disk { sectors })
     }
 
-    /// How many sectors the disk has, 1 to 4,096.
+    /// Returns the number of sectors, 1 to 4,096.
     pub fn len(&self) -> u32
         ensures value { result ≡ length self.now }
         ensures disk { IsDisk self.now }
@@ -53,10 +53,10 @@ impl Disk {
         self.sectors.len() as u32
     }
 
-    /// Reads `count` sectors from the sector numbered `start` on, by sharing them.
+    /// Reads `count` sectors, starting with sector `start`, by sharing them.
     ///
-    /// `PastEnd` where the range reaches past the last sector, which is tested first; `Memory` where
-    /// there is none for the list. No sectors from the end on is no reach past it.
+    /// Returns `PastEnd` if the range reaches past the last sector, which is tested first, and `Memory` if there is none for the
+    /// list. A range of no sectors that starts at the end doesn't reach past it.
     ///
     /// Linux: a request past the end of the device is an I/O error (`bio_check_eod`, block/blk-core.c).
     pub fn share(&self, alloc: Global, start: u64, count: u32) -> Result<Vec<Sector>, DiskFault>
@@ -75,9 +75,9 @@ impl Disk {
         Ok(self.sectors[start..end].to_vec(alloc)?)
     }
 
-    /// Writes these sectors over those from the sector numbered `start` on. It always succeeds.
+    /// Writes these sectors to the disk, starting with sector `start`. It always succeeds.
     ///
-    /// The sectors are moved in, and the disk's owners of the old ones are dropped.
+    /// The sectors are moved in, and the disk drops its shares of the old ones.
     pub fn install(&mut self, start: u64, sectors: Vec<Sector>)
         requires { start + vec_len sectors ≤ length self.old }
         ensures written { self.new ≡ sectors_written start sectors.items self.old }
@@ -87,7 +87,7 @@ impl Disk {
         replace(&mut self.sectors, start as usize, sectors);
     }
 
-    /// The disk's sectors, in the order of their numbers.
+    /// Returns the disk's sectors, in the order of their numbers.
     pub fn sectors(&self) -> &[Sector]
         ensures value { result.now ≡ self.now }
         ensures disk { IsDisk self.now }
@@ -95,7 +95,7 @@ impl Disk {
         &self.sectors
     }
 
-    /// The maximal runs of equal bytes of the whole disk, as `runs` gives them. `Memory` is its only refusal.
+    /// Returns the maximal runs of equal bytes of the whole disk, as `runs` does. Returns `Memory` if memory is refused.
     pub fn all_runs(&self, alloc: Global) -> Result<Vec<(u8, u64)>, DiskFault>
         ensures runs { IfOk result (λ runs. IsRuns runs.items (bytes_of self.now)) }
         ensures only_memory { IsOkUnless result DiskFault.Memory }
@@ -109,7 +109,7 @@ pub fn read_by_bytes()
     ensures { ReadsTheirBytes }
 {}
 
-/// A write of sectors is a write of their bytes: those before and those behind stay.
+/// A write of sectors is a write of their bytes: the bytes before and after stay.
 pub fn write_by_bytes()
     ensures { WritesTheirBytes }
 {}
@@ -121,7 +121,7 @@ fn replace(kept: &mut Vec<Sector>, start: usize, sectors: Vec<Sector>)
 {
     let mut place = start;
     for sector in sectors {
-        // Reading the bytes shows that there are 512 of them.
+        // Reading the bytes shows the proof that there are 512.
         let _whole = sector.bytes();
         kept[place] = sector;
         place += 1;

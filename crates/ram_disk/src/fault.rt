@@ -1,4 +1,4 @@
-//! Why a call of the disk was refused.
+//! Why a call of the disk fails.
 ghost use Rattle.std.specs.Prelude.{◌≡◌};
 ghost use Rattle.ram_disk.specs.declared.fault.DiskFault.TheVariants.{Memory};
 ghost use Rattle.ram_disk.specs.DiskFault.{fault_number};
@@ -6,19 +6,19 @@ ghost use Rattle.ram_disk.specs.DiskFault.{fault_number};
 use std::alloc::{AllocError, AllocFailed};
 use thiserror::Error;
 
-/// Why a call of the disk was refused. The disk is then as it was.
+/// Why a call of the disk fails. The disk is unchanged.
 #[derive(Clone, Copy, PartialEq, Eq, Debug, Error)]
 pub enum DiskFault {
     /// The range of sectors reaches past the last one.
     #[error("past the end of the disk")]
     PastEnd,
-    /// There was no memory for what the call makes.
+    /// Memory was refused for what the call makes.
     #[error("out of memory")]
     Memory,
 }
 
 impl DiskFault {
-    /// The refusal's number: 1 for `PastEnd`, 2 for `Memory`.
+    /// Returns the fault's number: 1 for `PastEnd`, 2 for `Memory`.
     pub fn number(&self) -> u8
         ensures { result ≡ fault_number self.now }
     {

@@ -1,28 +1,28 @@
 //! A disk in memory, made of sectors that never change and are shared.
 //!
-//! It is what Linux's RAM block device is (`brd`, drivers/block/brd.c): an array of sectors that reads
-//! and writes go to by number, with an error for a range past the end. There a write copies bytes into
-//! pages that the device owns. Here a [`Sector`] is 512 bytes that never change, counted by its owners:
+//! It is like Linux's RAM block device (`brd`, drivers/block/brd.c): an array of sectors that are read and written by
+//! number, with an error for a range past the end. In Linux a write copies bytes into pages that the device owns. Here
+//! a [`Sector`] is 512 bytes that never change, with a count of its owners:
 //!
-//! - A read, [`Disk::share`], hands out more owners of the sectors and copies no byte. What it hands out
-//!   stays as it was read, whatever is written later, so another thread can look at it.
-//! - A write has two halves. [`patterned`] makes the new sectors, which can fail for want of memory, and
-//!   [`Disk::install`] moves them into the disk, which can't. So a write that fails has changed nothing.
-//! - [`runs`] and [`Disk::all_runs`] give the bytes as maximal runs of equal bytes, and [`add_sector`] those of one
-//!   sector more.
+//! - A read, [`Disk::share`], returns more owners of the sectors and copies no byte. What it returns stays as it was
+//!   read, whatever is written later, so another thread can look at it.
+//! - A write has two halves. [`patterned`] makes the new sectors, which can fail if memory is refused, and
+//!   [`Disk::install`] moves them into the disk, which can't fail. So a write that fails has changed nothing.
+//! - [`runs`] and [`Disk::all_runs`] return the bytes as maximal runs of equal bytes, and [`add_sector`] adds those of
+//!   one more sector.
 //!
-//! Contracts see a sector as the list of its bytes, and a disk as the list of its sectors.
+//! In contracts a sector is the list of its bytes, and a disk the list of its sectors.
 //!
-//! # What it costs
+//! # Cost
 //!
-//! No contract speaks of time or memory; this is how the code is made.
+//! No contract bounds time or memory; this describes the code.
 //!
 //! - Equal sectors are one block of memory. A new disk is one sector of zeros with as many owners as the
 //!   disk has sectors. A pattern of L bytes makes L / gcd(L, 512) different sectors, 63 at most, and
 //!   owners of these for the rest of the range; a pattern of one byte value makes one.
-//! - One more owner of a sector is a count that goes up: it takes no memory.
-//! - A sector of one byte value is known as such from when it was made. In `runs` it is one step, and a run
-//!   that spans sectors is joined without a look at their bytes. Other sectors are read a byte at a time.
+//! - Another owner of a sector is a count that goes up: it takes no memory.
+//! - A sector of one byte value is known as such from the time it is made. In `runs` it is one step, and a run that
+//!   spans sectors is joined without a look at their bytes. Other sectors are read byte by byte.
 //! - The 512 bytes of a sector are written once, when it is made, and never copied again.
 #![tactic(auto)]
 

@@ -7,16 +7,16 @@ use crate::sector::SECTOR_BYTES;
 use crate::{DiskFault, Sector};
 use std::alloc::Global;
 
-/// How many bytes a pattern has at most.
+/// Maximum number of bytes of a pattern.
 pub const MAX_PATTERN: usize = 64;
 
-// Enough of a repeated pattern to cut a sector out of it, wherever in the pattern that begins.
+// Enough of a repeated pattern to copy a sector from it, starting at any byte of the pattern.
 const TILE_BYTES: usize = SECTOR_BYTES + MAX_PATTERN;
 
-/// New sectors, `count` of them, with a pattern of 1 to 64 bytes repeated over the whole range: the byte
-/// at place j is the pattern's byte at j modulo the pattern's length. `Memory` is its only refusal.
+/// Returns `count` new sectors, with a pattern of 1 to 64 bytes repeated over the whole range: byte j is the pattern's
+/// byte at j modulo the pattern's length. Returns `Memory` if memory is refused.
 ///
-/// The pattern goes on over the edges of sectors. Where a sector comes again, it is the same one, shared.
+/// The pattern continues across sectors. Equal sectors are one sector, shared.
 pub fn patterned(alloc: Global, pattern: &[u8], count: u32) -> Result<Vec<Sector>, DiskFault>
     requires within { (1 ≤ length pattern.now) × (length pattern.now ≤ MAX_PATTERN) }
     ensures made { IfOk result (λ sectors. sectors.items ≡ pattern_sectors pattern.now count) }
@@ -35,7 +35,7 @@ pub fn patterned(alloc: Global, pattern: &[u8], count: u32) -> Result<Vec<Sector
     }
 }
 
-// The byte at every place of a pattern that has no other.
+// Returns the only byte value of a pattern, if it has just one.
 fn only_byte(pattern: &[u8]) -> Option<u8>
     requires { 1 ≤ length pattern.now }
     ensures { MatchOption result ⊤ (λ byte. All (λ other. other ≡ byte) pattern.now) }
@@ -44,7 +44,7 @@ fn only_byte(pattern: &[u8]) -> Option<u8>
     pattern.iter().all(|byte| *byte == first).then_some(first)
 }
 
-// Makes each different sector once and shares it from then on.
+// Makes each different sector once, and shares it afterwards.
 fn tiled(alloc: Global, pattern: &[u8], count: usize) -> Result<Vec<Sector>, DiskFault>
     requires within { (1 ≤ length pattern.now) × (length pattern.now ≤ MAX_PATTERN) }
     ensures ok { IfOk result (λ sectors. sectors.items ≡ pattern_sectors pattern.now count) }
@@ -65,7 +65,7 @@ fn tiled(alloc: Global, pattern: &[u8], count: usize) -> Result<Vec<Sector>, Dis
     Ok(sectors)
 }
 
-// The pattern again and again, in one place.
+// Returns the pattern, repeated.
 fn tile_of(pattern: &[u8]) -> [u8; TILE_BYTES]
     requires within { (1 ≤ length pattern.now) × (length pattern.now ≤ MAX_PATTERN) }
     ensures { EachIndex result (λ place. slice_index result place ≡ pattern_byte pattern.now place) }
@@ -81,7 +81,7 @@ fn tile_of(pattern: &[u8]) -> [u8; TILE_BYTES]
     tile
 }
 
-// After how many sectors a pattern of this length begins at the start of a sector again.
+// Returns the number of sectors after which a pattern of this length begins at the start of a sector again.
 fn period_in_sectors(length: usize) -> usize
     requires within { (1 ≤ length) × (length ≤ MAX_PATTERN) }
     ensures positive { 1 ≤ result }

@@ -7,14 +7,14 @@ use crate::sector::SECTOR_BYTES;
 use crate::{DiskFault, Sector};
 use std::alloc::Global;
 
-// A byte and how often it stands in a row.
+// A byte, and how often it is repeated.
 type Run = (u8, u64);
 
-// The length of a run of this many sectors fits 64 bits. No memory holds as many owners of sectors.
+// The length of a run of this many sectors fits in 64 bits. No memory holds as many owners of sectors.
 const MOST_SECTORS: usize = usize::MAX / SECTOR_BYTES;
 
-/// The maximal runs of equal bytes of these sectors' bytes, laid end to end: each byte with how often it
-/// stands in a row. There is one such list (`one_list_of_runs`). `Memory` is the only refusal.
+/// Returns the maximal runs of equal bytes of these sectors, laid end to end: each byte, and how often it is repeated. There is
+/// exactly one such list (`one_list_of_runs`). Returns `Memory` if memory is refused.
 pub fn runs(alloc: Global, sectors: &[Sector]) -> Result<Vec<(u8, u64)>, DiskFault>
     ensures runs { IfOk result (λ runs. IsRuns runs.items (bytes_of sectors.now)) }
     ensures only_memory { IsOkUnless result DiskFault.Memory }
@@ -29,15 +29,15 @@ pub fn runs(alloc: Global, sectors: &[Sector]) -> Result<Vec<(u8, u64)>, DiskFau
     Ok(runs)
 }
 
-/// There is one list of maximal runs: two that are right of the same bytes are equal.
+/// There is one list of maximal runs: two lists that fit the same bytes are equal.
 pub fn one_list_of_runs()
     ensures { (bytes : List ℕ) (first second : List (ℕ × ℕ)) → IsRuns first bytes
         → IsRuns second bytes → first ≡ second }
 {}
 
-/// Adds the runs of one more sector to maximal runs: the last of these gets longer where the sector goes on with its
-/// byte. So a caller who has no room for all runs of a long range can take them sector by sector: once a sector is added, no
-/// other makes any but the last longer. `Memory` is the only refusal, and leaves the runs as they were.
+/// Adds the runs of one more sector to maximal runs: the last run gets longer if the sector begins with its byte. A caller that has
+/// no room for all runs of a long range can take them sector by sector, since a sector that is added later changes only the length
+/// of the last run. Returns `Memory` if memory is refused; then the runs are unchanged.
 pub fn add_sector(runs: &mut Vec<(u8, u64)>, sector: &Sector) -> Result<(), DiskFault>
     requires maximal { IsRuns runs.old.items (bytes_of_runs runs.old.items) }
     requires room { length (bytes_of_runs runs.old.items) + SECTOR_BYTES < 2 ^ 64 }
@@ -53,7 +53,7 @@ pub fn add_sector(runs: &mut Vec<(u8, u64)>, sector: &Sector) -> Result<(), Disk
     }
 }
 
-// Adds one byte so many times: the last run gets longer where it is of that byte, and else a run begins.
+// Adds one byte, repeated: the last run gets longer if it has that byte, and otherwise a new run begins.
 fn add_run(runs: &mut Vec<Run>, byte: u8, count: u64) -> Result<(), DiskFault>
     requires maximal { IsRuns runs.old.items (bytes_of_runs runs.old.items) }
     requires some { 0 < count }
@@ -76,7 +76,7 @@ fn add_run(runs: &mut Vec<Run>, byte: u8, count: u64) -> Result<(), DiskFault>
     Ok(())
 }
 
-// Adds the runs of these bytes. Room for the worst case is made first, so that the loop can't fail.
+// Adds the runs of these bytes. Memory for the worst case is allocated first, so that the loop can't fail.
 fn add_bytes(runs: &mut Vec<Run>, bytes: &[u8]) -> Result<(), DiskFault>
     requires maximal { IsRuns runs.old.items (bytes_of_runs runs.old.items) }
     requires room { length (bytes_of_runs runs.old.items) + length bytes.now < 2 ^ 64 }

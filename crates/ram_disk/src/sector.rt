@@ -7,21 +7,20 @@ use std::alloc::{AllocError, Global};
 use std::marker::Model;
 use std::sync::Arc;
 
-/// How many bytes a sector has.
+/// The number of bytes of a sector.
 pub const SECTOR_BYTES: usize = 512;
 
-// What the owners of a sector share. `only` is the byte that stands at every place, where the sector
-// was made of one.
+// What the owners of a sector share. `only` is the byte at every place, if the sector was made of one byte value.
 #[derive(Drop)]
 struct Block {
     bytes: [u8; SECTOR_BYTES],
     only: Option<u8>,
 }
 
-/// One owner of 512 bytes that never change. Contracts see the list of the bytes.
+/// One owner of 512 bytes that never change. In contracts it is the list of the bytes.
 ///
-/// A clone is one more owner: it copies no byte and takes no memory. An owner may move to another
-/// thread, and the bytes live until the last owner is dropped.
+/// A clone is another owner: it copies no byte and takes no memory. An owner may move to another thread, and the bytes
+/// live until the last owner is dropped.
 #[derive(Drop)]
 pub struct Sector {
     block: Arc<Block>,
@@ -41,7 +40,7 @@ impl Model for Sector {
 }
 
 impl Sector {
-    /// The sector's bytes, 512 of them.
+    /// Returns the sector's 512 bytes.
     pub fn bytes(&self) -> &[u8]
         ensures value { result.now ≡ self.now }
         ensures sector { IsSector self.now }
@@ -49,7 +48,7 @@ impl Sector {
         &self.block.bytes
     }
 
-    // The byte at every place, where the sector was made of one. This looks at no byte.
+    // Returns the byte at every place, if the sector was made of one byte value. Reads no byte.
     pub(crate) fn only_byte(&self) -> Option<u8>
         ensures only { IfSome result (λ byte. self.now ≡ filled_with byte) }
         ensures sector { IsSector self.now }
@@ -57,7 +56,7 @@ impl Sector {
         self.block.only
     }
 
-    // A new sector with one byte at every place.
+    // Returns a new sector with this byte at every place.
     pub(crate) fn filled(alloc: Global, byte: u8) -> Result<Sector, DiskFault>
         ensures ok { IfOk result (λ sector. sector ≡ filled_with byte) }
         ensures only_memory { IsOkUnless result DiskFault.Memory }
@@ -71,7 +70,7 @@ impl Sector {
         })
     }
 
-    // A new sector with these 512 bytes.
+    // Returns a new sector with these 512 bytes.
     pub(crate) fn copied_from(alloc: Global, from: &[u8]) -> Result<Sector, DiskFault>
         requires { IsSector from.now }
         ensures ok { IfOk result (λ sector. sector ≡ from.now) }

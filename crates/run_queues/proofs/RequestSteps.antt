@@ -8,7 +8,7 @@ use Rattle.crossbeam_queue.proofs.Lists.{at_set, at_snoc}
 use Rattle.run_queues.specs.declared.requests.Part.{Part}
 use Rattle.run_queues.specs.Numbers.{IsIncreasing, times, one_below, one_at}
 use Rattle.run_queues.specs.Totals.{total}
-use Rattle.run_queues.specs.Requests.{numbers, number_of, EndsLast, first_part, all_parts, Fits, IsInOrder, after_push, after_end, after_pop, after_split, new_drawer, joined, spent, HasDrawnAll}
+use Rattle.run_queues.specs.Requests.{numbers, number_of, EndsLast, first_part, all_parts, Fits, IsInOrder, after_push, after_end, after_pop, after_split, new_consumer, joined, spent, HasDrawnAll}
 use Rattle.run_queues.proofs.Totals.{total_set, total_snoc, at_most_total, two_at_most_total, total_is_one, Each, each_set}
 use Rattle.run_queues.proofs.Increasing.{one_below_more, one_below_none, below_of_one, one_below_at_most, times_append, times_merged, increasing_snoc, increasing_merged}
 
@@ -193,7 +193,7 @@ pops number port v has (Some request) items views b at =
     let next = draws_next number port v request items views b.0 b.1 b.2 b.3 has b.4 b.5 b.6 b.7 b.8 at in (after_pop number (Some request) v, next.0, (refl, next.1))
 
 -- one who draws is split off
-pub forks : {T : Type 0} (number : T → ℕ) (port : ℕ) (v : Part) → 1 < v.parts → Forks (IsInOrder {T = T} number) port v (after_split v) new_drawer
+pub forks : {T : Type 0} (number : T → ℕ) (port : ℕ) (v : Part) → 1 < v.parts → Forks (IsInOrder {T = T} number) port v (after_split v) new_consumer
 forks number port v many items views b at =
     let mine = b.8 port v at in
     let w = after_split v in
@@ -208,11 +208,11 @@ forks number port v many items views b at =
       b.5,
       (λ x.
           let s = total_set (λ u. times x u.drawn) views port v w at in
-          let t = total_snoc (λ u. times x u.drawn) vs new_drawer in
+          let t = total_snoc (λ u. times x u.drawn) vs new_consumer in
           let p = b.6 x in
           omega arith),
-      (let s = total_set (λ u. u.parts) views port v w at in let t = total_snoc (λ u. u.parts) vs new_drawer in let p = b.7 in omega arith),
-      (λ j u e. ⊎_elim (λ x. old j u x) (λ (is : new_drawer ≡ u). subst (fits j) is (tt, (λ p. no_bit p), (λ d. no_bit d), λ none. refl)) (at_snoc vs new_drawer u j e)),
+      (let s = total_set (λ u. u.parts) views port v w at in let t = total_snoc (λ u. u.parts) vs new_consumer in let p = b.7 in omega arith),
+      (λ j u e. ⊎_elim (λ x. old j u x) (λ (is : new_consumer ≡ u). subst (fits j) is (tt, (λ p. no_bit p), (λ d. no_bit d), λ none. refl)) (at_snoc vs new_consumer u j e)),
     )
   where
     none_left : (n : ℕ) → 1 < n → n - 1 ≡ 0 → ⊥

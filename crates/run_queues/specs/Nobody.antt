@@ -1,4 +1,4 @@
--- A name for what has none: it fills the place of a run in a type that names no run.
+-- A placeholder for an id, in a type that names no run.
 use Rattle.std.specs.Prelude.{[]}
 use Rattle.atomic_table.specs.Seated.{TableId}
 

@@ -1,4 +1,4 @@
-//! The queue of the completions.
+//! The queue of completions.
 ghost use Rattle.std.specs.Prelude.{◌≡◌, ◌+◌, ◌<◌, [], ◌∷◌, ◌++◌, IfOk, IfSome, IfNone, OnSome};
 ghost use Rattle.run_queues.specs.Numbers.{times};
 
@@ -11,8 +11,8 @@ use std::collections::LinkedList;
 use std::marker::Model;
 use std::sync::Wait;
 
-/// What a pass of the queue knows: whether it collects, and for how many completions it gave turns; the numbers
-/// that it may tell, and those that it collected. It stands in proofs alone.
+/// What a pass of the queue knows: whether it collects, for how many completions it gave turns, the numbers that it may report, and
+/// those that it collected. Exists only in proofs.
 pub struct Turn {
     pub collects: bool,
     pub given: u32,
@@ -20,7 +20,7 @@ pub struct Turn {
     pub collected: LinkedList<u32>,
 }
 
-/// The rule of the completions.
+/// The rule of completions.
 pub struct ToldOnce;
 
 impl<T: Numbered> Protocol<T, Turn> for ToldOnce {
@@ -64,7 +64,7 @@ impl<T: Numbered> Lesson<T, Turn> for Collected {
     ghost fact = { λ v items. ⊤ };
 }
 
-// How a turn splits off the one who collects.
+// How a turn is split off the pass that collects.
 struct Giving;
 
 impl Split<Turn> for Giving {
@@ -94,7 +94,7 @@ impl<T: Numbered + Drop> Model for CompletionQueue<T> {
     ghost view = { λ q. record { id = q.line.ring.table.shared.table_id; room = ruled_capacity q.line.ring } };
 }
 
-/// The right to collect completions, and to let others tell them.
+/// The right to collect completions, and to give tokens that report them.
 #[derive(Drop)]
 pub struct Collector<T: Numbered + Drop> {
     seat: Seat<T>,
@@ -111,27 +111,27 @@ impl<T: Numbered + Drop> Model for Collector<T> {
     ghost invariant = { λ c. (c.seat.me.1 ≡ []) × ((known c.seat).collects ≡ true) };
 }
 
-/// The right to tell one completion, once. It goes with its request to whoever does it.
+/// The right to report one completion, once. It goes with its request to the thread that does it.
 #[derive(Drop)]
-pub struct Duty<T: Numbered + Drop> {
+pub struct CompletionToken<T: Numbered + Drop> {
     seat: Seat<T>,
     number: u32,
 }
 
-impl<T: Numbered + Drop> Model for Duty<T> {
+impl<T: Numbered + Drop> Model for CompletionToken<T> {
     ghost use Rattle.std.specs.Prelude.{◌≡◌, []};
     ghost use Rattle.run_queues.specs.Completions.{turn_of};
-    ghost use Rattle.run_queues.specs.Parts.{DutyFacts, known};
+    ghost use Rattle.run_queues.specs.Parts.{TokenFacts, known};
 
-    ghost Value = { DutyFacts };
+    ghost Value = { TokenFacts };
 
     ghost view = { λ d. record { queue = d.seat.table_id; number = d.number } };
 
     ghost invariant = { λ d. (d.seat.me.1 ≡ []) × (known d.seat ≡ turn_of d.number) };
 }
 
-impl<T: Numbered + Drop> Duty<T> {
-    /// The number of the completion.
+impl<T: Numbered + Drop> CompletionToken<T> {
+    /// Returns the number of the completion.
     pub fn number(&self) -> u32
         ensures { result ≡ self.now.number }
     {
@@ -139,20 +139,20 @@ impl<T: Numbered + Drop> Duty<T> {
     }
 }
 
-/// What is left of a duty once its completion is told. Only [`CompletionQueue::tell`] gives it, so whoever has it
-/// shows that the completion of its number was told.
+/// What is left of a token once its completion is reported. Only [`CompletionQueue::tell`] makes it, so it shows that the
+/// completion of its number was reported.
 #[derive(Drop)]
-pub struct Receipt<T: Numbered + Drop> {
+pub struct Acknowledgement<T: Numbered + Drop> {
     seat: Seat<T>,
     number: u32,
 }
 
-impl<T: Numbered + Drop> Model for Receipt<T> {
+impl<T: Numbered + Drop> Model for Acknowledgement<T> {
     ghost use Rattle.std.specs.Prelude.{◌≡◌};
     ghost use Rattle.run_queues.specs.Completions.{no_turn};
-    ghost use Rattle.run_queues.specs.Parts.{DutyFacts, known};
+    ghost use Rattle.run_queues.specs.Parts.{TokenFacts, known};
 
-    ghost Value = { DutyFacts };
+    ghost Value = { TokenFacts };
 
     ghost view = { λ r. record { queue = r.seat.table_id; number = r.number } };
 
@@ -160,7 +160,7 @@ impl<T: Numbered + Drop> Model for Receipt<T> {
 }
 
 impl<T: Numbered + Drop> CompletionQueue<T> {
-    /// A queue with room for so many completions, and the right to collect them. All its memory is taken here.
+    /// Returns a queue with room for `room` completions, and the right to collect them. All its memory is taken here.
     pub fn new(alloc: Global, room: usize) -> Result<(CompletionQueue<T>, Collector<T>), AllocError>
         requires { 0 < room }
         ensures queue { IfOk result (λ q. q.0.room ≡ room) }
@@ -170,30 +170,35 @@ impl<T: Numbered + Drop> CompletionQueue<T> {
         Ok((CompletionQueue { line }, Collector { seat }))
     }
 
-    /// The right to tell the next completion. Its number is how many such rights were given before.
-    pub fn duty(&self, collector: &mut Collector<T>, number: u32) -> Duty<T>
+    /// Returns the right to report the next completion. Its number is how many tokens were given before.
+    pub fn token(&self, collector: &mut Collector<T>, number: u32) -> CompletionToken<T>
         requires own { collector.old.queue ≡ self.now.id }
         requires number { number ≡ collector.old.given }
-        ensures duty { result ≡ record { queue = self.now.id; number = number } }
+        ensures token { result ≡ record { queue = self.now.id; number = number } }
         ensures collector { collector.new ≡ record collector.old { given = collector.old.given + 1 } }
     {
         let seat = self.line.ring.another::<Giving>(&mut collector.seat);
-        Duty { seat, number }
+        CompletionToken { seat, number }
     }
 
-    /// Tells a completion, which has the number of the duty, and waits while there is no room. The duty is used up.
-    pub fn tell<R: Wait>(&self, rt: &R, duty: Duty<T>, completion: T) -> Receipt<T>
-        requires own { duty.queue ≡ self.now.id }
-        requires number { T.number completion ≡ duty.number }
-        ensures { result ≡ duty }
+    /// Reports a completion, which has the number of the token, and waits while there is no room. Uses up the token.
+    pub fn tell<R: Wait>(
+        &self,
+        rt: &R,
+        token: CompletionToken<T>,
+        completion: T,
+    ) -> Acknowledgement<T>
+        requires own { token.queue ≡ self.now.id }
+        requires number { T.number completion ≡ token.number }
+        ensures { result ≡ token }
     {
-        let Duty { mut seat, number } = duty;
+        let CompletionToken { mut seat, number } = token;
         self.line.push_as::<Pushed, R>(rt, &mut seat, completion);
-        Receipt { seat, number }
+        Acknowledgement { seat, number }
     }
 
-    /// Takes the first completion, and waits while there is none. It is of a number for which the right to tell was
-    /// given, and which wasn't collected before.
+    /// Takes the first completion, and waits while there is none. A token was given for its number, and no completion of that
+    /// number was collected before.
     pub fn collect<R: Wait>(&self, rt: &R, collector: &mut Collector<T>) -> T
         requires { collector.old.queue ≡ self.now.id }
         ensures collected { collector.new ≡ record collector.old { collected = collector.old.collected ++ T.number result ∷ [] } }
@@ -203,7 +208,7 @@ impl<T: Numbered + Drop> CompletionQueue<T> {
         self.line.pop_as::<Collected, R>(rt, &mut collector.seat)
     }
 
-    /// Takes the first completion where there is one now, and `None` where there is none.
+    /// Takes the first completion if there is one now. Returns `None` if there is none.
     pub fn try_collect<R: Wait>(&self, rt: &R, collector: &mut Collector<T>) -> Option<T>
         requires { collector.old.queue ≡ self.now.id }
         ensures collected { IfSome result (λ c. collector.new ≡ record collector.old { collected = collector.old.collected ++ T.number c ∷ [] }) }

@@ -1,21 +1,20 @@
-//! The queue of the requests.
-ghost use Rattle.std.specs.Prelude.{◌≡◌, ◌+◌, ◌-◌, ◌<◌, ◌≤◌, true, false, [], IfNone, IfOk, IfSome, OnOk, OnErr, length, map};
+//! The queue of requests.
+ghost use Rattle.std.specs.Prelude.{◌≡◌, ◌+◌, ◌-◌, ◌<◌, ◌≤◌, true, false, [], IfOk, OnOk, OnErr, length, map};
 ghost use Rattle.run_queues.specs.Numbers.{Draws, IsIncreasing};
 ghost use Rattle.run_queues.specs.Requests.{all_parts};
 ghost use Rattle.run_queues.specs.Parts.{after_draw, after_gather, new_source};
 
 use crate::numbered::Numbered;
-use crate::ruled_queue::{Effort, RuledQueue};
+use crate::ruled_queue::RuledQueue;
 use crossbeam_queue::Pass;
 use crossbeam_queue::protocol::{Join, Lesson, Outcome, Protocol, Split};
 use std::alloc::{AllocError, Global};
 use std::collections::LinkedList;
 use std::marker::Model;
 use std::sync::Wait;
-use wait_queue::Tries;
 
-/// What a pass of the queue knows: its parts of all that draw; whether it pushes, how many requests it pushed and
-/// how many end marks; whether it took an end mark, and the numbers that it drew. It stands in proofs alone.
+/// What a pass of the queue knows: its parts of the right to draw; whether it pushes, and how many requests and end marks it
+/// pushed; whether it took an end mark, and the numbers that it drew. Exists only in proofs.
 pub struct Part {
     pub parts: u32,
     pub pushes: bool,
@@ -25,7 +24,7 @@ pub struct Part {
     pub drawn: LinkedList<u32>,
 }
 
-/// The rule of the requests.
+/// The rule of requests.
 pub struct InOrder;
 
 impl<T: Numbered> Protocol<Option<T>, Part> for InOrder {
@@ -85,15 +84,15 @@ impl<T: Numbered> Lesson<Option<T>, Part> for Popped {
     ghost fact = { λ v items. ⊤ };
 }
 
-// How one who draws splits off the one who pushes, and comes back.
+// How a consumer is split off the source, and joins it again.
 struct Drawing;
 
 impl Split<Part> for Drawing {
-    ghost use Rattle.run_queues.specs.Requests.{after_split, new_drawer};
+    ghost use Rattle.run_queues.specs.Requests.{after_split, new_consumer};
 
     ghost left = { after_split };
 
-    ghost right = { λ v. new_drawer };
+    ghost right = { λ v. new_consumer };
 }
 
 impl Join<Part> for Drawing {
@@ -104,7 +103,7 @@ impl Join<Part> for Drawing {
     ghost spent = { spent };
 }
 
-// What the one who pushes learns once all that drew are back.
+// What the source learns once all consumers are back.
 struct Total;
 
 impl<T: Numbered> Lesson<Option<T>, Part> for Total {
@@ -117,7 +116,7 @@ type Requests<T> = RuledQueue<Option<T>, Part, InOrder>;
 
 type Seat<T> = Pass<Option<T>, Part>;
 
-/// A queue of requests for several threads that draw.
+/// A queue of requests, from which several threads draw.
 #[derive(Drop)]
 pub struct RequestQueue<T: Numbered + Drop> {
     line: Requests<T>,
@@ -132,7 +131,7 @@ impl<T: Numbered + Drop> Model for RequestQueue<T> {
     ghost view = { λ q. record { id = q.line.ring.table.shared.table_id; room = ruled_capacity q.line.ring } };
 }
 
-/// The right to push requests, and the lists of those who drew them.
+/// The right to push requests, and the lists of what the consumers drew.
 #[derive(Drop)]
 pub struct Source<T: Numbered + Drop> {
     seat: Seat<T>,
@@ -150,63 +149,63 @@ impl<T: Numbered + Drop> Model for Source<T> {
     ghost invariant = { λ s. (s.seat.me.1 ≡ []) × ((known s.seat).pushes ≡ true) × AreGathered (map (λ list. list.items) s.lists.items) (known s.seat).drawn };
 }
 
-/// The right to draw requests, and the numbers of those that were drawn.
+/// The right to draw requests, and the numbers of those that it drew.
 #[derive(Drop)]
-pub struct Drawer<T: Numbered + Drop> {
+pub struct Consumer<T: Numbered + Drop> {
     seat: Seat<T>,
     drawn: Vec<u32>,
 }
 
-impl<T: Numbered + Drop> Model for Drawer<T> {
+impl<T: Numbered + Drop> Model for Consumer<T> {
     ghost use Rattle.std.specs.Prelude.{◌≡◌, [], vec_capacity};
     ghost use Rattle.run_queues.specs.Numbers.{IsIncreasing};
-    ghost use Rattle.run_queues.specs.Requests.{new_drawer};
-    ghost use Rattle.run_queues.specs.Parts.{DrawerFacts, known};
+    ghost use Rattle.run_queues.specs.Requests.{new_consumer};
+    ghost use Rattle.run_queues.specs.Parts.{ConsumerFacts, known};
 
-    ghost Value = { DrawerFacts };
+    ghost Value = { ConsumerFacts };
 
     ghost view = { λ d. record { queue = d.seat.table_id; drained = (known d.seat).drained; drawn = d.drawn.items; room = vec_capacity d.drawn } };
 
-    ghost invariant = { λ d. (d.seat.me.1 ≡ []) × (known d.seat ≡ record new_drawer { drained = (known d.seat).drained; drawn = d.drawn.items }) × IsIncreasing d.drawn.items };
+    ghost invariant = { λ d. (d.seat.me.1 ≡ []) × (known d.seat ≡ record new_consumer { drained = (known d.seat).drained; drawn = d.drawn.items }) × IsIncreasing d.drawn.items };
 }
 
 impl<T: Numbered + Drop> RequestQueue<T> {
-    /// A queue with room for so many requests and end marks, and the right to push into it. The memory for the
-    /// lists of so many who draw is taken here too.
+    /// Returns a queue with room for `room` requests and end marks, and the right to push into it. The memory for the lists of
+    /// `consumers` consumers is taken here too.
     pub fn new(
         alloc: Global,
         room: usize,
-        drawers: usize,
+        consumers: usize,
     ) -> Result<(RequestQueue<T>, Source<T>), AllocError>
         requires { 0 < room }
         ensures queue { IfOk result (λ q. (q.0.room ≡ room) × (q.1.queue ≡ q.0.id)) }
-        ensures source { IfOk result (λ q. q.1 ≡ new_source q.0.id drawers) }
+        ensures source { IfOk result (λ q. q.1 ≡ new_source q.0.id consumers) }
     {
-        let lists = Vec::with_capacity(alloc, drawers)?;
+        let lists = Vec::with_capacity(alloc, consumers)?;
         let (line, seat) = RuledQueue::new(alloc, room)?;
         Ok((RequestQueue { line }, Source { seat, lists }))
     }
 
-    /// The right to draw, with memory for so many numbers. It is split off the right to push, and comes back to it
-    /// by [`RequestQueue::gather`].
-    pub fn drawer(
+    /// Returns a right to draw, with memory for `room` numbers. It is split off the right to push, and comes back to it by
+    /// [`RequestQueue::gather`].
+    pub fn consumer(
         &self,
         alloc: Global,
         source: &mut Source<T>,
         room: usize,
-    ) -> Result<Drawer<T>, AllocError>
+    ) -> Result<Consumer<T>, AllocError>
         requires own { source.old.queue ≡ self.now.id }
         requires parts { 1 < source.old.parts }
-        ensures drawer { IfOk result (λ d. d ≡ record { queue = self.now.id; drained = false; drawn = []; room = room }) }
+        ensures consumer { IfOk result (λ d. d ≡ record { queue = self.now.id; drained = false; drawn = []; room = room }) }
         ensures source { IfOk result (λ _. source.new ≡ record source.old { parts = source.old.parts - 1 }) }
         ensures err { OnErr result (source.new ≡ source.old) }
     {
         let drawn = Vec::with_capacity(alloc, room)?;
         let seat = self.line.ring.another::<Drawing>(&mut source.seat);
-        Ok(Drawer { seat, drawn })
+        Ok(Consumer { seat, drawn })
     }
 
-    /// Pushes the next request, and waits while there is no room. Its number is how many were pushed before. None
+    /// Pushes the next request, and waits while there is no room. Its number is how many requests were pushed before. No request
     /// may follow an end mark.
     pub fn push<R: Wait>(&self, rt: &R, source: &mut Source<T>, request: T)
         requires own { source.old.queue ≡ self.now.id }
@@ -218,18 +217,7 @@ impl<T: Numbered + Drop> RequestQueue<T> {
             .push_as::<Pushed, R>(rt, &mut source.seat, Some(request));
     }
 
-    /// The same, and no thread is woken. The caller draws the request itself, or calls [`RequestQueue::wake`], before it waits for it.
-    pub fn push_quietly<R: Wait>(&self, rt: &R, source: &mut Source<T>, request: T)
-        requires own { source.old.queue ≡ self.now.id }
-        requires open { source.old.marks ≡ 0 }
-        requires number { T.number request ≡ source.old.pushed }
-        ensures { source.new ≡ record source.old { pushed = source.old.pushed + 1 } }
-    {
-        self.line
-            .push_quietly_as::<Pushed, R>(rt, &mut source.seat, Some(request));
-    }
-
-    /// Pushes one end mark, and waits while there is no room: one call of `draw` then answers `Some(None)`.
+    /// Pushes one end mark, and waits while there is no room. One call of `draw` then returns `None`.
     pub fn end<R: Wait>(&self, rt: &R, source: &mut Source<T>)
         requires { source.old.queue ≡ self.now.id }
         ensures { source.new ≡ record source.old { marks = source.old.marks + 1 } }
@@ -237,66 +225,43 @@ impl<T: Numbered + Drop> RequestQueue<T> {
         self.line.push_as::<Ended, R>(rt, &mut source.seat, None);
     }
 
-    /// Takes what is first, and tries as hard as `effort` says: a request, or `Some(None)` where it is an end mark. `None` only
-    /// where there was neither at one moment of the call. `AllocError`, with nothing taken, where the list has no room left and is
-    /// refused more.
-    pub fn draw<R: Wait>(
-        &self,
-        rt: &R,
-        drawer: &mut Drawer<T>,
-        effort: Effort,
-    ) -> Result<Option<Option<T>>, AllocError>
-        requires { drawer.old.queue ≡ self.now.id }
-        ensures drawn { IfOk result (λ drawn. IfSome drawn (λ item. drawer.new ≡ record (after_draw T.number item drawer.old) { room = drawer.new.room })) }
-        ensures none { IfOk result (λ drawn. IfNone drawn (drawer.new ≡ record drawer.old { room = drawer.new.room })) }
-        ensures increasing { IsIncreasing drawer.new.drawn }
-        ensures room { drawer.old.room ≤ drawer.new.room }
-        ensures full { OnErr result (drawer.old.room ≤ length drawer.old.drawn) }
-        ensures err { OnErr result (drawer.new ≡ drawer.old) }
+    /// Takes the first item, and waits while there is none. Returns a request, or `None` for an end mark.
+    ///
+    /// Returns `AllocError`, with nothing taken, if the list has no room left and is refused more memory.
+    pub fn draw<R: Wait>(&self, rt: &R, consumer: &mut Consumer<T>) -> Result<Option<T>, AllocError>
+        requires { consumer.old.queue ≡ self.now.id }
+        ensures drawn { IfOk result (λ item. consumer.new ≡ record (after_draw T.number item consumer.old) { room = consumer.new.room }) }
+        ensures increasing { IsIncreasing consumer.new.drawn }
+        ensures room { consumer.old.room ≤ consumer.new.room }
+        ensures full { OnErr result (consumer.old.room ≤ length consumer.old.drawn) }
+        ensures err { OnErr result (consumer.new ≡ consumer.old) }
     {
-        drawer.drawn.reserve(1)?;
-        let drawn = self
-            .line
-            .try_pop_as::<Popped, R>(rt, &mut drawer.seat, effort);
-        if let Some(Some(request)) = &drawn {
-            drawer.drawn.push_reserved(request.number());
+        consumer.drawn.reserve(1)?;
+        let drawn = self.line.pop_as::<Popped, R>(rt, &mut consumer.seat);
+        if let Some(request) = &drawn {
+            consumer.drawn.push_reserved(request.number());
         }
         Ok(drawn)
     }
 
-    /// Says that this thread is about to sleep: from here on a push wakes it, until it draws with [`Effort::Woken`].
-    pub fn announce(&self) {
-        self.line.announce();
-    }
-
-    /// A turn for each draw of a thread that announced itself, the first at once. It sleeps between them until a push wakes it.
-    pub fn turns<'q, R: Wait>(&'q self, rt: &'q R) -> Tries<'q, R> {
-        self.line.turns(rt)
-    }
-
-    /// Wakes a thread that sleeps, for what was pushed quietly.
-    pub fn wake(&self) {
-        self.line.wake();
-    }
-
-    /// Takes the right to draw back, with the list of what was drawn. `AllocError` where there is no room for one
-    /// list more and it is refused.
-    pub fn gather(&self, source: &mut Source<T>, drawer: Drawer<T>) -> Result<(), AllocError>
-        requires own { (source.old.queue ≡ self.now.id) × (drawer.queue ≡ self.now.id) }
+    /// Takes a right to draw back, with the list of what it drew. Returns `AllocError` if there is no room for one more list and
+    /// more memory is refused.
+    pub fn gather(&self, source: &mut Source<T>, consumer: Consumer<T>) -> Result<(), AllocError>
+        requires own { (source.old.queue ≡ self.now.id) × (consumer.queue ≡ self.now.id) }
         requires parts { 0 < source.old.parts }
-        ensures ok { OnOk result (source.new ≡ after_gather drawer source.new.room source.old) }
+        ensures ok { OnOk result (source.new ≡ after_gather consumer source.new.room source.old) }
         ensures room { source.old.room ≤ source.new.room }
         ensures full { OnErr result (source.old.room ≤ length source.old.lists) }
         ensures err { OnErr result (source.new ≡ source.old) }
     {
         source.lists.reserve(1)?;
-        let Drawer { seat, drawn } = drawer;
+        let Consumer { seat, drawn } = consumer;
         self.line.ring.absorb::<Drawing>(&mut source.seat, seat);
         source.lists.push_reserved(drawn);
         Ok(())
     }
 
-    /// The lists of those who drew: each request was drawn once, and each list increases.
+    /// Returns the lists of what the consumers drew: each request was drawn once, and each list increases.
     pub fn finish(&self, source: Source<T>) -> Vec<Vec<u32>>
         requires own { source.queue ≡ self.now.id }
         requires parts { source.parts ≡ all_parts }

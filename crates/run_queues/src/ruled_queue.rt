@@ -1,57 +1,42 @@
-//! A queue under a rule, at which a thread that finds nothing, or no room, sleeps.
+//! A queue under a rule, at which a thread sleeps if it finds no item or no room.
 ghost use Rattle.std.specs.Prelude.{◌≡◌, ◌<◌, [], ◌∷◌, IfOk, IfNone, IfSome};
 ghost use Rattle.crossbeam_queue.specs.Passes.{view, IsSamePass, IsPassOf, ruled_capacity};
 ghost use Rattle.run_queues.specs.Allowed.{MayPush, MayPop};
 
-use crate::patience::Patience;
+use crate::sleepers::{Patience, Sleepers};
 use crossbeam_queue::protocol::{Free, Lesson, Outcome, Protocol};
 use crossbeam_queue::{Pass, RuledArrayQueue};
 use crossbeam_utils::CachePadded;
 use std::alloc::{AllocError, Global};
 use std::sync::Wait;
-use std::sync::atomic::{AtomicBool, AtomicUsize, Ordering};
-use wait_queue::{Tries, WaitQueue};
+use std::sync::atomic::{AtomicUsize, Ordering};
+use wait_queue::WaitQueue;
 
-/// How many threads look at most. More of them would be in each other's way, and in that of whoever pushes.
+/// Maximum number of threads that look at a time. More would be in each other's way, and in the way of the thread that pushes.
 const LOOKERS: usize = 4;
 
-/// How hard a thread tries to take an item.
-#[derive(Clone, Copy, Debug, PartialEq, Eq)]
-pub enum Effort {
-    /// It looks once, and wakes no thread for what it leaves.
-    Quiet,
-    /// It looks for as long as that is worth it.
-    Patient,
-    /// It looks once, in a turn of its sleep: an item ends that.
-    Woken,
-}
-
-/// A queue under a rule, and those who sleep at it.
+/// A queue under a rule, and the threads that sleep at it.
 ///
-/// A push and a pop take effect at one step each, and take no lock. A thread that finds nothing looks some times, as long as that
-/// is worth it ([`Patience`]). Then it announces that it will sleep, looks once more, and sleeps. A thread that pushes looks for such
-/// announcements after its step; so one of the two sees the other.
+/// A push and a pop each take effect at one step, and take no lock. A thread that finds nothing looks again a few times, as long as
+/// that is worthwhile ([`Patience`]). Then it announces that it will sleep, looks once more, and sleeps. A thread that pushes looks
+/// for such announcements after its step, so one of the two sees the other.
 ///
-/// A push wakes nobody while a thread looks, or was woken and hasn't looked yet, since that one finds the item. Where it finds one
-/// and leaves others, it wakes the next, once it no longer counts as looking.
+/// A push wakes nobody while a thread is looking, or was woken and hasn't looked yet, since that thread finds the item. If it finds
+/// one item and leaves others, it wakes the next thread, once it no longer counts as looking.
 #[derive(Drop)]
 pub(crate) struct RuledQueue<T: Drop, V, P: Protocol<T, V>> {
     pub(crate) ring: RuledArrayQueue<T, V, P>,
-    /// Those who wait for an item.
-    added: WaitQueue,
-    /// Those who wait for room.
+    /// The threads that wait for an item.
+    sleepers: Sleepers,
+    /// The threads that wait for room.
     taken: WaitQueue,
-    /// How many threads sleep, or are about to, because there was no item.
-    sleeping: AtomicUsize,
-    /// One of them was woken, and none has looked since.
-    coming: AtomicBool,
     patience: Patience,
-    /// How many threads look for an item. It changes with each look, so it shares its cache lines with nothing else.
+    /// How many threads are looking for an item. It changes with each look, so it shares its cache lines with nothing else.
     looking: CachePadded<AtomicUsize>,
 }
 
 impl<T: Drop, V, P: Protocol<T, V>> RuledQueue<T, V, P> {
-    /// A queue with room for so many items, and its first pass.
+    /// Returns a queue with room for `room` items, and its first pass.
     pub(crate) fn new(
         alloc: Global,
         room: usize,
@@ -63,34 +48,16 @@ impl<T: Drop, V, P: Protocol<T, V>> RuledQueue<T, V, P> {
         let (ring, pass) = RuledArrayQueue::ruled(alloc, room)?;
         let line = RuledQueue {
             ring,
-            added: WaitQueue::new(),
+            sleepers: Sleepers::new(),
             taken: WaitQueue::new(),
-            sleeping: AtomicUsize::new(0),
-            coming: AtomicBool::new(false),
             patience: Patience::new(),
             looking: CachePadded::new(AtomicUsize::new(0)),
         };
         Ok((line, pass))
     }
 
-    /// Pushes an item, and waits while there is no room. A thread that sleeps is woken.
+    /// Pushes an item, and waits while there is no room.
     pub(crate) fn push_as<M: Outcome<T, V> + Lesson<T, V>, R: Wait>(
-        &self,
-        rt: &R,
-        pass: &mut Pass<T, V>,
-        item: T,
-    )
-        requires queue { IsPassOf self.now.ring pass.old }
-        requires rule { MayPush P.holds (ruled_capacity self.now.ring) pass.old item M.then M.fact }
-        ensures queue { IsSamePass pass.old pass.new }
-        ensures rule { M.then (view pass.old) item (view pass.new) }
-    {
-        self.push_quietly_as::<M, R>(rt, pass, item);
-        self.wake();
-    }
-
-    /// The same, and no thread is woken. The caller pops the item itself, or wakes a thread for it, before it waits.
-    pub(crate) fn push_quietly_as<M: Outcome<T, V> + Lesson<T, V>, R: Wait>(
         &self,
         rt: &R,
         pass: &mut Pass<T, V>,
@@ -104,7 +71,10 @@ impl<T: Drop, V, P: Protocol<T, V>> RuledQueue<T, V, P> {
         let mut item = item;
         for _ in self.taken.tries(rt) {
             match self.ring.push_as::<M, R>(rt, pass, item) {
-                Ok(()) => return,
+                Ok(()) => {
+                    self.wake();
+                    return;
+                }
                 Err(back) => item = back,
             }
         }
@@ -122,74 +92,16 @@ impl<T: Drop, V, P: Protocol<T, V>> RuledQueue<T, V, P> {
         ensures queue { IsSamePass pass.old pass.new }
         ensures rule { M.then (view pass.old) result (view pass.new) }
     {
-        if let Some(item) = self.pop_soon_as::<M, R>(rt, pass) {
+        if let Some(item) = self.pop_now_as::<M, R>(rt, pass) {
             return item;
         }
-        self.announce();
-        for _ in self.turns(rt) {
-            if let Some(item) = self.pop_woken_as::<M, R>(rt, pass) {
-                return item;
-            }
+        if let Some(item) = self.look_as::<M, R>(rt, pass) {
+            return item;
         }
-        unreachable!()
+        self.sleep_as::<M, R>(rt, pass)
     }
 
-    /// Takes the first item, and tries as hard as `effort` says. `None` only where there was none at one moment of the call.
-    pub(crate) fn try_pop_as<M: Outcome<T, V> + Lesson<T, V>, R: Wait>(
-        &self,
-        rt: &R,
-        pass: &mut Pass<T, V>,
-        effort: Effort,
-    ) -> Option<T>
-        requires queue { IsPassOf self.now.ring pass.old }
-        requires rule { MayPop P.holds pass.old M.then M.fact }
-        ensures queue { IsSamePass pass.old pass.new }
-        ensures none { IfNone result (view pass.new ≡ view pass.old) }
-        ensures rule { IfSome result (λ item. M.then (view pass.old) item (view pass.new)) }
-    {
-        match effort {
-            Effort::Quiet => self.pop_quietly_as::<M, R>(rt, pass),
-            Effort::Patient => self.pop_soon_as::<M, R>(rt, pass),
-            Effort::Woken => self.pop_woken_as::<M, R>(rt, pass),
-        }
-    }
-
-    // Takes the first item where there is one now, or soon: it looks for one as long as that is worth it.
-    fn pop_soon_as<M: Outcome<T, V> + Lesson<T, V>, R: Wait>(
-        &self,
-        rt: &R,
-        pass: &mut Pass<T, V>,
-    ) -> Option<T>
-        requires queue { IsPassOf self.now.ring pass.old }
-        requires rule { MayPop P.holds pass.old M.then M.fact }
-        ensures queue { IsSamePass pass.old pass.new }
-        ensures none { IfNone result (view pass.new ≡ view pass.old) }
-        ensures rule { IfSome result (λ item. M.then (view pass.old) item (view pass.new)) }
-    {
-        if let Some(item) = self.pop_now_as::<M, R>(rt, pass) {
-            return Some(item);
-        }
-        self.look_as::<M, R>(rt, pass)
-    }
-
-    // Takes the first item where there is one now. No thread is woken for what is left.
-    fn pop_quietly_as<M: Outcome<T, V> + Lesson<T, V>, R: Wait>(
-        &self,
-        rt: &R,
-        pass: &mut Pass<T, V>,
-    ) -> Option<T>
-        requires queue { IsPassOf self.now.ring pass.old }
-        requires rule { MayPop P.holds pass.old M.then M.fact }
-        ensures queue { IsSamePass pass.old pass.new }
-        ensures none { IfNone result (view pass.new ≡ view pass.old) }
-        ensures rule { IfSome result (λ item. M.then (view pass.old) item (view pass.new)) }
-    {
-        let item = self.ring.pop_as::<M, R>(rt, pass)?;
-        self.taken.wake_one();
-        Some(item)
-    }
-
-    /// Takes the first item where there is one now, and `None` only where there was none at one moment of the call.
+    /// Takes the first item if there is one now. Returns `None` only if there was none at one moment of the call.
     pub(crate) fn pop_now_as<M: Outcome<T, V> + Lesson<T, V>, R: Wait>(
         &self,
         rt: &R,
@@ -206,7 +118,7 @@ impl<T: Drop, V, P: Protocol<T, V>> RuledQueue<T, V, P> {
         Some(item)
     }
 
-    // Looks some times for an item, and counts meanwhile as one who looks; not at all where enough others look.
+    // Looks for an item a few times, and counts as looking meanwhile. Doesn't look if enough other threads do.
     fn look_as<M: Outcome<T, V> + Lesson<T, V>, R: Wait>(
         &self,
         rt: &R,
@@ -230,7 +142,7 @@ impl<T: Drop, V, P: Protocol<T, V>> RuledQueue<T, V, P> {
         item
     }
 
-    // Tries to pop some times, with pauses between.
+    // Tries to pop a few times, with a pause before each try.
     fn find_as<M: Outcome<T, V> + Lesson<T, V>, R: Wait>(
         &self,
         rt: &R,
@@ -253,56 +165,42 @@ impl<T: Drop, V, P: Protocol<T, V>> RuledQueue<T, V, P> {
         None
     }
 
-    /// Counts this thread as one that sleeps, or is about to, until its [`RuledQueue::pop_woken_as`] takes an item.
-    pub(crate) fn announce(&self) {
-        self.sleeping.fetch_add(1, Ordering::SeqCst);
-    }
-
-    /// A turn for each try of a thread that announced itself. It sleeps between them, and a push wakes it.
-    pub(crate) fn turns<'q, R: Wait>(&'q self, rt: &'q R) -> Tries<'q, R> {
-        self.added.announced_tries(rt)
-    }
-
-    // Takes the first item where there is one now, in a turn of a thread that announced itself. Before its try the thread says that it
-    // has come: a push behind that wakes one again.
-    fn pop_woken_as<M: Outcome<T, V> + Lesson<T, V>, R: Wait>(
-        &self,
-        rt: &R,
-        pass: &mut Pass<T, V>,
-    ) -> Option<T>
+    // Takes the first item, and sleeps while there is none.
+    fn sleep_as<M: Outcome<T, V> + Lesson<T, V>, R: Wait>(&self, rt: &R, pass: &mut Pass<T, V>) -> T
         requires queue { IsPassOf self.now.ring pass.old }
         requires rule { MayPop P.holds pass.old M.then M.fact }
         ensures queue { IsSamePass pass.old pass.new }
-        ensures none { IfNone result (view pass.new ≡ view pass.old) }
-        ensures rule { IfSome result (λ item. M.then (view pass.old) item (view pass.new)) }
+        ensures rule { M.then (view pass.old) result (view pass.new) }
     {
-        self.coming.store(false, Ordering::SeqCst);
-        let item = self.ring.pop_as::<M, R>(rt, pass)?;
-        self.sleeping.fetch_sub(1, Ordering::SeqCst);
-        self.pass_on(pass);
-        Some(item)
+        let mut sleeper = self.sleepers.join(rt);
+        for _ in rt.forever() {
+            sleeper.turn();
+            if let Some(item) = sleeper.look_as::<T, V, P, M>(rt, &self.ring, pass) {
+                sleeper.rise();
+                self.pass_on(pass);
+                return item;
+            }
+        }
+        unreachable!()
     }
 
-    // After a pop: there is room, and what is left is for the next. The queue is looked at only for one who sleeps,
-    // since each look takes cache lines from whoever pushes.
+    // Wakes a thread that waits for room after a pop, and leaves the remaining items to the next. Looks at the queue only if a
+    // thread sleeps, since each look takes cache lines from the thread that pushes.
     fn pass_on(&self, pass: &mut Pass<T, V>)
         requires { IsPassOf self.now.ring pass.old }
         ensures { IsSamePass pass.old pass.new × (view pass.new ≡ view pass.old) }
     {
         self.taken.wake_one();
-        if self.sleeping.load(Ordering::SeqCst) > 0 && !self.ring.is_empty_as::<Free>(pass) {
+        if self.sleepers.are_any() && !self.ring.is_empty_as::<Free>(pass) {
             self.wake();
         }
     }
 
-    /// Wakes a sleeper, where there is one, no thread looks for what it would find, and none is on its way.
-    pub(crate) fn wake(&self) {
-        if self.sleeping.load(Ordering::SeqCst) > 0
-            && self.looking.load(Ordering::SeqCst) == 0
-            && !self.coming.load(Ordering::SeqCst)
-            && !self.coming.swap(true, Ordering::SeqCst)
-        {
-            self.added.wake_one();
+    // Wakes a sleeper, if there is one, unless a thread is looking or a woken one is on its way: that thread finds what the sleeper
+    // would find.
+    fn wake(&self) {
+        if self.sleepers.are_any() && self.looking.load(Ordering::SeqCst) == 0 {
+            self.sleepers.wake();
         }
     }
 }

@@ -1,5 +1,5 @@
-//! The queue of what isn't in use.
-ghost use Rattle.std.specs.Prelude.{◌≡◌, ◌+◌, ◌<◌, ◌^◌, IfNone, IfOk, OnSome};
+//! The queue of items that aren't in use.
+ghost use Rattle.std.specs.Prelude.{◌≡◌, ◌+◌, ◌<◌, ◌^◌, IfOk};
 ghost use Rattle.run_queues.specs.Parts.{none_counted, one_more};
 
 use crate::ruled_queue::RuledQueue;
@@ -9,8 +9,8 @@ use std::alloc::{AllocError, Global};
 use std::marker::Model;
 use std::sync::Wait;
 
-/// A queue of things that threads take and put back. What is known of one is what its type keeps: a type of which
-/// every value is free and belongs to one owner is the rule of a queue of free things of that owner.
+/// A queue of items that threads take and put back. Contracts know of an item what its type's invariant says: if every value of the
+/// type is free and belongs to one owner, the queue holds free items of that owner.
 #[derive(Drop)]
 pub struct SpareQueue<T: Drop> {
     line: RuledQueue<T, (), Free>,
@@ -25,8 +25,8 @@ impl<T: Drop> Model for SpareQueue<T> {
     ghost view = { λ q. record { id = q.line.ring.table.shared.table_id; room = ruled_capacity q.line.ring } };
 }
 
-/// The right to take from a queue of spare things, which comes with the queue and which one thread has. Contracts see from which
-/// queue, and how many it took by it: so a clause can say that a thread took one for each of its tasks, and no more.
+/// The right to take from a queue of spare items, which comes with the queue and which one thread has. Contracts see the queue and
+/// how many items were taken by it, so a clause can say that a thread took one for each of its tasks and no more.
 #[derive(Drop)]
 pub struct Taker<T: Drop> {
     seat: Pass<T, ()>,
@@ -44,8 +44,8 @@ impl<T: Drop> Model for Taker<T> {
     ghost invariant = { λ t. t.seat.me.1 ≡ [] };
 }
 
-/// How many a thread put back into a queue, of what can't be had but from a caller that took it. Contracts see the queue and the
-/// number: so a clause can say that a thread put back one for each of its tasks.
+/// How many items a thread put back into a queue. Contracts see the queue and the number, so a clause can say that a thread put
+/// back one for each of its tasks, if an item can only be had from a caller that took it.
 #[derive(Drop)]
 pub struct PutCount<T: Drop> {
     seat: Pass<T, ()>,
@@ -64,7 +64,7 @@ impl<T: Drop> Model for PutCount<T> {
 }
 
 impl<T: Drop> SpareQueue<T> {
-    /// A queue with room for so many, which is all its memory, and the right to take from it.
+    /// Returns a queue with room for `room` items, and the right to take from it. All its memory is taken here.
     pub fn new(alloc: Global, room: usize) -> Result<(SpareQueue<T>, Taker<T>), AllocError>
         requires { 0 < room }
         ensures queue { IfOk result (λ made. made.0.room ≡ room) }
@@ -74,14 +74,14 @@ impl<T: Drop> SpareQueue<T> {
         Ok((SpareQueue { line }, Taker { seat, taken: 0 }))
     }
 
-    /// How many it has room for.
+    /// Returns the number of items for which there is room.
     pub fn room(&self) -> usize
         ensures { result ≡ self.now.room }
     {
         self.line.ring.capacity()
     }
 
-    /// A count of what a thread puts back here: none so far.
+    /// Returns a count of what a thread puts back here, 0 so far.
     pub fn put_count(&self) -> PutCount<T>
         ensures { result ≡ none_counted self.now.id }
     {
@@ -91,7 +91,7 @@ impl<T: Drop> SpareQueue<T> {
         }
     }
 
-    /// Puts one back behind those that are there, and waits while there is no room. It is counted.
+    /// Puts an item back after those that are there, and counts it. Waits while there is no room.
     pub fn put<R: Wait>(&self, rt: &R, count: &mut PutCount<T>, item: T)
         requires own { count.old.queue ≡ self.now.id }
         requires room { count.old.count + 1 < 2 ^ 64 }
@@ -101,19 +101,7 @@ impl<T: Drop> SpareQueue<T> {
         count.put += 1;
     }
 
-    /// Takes the first where there is one now. It is counted.
-    pub fn try_take<R: Wait>(&self, rt: &R, taker: &mut Taker<T>) -> Option<T>
-        requires own { taker.old.queue ≡ self.now.id }
-        requires room { taker.old.count + 1 < 2 ^ 64 }
-        ensures counted { OnSome result (taker.new ≡ one_more taker.old) }
-        ensures none { IfNone result (taker.new ≡ taker.old) }
-    {
-        let item = self.line.pop_now_as::<Free, R>(rt, &mut taker.seat)?;
-        taker.taken += 1;
-        Some(item)
-    }
-
-    /// Takes the first, and waits while there is none. It is counted.
+    /// Takes the first item, and counts it. Waits while there is none.
     pub fn take<R: Wait>(&self, rt: &R, taker: &mut Taker<T>) -> T
         requires own { taker.old.queue ≡ self.now.id }
         requires room { taker.old.count + 1 < 2 ^ 64 }

@@ -4,10 +4,10 @@ use Rattle.script_meaning.specs.Meaning.{State, IsAnswered, IsReplyTo, IsReply}
 use Rattle.script_meaning.specs.Queue.{Queue}
 use Rattle.script_meaning.specs.Replies.{is_ok_of_request}
 use Rattle.script_meaning.specs.Taken.{outcome, accepted, accepted_in}
-use Rattle.script_meaning.specs.declared.line.What.{What}
-use Rattle.script_meaning.specs.declared.line.What.TheVariants.{Read, Write}
-use Rattle.script_meaning.specs.declared.outcome.Outcome.{Outcome}
-use Rattle.script_meaning.specs.declared.outcome.Outcome.TheVariants.{Accepted, Drained, Replied}
+use Rattle.script_meaning.specs.declared.script.What.{What}
+use Rattle.script_meaning.specs.declared.script.What.TheVariants.{Read, Write}
+use Rattle.script_meaning.specs.declared.reply.Outcome.{Outcome}
+use Rattle.script_meaning.specs.declared.reply.Outcome.TheVariants.{Accepted, Drained, Replied}
 use Rattle.script_meaning.specs.declared.reply.Reply.{Reply}
 use Rattle.script_meaning.specs.declared.reply.Reply.TheVariants.{Data, Written}
 use Rattle.script_meaning.proofs.Queues.{IsGood, good}

@@ -6,13 +6,13 @@ use Rattle.queue_limits.specs.declared.limits.TheConstants.{CHUNK_LIMIT}
 use Rattle.script_meaning.specs.Queue.{Queue, counted}
 use Rattle.script_meaning.specs.Replies.{is_ok_of_request}
 use Rattle.script_meaning.specs.Taken.{counts_of, request_taken, limits_taken, taken_there, taken}
-use Rattle.script_meaning.specs.declared.line.What.{What}
-use Rattle.script_meaning.specs.declared.line.What.TheVariants.{Read, Write, Freeze, Thaw, SetMax, SetChunk, SetPhysical, SetMode, Stat, Remove}
-use Rattle.script_meaning.specs.declared.outcome.Outcome.{Outcome}
+use Rattle.script_meaning.specs.declared.script.What.{What}
+use Rattle.script_meaning.specs.declared.script.What.TheVariants.{Read, Write, Freeze, Thaw, SetMax, SetChunk, SetPhysical, SetMode, Stat, Remove}
+use Rattle.script_meaning.specs.declared.reply.Outcome.{Outcome}
 use Rattle.script_meaning.specs.declared.queue_state.TheConstants.{DEPTH_LIMIT}
-use Rattle.script_meaning.specs.declared.outcome.Outcome.TheVariants.{Accepted, Drained, Replied}
+use Rattle.script_meaning.specs.declared.reply.Outcome.TheVariants.{Accepted, Drained, Replied}
 use Rattle.script_meaning.specs.declared.reply.Reply.TheVariants.{Done, Depth, NotFrozen, DepthFull, Again, PastEnd, Invalid, Stat as Told, Removed, Gone}
-use Rattle.script_meaning.specs.declared.request.Request.{Request}
+use Rattle.script_meaning.specs.declared.reply.Request.{Request}
 
 -- a later queue is on the same disk, with at most one more count
 pub record Follows (old new : Queue) : Type 0 where

@@ -2,11 +2,11 @@
 use Rattle.std.proofs.Common.{◌≡◌, refl, ap, ◌+◌, ◌≤◌, arith, true, false, cond, nat_lt, Some}
 use Rattle.script_meaning.specs.Queue.{Queue, counted}
 use Rattle.script_meaning.specs.Taken.{accepted, accepted_in, queue_after, request_counted, request_taken}
-use Rattle.script_meaning.specs.declared.line.What.{What}
-use Rattle.script_meaning.specs.declared.outcome.Outcome.{Outcome}
-use Rattle.script_meaning.specs.declared.outcome.Outcome.TheVariants.{Accepted, Drained, Replied}
+use Rattle.script_meaning.specs.declared.script.What.{What}
+use Rattle.script_meaning.specs.declared.reply.Outcome.{Outcome}
+use Rattle.script_meaning.specs.declared.reply.Outcome.TheVariants.{Accepted, Drained, Replied}
 use Rattle.script_meaning.specs.declared.reply.Reply.TheVariants.{Again, PastEnd}
-use Rattle.script_meaning.specs.declared.request.Request.{Request}
+use Rattle.script_meaning.specs.declared.reply.Request.{Request}
 use Rattle.script_meaning.proofs.Cases.{IsOwn, by_line, either}
 
 abbrev CountsWhatItAccepts : Queue → Outcome × Queue → Type 0

@@ -12,9 +12,9 @@ use Rattle.script_meaning.specs.Queue.{Queue}
 use Rattle.script_meaning.specs.Requests.{queue_after_lines, queue_at, state_at}
 use Rattle.script_meaning.specs.Script.{Meant}
 use Rattle.script_meaning.specs.Taken.{outcome, accepted}
-use Rattle.script_meaning.specs.declared.line.Line.{Line}
-use Rattle.script_meaning.specs.declared.line.What.{What}
-use Rattle.script_meaning.specs.declared.line.What.TheVariants.{Write}
+use Rattle.script_meaning.specs.declared.script.Line.{Line}
+use Rattle.script_meaning.specs.declared.script.What.{What}
+use Rattle.script_meaning.specs.declared.script.What.TheVariants.{Write}
 use Rattle.script_meaning.proofs.Queues.{follows, write_inside}
 
 pub length-pattern_sectors : (pattern : List ℕ) (count : ℕ) → length (pattern_sectors pattern count) ≡ count

@@ -6,8 +6,8 @@ use Rattle.script_meaning.specs.Queue.{Queue, start_queue}
 use Rattle.script_meaning.specs.Requests.{queue_after_lines, queue_at, accepted_at, accepted_among, accepted_before, IsNumbered}
 use Rattle.script_meaning.specs.Script.{Meant}
 use Rattle.script_meaning.specs.Taken.{queue_after, accepted}
-use Rattle.script_meaning.specs.declared.line.Line.{Line}
-use Rattle.script_meaning.specs.declared.request.Request.{Request}
+use Rattle.script_meaning.specs.declared.script.Line.{Line}
+use Rattle.script_meaning.specs.declared.reply.Request.{Request}
 use Rattle.script_meaning.proofs.Positions.{front_more}
 
 -- the accepted request at a place of some lines

@@ -8,8 +8,8 @@ use Rattle.script_meaning.specs.Queue.{Queue, start_queue}
 use Rattle.script_meaning.specs.Requests.{queue_after_lines, queue_at, state_at, accepted_at, drains_at, number_at}
 use Rattle.script_meaning.specs.Script.{Meant}
 use Rattle.script_meaning.specs.Taken.{outcome, queue_after, accepted, accepted_in, drains, drains_in}
-use Rattle.script_meaning.specs.declared.line.Line.{Line}
-use Rattle.script_meaning.specs.declared.outcome.Outcome.{Outcome}
+use Rattle.script_meaning.specs.declared.script.Line.{Line}
+use Rattle.script_meaning.specs.declared.reply.Outcome.{Outcome}
 
 pub after_lines-push : (first : State) (lines : List Line) (line : Line) → after_lines first (lines ++ line ∷ []) ≡ after (after_lines first lines) line.what
 after_lines-push first [] line = refl

@@ -4,11 +4,11 @@ use Rattle.std.proofs.lemmas.Bool.{false≢true}
 use Rattle.script_meaning.specs.Queue.{Queue}
 use Rattle.script_meaning.specs.Replies.{is_ok_of_request}
 use Rattle.script_meaning.specs.Taken.{outcome, queue_after, accepted, accepted_in}
-use Rattle.script_meaning.specs.declared.line.What.{What}
-use Rattle.script_meaning.specs.declared.line.What.TheVariants.{Write}
-use Rattle.script_meaning.specs.declared.outcome.Outcome.{Outcome}
-use Rattle.script_meaning.specs.declared.outcome.Outcome.TheVariants.{Accepted, Drained, Replied}
-use Rattle.script_meaning.specs.declared.request.Request.{Request}
+use Rattle.script_meaning.specs.declared.script.What.{What}
+use Rattle.script_meaning.specs.declared.script.What.TheVariants.{Write}
+use Rattle.script_meaning.specs.declared.reply.Outcome.{Outcome}
+use Rattle.script_meaning.specs.declared.reply.Outcome.TheVariants.{Accepted, Drained, Replied}
+use Rattle.script_meaning.specs.declared.reply.Request.{Request}
 use Rattle.script_meaning.proofs.Cases.{Follows, IsOwn, IsOf, by_request, by_line}
 
 pub follows : (q : Queue) (what : What) → Follows q (queue_after q what)

@@ -8,11 +8,11 @@ use Rattle.ram_disk.specs.Sector.{bytes_of, filled_with}
 use Rattle.script_meaning.specs.Queue.{Queue, start_queue}
 use Rattle.script_meaning.specs.Script.{Meant}
 use Rattle.script_meaning.specs.Taken.{outcome, queue_after, accepted_in}
-use Rattle.script_meaning.specs.declared.line.Line.{Line}
-use Rattle.script_meaning.specs.declared.line.What.{What}
-use Rattle.script_meaning.specs.declared.line.What.TheVariants.{Read, Write}
-use Rattle.script_meaning.specs.declared.outcome.Outcome.{Outcome}
-use Rattle.script_meaning.specs.declared.outcome.Outcome.TheVariants.{Accepted, Drained, Replied}
+use Rattle.script_meaning.specs.declared.script.Line.{Line}
+use Rattle.script_meaning.specs.declared.script.What.{What}
+use Rattle.script_meaning.specs.declared.script.What.TheVariants.{Read, Write}
+use Rattle.script_meaning.specs.declared.reply.Outcome.{Outcome}
+use Rattle.script_meaning.specs.declared.reply.Outcome.TheVariants.{Accepted, Drained, Replied}
 use Rattle.script_meaning.specs.declared.reply.Reply.{Reply}
 use Rattle.script_meaning.specs.declared.reply.Reply.TheVariants.{Data, Written}
 
@@ -41,7 +41,7 @@ IsAnswered s (Read start count) (Data pieces runs) = IsSplit s.queue.limits star
 IsAnswered s (Write start count pattern) (Written pieces) = IsSplit s.queue.limits start count pieces
 IsAnswered s what reply = ⊥
 
--- this is the reply to a line that came to this
+-- this is the reply to a line with this outcome
 abbrev pub IsReplyTo : Outcome → State → What → Reply → Type 0
 IsReplyTo (Accepted request) s what reply = IsAnswered s what reply
 IsReplyTo (Drained told) s what reply = reply ≡ told

@@ -2,21 +2,21 @@
 use Rattle.std.specs.Prelude.{ℕ, ◌+◌, Bool, false}
 use Rattle.queue_limits.specs.Bounds.{Bounds}
 use Rattle.script_meaning.specs.Script.{Meant}
-use Rattle.percpu_words.specs.declared.mode.Mode.{Mode}
-use Rattle.percpu_words.specs.declared.mode.Mode.TheVariants.{Slots}
-use Rattle.script_meaning.specs.declared.version.Version.{Version}
+use Rattle.script_meaning.specs.declared.script.Mode.{Mode}
+use Rattle.script_meaning.specs.declared.script.Mode.TheVariants.{Slots}
+use Rattle.script_meaning.specs.declared.script.Version.{Version}
 
 pub record Queue : Type 0 where
-  -- the version of its script, by which it tells of itself
+  -- the version of its script, on which it depends what the queue reports
   pub version : Version
   -- the disk's sectors
   pub sectors : ℕ
   pub limits : Bounds
-  -- how often the queue is frozen
+  -- how many times the queue is frozen
   pub depth : ℕ
   pub removed : Bool
   pub mode : Mode
-  -- the reads and writes that were accepted, the requests that a freeze refused, and those past the disk's end
+  -- the numbers of reads and writes that were accepted, of requests that a freeze refused, and of requests past the disk's end
   pub reads : ℕ
   pub writes : ℕ
   pub again : ℕ
@@ -37,6 +37,6 @@ start_queue script = record {
   eio = 0;
 }
 
--- the requests that were counted so far
+-- how many requests were counted so far
 abbrev pub counted : Queue → ℕ
 counted q = q.reads + q.writes + q.again + q.eio

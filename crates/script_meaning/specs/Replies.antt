@@ -1,4 +1,4 @@
--- Which replies are those to an accepted request.
+-- Which replies belong to an accepted request.
 use Rattle.std.specs.Prelude.{Bool, true, false}
 use Rattle.script_meaning.specs.declared.reply.Reply.{Reply}
 use Rattle.script_meaning.specs.declared.reply.Reply.TheVariants.{Data, Written}

@@ -1,19 +1,19 @@
--- What stands at each position of a script, where the first line has position 0, and the numbers of its accepted requests.
+-- What is at each position of a script, where the first line has position 0, and the numbers of its accepted requests.
 use Rattle.std.specs.Prelude.{◌≡◌, ℕ, ◌+◌, ◌<◌, Bool, false, true, List, [], ◌∷◌, take, slice_get, Option, is_some, option_map, if◌then◌else◌}
 use Rattle.std.specs.Option.{option_and_then, option_map_or}
 use Rattle.script_meaning.specs.Meaning.{State, start_of, after_lines}
 use Rattle.script_meaning.specs.Queue.{Queue, start_queue}
 use Rattle.script_meaning.specs.Script.{Meant}
 use Rattle.script_meaning.specs.Taken.{queue_after, accepted, drains}
-use Rattle.script_meaning.specs.declared.line.Line.{Line}
-use Rattle.script_meaning.specs.declared.request.Request.{Request}
+use Rattle.script_meaning.specs.declared.script.Line.{Line}
+use Rattle.script_meaning.specs.declared.reply.Request.{Request}
 
 -- the queue after some lines
 abbrev pub queue_after_lines : Queue → List Line → Queue
 queue_after_lines q [] = q
 queue_after_lines q (line ∷ lines) = queue_after_lines (queue_after q line.what) lines
 
--- the queue before the line at a position; the whole state there
+-- the queue before the line at a position, and the whole state there
 abbrev pub queue_at : Meant → ℕ → Queue
 queue_at script position = queue_after_lines (start_queue script) (take position script.lines)
 
@@ -37,14 +37,15 @@ abbrev pub accepted_among : Queue → List Line → ℕ
 accepted_among q [] = 0
 accepted_among q (line ∷ lines) = (if is_some (accepted q line.what) then 1 else 0) + accepted_among (queue_after q line.what) lines
 
--- how many a script has; how many stand before a position: so an accepted request that stands there has this number, counted from 0 in the script's order
+-- how many accepted requests a script has, and how many come before a position: an accepted request at that position has this number, counted from 0 in the
+-- script's order
 abbrev pub accepted_in_all : Meant → ℕ
 accepted_in_all script = accepted_among (start_queue script) script.lines
 
 abbrev pub accepted_before : Meant → ℕ → ℕ
 accepted_before script position = accepted_among (start_queue script) (take position script.lines)
 
--- of two positions with an accepted request at the earlier one, that one has the smaller number
+-- if there is an accepted request at the earlier of two positions, the number at that position is the smaller one
 abbrev pub AreNumberedInOrder : Meant → Type 0
 AreNumberedInOrder script = (earlier later : ℕ) → earlier < later → is_some (accepted_at script earlier) ≡ true
     → accepted_before script earlier < accepted_before script later

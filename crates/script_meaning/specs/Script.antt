@@ -1,10 +1,10 @@
 -- What a script says.
 use Rattle.std.specs.Prelude.{ℕ, Bool, true, false, List}
-use Rattle.script_meaning.specs.declared.line.Line.{Line}
-use Rattle.script_meaning.specs.declared.version.Version.{Version}
-use Rattle.script_meaning.specs.declared.version.Version.TheVariants.{One, Two}
+use Rattle.script_meaning.specs.declared.script.Line.{Line}
+use Rattle.script_meaning.specs.declared.script.Version.{Version}
+use Rattle.script_meaning.specs.declared.script.Version.TheVariants.{One, Two}
 
--- its version, the disk's sectors, those that the hardware takes in one request, and the further lines
+-- its version, the disk's sectors, how many sectors the hardware takes in one request, and the remaining lines
 pub record Meant : Type 0 where
   pub version : Version
   pub sectors : ℕ

@@ -3,22 +3,17 @@ ghost use Rattle.std.specs.Prelude.{◌≡◌, ◌+◌, ◌<◌, ◌≤◌, ◌^
 ghost use Rattle.script_meaning.specs.Queue.{counted, start_queue};
 ghost use Rattle.script_meaning.specs.Taken.{IsWithin, counts_of, limits_taken, outcome, queue_after, request_counted, request_taken, told_physical};
 
-use crate::line::What;
-use crate::outcome::Outcome;
-use crate::reply::{Reply, Stat};
-use crate::request::Request;
-use crate::script::Script;
-use crate::version::Version;
-use percpu_words::Mode;
+use crate::reply::{Outcome, Reply, Request, Stat};
+use crate::script::{Mode, Script, Version, What};
 use queue_limits::Limits;
 use std::marker::Model;
 
-/// The greatest depth: a queue is frozen at most so often.
+/// Maximum depth: how many times a queue can be frozen at once.
 pub const DEPTH_LIMIT: u32 = 1_000;
 
-/// A queue without the bytes of its disk: its limits, how often it is frozen, whether it is removed, how it
-/// counts, and what it counted. This decides which requests are accepted, which lines drain, and every
-/// reply but that to an accepted request. Contracts see the record of these.
+/// A queue without the bytes of its disk: its limits, how many times it is frozen, whether it is removed, how it counts, and its
+/// counts. This decides which requests are accepted, which lines drain, and every reply except that to an accepted request.
+/// Contracts see a record of these.
 #[derive(Clone, Copy, Debug)]
 pub struct QueueState {
     version: Version,
@@ -48,7 +43,7 @@ impl Model for QueueState {
 }
 
 impl QueueState {
-    /// The queue of a script at its start: the limits are those of the hardware, and nothing was asked.
+    /// Returns the queue of a script at its start: the limits are those of the hardware, and nothing was asked.
     pub fn new(script: &Script) -> Self
         ensures { result ≡ start_queue script.now }
     {
@@ -66,21 +61,21 @@ impl QueueState {
         }
     }
 
-    /// The disk's sectors.
+    /// Returns the number of sectors of the disk.
     pub fn sectors(&self) -> u32
         ensures { result ≡ self.now.sectors }
     {
         self.sectors
     }
 
-    /// The limits in force.
+    /// Returns the limits in force.
     pub fn limits(&self) -> Limits
         ensures { result ≡ self.now.limits }
     {
         self.limits
     }
 
-    /// How often the queue is frozen: 0 to 1,000.
+    /// Returns how many times the queue is frozen, 0 to 1,000.
     pub fn depth(&self) -> u32
         ensures value { result ≡ self.now.depth }
         ensures shallow { result ≤ DEPTH_LIMIT }
@@ -88,21 +83,21 @@ impl QueueState {
         self.depth
     }
 
-    /// Whether the queue was removed.
+    /// Returns whether the queue was removed.
     pub fn is_removed(&self) -> bool
         ensures { result ≡ self.now.removed }
     {
         self.removed
     }
 
-    /// How the queue counts the requests that are under way.
+    /// Returns how the queue counts the requests in flight.
     pub fn mode(&self) -> Mode
         ensures { result ≡ self.now.mode }
     {
         self.mode
     }
 
-    // The sectors of a physical block, where the script's version knows of one.
+    // Returns the sectors of a physical block, if the script's version has physical blocks.
     fn told_physical(&self) -> Option<u32>
         ensures { result ≡ told_physical self.now.version self.now.limits }
     {
@@ -112,7 +107,7 @@ impl QueueState {
         }
     }
 
-    // What the queue tells of itself.
+    // Returns what the queue reports about itself.
     fn stat(&self) -> Stat
         ensures { result ≡ counts_of self.now }
     {
@@ -129,8 +124,8 @@ impl QueueState {
         }
     }
 
-    /// Counts an accepted request. Whoever knows already that a line is one takes the line by this alone: it is what
-    /// [`take`](QueueState::take) does of such a line.
+    /// Counts an accepted request. A caller that already knows that a line is accepted takes the line by this alone, since it is
+    /// what [`take`](QueueState::take) does with such a line.
     pub fn count(&mut self, request: &Request)
         requires { counted self.old + 1 < 2 ^ 64 }
         ensures { self.new ≡ request_counted self.old request.now }
@@ -142,7 +137,7 @@ impl QueueState {
         }
     }
 
-    // Decides whether a request is accepted: the queue isn't frozen, and the request ends within the disk.
+    // Accepts a request if the queue isn't frozen and the request ends within the disk.
     fn request(&mut self, request: Request) -> Outcome
         requires { counted self.old + 1 < 2 ^ 64 }
         ensures outcome { result ≡ (request_taken self.old request).0 }
@@ -185,7 +180,7 @@ impl QueueState {
         Outcome::Replied(Reply::Depth(self.depth))
     }
 
-    // A setting drains where it is taken and the queue isn't frozen: under a freeze nothing is under way.
+    // Sets the limits. This drains unless the queue is frozen, when nothing is in flight.
     fn set(&mut self, limits: Limits) -> Outcome
         ensures outcome { result ≡ (limits_taken self.old limits).0 }
         ensures after { self.new ≡ (limits_taken self.old limits).1 }
@@ -234,14 +229,14 @@ impl QueueState {
         }
     }
 
-    /// Takes a line, and tells what it comes to. An accepted request is within the disk. No memory is taken.
+    /// Takes a line, and returns its outcome. An accepted request is within the disk. No memory is taken.
     pub fn take(&mut self, what: &What) -> Outcome
         requires { counted self.old + 1 < 2 ^ 64 }
         ensures outcome { result ≡ outcome self.old what.now }
         ensures after { self.new ≡ queue_after self.old what.now }
         ensures within { IsWithin self.old.sectors result }
 
-        // The disk is as long as before, and a line counts at most one request.
+        // The disk keeps its length, and a line counts one request at most.
         ensures sectors { self.new.sectors ≡ self.old.sectors }
         ensures counts { counted self.new ≤ counted self.old + 1 }
     {
@@ -251,7 +246,7 @@ impl QueueState {
         self.take_there(what)
     }
 
-    // The same of a queue that isn't removed.
+    // Takes a line of a queue that isn't removed.
     fn take_there(&mut self, what: &What) -> Outcome
         requires room { counted self.old + 1 < 2 ^ 64 }
         requires there { self.old.removed ≡ false }

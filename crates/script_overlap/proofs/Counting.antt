@@ -6,8 +6,8 @@ use Rattle.script_meaning.specs.Queue.{Queue, start_queue}
 use Rattle.script_meaning.specs.Requests.{queue_at, accepted_among, accepted_before, accepted_in_all}
 use Rattle.script_meaning.specs.Script.{Meant}
 use Rattle.script_meaning.specs.Taken.{accepted, accepted_in, outcome, queue_after}
-use Rattle.script_meaning.specs.declared.line.Line.{Line}
-use Rattle.script_meaning.specs.declared.outcome.Outcome.{Outcome}
+use Rattle.script_meaning.specs.declared.script.Line.{Line}
+use Rattle.script_meaning.specs.declared.reply.Outcome.{Outcome}
 
 pub counted_so : (script : Meant) (i : ℕ) (line : Line) (queue : Queue) (came : Outcome) (said : Bool) (n m : ℕ) → i < length script.lines → line ≡ get_or script.lines i line
     → queue ≡ queue_at script i → came ≡ outcome queue line.what → said ≡ is_some (accepted_in came) → n ≡ accepted_before script i → m ≡ n + cond said 1 0

@@ -8,9 +8,9 @@ use Rattle.std.specs.Option.{option_and_then}
 use Rattle.script_meaning.specs.Requests.{accepted_at, number_at, queue_at}
 use Rattle.script_meaning.specs.Script.{Meant}
 use Rattle.script_meaning.specs.Taken.{accepted}
-use Rattle.script_meaning.specs.declared.line.Line.{Line}
-use Rattle.script_meaning.specs.declared.version.Version.{Version}
-use Rattle.script_meaning.specs.declared.version.Version.TheVariants.{One, Two}
+use Rattle.script_meaning.specs.declared.script.Line.{Line}
+use Rattle.script_meaning.specs.declared.script.Version.{Version}
+use Rattle.script_meaning.specs.declared.script.Version.TheVariants.{One, Two}
 use Rattle.script_overlap.specs.Ordered.{MustWait, AreOrdered, AreOrderedLines, AreDrainsOf, IsOneOrder, IsOneListOfDrains, PartsAllClashes}
 use Rattle.script_overlap.proofs.PartnerLemmas.{before_or_here}
 

@@ -8,11 +8,11 @@ use Rattle.std.proofs.lemmas.Bool.{cases_lt}
 use Rattle.script_meaning.specs.Requests.{accepted_at, drains_at, number_at, queue_at}
 use Rattle.script_meaning.specs.Script.{Meant, orders}
 use Rattle.script_meaning.specs.Taken.{accepted, accepted_in, drains_in}
-use Rattle.script_meaning.specs.declared.line.Line.{Line}
-use Rattle.script_meaning.specs.declared.outcome.Outcome.{Outcome}
-use Rattle.script_meaning.specs.declared.request.Request.{Request}
-use Rattle.script_meaning.specs.declared.version.Version.{Version}
-use Rattle.script_meaning.specs.declared.version.Version.TheVariants.{One, Two}
+use Rattle.script_meaning.specs.declared.script.Line.{Line}
+use Rattle.script_meaning.specs.declared.reply.Outcome.{Outcome}
+use Rattle.script_meaning.specs.declared.reply.Request.{Request}
+use Rattle.script_meaning.specs.declared.script.Version.{Version}
+use Rattle.script_meaning.specs.declared.script.Version.TheVariants.{One, Two}
 use Rattle.script_overlap.specs.Ordered.{AreOrdered, AreDrainsOf, NoneInVersionOne}
 use Rattle.script_overlap.specs.Overlap.{HasNoOverlap, IsOverlap}
 use Rattle.script_overlap.specs.SpanOfRequests.{Marks, IsEmpty, IsNext}

@@ -7,7 +7,7 @@ use Rattle.script_meaning.specs.Script.{Meant, orders}
 use Rattle.script_overlap.specs.Ordered.{MustWait}
 use Rattle.script_overlap.specs.Partners.{Finds, IsPartner, IsEarliest}
 use Rattle.line_text.specs.declared.fault.Overlap.{Overlap}
-use Rattle.script_meaning.specs.declared.request.Request.{Request}
+use Rattle.script_meaning.specs.declared.reply.Request.{Request}
 use Rattle.script_overlap.proofs.PartnerLemmas.{same_accepted, span_with, span_before}
 
 -- where a request has to wait, an earlier line is found

@@ -8,10 +8,10 @@ use Rattle.script_meaning.specs.Queue.{Queue}
 use Rattle.script_meaning.specs.Requests.{accepted_at, drains_at, number_at, queue_at}
 use Rattle.script_meaning.specs.Script.{Meant}
 use Rattle.script_meaning.specs.Taken.{accepted, accepted_in, drains, drains_in, outcome}
-use Rattle.script_meaning.specs.declared.line.Line.{Line}
-use Rattle.script_meaning.specs.declared.outcome.Outcome.{Outcome}
-use Rattle.script_meaning.specs.declared.outcome.Outcome.TheVariants.{Accepted, Drained, Replied}
-use Rattle.script_meaning.specs.declared.request.Request.{Request}
+use Rattle.script_meaning.specs.declared.script.Line.{Line}
+use Rattle.script_meaning.specs.declared.reply.Outcome.{Outcome}
+use Rattle.script_meaning.specs.declared.reply.Outcome.TheVariants.{Accepted, Drained, Replied}
+use Rattle.script_meaning.specs.declared.reply.Request.{Request}
 use Rattle.script_overlap.specs.Overlap.{InOneSpan, Clash}
 use Rattle.script_overlap.specs.Partners.{NoneDrains, IsPartner, IsEarliest, Finds}
 

@@ -4,9 +4,9 @@ use Rattle.std.proofs.lemmas.Bool.{cases_lt}
 use Rattle.script_meaning.specs.Requests.{accepted_at, drains_at}
 use Rattle.script_meaning.specs.Script.{Meant}
 use Rattle.script_meaning.specs.Taken.{accepted_in, drains_in}
-use Rattle.script_meaning.specs.declared.outcome.Outcome.{Outcome}
-use Rattle.script_meaning.specs.declared.outcome.Outcome.TheVariants.{Accepted, Drained, Replied}
-use Rattle.script_meaning.specs.declared.request.Request.{Request}
+use Rattle.script_meaning.specs.declared.reply.Outcome.{Outcome}
+use Rattle.script_meaning.specs.declared.reply.Outcome.TheVariants.{Accepted, Drained, Replied}
+use Rattle.script_meaning.specs.declared.reply.Request.{Request}
 use Rattle.script_overlap.specs.Ordered.{PartsNothing, WouldJoin, MustWait}
 use Rattle.script_overlap.specs.Overlap.{HasSector, Clash}
 use Rattle.script_overlap.specs.Span.{is_touched}

@@ -7,8 +7,8 @@ use Rattle.std.specs.Option.{option_and_then}
 use Rattle.script_meaning.specs.Requests.{accepted_at, queue_at}
 use Rattle.script_meaning.specs.Script.{Meant}
 use Rattle.script_meaning.specs.Taken.{accepted}
-use Rattle.script_meaning.specs.declared.line.Line.{Line}
-use Rattle.script_meaning.specs.declared.request.Request.{Request}
+use Rattle.script_meaning.specs.declared.script.Line.{Line}
+use Rattle.script_meaning.specs.declared.reply.Request.{Request}
 use Rattle.script_overlap.specs.Decided.{AreWritten, written_at}
 
 -- of each line before a position its request is written, if it has one, and of no other

@@ -1,20 +1,21 @@
--- What a check decides of a script.
+-- What a check decides about a script.
 use Rattle.std.specs.Prelude.{◌≡◌, ℕ, ◌≤◌, List, length, slice_get, Option}
 use Rattle.std.specs.Option.{option_and_then}
 use Rattle.script_meaning.specs.Requests.{accepted_at, accepted_in_all}
 use Rattle.script_meaning.specs.Script.{Meant}
-use Rattle.script_meaning.specs.declared.request.Request.{Request}
+use Rattle.script_meaning.specs.declared.reply.Request.{Request}
 use Rattle.script_overlap.specs.Ordered.{AreOrdered, NoneInVersionOne}
 use Rattle.script_overlap.specs.Overlap.{HasNoOverlap}
 
--- what is written of a position: the request that the queue accepts there, if there is one
+-- what is recorded for a position: the request that the queue accepts there, if there is one
 abbrev pub written_at : List (Option Request) → ℕ → Option Request
 written_at requests position = option_and_then (λ request. request) (slice_get requests position)
 
 abbrev pub AreWritten : Meant → List (Option Request) → Type 0
 AreWritten script requests = (position : ℕ) → written_at requests position ≡ accepted_at script position
 
--- of each position its request is written; no two of them overlap, these are the positions of the ordered ones, which version 1 has none of, and so many are accepted
+-- the request at each position is recorded; no two requests overlap, `ordered` has the positions of the ordered requests, of which version 1 has none, and
+-- `accepted` is how many requests are accepted
 pub record IsDecided (script : Meant) (requests : List (Option Request)) (ordered : List ℕ) (accepted : ℕ) : Type 0 where
   pub written : AreWritten script requests
   pub apart : HasNoOverlap script

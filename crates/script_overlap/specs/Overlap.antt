@@ -2,28 +2,28 @@
 use Rattle.std.specs.Prelude.{◌≡◌, ℕ, ◌+◌, ◌<◌, ◌≤◌, Bool, true, false, ◌||◌, Some, Result, Ok, Err}
 use Rattle.script_meaning.specs.Requests.{accepted_at, drains_at, number_at}
 use Rattle.script_meaning.specs.Script.{Meant, orders}
-use Rattle.script_meaning.specs.declared.request.Request.{Request}
+use Rattle.script_meaning.specs.declared.reply.Request.{Request}
 use Rattle.line_text.specs.declared.fault.Overlap.{Overlap}
 use Rattle.line_text.specs.declared.fault.ScriptFault.{ScriptFault}
 use Rattle.line_text.specs.declared.fault.ScriptFault.TheVariants.{Memory, Parse, Overlap as Overlapping}
 
--- the requests at two positions are in one span where no cut comes after the earlier one, up to the later one
+-- the requests at two positions are in one span if no cut comes after the earlier position, up to and including the later one
 abbrev pub InOneSpan : (ℕ → Bool) → ℕ → ℕ → Type 0
 InOneSpan cuts earlier later = (cut : ℕ) → earlier < cut → cut ≤ later → cuts cut ≡ false
 
--- a sector is one of a request's
+-- a sector belongs to a request
 abbrev pub HasSector : Request → ℕ → Type 0
 HasSector request sector = (request.start ≤ sector) × (sector < request.start + request.count)
 
--- two requests clash where they share a sector, and at least one of them writes
+-- two requests clash if they share a sector and at least one of them writes
 pub record Clash (first second : Request) : Type 0 where
   pub sector : ℕ
   pub in_first : HasSector first sector
   pub in_second : HasSector second sector
   pub writes : first.writes || second.writes ≡ true
 
--- the requests at two positions of a script of version 1 overlap: they are accepted, in one span, and clash. A span ends where a line drains.
--- In version 2 none overlap, since a span also ends before an ordered request: Ordered.antt
+-- the requests at two positions of a script of version 1 overlap: they are accepted, in one span, and clash. A span ends at a line that drains. In version 2
+-- none overlap, since a span also ends before an ordered request (Ordered.antt)
 pub record IsOverlap (script : Meant) (earlier later : ℕ) : Type 0 where
   pub refuses : orders script.version ≡ false
   pub first : Request
@@ -52,7 +52,7 @@ pub record IsReported (script : Meant) (pair : Overlap) : Type 0 where
   pub earlier_line : number_at script earlier ≡ Some pair.earlier
   pub later_line : number_at script later ≡ Some pair.line
 
--- what a check of a script answered is its first overlap, or that there is none, unless memory ran out
+-- the result of a check of a script is its first overlap, or that there is none, unless memory was refused
 abbrev pub IsChecked : {A : Type 0} → Meant → Result A ScriptFault → Type 0
 IsChecked script (Ok done) = HasNoOverlap script
 IsChecked script (Err Memory) = Unit {0}

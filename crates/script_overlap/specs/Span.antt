@@ -1,4 +1,4 @@
--- Which sectors the requests of a span touch: of each sector, whether it is touched.
+-- Which sectors the requests of a span touch.
 use Rattle.std.specs.Prelude.{◌≡◌, ℕ, ◌+◌, ◌<◌, ◌≤◌, Bool, true, false, List, length}
 use Rattle.std.specs.List.{slice_index_or}
 
@@ -21,7 +21,7 @@ TouchesNone marks start count = (sector : ℕ) → start ≤ sector → sector <
 abbrev pub IsClear : List Bool → Type 0
 IsClear marks = (sector : ℕ) → is_touched marks sector ≡ false
 
--- these sectors are touched now, and every other is as before
+-- these sectors are touched now, and every other is as it was
 pub record Adds (old new : List Bool) (start count : ℕ) : Type 0 where
   pub sectors : length new ≡ length old
   pub inside : (sector : ℕ) → start ≤ sector → sector < start + count → is_touched new sector ≡ true

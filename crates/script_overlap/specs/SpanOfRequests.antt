@@ -2,11 +2,11 @@
 use Rattle.std.specs.Prelude.{◌≡◌, ℕ, ◌||◌, Bool, true, false, List, length, Option, Some, None}
 use Rattle.script_overlap.specs.Overlap.{HasSector}
 use Rattle.script_overlap.specs.Span.{is_touched, IsClear, Adds}
-use Rattle.script_meaning.specs.declared.outcome.Outcome.{Outcome}
-use Rattle.script_meaning.specs.declared.outcome.Outcome.TheVariants.{Accepted, Drained, Replied}
-use Rattle.script_meaning.specs.declared.request.Request.{Request}
+use Rattle.script_meaning.specs.declared.reply.Outcome.{Outcome}
+use Rattle.script_meaning.specs.declared.reply.Outcome.TheVariants.{Accepted, Drained, Replied}
+use Rattle.script_meaning.specs.declared.reply.Request.{Request}
 
--- of each sector, whether a request reads it, and whether one writes it
+-- for each sector, whether a request reads it, and whether one writes it
 pub record Marks : Type 0 where
   pub reads : List Bool
   pub writes : List Bool
@@ -16,7 +16,7 @@ abbrev pub marks_of : Marks → Bool → List Bool
 marks_of span true = span.writes
 marks_of span false = span.reads
 
--- they are marks on a disk of so many sectors
+-- these are marks on a disk of this many sectors
 pub record OfSectors (span : Marks) (sectors : ℕ) : Type 0 where
   pub reads : length span.reads ≡ sectors
   pub writes : length span.writes ≡ sectors
@@ -24,7 +24,7 @@ pub record OfSectors (span : Marks) (sectors : ℕ) : Type 0 where
 abbrev pub IsEmpty : Marks → Type 0
 IsEmpty span = (writes : Bool) → IsClear (marks_of span writes)
 
--- a sector of the request was touched, and one of the two writes
+-- a sector of the request is touched, and this request or one that touched it writes
 pub record Conflicts (span : Marks) (request : Request) : Type 0 where
   pub sector : ℕ
   pub inside : HasSector request sector
@@ -35,7 +35,7 @@ pub record Conflicts (span : Marks) (request : Request) : Type 0 where
 abbrev pub ConflictsNot : Marks → Request → Type 0
 ConflictsNot span request = (sector : ℕ) (writes : Bool) → HasSector request sector → writes || request.writes ≡ true → is_touched (marks_of span writes) sector ≡ false
 
--- the request's sectors are touched as it touches them, and nothing else changes
+-- the request's sectors are touched, by reads or by writes as the request is, and nothing else changes
 pub record Takes (old new : Marks) (request : Request) : Type 0 where
   pub adds : Adds (marks_of old request.writes) (marks_of new request.writes) request.start request.count
   pub keeps : (writes : Bool) → (writes ≡ request.writes → false ≡ true) → marks_of new writes ≡ marks_of old writes
@@ -46,7 +46,7 @@ pub record Begins (new : Marks) (request : Request) : Type 0 where
   pub is_empty : IsEmpty empty
   pub takes : Takes empty new request
 
--- a span after a line that came to this, and the request that had to wait for a drain, if one had to: it begins a new span
+-- a span after a line with this outcome, and the request that had to wait for a drain, if there was one, which begins a new span
 abbrev pub IsNext : Marks → Outcome → Option Request → Marks → Type 0
 IsNext old (Accepted request) None new = ConflictsNot old request × Takes old new request
 IsNext old (Accepted request) (Some waits) new = (waits ≡ request) × Conflicts old request × Begins new request

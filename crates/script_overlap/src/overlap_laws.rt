@@ -1,5 +1,5 @@
-//! What holds of the definitions of overlaps and of ordered requests, apart from the code. The functions do nothing;
-//! their contracts are laws.
+//! Laws of the definitions of overlaps and of ordered requests, apart from the code. The functions do nothing; their contracts are
+//! laws.
 ghost use Rattle.std.specs.Prelude.{◌≡◌, ℕ};
 ghost use Rattle.script_overlap.specs.Ordered.{IsOneListOfDrains, IsOneOrder, PartsAllClashes};
 ghost use Rattle.script_overlap.specs.Overlap.{IsFirstOverlap, IsReported};
@@ -12,8 +12,8 @@ pub fn one_first_overlap()
     ensures pair { (script : Meant) (a b : Overlap) → IsReported script a → IsReported script b → a ≡ b }
 {}
 
-/// A script has at most one list of ordered requests, and one of the lines before which a drain stands. Where a drain stands before each of
-/// them, no two requests clash that no drain parts.
+/// A script has at most one list of ordered requests, and at most one list of the lines before which the queue has to drain. With a
+/// drain before each of them, no two requests clash without a drain between them.
 pub fn one_list_of_ordered_requests()
     ensures positions { IsOneOrder }
     ensures lines { IsOneListOfDrains }

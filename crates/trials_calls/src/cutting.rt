@@ -12,7 +12,7 @@ pub fn start(hw: u32) -> Result<Limits, LimitFault> {
     Limits::start(hw)
 }
 
-/// The hardware's limit, and the three that can be set.
+/// Returns the limit of the hardware, and the three limits that can be set.
 pub fn numbers(limits: &Limits) -> [u32; 4] {
     [limits.hw(), limits.max(), limits.chunk(), limits.physical()]
 }
@@ -52,12 +52,12 @@ pub fn pieces(limits: &Limits, start: u64, count: u32) -> Pieces
     limits.pieces(start, count)
 }
 
-/// A piece is a `u32` of sectors.
+/// Returns the next piece, a `u32` of sectors.
 pub fn next(pieces: &mut Pieces) -> Option<u32> {
     pieces.next()
 }
 
-/// The number of a refusal.
+/// Returns the number of a refusal.
 pub fn limit_fault(fault: LimitFault) -> u8
     ensures { result ≡ number_of fault }
 {

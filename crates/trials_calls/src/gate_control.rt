@@ -128,7 +128,7 @@ pub fn wants<const W: usize>(control: &Control<W>) -> Mode {
     control.wants()
 }
 
-/// The slots that are closed already. The phase is one of these six.
+/// Returns how many slots are closed already. The phase is one of these six.
 pub fn phase<const W: usize>(control: &Control<W>) -> u32 {
     match control.phase() {
         Phase::LiveSlots | Phase::LiveAtomic | Phase::Collected | Phase::Confirmed | Phase::Dead =>
@@ -151,7 +151,7 @@ pub fn exit<const W: usize>(gate: Gate<W>, control: Control<W>) -> Result<Final<
     Gate::exit(gate, control)
 }
 
-/// Whether the gate had reached zero.
+/// Returns whether the gate had reached zero.
 pub fn revived(revived: Revived) -> bool {
     match revived {
         Revived::AtZero => true,
@@ -159,7 +159,7 @@ pub fn revived(revived: Revived) -> bool {
     }
 }
 
-/// The number of a refusal.
+/// Returns the number of a refusal.
 pub fn control_fault(fault: ControlFault) -> u8
     ensures { result ≡ fault_number fault }
 {
@@ -172,7 +172,7 @@ pub fn control_fault(fault: ControlFault) -> u8
     }
 }
 
-/// The number of a refusal to end.
+/// Returns the number of a refusal to end.
 pub fn exit_why(why: ExitWhy) -> u8
     ensures { result ≡ exit_number why }
 {
@@ -185,13 +185,13 @@ pub fn exit_why(why: ExitWhy) -> u8
     }
 }
 
-/// A gate that may not end, and its control.
+/// Returns why a gate may not end, the gate and its control.
 pub fn handed_back<const W: usize>(fault: ExitFault<W>) -> (ExitWhy, Gate<W>, Control<W>) {
     let ExitFault { why, gate, control } = fault;
     (why, gate, control)
 }
 
-/// Whether the gate was dead, its kills, its releases and its words.
+/// Returns whether the gate was dead, its kills, its releases and its words.
 pub fn ended<const W: usize>(left: Final<W>) -> (bool, u64, u64, [u64; W]) {
     let Final {
         dead,

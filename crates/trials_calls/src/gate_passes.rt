@@ -91,7 +91,7 @@ pub fn is_zero<const W: usize>(pass: &mut Pass<W>, gate: &Gate<W>) -> bool
     pass.is_zero(gate)
 }
 
-/// The put of a try that gave nothing.
+/// Returns the put of a try that gave nothing.
 pub fn tried(tried: Tried) -> Option<Put> {
     match tried {
         Tried::Given => None,
@@ -99,7 +99,7 @@ pub fn tried(tried: Tried) -> Option<Put> {
     }
 }
 
-/// Whether a put is the release.
+/// Returns whether a put is the release.
 pub fn is_last(put: Put) -> bool {
     match put {
         Put::NotLast => false,

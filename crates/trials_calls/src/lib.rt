@@ -1,8 +1,8 @@
-//! Each call that the crates below offer to anybody, made once with the types that it is promised to have.
+//! Each public call of the crates below, made once, with the types that it is promised to have.
 //!
-//! A function here has the name of the call that it makes. Its signature spells the types out, its `requires` are the
-//! conditions of that call, and a `match` without a wildcard names each answer. If a name, a type, a condition or an answer
-//! changes, this crate doesn't compile, or isn't proved.
+//! A function here has the name of the call that it makes. Its signature spells out the types, its `requires` are the conditions of
+//! that call, and a `match` without a wildcard names each result. If a name, a type, a condition or a result changes, this crate
+//! doesn't compile, or isn't proved.
 #![tactic(auto)]
 
 pub mod cutting;
@@ -13,5 +13,6 @@ pub mod program;
 pub mod queue;
 pub mod scripts;
 pub mod sectors;
+pub mod shown;
 pub mod spellings;
 pub mod threads;

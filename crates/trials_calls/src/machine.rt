@@ -49,7 +49,7 @@ pub fn replay(
     percpu_core::replay(alloc, world, events)
 }
 
-/// The shared word, the front, the kills, the releases and what all passes hold.
+/// Returns the shared word, the front, the kills, the releases and what all passes hold.
 pub fn numbers(world: &World) -> [u64; 5] {
     [
         world.shared(),
@@ -78,7 +78,7 @@ pub fn held(world: &World, pass: u32) -> u32
     world.held(pass)
 }
 
-/// The phase, and the number of slots that are closed or opened already.
+/// Returns the number of slots that are closed or opened already, in each phase.
 pub fn phase(world: &World) -> u32 {
     match world.phase() {
         Phase::LiveSlots
@@ -92,7 +92,7 @@ pub fn phase(world: &World) -> u32 {
     }
 }
 
-/// Whether a gate starts live.
+/// Returns whether a gate starts live.
 pub fn start(start: Start) -> bool {
     match start {
         Start::Slots | Start::Atomic => true,
@@ -100,7 +100,7 @@ pub fn start(start: Start) -> bool {
     }
 }
 
-/// The slot or word of a pass's event, its delta and its amount.
+/// Returns the slot or word of a pass's event, its delta and its amount.
 pub fn pass_event(event: PassEvent) -> (u32, i64, u32) {
     match event {
         PassEvent::AddTry
@@ -116,7 +116,7 @@ pub fn pass_event(event: PassEvent) -> (u32, i64, u32) {
     }
 }
 
-/// The word or pass of an event of the control, and its value.
+/// Returns the word or pass of an event of the control, and its value.
 pub fn control_event(event: ControlEvent) -> (u32, u64) {
     match event {
         ControlEvent::MarkDead
@@ -146,7 +146,7 @@ pub fn event(event: Event) -> Option<(u32, PassEvent)> {
     }
 }
 
-/// The delta in a reply, and its word or number.
+/// Returns the delta in a reply, and its word or number.
 pub fn reply(reply: Reply) -> (i64, u64) {
     match reply {
         Reply::Given
@@ -163,7 +163,7 @@ pub fn reply(reply: Reply) -> (i64, u64) {
     }
 }
 
-/// The number of a refusal.
+/// Returns the number of a refusal.
 pub fn not_enabled(why: NotEnabled) -> u8
     ensures { result ≡ refusal_number why }
 {
@@ -181,7 +181,7 @@ pub fn not_enabled(why: NotEnabled) -> u8
     }
 }
 
-/// The event that a replay stopped before, and why.
+/// Returns the index of the event before which a replay stopped, and why.
 pub fn replay_fault(fault: ReplayFault) -> Option<(usize, NotEnabled)> {
     match fault {
         ReplayFault::Memory => None,
@@ -189,7 +189,7 @@ pub fn replay_fault(fault: ReplayFault) -> Option<(usize, NotEnabled)> {
     }
 }
 
-/// Want of memory says nothing but that.
+/// Makes a `Memory`, which has no fields.
 pub fn memory() -> Memory {
     Memory
 }

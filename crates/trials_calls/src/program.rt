@@ -53,7 +53,7 @@ pub fn command<R: Read, W: Write, E: Write>(
     blkq_run::command(rt, alloc, args, reader, writer, errors)
 }
 
-/// Whether a replay ended at its last event.
+/// Returns whether a replay took all its steps.
 pub fn replayed(replayed: Replayed) -> bool {
     match replayed {
         Replayed::Whole => true,
@@ -61,7 +61,7 @@ pub fn replayed(replayed: Replayed) -> bool {
     }
 }
 
-/// The numbers of a schedule's world, its start, and its lists as vectors.
+/// Returns the numbers of a schedule's world, its start, and its lists as vectors.
 pub fn schedule(schedule: Schedule) -> (u32, u32, Start, u64, Vec<u64>, Vec<(u32, Event)>) {
     let Schedule {
         slots,
@@ -82,7 +82,7 @@ pub fn schedule(schedule: Schedule) -> (u32, u32, Start, u64, Vec<u64>, Vec<(u32
     )
 }
 
-/// The number of a fault.
+/// Returns the number of a fault.
 pub fn fault(fault: Fault) -> u8
     ensures { result ≡ number_of fault }
 {

@@ -33,6 +33,14 @@ pub fn try_enter(queue: &BlockQueue, tag: &mut Tag, slot: u32) -> Enter
     queue.try_enter(tag, slot)
 }
 
+pub fn try_enter_frozen(queue: &BlockQueue, tag: &mut Tag, slot: u32) -> Enter
+    requires own { tag.old.queue ≡ queue.now }
+    requires slot { slot < queue.now.gate.slots }
+    requires out { tag.old.entered ≡ false }
+{
+    queue.try_enter_frozen(tag, slot)
+}
+
 pub fn enter<R: Wait>(rt: &R, queue: &BlockQueue, tag: &mut Tag, slot: u32)
     requires own { tag.old.queue ≡ queue.now }
     requires slot { slot < queue.now.gate.slots }
@@ -92,6 +100,16 @@ pub fn freeze<R: Wait>(
     freezer.freeze(rt, queue)
 }
 
+pub fn wait_drained<R: Wait>(
+    rt: &R,
+    freezer: &mut Freezer,
+    queue: &BlockQueue,
+) -> Result<(), FreezeFault>
+    requires { freezer.old.queue ≡ queue.now }
+{
+    freezer.wait_drained(rt, queue)
+}
+
 pub fn poll_drained(freezer: &mut Freezer, queue: &BlockQueue) -> bool
     requires { freezer.old.queue ≡ queue.now }
 {
@@ -143,17 +161,31 @@ pub fn lock<'g, 'q, R: Wait>(rt: &R, shared: &'g SharedFreezer<'q>) -> MutexGuar
     shared.lock(rt)
 }
 
+pub fn shared_freeze<'g, 'q, R: Wait>(
+    rt: &R,
+    shared: &'g SharedFreezer<'q>,
+) -> Result<MutexGuard<'g, Pair<'q>>, FreezeFault> {
+    shared.freeze(rt)
+}
+
+pub fn shared_wait<'g, 'q, R: Wait>(
+    rt: &R,
+    shared: &'g SharedFreezer<'q>,
+) -> Result<MutexGuard<'g, Pair<'q>>, FreezeFault> {
+    shared.wait_drained(rt)
+}
+
 pub fn into_inner(shared: SharedFreezer<'_>) -> Pair<'_> {
     shared.into_inner()
 }
 
-/// The pair that a lock keeps.
+/// Returns the pair that a lock keeps.
 pub fn parted(pair: Pair<'_>) -> (Freezer, &BlockQueue) {
     let Pair { freezer, queue } = pair;
     (freezer, queue)
 }
 
-/// Whether a tag has entered.
+/// Returns whether a tag has entered.
 pub fn is_entered(enter: Enter) -> bool {
     match enter {
         Enter::Entered => true,
@@ -161,7 +193,7 @@ pub fn is_entered(enter: Enter) -> bool {
     }
 }
 
-/// The number of a refusal.
+/// Returns the number of a refusal.
 pub fn freeze_fault(fault: FreezeFault) -> u8
     ensures { result ≡ fault_number fault }
 {
@@ -177,7 +209,7 @@ pub fn freeze_fault(fault: FreezeFault) -> u8
     }
 }
 
-/// A queue that may not end, its freezer and its tags.
+/// Returns why a queue may not end, its freezer, the queue and its tags.
 pub fn handed_back(fault: RemoveFault) -> (FreezeFault, Freezer, BlockQueue, Vec<Tag>) {
     let RemoveFault {
         why,

@@ -42,7 +42,7 @@ pub fn number(word: &[u8], low: i128, high: i128, signed: bool) -> Result<i128, 
     blk_script::number(word, low, high, signed)
 }
 
-/// The version, the disk's sectors and what the hardware takes.
+/// Returns the version, the disk's sectors and what the hardware takes.
 pub fn numbers(script: &Script) -> [u32; 3] {
     [script.version(), script.disk(), script.hw()]
 }
@@ -51,13 +51,13 @@ pub fn lines(script: &Script) -> &[Line] {
     script.lines()
 }
 
-/// The number of a line.
+/// Returns the number of a line, and what it asks.
 pub fn line(line: &Line) -> (u32, &What) {
     let Line { number, what } = line;
     (*number, what)
 }
 
-/// The numbers of what a line asks: a place and a count, or a setting.
+/// Returns the numbers of what a line asks: a start and a count, or a setting.
 pub fn what(what: &What) -> (u32, u32) {
     match what {
         What::Read { start, count } => (*start, *count),
@@ -78,7 +78,7 @@ pub fn what(what: &What) -> (u32, u32) {
     }
 }
 
-/// The depth in a reply.
+/// Returns the depth in a reply.
 pub fn reply(reply: &Reply) -> u32 {
     match reply {
         Reply::Data { pieces, runs } => {
@@ -103,12 +103,12 @@ pub fn reply(reply: &Reply) -> u32 {
     }
 }
 
-/// Lists that a reply has, as vectors.
+/// Returns the lists that a reply has, as vectors.
 pub fn lists(pieces: PieceLengths, runs: ByteRuns) -> (Vec<u32>, Vec<(u8, u64)>) {
     (pieces.into_vec(), runs.into_vec())
 }
 
-/// The counts, the depth, the limits and the mode.
+/// Returns the counts, the depth, the limits and the mode.
 pub fn stat(stat: Stat) -> ([u64; 4], [u32; 3], Option<u32>, Mode) {
     let Stat {
         reads,
@@ -129,7 +129,7 @@ pub fn stat(stat: Stat) -> ([u64; 4], [u32; 3], Option<u32>, Mode) {
     )
 }
 
-/// The line of a fault, and the earlier line or the reason.
+/// Returns the line of a fault, and the earlier line or the reason.
 pub fn script_fault(fault: ScriptFault) -> Option<(u32, Result<u32, Why>)> {
     match fault {
         ScriptFault::Memory => None,
@@ -138,7 +138,7 @@ pub fn script_fault(fault: ScriptFault) -> Option<(u32, Result<u32, Why>)> {
     }
 }
 
-/// The number of a reason.
+/// Returns the number of a reason.
 pub fn why(why: Why) -> u8
     ensures { result ≡ why_number why }
 {

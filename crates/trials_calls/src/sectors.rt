@@ -43,7 +43,7 @@ pub fn bytes(sector: &Sector) -> &[u8] {
     sector.bytes()
 }
 
-/// The number of a refusal.
+/// Returns the number of a refusal.
 pub fn disk_fault(fault: DiskFault) -> u8
     ensures { result ≡ fault_number fault }
 {

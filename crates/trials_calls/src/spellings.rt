@@ -3,7 +3,7 @@ ghost use Rattle.std.specs.Prelude.{◌≡◌, ◌≤◌, ◌^◌, pos, unsigned
 
 use percpu_words::{BIAS, CLOSED, DEAD, DELTA_MAX, Mode, ZERO};
 
-/// The marks ZERO and DEAD, and the value.
+/// Returns the marks ZERO and DEAD, and the value.
 pub fn shared_word(word: u64) -> (bool, bool, u64) {
     (
         percpu_words::is_zero(word),
@@ -12,7 +12,7 @@ pub fn shared_word(word: u64) -> (bool, bool, u64) {
     )
 }
 
-/// Whether a slot is closed, and its delta, which the word of a closed slot doesn't spell.
+/// Returns whether a slot is closed, and its delta, which isn't in the word of a closed slot.
 pub fn slot_of(word: u64) -> (bool, Option<i64>) {
     (
         percpu_words::is_closed(word),
@@ -38,7 +38,7 @@ pub fn numbers() -> (u64, i64)
     (BIAS, DELTA_MAX)
 }
 
-/// Whether it is the mode of slots.
+/// Returns whether this is the mode of slots.
 pub fn mode(mode: Mode) -> bool {
     match mode {
         Mode::Atomic => false,

@@ -26,7 +26,7 @@ pub fn run(
     blk_workers::run(rt, alloc, script, config, stall)
 }
 
-/// A script may be run if `check` has answered Ok.
+/// Runs a script if `check` returns Ok.
 pub fn check_and_run(
     rt: &(impl Threads + Wait + Sync),
     alloc: Global,
@@ -39,7 +39,7 @@ pub fn check_and_run(
     }
 }
 
-/// The replies of a run, its disk and its lists.
+/// Returns the replies of a run, its disk and its lists.
 pub fn ran(ran: Ran) -> (Vec<u8>, Disk, Vec<Vec<u32>>) {
     let Ran {
         replies,
@@ -49,7 +49,7 @@ pub fn ran(ran: Ran) -> (Vec<u8>, Disk, Vec<Vec<u32>>) {
     (replies, disk, drawn)
 }
 
-/// The number of a fault.
+/// Returns the number of a fault.
 pub fn run_fault(fault: RunFault) -> u8
     ensures { result ≡ number_of fault }
 {
@@ -59,7 +59,7 @@ pub fn run_fault(fault: RunFault) -> u8
     }
 }
 
-/// A stall of a caller's own.
+/// A stall that a caller defines.
 pub struct Held;
 
 impl Stall for Held {

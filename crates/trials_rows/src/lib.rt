@@ -1,7 +1,8 @@
-//! The tests that a proof adds to: callers that reason from the contracts of a gate and of a queue, and a row of each library. They use
-//! public calls alone.
+//! The tests in which a proof has a part: callers that reason from the contracts of a gate and of a queue, and a row of each
+//! library. They use only public calls.
 //!
-//! The rows of programs and of calls are in tests/rows, and the other tests of libraries in rust/trials/tests, over the plain Rust.
+//! The rows of programs and of calls are in tests/rows, and the other tests of libraries in rust/trials/tests, which tests the
+//! plain Rust.
 #![tactic(auto)]
 
 #[cfg(test)]

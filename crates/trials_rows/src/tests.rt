@@ -1,4 +1,5 @@
-//! Callers that reason from the contracts of a gate and of a queue, and a row of each library of a gate, a queue, a disk and a script.
+//! Callers that reason from the contracts of a gate and of a queue, and a row for each library of a gate, a queue, a disk and a
+//! script.
 mod fixture;
 mod gate_caller;
 mod handed;

@@ -1,4 +1,4 @@
-//! A range cut into the commands that a device takes.
+//! Cutting a range into the commands that a device takes.
 ghost use Rattle.std.specs.Prelude.{◌≡◌, ◌<◌, ◌^◌, IfOk, sum};
 ghost use Rattle.queue_limits.specs.Pieces.{IsSplit};
 ghost use Rattle.uses.specs.Commands.{lengths, AreInARow};
@@ -6,16 +6,17 @@ ghost use Rattle.uses.specs.Commands.{lengths, AreInARow};
 use queue_limits::Limits;
 use std::alloc::{AllocError, Global};
 
-/// One command to a device: its first sector, and how many sectors it moves.
+/// A command to a device: its first sector, and how many sectors it moves.
 #[derive(Clone, Copy, Debug, PartialEq, Eq)]
 pub struct Command {
     pub first: u64,
     pub sectors: u32,
 }
 
-/// The commands for the `count` sectors from `start` on: each begins where the one before it ended, and their
-/// lengths are the pieces of the range. So each sector is moved once, and no command goes past a limit. Linux:
-/// a driver's `queue_rq` (include/linux/blk-mq.h), which is handed one piece a call.
+/// Returns the commands for the `count` sectors that start at `start`. Each begins where the one before it ended, and their lengths
+/// are the pieces of the range. So each sector is moved once, and no command exceeds a limit.
+///
+/// Linux: a driver's `queue_rq` (include/linux/blk-mq.h), which gets one piece at a call.
 pub fn commands(
     alloc: Global,
     limits: &Limits,

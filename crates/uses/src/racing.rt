@@ -12,7 +12,7 @@ use percpu_gate::{Control, Gate, Pass, Put};
 use std::thread;
 use std::thread::Threads;
 
-/// What a request and the removal of its device were told.
+/// The results of a request, and of the removal of its device.
 #[derive(Clone, Copy, Debug, PartialEq, Eq)]
 pub struct Raced {
     pub served: Served,
@@ -47,8 +47,8 @@ fn removed_by(gate: &Gate<1>, mut control: Control<1>) -> (Control<1>, Put)
     }
 }
 
-/// This thread runs a request while another removes its device; then the gate ends. In whatever order their steps
-/// come, exactly one of the two is told that it was the last, and so the device is freed once.
+/// Runs a request on this thread while another thread removes its device; then the gate ends. In every interleaving of their steps
+/// exactly one of the two puts the last reference, and so the device is freed once.
 pub fn race<R: Threads>(rt: &R, gate: Gate<1>, pass: Pass<1>, control: Control<1>) -> Raced
     requires own { (pass.gate ≡ gate) × (control.gate ≡ gate) }
     requires slots { 0 < gate.slots }
@@ -57,7 +57,7 @@ pub fn race<R: Threads>(rt: &R, gate: Gate<1>, pass: Pass<1>, control: Control<1
     requires passes { control.view.passes ≡ 1 }
     requires new { (starts_dead gate.start ≡ false) × (control.view.releases ≡ 0) × (control.view.zeros_cleared ≡ 0) }
     ensures once { told result.served + released result.removed ≡ 1 }
-    // The request was done where a live gate let it in, and one that isn't found the device removed.
+    // The request was done if a live gate let it in; otherwise it found the device removed.
     ensures finds { LiveTryFinds gate 0 pass.view (tried result.served) }
 {
     let shared = &gate;

@@ -1,11 +1,11 @@
-//! The limits of a queue, changed while others submit to it.
+//! The limits of a queue, changed while other threads submit to it.
 ghost use Rattle.std.specs.Prelude.{◌≡◌, ◌+◌, ◌<◌, ◌^◌, true, false, Some, IfOk, IfSome, OnOk, OnErr};
 ghost use Rattle.percpu_core.specs.Views.{count as one_if};
 ghost use Rattle.percpu_gate.specs.Calls.{is_refused, taken, LiveTryFinds};
 ghost use Rattle.freeze_queue.specs.Queue.{fault_of, freeze_refusal};
 ghost use Rattle.freeze_queue.specs.Readings.{IsTag};
 ghost use Rattle.uses.specs.Commands.{lengths, found, AreInARow};
-ghost use Rattle.uses.specs.Settings.{IsCutByLimits, IsChanged, KeepsLimits, WereReadInside, EndsWithOneTry, is_made};
+ghost use Rattle.uses.specs.Settings.{IsCutByLimits, IsChanged, KeepsLimits, WereReadInside, EndsWithOneTry, SubmitSteps, StaysOrEnters, UnderSteps, is_made};
 
 use crate::cutting::{Command, commands};
 use freeze_queue::{BlockQueue, Enter, FreezeFault, Freezer, Tag};
@@ -14,8 +14,10 @@ use std::alloc::{AllocError, Global};
 use std::sync::Wait;
 use std::thread;
 
-/// The commands for a request that enters a queue: all of them by the limits that its tag is told, which hold still until
-/// it leaves, whatever a freezer does meanwhile. Whoever ends the request leaves with the tag. None where the queue is frozen.
+/// Returns the commands for a request that enters a queue, all of them by the limits that its tag reads. These don't change until
+/// it leaves, whatever a freezer does meanwhile. The thread that ends the request leaves with the tag. Returns None if the queue is
+/// frozen.
+///
 /// Linux: `blk_mq_submit_bio` (block/blk-mq.c).
 pub fn submit(
     alloc: Global,
@@ -31,11 +33,13 @@ pub fn submit(
     requires place { start < 2 ^ 32 }
     ensures own { tag.new.queue ≡ queue.now }
     ensures entered { tag.new.entered ≡ is_made result }
-    // None says that the attempt to enter found the queue frozen, commands that it found it live; so does a refusal of memory.
+    // None means that the attempt to enter found the queue frozen; commands, or a refusal of memory, that it found it live.
     ensures finds { LiveTryFinds queue.now.gate slot tag.old.seat (found result) }
-    // It is one attempt, and what it found was found by a step of this call.
+    // It makes one attempt, and a step of this call found what the attempt found.
     ensures counted { tag.new.seat.live_given ≡ tag.old.seat.live_given + taken (found result) }
     ensures times { tag.new.seat.found_dead_times ≡ tag.old.seat.found_dead_times + one_if (is_refused (found result)) }
+    // It counts on this slot, and on the shared word only if the slot is closed or full, or if the exchange fails.
+    ensures steps { SubmitSteps slot result tag.old.steps tag.new.steps }
     ensures row { IfOk result (λ made. IfSome made (λ made. AreInARow start made.items)) }
     ensures split { IfOk result (λ made. IfSome made (λ made. IsCutByLimits tag.new start count (lengths made.items))) }
 {
@@ -53,9 +57,10 @@ pub fn submit(
     }
 }
 
-/// The commands for the next request of a thread whose tag is in. It stays for that, with the limits that it was told, unless a
-/// freeze has begun: then it leaves, waits for the thaw and enters again. A busy thread submits for the price of a
-/// load by this. It leaves before it waits for anything else, since a thread that stays and then sleeps holds up every freeze.
+/// Returns the commands for the next request of a thread whose tag is entered. The tag stays entered with the limits that it read,
+/// unless a freeze has begun: then it leaves, waits for the thaw and enters again. So a busy thread submits at the price of a load.
+///
+/// Such a thread has to leave before it waits for anything else, since a thread that stays and then sleeps holds up every freeze.
 pub fn submit_next<R: Wait>(
     rt: &R,
     alloc: Global,
@@ -71,9 +76,11 @@ pub fn submit_next<R: Wait>(
     requires place { start < 2 ^ 32 }
     ensures own { tag.new.queue ≡ queue.now }
     ensures entered { tag.new.entered ≡ true }
-    // It asks once, and where no gate gave it another reference it has stayed: then these are the limits of before.
+    // It looks once. If no gate gave it another reference, it has stayed, and these are the limits of before.
     ensures looks { tag.new.seat.looks ≡ tag.old.seat.looks + 1 }
     ensures same { KeepsLimits tag.old tag.new }
+    // It leaves at most once, if it found the queue frozen, and enters again once.
+    ensures once { StaysOrEnters slot tag.old tag.new }
     ensures row { IfOk result (λ made. AreInARow start made.items) }
     ensures split { IfOk result (λ made. IsCutByLimits tag.new start count (lengths made.items)) }
 {
@@ -82,8 +89,8 @@ pub fn submit_next<R: Wait>(
     commands(alloc, &limits, start, count)
 }
 
-/// Enters, and waits until the limits in force are these. A tag that enters after a change of limits may find that the freezer
-/// has gone on: so what it is told is compared, and where it differs the tag leaves and enters again.
+/// Enters, and waits until the limits in force are these. By the time a tag enters after a change of limits, the freezer may have
+/// made another change. So the tag compares what it reads, and leaves and enters again if that differs.
 pub fn enter_under<R: Wait>(rt: &R, queue: &BlockQueue, tag: &mut Tag, slot: u32, limits: &Limits)
     requires own { tag.old.queue ≡ queue.now }
     requires slot { slot < queue.now.gate.slots }
@@ -92,9 +99,10 @@ pub fn enter_under<R: Wait>(rt: &R, queue: &BlockQueue, tag: &mut Tag, slot: u32
     ensures entered { tag.new.entered ≡ true }
     ensures told { tag.new.limits ≡ Some limits.now }
     ensures kept { IsTag tag.new }
-    // They were read under the reference that it took last, and a try that found the queue live gave it that.
+    // They were read under its latest reference, which it got from a try that found the queue live.
     ensures in_force { WereReadInside queue.now tag.new limits.now }
     ensures finds { EndsWithOneTry queue.now slot tag.old tag.new }
+    ensures steps { UnderSteps slot tag.old.steps tag.new.steps }
 {
     for _ in rt.forever() {
         queue.enter(rt, tag, slot);
@@ -107,7 +115,7 @@ pub fn enter_under<R: Wait>(rt: &R, queue: &BlockQueue, tag: &mut Tag, slot: u32
     unreachable!()
 }
 
-/// Changes the limits of a queue that others submit to: it is frozen, drained, set and thawed.
+/// Changes the limits of a queue to which other threads submit: it is frozen, drained, set and thawed.
 pub fn change_limits<R: Wait>(
     rt: &R,
     queue: &BlockQueue,
@@ -124,7 +132,7 @@ pub fn change_limits<R: Wait>(
     ensures unchanged { OnErr result (freezer.new ≡ freezer.old) }
 {
     freezer.freeze(rt, queue)?;
-    // Drained: no request is under way, and none can enter.
+    // Drained: no request is in flight, and none can enter.
     match freezer.set(queue, limits) {
         Ok(()) => {}
         Err(_) => unreachable!(),

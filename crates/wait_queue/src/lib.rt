@@ -1,9 +1,8 @@
-//! Waiting for what other threads bring about: announce the wait, try, and sleep only where the try was in vain.
+//! Waiting for something that another thread does: announce the wait, try, and sleep only if the try failed.
 //!
-//! Who tries first and announces the wait then may sleep for ever: what it waits for can come about between the two, and
-//! whoever brings it about looks for those who wait, finds nobody, and wakes nobody. So the announcement comes before the
-//! try: then one of the two sees the other. A [`WaitQueue`] has that order in one place, [`Tries`], and those who wait
-//! write down the try alone:
+//! A thread that tries first and then announces its wait may sleep forever: what it waits for can happen between the two, and the
+//! thread that did it looks for waiters, finds none, and wakes none. So the announcement comes before the try: then one of the two
+//! threads sees the other. [`Tries`] has that order in one place, and a caller of [`WaitQueue::tries`] writes only the try:
 //!
 //! ```text
 //! for _ in queue.tries(rt) {
@@ -14,8 +13,8 @@
 //! unreachable!()
 //! ```
 //!
-//! and whoever brings it about calls [`WaitQueue::wake_all`] or [`WaitQueue::wake_one`] after it. No contract says that a
-//! thread which sleeps is woken: tests of those who use it show it.
+//! and the other thread calls [`WaitQueue::wake_all`] or [`WaitQueue::wake_one`] afterwards. No contract says that a
+//! sleeping thread is woken; tests of the callers show it.
 #![tactic(auto)]
 
 mod tries;

@@ -1,4 +1,4 @@
-//! The threads that wait, and the tries of one of them.
+//! The threads that wait, and the tries of each of them.
 ghost use Rattle.std.specs.Prelude.{IsSome};
 ghost use Rattle.std.specs.Iterator.{at_most};
 
@@ -7,45 +7,46 @@ use crossbeam_utils::sync::{EventCount, Key};
 use std::mem;
 use std::sync::{Forever, Wait};
 
-/// How many tries come with no wait announced. `Backoff` pauses after each of so many, some 6 microseconds in all; after one
-/// more it would yield, which gives the processor away for a whole slice where other programs want it.
+/// Number of tries without an announced wait. `Backoff` pauses after each of them, some 6 microseconds in all; after one more it
+/// would yield, which gives the processor away for a whole time slice if other programs want it.
 const LOOKS: u32 = 7;
 
-/// Threads that wait for what others bring about. Linux: `struct wait_queue_head` (include/linux/wait.h).
+/// Threads that wait for something that others do. Linux: `struct wait_queue_head` (include/linux/wait.h).
 #[derive(Drop)]
 pub struct WaitQueue {
     events: EventCount,
 }
 
 impl WaitQueue {
-    /// Nobody waits.
+    /// Returns a queue without waiters.
     pub const fn new() -> WaitQueue {
         WaitQueue {
             events: EventCount::new(),
         }
     }
 
-    /// Wakes one of those who wait, once what they wait for has come about. Linux: `wake_up`.
+    /// Wakes one waiter, after what it waits for has happened. Linux: `wake_up`.
     #[inline]
     pub fn wake_one(&self) {
         self.events.notify_one();
     }
 
-    /// Wakes all who wait, once what they wait for has come about. Linux: `wake_up_all`.
+    /// Wakes all waiters, after what they wait for has happened. Linux: `wake_up_all`.
     #[inline]
     pub fn wake_all(&self) {
         self.events.notify_all();
     }
 
-    /// A turn for each try of a thread that waits. The first tries come one after another, with ever longer pauses and no wait
-    /// announced: so nothing that other threads read is written where one of them succeeds. Then it sleeps; it yields to nobody.
-    /// Linux: `wait_event`.
+    /// Returns an iterator with a turn for each try of a waiting thread. The first tries have ever longer pauses between them and
+    /// no announced wait, so if one of them succeeds, nothing that other threads read is written. After them the thread sleeps
+    /// between tries; it never yields. Linux: `wait_event`.
     #[inline]
     pub fn tries<'w, R: Wait>(&'w self, rt: &'w R) -> Tries<'w, R> {
         Tries::new(self, rt, LOOKS)
     }
 
-    /// The same for a thread that has tried often enough: each of these tries has its wait announced, the first too.
+    /// Like [`WaitQueue::tries`], for a thread that has tried often enough: each of these tries, the first included, has an
+    /// announced wait.
     #[inline]
     pub fn announced_tries<'w, R: Wait>(&'w self, rt: &'w R) -> Tries<'w, R> {
         Tries::new(self, rt, 0)
@@ -57,23 +58,23 @@ impl WaitQueue {
 enum Stage<'w> {
     /// No try.
     New,
-    /// A try with no wait announced.
+    /// A try without an announced wait.
     Unannounced,
-    /// A try with this wait announced.
+    /// A try with this announced wait.
     Announced(Key<'w>),
 }
 
-/// The turns of a thread that waits, one for each try. A turn that follows a try begins with the sleep, if the wait was
-/// announced before that try, and ends with the announcement for the next. Whoever leaves the loop waits no longer.
+/// The turns of a waiting thread, one for each try. A turn after a try begins with the sleep, if the wait was announced
+/// before that try, and ends with the announcement for the next. A thread that leaves the loop no longer waits.
 #[derive(Drop)]
 pub struct Tries<'w, R: Wait> {
     rt: &'w R,
     queue: &'w WaitQueue,
     backoff: Backoff,
-    /// How many tries more come with no wait announced, unless the backoff is completed before.
+    /// The number of further tries without an announced wait, unless the backoff is completed earlier.
     looks: u32,
     stage: Stage<'w>,
-    /// How many turns are left: as many as no run uses up.
+    /// The number of turns that are left: more than any run uses up.
     turns: Forever<'w, R>,
 }
 
@@ -90,7 +91,7 @@ impl<'w, R: Wait> Tries<'w, R> {
         }
     }
 
-    /// Lets time pass before the next try: the thread sleeps where its wait was announced before the last one.
+    /// Lets time pass before the next try: the thread sleeps if its wait was announced before the last try.
     fn pass_time(&self, tried: Stage<'w>) {
         match tried {
             Stage::New => {}

@@ -1,10 +1,10 @@
-//! A gate of one's own, compared with the proved one: random schedules of three passes and a kill, step by step. The gate here
-//! counts on one shared word; run with the word `wrong`, it forgets that a try which is refused has to take its 1 back.
+//! Compares a gate of one's own with the proved one, step by step, on random schedules of three passes and a kill. The gate here
+//! counts on one shared word. With the argument `wrong`, it forgets that a refused try has to take its 1 back.
 use std::env;
 use std::error::Error;
 use std::fmt::Write;
 
-/// The step that a pass has to take next, if its last one left it one.
+/// The step that a pass has to take next, if its last step requires one.
 #[derive(Clone, Copy, PartialEq)]
 enum Left {
     Nothing,
@@ -12,7 +12,7 @@ enum Left {
     ToMark,
 }
 
-/// The gate: a count with its two marks, and what each pass holds.
+/// The gate: a count with two marks, and the number of references that each pass holds.
 struct OwnGate {
     count: u64,
     dead: bool,
@@ -39,7 +39,7 @@ impl OwnGate {
         if won { "last" } else { "lost" }
     }
 
-    /// One step of a pass, chosen by a random number: the step, and what this gate answers.
+    /// Takes a random step of a pass. Returns the step, and the reply of this gate.
     fn pass(&mut self, pass: usize, random: u64) -> (&'static str, &'static str) {
         match self.left[pass] {
             Left::ToUndo => {
@@ -69,7 +69,7 @@ impl OwnGate {
         }
     }
 
-    /// The next step of the one kill, if one is left.
+    /// Takes the next step of the kill, if one is left.
     fn control(&mut self) -> Option<(&'static str, &'static str)> {
         let step = ["dead", "confirm", "base", "mark"].get(self.phase)?;
         let answer = match self.phase {
@@ -90,7 +90,7 @@ impl OwnGate {
     }
 }
 
-/// The first difference in so many random schedules, if there is one.
+/// Returns the first difference in this many random schedules, if there is one.
 fn compare(schedules: u64, undoes: bool) -> Result<Option<String>, Box<dyn Error>> {
     let mut random = 1_u64;
     for number in 0..schedules {

@@ -1,8 +1,7 @@
-//! How a script is run.
+//! The configuration of a run.
 use crate::erased::blk_workers as erased;
 
-/// How many threads run a script, over how many slots they count, and how many requests are in the queue at once. None of it
-/// changes the answer.
+/// The numbers of threads, slots and tags with which a script is run. They don't change the answer.
 ///
 /// ```
 /// use blkq::Config;
@@ -15,7 +14,7 @@ use crate::erased::blk_workers as erased;
 pub struct Config(pub(crate) erased::Config);
 
 impl Config {
-    /// 1 to 32 workers, 1 to 64 slots and 1 to 63 tags. `None` outside of these.
+    /// Makes a configuration of 1 to 32 workers, 1 to 64 slots and 1 to 63 tags. Returns `None` for other numbers.
     ///
     /// ```
     /// use blkq::Config;
@@ -28,7 +27,7 @@ impl Config {
         erased::Config::new(workers, slots, tags).map(Config)
     }
 
-    /// The threads that work on requests: 1 to 32, and 4 by default.
+    /// Returns the number of threads that do requests: 1 to 32, by default 4.
     ///
     /// ```
     /// assert_eq!(blkq::Config::default().workers(), 4);
@@ -38,7 +37,7 @@ impl Config {
         self.0.workers()
     }
 
-    /// The slots that the gate's count is spread over: 1 to 64, and 8 by default.
+    /// Returns the number of slots that the gate counts on: 1 to 64, by default 8.
     ///
     /// ```
     /// assert_eq!(blkq::Config::default().slots(), 8);
@@ -48,7 +47,7 @@ impl Config {
         self.0.slots()
     }
 
-    /// The requests that can be in the queue at once: 1 to 63, and 16 by default.
+    /// Returns the maximum number of requests in the queue: 1 to 63, by default 16.
     ///
     /// ```
     /// assert_eq!(blkq::Config::default().tags(), 16);

@@ -1,5 +1,5 @@
-//! The programs of ../../../crates without their contracts. Nothing here is checked for a caller: it is for this crate and those
-//! above it. tools/erase writes the files that say so in their first line.
+//! The programs of ../../../crates without their contracts, for this crate and those above it. Nothing here checks its callers.
+//! tools/erase writes the files that say so in their first line.
 #![deny(unsafe_code)]
 #![allow(missing_docs, missing_debug_implementations, clippy::all, clippy::pedantic, rustdoc::all)]
 
@@ -13,13 +13,13 @@ pub mod env;
 pub mod freeze_queue;
 pub mod gate_replay;
 pub mod hex;
+pub mod in_flight;
 pub mod itoa;
 pub mod line_text;
 pub mod memchr;
 pub mod percpu_core;
 pub mod pointers;
 pub mod ram_disk;
-pub mod run_desk;
 pub mod run_queues;
 pub mod script_meaning;
 pub mod script_overlap;

@@ -1,10 +1,10 @@
-//! Why there is no answer.
+//! Errors of a run and of a replay.
 use crate::erased::blkq_run;
 use crate::erased::line_text::{ParseFault, Why};
 use std::error::Error;
 use std::fmt;
 
-/// Why a line is refused. The format's table has the same text and number for it.
+/// Why a line is refused, with the text and number of the table in docs/FORMATS.md.
 ///
 /// ```
 /// use blkq::{Config, Reason, RunError};
@@ -18,11 +18,11 @@ use std::fmt;
 pub enum Reason {
     /// The line isn't UTF-8.
     NotUtf8,
-    /// The first line that says something names no known version.
+    /// The first line that isn't skipped names no known version.
     NoVersion,
-    /// The second line of a script that says something doesn't begin with `disk`.
+    /// The second line of a script that isn't skipped doesn't begin with `disk`.
     NoDisk,
-    /// A word is none of the few that may be there.
+    /// A word isn't one of those that may be there.
     UnknownWord,
     /// The line has too few words.
     MissingWord,
@@ -36,12 +36,12 @@ pub enum Reason {
     BadHex,
     /// The text has more than 1,048,576 bytes.
     TooLong,
-    /// The second line of a schedule or race that says something doesn't begin with `world`.
+    /// The second line of a schedule or race that isn't skipped doesn't begin with `world`.
     NoWorld,
 }
 
 impl Reason {
-    /// Its number, from 1 in the order above.
+    /// Returns the number of the reason, from 1 in the order above.
     ///
     /// ```
     /// assert_eq!(blkq::Reason::NotUtf8.number(), 1);
@@ -94,7 +94,7 @@ impl fmt::Display for Reason {
 
 impl Error for Reason {}
 
-/// The first line that is refused, and why.
+/// The first line that is refused, and the reason.
 ///
 /// ```
 /// use blkq::{Config, LineError, Reason, RunError};
@@ -105,9 +105,9 @@ impl Error for Reason {}
 /// ```
 #[derive(Clone, Copy, Debug, PartialEq, Eq, Hash)]
 pub struct LineError {
-    /// Its number, from 1. If a line is missing, one more than there are lines.
+    /// The number of the line, from 1. If a line is missing, the number of lines plus 1.
     pub line: u32,
-    /// Why it is refused.
+    /// Why the line is refused.
     pub reason: Reason,
 }
 
@@ -125,7 +125,7 @@ impl fmt::Display for LineError {
 
 impl Error for LineError {}
 
-/// Why [`run`](crate::run()) has no answer.
+/// Why [`run`](crate::run()) failed.
 ///
 /// ```
 /// use blkq::{Config, RunError};
@@ -141,13 +141,13 @@ pub enum RunError {
     Memory,
     /// The start of a thread was refused.
     Thread,
-    /// The input is no script.
+    /// The input isn't a script.
     Script(LineError),
-    /// Two requests of a script of version 1 touch one sector, may be in flight at once, and one of them writes.
+    /// Two requests of a script of version 1 share a sector, may be in flight at the same time, and at least one of them writes.
     Overlap {
         /// The later line.
         line: u32,
-        /// The earlier one.
+        /// The earlier line.
         earlier: u32,
     },
 }
@@ -166,7 +166,7 @@ impl fmt::Display for RunError {
 impl Error for RunError {}
 
 impl From<blkq_run::Fault> for RunError {
-    /// A slice is read to its end, and the text refuses a byte for want of memory alone.
+    /// Reading a slice doesn't fail, and writing to the text fails only if memory is refused.
     fn from(fault: blkq_run::Fault) -> RunError {
         match fault {
             blkq_run::Fault::Memory | blkq_run::Fault::Read | blkq_run::Fault::Write { .. } => RunError::Memory,
@@ -177,7 +177,7 @@ impl From<blkq_run::Fault> for RunError {
     }
 }
 
-/// Why [`replay`](crate::replay()) has no answer.
+/// Why [`replay`](crate::replay()) failed.
 ///
 /// ```
 /// let refused = blkq::replay(b"gate 2\n").unwrap_err();
@@ -188,7 +188,7 @@ impl From<blkq_run::Fault> for RunError {
 pub enum ReplayError {
     /// Memory was refused.
     Memory,
-    /// The input is no schedule.
+    /// The input isn't a schedule.
     Schedule(LineError),
 }
 
@@ -204,7 +204,7 @@ impl fmt::Display for ReplayError {
 impl Error for ReplayError {}
 
 impl From<blkq_run::Fault> for ReplayError {
-    /// A replay starts no thread, and has no requests. As for a script, reading and writing fail for want of memory alone.
+    /// A replay starts no thread and has no requests. As for a script, reading and writing fail only if memory is refused.
     fn from(fault: blkq_run::Fault) -> ReplayError {
         match fault {
             blkq_run::Fault::Parse(fault) => ReplayError::Schedule(fault.into()),

@@ -1,11 +1,11 @@
-//! A schedule that is replayed.
+//! The replay of a schedule.
 use crate::erased::blkq_run::replay_bytes;
 use crate::erased::counted_io::Counted;
 use crate::erased::gate_replay::Replayed;
 use crate::errors::ReplayError;
 use crate::text::Text;
 
-/// The answer of a replay: a line for each step that was taken, and a last line that says how it ended.
+/// The answer of a replay: a line for each step that was taken, and a last line that says how the replay ended.
 ///
 /// ```
 /// let schedule = b"gate 1\nworld 1 1 atomic 0\n0 add try\n0 sub 1\n";
@@ -22,7 +22,7 @@ pub struct Replay {
 }
 
 impl Replay {
-    /// The lines, as `blkq replay` writes them.
+    /// Returns the lines, as `blkq replay` writes them.
     ///
     /// ```
     /// let replay = blkq::replay(b"gate 1\nworld 1 1 dead 0\n")?;
@@ -34,7 +34,7 @@ impl Replay {
         &self.text
     }
 
-    /// The lines, as a value of their own.
+    /// Returns the lines, by value.
     ///
     /// ```
     /// let replay = blkq::replay(b"gate 1\nworld 1 1 slots 0\n")?;
@@ -46,7 +46,7 @@ impl Replay {
         self.text
     }
 
-    /// Whether a step wasn't enabled. Then the last line is `stuck LINE WHY`, and no later step was tried.
+    /// Returns whether a step wasn't enabled. In that case the last line is `stuck LINE WHY`, and no later step was tried.
     ///
     /// ```
     /// let replay = blkq::replay(b"gate 1\nworld 1 1 atomic 0\n0 sub 1\n")?;
@@ -60,22 +60,21 @@ impl Replay {
     }
 }
 
-/// Takes the steps of a schedule one after another at a gate, and returns what each is answered. The program `blkq replay`
-/// writes the same.
+/// Takes the steps of a schedule one after another, and returns the reply to each. The program `blkq replay` writes the same.
 ///
-/// A gate of your own that takes the same steps in the same order has to answer the same: the example `own_gate` compares one.
-/// At most 1,048,576 bytes are a schedule.
+/// A gate of your own that takes the same steps in the same order has to give the same replies; the example `own_gate` compares such a gate.
+/// The maximum size of a schedule is 1,048,576 bytes.
 ///
 /// # Errors
 ///
-/// [`ReplayError`] has each, the first that applies. A step that isn't enabled is none: the answer says it.
+/// Returns the first [`ReplayError`] that applies. A step that isn't enabled is no error: the answer reports it.
 ///
 /// # Examples
 ///
 /// ```
 /// use blkq::{Reason, ReplayError};
 ///
-/// // A try between the mark DEAD and the last drop is refused, and takes back what it added.
+/// // A try after DEAD was set is refused, and takes back what it added.
 /// let schedule = b"gate 1\nworld 1 1 atomic 0\nc dead\n0 add live\n0 undo\nc confirm\nc base\nc mark\n";
 /// let replay = blkq::replay(schedule)?;
 /// let answers = b"ok\nrefused\nnot last\nok\nto mark\nlast\nend zero 0 front 1 kills 1 releases 1 held 0\n";

@@ -1,4 +1,4 @@
-//! A script that is run.
+//! The run of a script.
 use crate::config::Config;
 use crate::erased::blk_workers::NoStall;
 use crate::erased::blkq_run::run_bytes;
@@ -9,13 +9,13 @@ use crate::text::Text;
 /// Runs a script, and returns its answer: a line for each line of the script that asks something, and then the disk. The
 /// program `blkq run` writes the same.
 ///
-/// It starts as many threads as the configuration has workers, and returns once they have ended. At most 1,048,576 bytes are a
-/// script.
+/// The run starts as many threads as the configuration has workers, and returns once they have ended. The maximum size of a script is
+/// 1,048,576 bytes.
 ///
 /// # Errors
 ///
-/// [`RunError`] has each, the first that applies: a script that is refused for a line of it comes before two requests that
-/// overlap. A run that is refused memory or a thread has answered nothing, and may be tried again.
+/// Returns the first [`RunError`] that applies; a refused line comes before overlapping requests. A run that fails because memory or a
+/// thread was refused can be tried again.
 ///
 /// # Examples
 ///

@@ -1,7 +1,7 @@
-//! A text in memory, which the erased functions write, here and in the crate above.
+//! A text in memory that the erased functions write to, here and in the crate above.
 use std::io::{ErrorKind, Result, Write};
 
-/// A text that grows. A growth that is refused is an error, which leaves it as it was.
+/// A growing text. If memory for growth is refused, writing returns an error and leaves the text unchanged.
 #[derive(Debug, Default)]
 pub struct Text(pub Vec<u8>);
 

@@ -1,4 +1,4 @@
-//! Each script and schedule of the repository's examples/, with its answer from the file beside it.
+//! Compares each script and schedule of the repository's examples/ with its .answer file.
 use blkq::Config;
 use std::fs;
 use std::path::{Path, PathBuf};

@@ -1,4 +1,4 @@
-//! Why an input is refused: each reason, by its line, its number and its text (docs/FORMATS.md).
+//! Tests the line, number and text of each reason for which an input is refused (docs/FORMATS.md).
 use blkq::{Config, LineError, Reason, ReplayError, RunError};
 
 fn script(text: &str) -> Result<Vec<u8>, RunError> {
@@ -53,7 +53,7 @@ fn what_is_no_text() {
     assert_eq!(blkq::replay(b"gate 1\n\xff\n"), Err(ReplayError::Schedule(refused)));
 }
 
-/// The longest text that there is, and one with a byte more.
+/// The longest possible text, and a text with one byte more.
 #[test]
 fn the_longest_texts() {
     for begins in ["blkq 1\ndisk 1 hw 1\n#", "gate 1\nworld 1 1 slots 0\n#"] {

@@ -1,7 +1,9 @@
 //! Memory from C's `malloc`, `realloc` and `free` for the libraries for C, and pointers whose allocation may be refused.
 //!
-//! This file has all handwritten `unsafe` of these libraries. Its argument has three parts, beside the instruction of [`trap`]. *Room*: C's `malloc` and `realloc` return
-//! room of the requested size, aligned to 16 bytes, which belongs to the caller until it is freed; a greater alignment is refused.
+//! This file has all handwritten `unsafe` of these libraries, but that of the lanes (package freeze-queue-c) and the heavy fence (package
+//! freeze-queue). Its argument has three parts, beside the instruction of [`trap`]. *Room*: C's `malloc` and `realloc` return
+//! room of the requested size, aligned to 16 bytes, which belongs to the caller until it is freed; `posix_memalign` returns room that is
+//! aligned as asked.
 //! *Life*: the last [`Arc`] at a value frees its room; the count begins at 1, a clone adds one, a drop takes one away. *Threads*: the
 //! count is atomic; a drop releases, and the last one acquires. Another thread's use of the value therefore comes before its end.
 #![no_std]
@@ -13,7 +15,7 @@ pub mod erased;
 use alloc::alloc::alloc;
 use alloc::boxed::Box;
 use core::alloc::{GlobalAlloc, Layout};
-use core::ffi::c_void;
+use core::ffi::{c_int, c_void};
 use core::fmt;
 use core::marker::PhantomData;
 use core::mem::ManuallyDrop;
@@ -24,6 +26,7 @@ use percpu_gate::erased::fallible::{AllocError, AllocFailed};
 
 unsafe extern "C" {
     fn malloc(size: usize) -> *mut c_void;
+    fn posix_memalign(at: *mut *mut c_void, align: usize, size: usize) -> c_int;
     fn realloc(at: *mut c_void, size: usize) -> *mut c_void;
     fn free(at: *mut c_void);
     fn abort() -> !;
@@ -41,7 +44,7 @@ unsafe impl GlobalAlloc for Memory {
     #[inline]
     unsafe fn alloc(&self, layout: Layout) -> *mut u8 {
         if layout.align() > ALIGNED {
-            return ptr::null_mut();
+            return aligned(layout);
         }
         // SAFETY: any size may be asked for.
         unsafe { malloc(layout.size()) }.cast()
@@ -56,11 +59,20 @@ unsafe impl GlobalAlloc for Memory {
     #[inline]
     unsafe fn realloc(&self, at: *mut u8, layout: Layout, size: usize) -> *mut u8 {
         if layout.align() > ALIGNED {
-            return ptr::null_mut();
+            return ptr::null_mut(); // no table grows
         }
         // SAFETY: the room came from `alloc` or `realloc`, and isn't freed yet, as the caller promises. The size isn't 0.
         unsafe { realloc(at.cast(), size) }.cast()
     }
+}
+
+/// Room that is aligned to more than `malloc` promises.
+#[cold]
+fn aligned(layout: Layout) -> *mut u8 {
+    let mut at = ptr::null_mut();
+    // SAFETY: the alignment is a power of two and a multiple of a pointer's size, and any size may be asked for.
+    let refused = unsafe { posix_memalign(&raw mut at, layout.align(), layout.size()) };
+    if refused == 0 { at.cast() } else { ptr::null_mut() }
 }
 
 /// Ends the program, where a promise of the code is broken.

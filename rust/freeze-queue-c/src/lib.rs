@@ -5,6 +5,7 @@
 extern crate alloc;
 
 pub mod erased;
+pub mod lanes;
 
 #[cfg(not(test))]
 #[global_allocator]

@@ -1,5 +1,5 @@
-//! Requests that enter by futures, with no runtime: one thread has 60 of them, and polls those that were woken, while
-//! another freezes the queue, changes its limits and thaws it. A refused future sleeps by its waker alone.
+//! Requests that enter as tasks, without a runtime. One thread has 60 futures, and polls those that were woken, while another
+//! thread freezes the queue, changes its limits and thaws it. A future that waits for the thaw is polled only when it is woken.
 use freeze_queue::{EnterError, Limits, Queue, Tag};
 use std::error::Error;
 use std::future::Future;
@@ -12,7 +12,7 @@ const TASKS: usize = 60;
 const REQUESTS: u32 = 200;
 const CHANGES: u32 = 500;
 
-/// Puts its task's number into the line of those to be polled.
+/// Puts the number of its task into the line of tasks to poll.
 struct Polled {
     task: usize,
     line: mpsc::Sender<usize>,
@@ -20,17 +20,17 @@ struct Polled {
 
 impl Wake for Polled {
     fn wake(self: Arc<Self>) {
-        // Where the line is gone each task is done.
+        // If the line is gone, each task is done.
         let _ = self.line.send(self.task);
     }
 }
 
-/// Sends requests, and says how many sectors that were. After each it lets others have their turn.
+/// Sends requests, and returns the number of their sectors. After each request it lets the other tasks run.
 async fn submit(queue: &Queue, tag: &mut Tag) -> Result<u64, EnterError> {
     let mut sent = 0;
     for _ in 0..REQUESTS {
         let request = queue.enter_async(tag).await?;
-        sent += request.pieces(0, 100).expect("they are few").map(|piece| u64::from(piece.sectors)).sum::<u64>();
+        sent += request.pieces(0, 100).expect("below 4 TiB").map(|piece| u64::from(piece.sectors)).sum::<u64>();
         drop(request);
         let mut is_first = true;
         std::future::poll_fn(|context| {
@@ -42,7 +42,7 @@ async fn submit(queue: &Queue, tag: &mut Tag) -> Result<u64, EnterError> {
     Ok(sent)
 }
 
-/// Polls each task that was woken, until all are done: what they sent.
+/// Polls each task that was woken, until all are done. Returns the number of sectors that they sent.
 fn run<'f>(tasks: impl Iterator<Item = Pin<Box<dyn Future<Output = Result<u64, EnterError>> + 'f>>>) -> u64 {
     let (line, woken) = mpsc::channel();
     let mut tasks: Vec<_> = tasks.map(Some).collect();
@@ -68,7 +68,7 @@ fn main() -> Result<(), Box<dyn Error>> {
     let sent = thread::scope(|threads| {
         threads.spawn(|| {
             for change in 0..CHANGES {
-                let frozen = queue.freeze().expect("nobody else freezes");
+                let frozen = queue.freeze().expect("few freezes nest");
                 frozen.set(Limits::of_hardware(64).with_max(1 + change % 64)).expect("they are limits");
             }
         });
@@ -78,7 +78,7 @@ fn main() -> Result<(), Box<dyn Error>> {
     for tag in tags {
         drop(tag);
     }
-    let last = queue.remove()?; // which freezes it once more
+    let last = queue.remove()?; // this freezes it once more
     println!("frozen {} times, at most {} sectors", last.kills, last.limits.max);
     Ok(())
 }

@@ -1,6 +1,6 @@
-//! Five thousand tasks over eight tags, with no runtime: each waits for a tag in order of arrival, and holds its request across an await.
-//! One more task freezes the queue now and then, waits for the drain by a future, and changes the limits. The executor is one
-//! thread, and a line of those that were woken.
+//! Five thousand tasks over eight tags, without a runtime. Each task waits for a tag in order of arrival, and holds its request across
+//! an await. One more task freezes the queue now and then, awaits the drain, and changes the limits. The executor is one thread, with
+//! a line of the tasks that were woken.
 use freeze_queue::{Limits, Queue};
 use std::cell::Cell;
 use std::error::Error;
@@ -23,7 +23,7 @@ struct Woken {
 
 impl Wake for Woken {
     fn wake(self: Arc<Self>) {
-        let _ = self.line.send(self.task); // once the line is gone each task is done
+        let _ = self.line.send(self.task); // if the line is gone, each task is done
     }
 }
 
@@ -50,7 +50,7 @@ fn run(tasks: Vec<Task<'_>>) {
     }
 }
 
-/// Lets the others have their turn.
+/// Lets the other tasks run.
 async fn turn() {
     let mut is_first = true;
     poll_fn(|context| {
@@ -60,7 +60,7 @@ async fn turn() {
     .await;
 }
 
-/// Counts of the tasks.
+/// What the tasks count.
 #[derive(Default)]
 struct Counts {
     sectors: Cell<u64>,
@@ -82,7 +82,7 @@ async fn submit(queue: &Queue, counts: &Counts, start: u64) {
 
 async fn change(queue: &Queue, counts: &Counts) {
     for change in 0..CHANGES {
-        let frozen = queue.freeze_async().await.expect("nobody else freezes");
+        let frozen = queue.freeze_async().await.expect("few freezes nest");
         assert_eq!(counts.now.get(), 0, "no request is in flight");
         frozen.set(frozen.limits().with_max(1 + change % 64)).expect("they are limits");
         drop(frozen);
@@ -97,7 +97,7 @@ fn main() -> Result<(), Box<dyn Error>> {
     tasks.extend((0..TASKS as u64).map(|task| Box::pin(submit(&queue, &counts, task * 100)) as Task<'_>));
     run(tasks);
     println!("{TASKS} tasks sent {} sectors, at most {} requests at once", counts.sectors.get(), counts.most.get());
-    let last = queue.remove()?; // which freezes it once more
+    let last = queue.remove()?; // this freezes it once more
     println!("frozen {} times, at most {} sectors", last.kills, last.limits.max);
     Ok(())
 }

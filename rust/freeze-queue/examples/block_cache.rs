@@ -1,7 +1,6 @@
-//! A block cache over a device: eight threads and twelve tasks read blocks. Each miss is a request with any free tag, which one of three
-//! completers ends, while another thread changes the limits. At last the device is removed, while twenty threads wait for a tag. No
-//! read is wrong, each thread that waited is sent away, and no tag is lost. `BLOCK_CACHE_READS` is how many reads each of the
-//! readers makes.
+//! A block cache over a device. Eight threads and twelve tasks read blocks, while another thread changes the limits. Each miss is a
+//! request with any free tag, and one of three threads completes it. At the end the device is removed, while twenty threads wait for
+//! a tag. No read is wrong, each waiting thread returns, and no tag is lost. Each reader makes `BLOCK_CACHE_READS` reads.
 use freeze_queue::{EnterError, Limits, OwnedRequest, Queue};
 use std::collections::HashMap;
 use std::env;
@@ -17,7 +16,7 @@ const THREADS: u64 = 8;
 const TASKS: u64 = 12;
 const COMPLETERS: usize = 3;
 const WAITERS: usize = 20;
-/// Blocks of the device, of which few fit into the cache.
+/// The number of blocks of the device. Few of them fit into the cache.
 const BLOCKS: u64 = 500;
 const CACHED: usize = 50;
 const SECTORS: u32 = 20;
@@ -27,7 +26,7 @@ fn content(sector: u64) -> u64 {
     sector.wrapping_mul(0x9e37_79b9_7f4a_7c15)
 }
 
-/// A block that is read, by the sum of its sectors.
+/// The sum of the sectors of a block, by which a read is checked.
 fn sum_of(block: u64) -> u64 {
     (0..u64::from(SECTORS)).fold(0, |sum, at| sum.wrapping_add(content(block * u64::from(SECTORS) + at)))
 }
@@ -55,7 +54,7 @@ impl Answer {
     }
 }
 
-/// A read that is in flight: it leaves where it is dropped, by a completer.
+/// A read in flight. The thread that completes it drops its request, which leaves.
 struct Read {
     request: OwnedRequest,
     block: u64,
@@ -74,7 +73,7 @@ impl Cache {
         self.cached.lock().expect("nobody panics").get(&block).copied()
     }
 
-    /// Sends a miss on its way.
+    /// Sends the read of a block that isn't cached.
     fn send(&self, request: OwnedRequest, block: u64) -> Arc<Answer> {
         let answer = Arc::<Answer>::default();
         let read = Read { request, block, answer: Arc::clone(&answer) };
@@ -82,7 +81,7 @@ impl Cache {
         answer
     }
 
-    /// Keeps a block, in place of all if the cache is full.
+    /// Caches a block. If the cache is full, it is cleared first.
     fn keep(&self, block: u64, sum: u64) {
         let mut cached = self.cached.lock().expect("nobody panics");
         if cached.len() >= CACHED {
@@ -91,7 +90,7 @@ impl Cache {
         cached.insert(block, sum);
     }
 
-    /// A block, by a task; a thread blocks on it.
+    /// Reads a block as a task.
     async fn read(&self, block: u64) -> Result<(), EnterError> {
         if let Some(sum) = self.hit(block) {
             self.check(block, sum);
@@ -104,7 +103,7 @@ impl Cache {
         Ok(())
     }
 
-    /// A block, by a thread, which waits for its tag in the queue itself.
+    /// Reads a block on a thread, which blocks in the queue until it has a tag.
     fn read_here(&self, block: u64) -> Result<(), EnterError> {
         let sum = if let Some(sum) = self.hit(block) {
             sum
@@ -122,7 +121,7 @@ impl Cache {
     }
 }
 
-/// Ends reads until no reader is left: how many pieces were longer than the request's limits allow.
+/// Completes reads until no reader is left. Returns the number of pieces that were longer than the request's limits allow.
 fn complete(reads: &Mutex<mpsc::Receiver<Read>>) -> u64 {
     let mut wrong = 0;
     loop {
@@ -133,7 +132,7 @@ fn complete(reads: &Mutex<mpsc::Receiver<Read>>) -> u64 {
             wrong += u64::from(piece.sectors > request.limits().max);
             sum = (0..u64::from(piece.sectors)).fold(sum, |sum, at| sum.wrapping_add(content(piece.start + at)));
         }
-        drop(request); // leaves, and gives its tag to the next
+        drop(request); // leaves, and its tag goes to the next waiter
         answer.fill(sum);
     }
 }
@@ -146,7 +145,7 @@ impl Wake for Unparks {
     }
 }
 
-/// Polls a future on this thread, which is parked between: the whole of an executor.
+/// Polls a future on this thread, and parks the thread in between: a whole executor.
 fn block_on<T>(future: impl Future<Output = T>) -> T {
     let waker = Waker::from(Arc::new(Unparks(thread::current())));
     let mut future = pin!(future);
@@ -177,7 +176,7 @@ fn block_of(reader: u64, read: u64) -> u64 {
     (content(reader * 1_000_003 + read) >> 40) % BLOCKS
 }
 
-/// Threads and tasks read, while limits change: how many changes there were.
+/// Lets threads and tasks read while limits change. Returns the number of changes.
 fn read_under_changes(cache: &Cache, reads: u64) -> u64 {
     let over = AtomicBool::new(false);
     thread::scope(|threads| {
@@ -214,7 +213,7 @@ fn read_under_changes(cache: &Cache, reads: u64) -> u64 {
     })
 }
 
-/// Removes the device, while all tags are in flight and threads wait for one: how many were sent away.
+/// Removes the device, while all tags are in flight and threads wait for one. Returns the number of threads that got `Dying`.
 fn remove_device(queue: &Queue) -> usize {
     let in_flight: Vec<OwnedRequest> = std::iter::from_fn(|| queue.try_enter_any().ok()).collect();
     thread::scope(|threads| {
@@ -222,7 +221,7 @@ fn remove_device(queue: &Queue) -> usize {
         let freezing = queue.begin_freeze().expect("few freezes are there");
         drop(in_flight);
         freezing.wait().mark_dying();
-        let ended = waiters.into_iter().map(|waiter| waiter.join().expect("it is let go"));
+        let ended = waiters.into_iter().map(|waiter| waiter.join().expect("it returns"));
         ended.filter(|ended| *ended == Err(EnterError::Dying)).count()
     })
 }

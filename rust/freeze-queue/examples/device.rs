@@ -15,7 +15,7 @@ fn main() -> Result<(), Box<dyn Error>> {
     thread::scope(|threads| {
         for _ in 0..2 {
             threads.spawn(|| {
-                let device = queue.enter_any().unwrap(); // a request, which is a `&Device` too
+                let device = queue.enter_any().unwrap(); // a request, which derefs to the device
                 assert!(device.name == "slow" || device.name == "fast");
                 device.served.fetch_add(1, Relaxed);
             });

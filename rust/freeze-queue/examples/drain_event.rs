@@ -1,5 +1,6 @@
-//! A loop that waits for file descriptors, as by `poll` or `epoll`, learns of the drain: the waker of the future writes a byte to
-//! a socket, whose other end the loop reads. Here the loop has that one descriptor, so it reads it instead of asking `poll`.
+//! Tells a loop that waits for file descriptors, for example with `poll` or `epoll`, that the queue is drained: the waker of the
+//! future writes a byte to a socket, and the loop reads the other end. Here the loop has only this descriptor, so it reads from it
+//! instead of calling `poll`.
 use freeze_queue::{Limits, Queue};
 use std::error::Error;
 use std::future::Future;
@@ -10,12 +11,12 @@ use std::sync::Arc;
 use std::task::{Context, Poll, Wake, Waker};
 use std::thread;
 
-/// An event that is signalled by a byte.
+/// An event. A byte signals it.
 struct Event(UnixStream);
 
 impl Wake for Event {
     fn wake(self: Arc<Self>) {
-        // If the socket is full the loop has enough to read, and if it is closed the loop has ended.
+        // If the socket is full, the loop has enough to read. If it is closed, the loop has ended.
         let _ = (&self.0).write(&[1]);
     }
 }
@@ -31,7 +32,7 @@ fn main() -> Result<(), Box<dyn Error>> {
     assert!(drained.as_mut().poll(&mut context).is_pending(), "three requests are in flight");
     let completes = thread::spawn(move || requests.into_iter().for_each(drop));
     let frozen = loop {
-        events.read_exact(&mut [0])?; // where poll() would say that it is readable
+        events.read_exact(&mut [0])?; // a loop over several would call poll() first
         if let Poll::Ready(frozen) = drained.as_mut().poll(&mut context) {
             break frozen;
         }

@@ -1,5 +1,5 @@
-//! A device that is removed while four threads submit requests to it, some of which wait to enter then: each request that
-//! entered is done, no request enters after, and a thread that waits is let go.
+//! Removes a device while four threads submit requests to it, and some of them wait to enter. Each request that has entered is
+//! completed, no request enters afterwards, and a thread that waits returns.
 use freeze_queue::{EnterError, Limits, Queue, Tag};
 use std::error::Error;
 use std::sync::atomic::{AtomicBool, AtomicU64, Ordering};
@@ -19,11 +19,11 @@ impl Device {
     }
 }
 
-/// Sends requests of 100 sectors until the device is gone, and says when a thousand were sent.
+/// Sends requests of 100 sectors until the device is gone, and reports when a thousand were sent.
 fn submit(queue: &Queue, tag: &mut Tag, device: &Device, thousand: &mpsc::Sender<()>) -> u64 {
     for sent in 0.. {
         match queue.enter(tag) {
-            Ok(request) => request.pieces(sent * 100, 100).expect("they are few").for_each(|p| device.send(p.sectors)),
+            Ok(request) => request.pieces(sent * 100, 100).expect("below 4 TiB").for_each(|p| device.send(p.sectors)),
             Err(EnterError::Dying) => return sent,
             Err(other) => panic!("{other}"),
         }
@@ -46,7 +46,7 @@ fn main() -> Result<(), Box<dyn Error>> {
         };
         let submitters: Vec<_> = tags.iter_mut().map(submits).collect();
         thousands.iter().take(4).for_each(drop);
-        let frozen = queue.freeze().expect("it is the first freeze"); // each request under way is done
+        let frozen = queue.freeze().expect("it is the first freeze"); // no request is in flight
         device.is_off.store(true, Ordering::Relaxed);
         frozen.mark_dying();
         submitters.into_iter().map(|thread| thread.join().expect("no request finds the device off")).sum()

@@ -1,5 +1,5 @@
-//! A small service on the queue. Threads that come and go take any free tag for each request. A change of the limits has a deadline, and
-//! gives up. The end lets each thread go, and gives everything back.
+//! A small service on the queue. Threads that come and go take any free tag for each request. A change of the limits gives up at its
+//! deadline. At the end each thread returns, and the queue is removed.
 use freeze_queue::{EnterError, Limits, Queue, UpdateError};
 use std::error::Error;
 use std::sync::Arc;
@@ -9,10 +9,10 @@ use std::time::Duration;
 const WORKERS: usize = 4;
 const VISITORS: usize = 100;
 
-/// A request of 20 sectors, on any thread: how many were sent.
+/// Makes a request of 20 sectors, on any thread. Returns the number of sectors that were sent.
 fn serve(queue: &Queue) -> Result<u64, EnterError> {
     let request = queue.enter_any()?; // waits for a tag, and while the queue is frozen
-    let pieces = request.pieces(0, 20).expect("they are few");
+    let pieces = request.pieces(0, 20).expect("below 4 TiB");
     Ok(pieces.map(|piece| u64::from(piece.sectors)).sum()) // here each piece goes to the device
 }
 
@@ -25,9 +25,9 @@ fn work(queue: &Queue) -> u64 {
     sent
 }
 
-/// Changes one limit, or gives up after a while. Then the queue is thawed, and has its old limits.
-fn change(queue: &Queue, max: u32, patience: Duration) -> Result<Limits, UpdateError> {
-    queue.update_timeout(patience, |limits| limits.with_max(max))
+/// Changes one limit, or gives up at the timeout and sets nothing.
+fn change(queue: &Queue, max: u32, timeout: Duration) -> Result<Limits, UpdateError> {
+    queue.update_timeout(timeout, |limits| limits.with_max(max))
 }
 
 fn main() -> Result<(), Box<dyn Error>> {
@@ -50,7 +50,7 @@ fn main() -> Result<(), Box<dyn Error>> {
     }
     queue.update(|limits| limits.with_max(5))?;
 
-    queue.mark_dying(); // each enter, waiting or to come, returns Dying
+    queue.mark_dying(); // calls that wait to enter, and later ones, return Dying
     for worker in workers {
         sent += worker.join().expect("it works to the end");
     }

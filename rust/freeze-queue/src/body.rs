@@ -1,82 +1,44 @@
-//! A tag in its place. It has its own share of its queue, so a request counts none.
-use crate::erased::queue_core as erased;
+//! A tag in its place. The tag has a share of its queue, so a request doesn't count one.
+use crate::erased::biased_queue::BiasedTag;
 use crate::lent::Lent;
+use crate::limits::Limits;
 use crate::shared::Shared;
-use std::ops::{Deref, DerefMut};
 use std::sync::Arc;
 
 /// The part of a tag that changes as it is used.
 pub(crate) struct TagState {
-    pub(crate) erased: erased::Tag,
-    /// Below the queue's slots.
+    pub(crate) erased: BiasedTag,
+    /// The limits in force while its request is in flight.
+    pub(crate) limits: Limits,
+    /// Whether it becomes biased when its request leaves.
+    pub(crate) keeps: bool,
+    /// The number of requests after which it checks again whether it may be biased.
+    pub(crate) asks_after: u32,
+    /// Its slot, below the number of the queue's slots.
     pub(crate) slot: u32,
-    /// Which tag of its queue it is, from 0 on: so is its place, and the seat of a future that waits with it.
+    /// The index of the tag in its queue, from 0: also of its place, and of the seat of a future that waits with it.
     pub(crate) number: usize,
-    /// A waker was noted at its seat, and may be there still.
+    /// A waker was noted at its seat, and may still be there.
     pub(crate) is_noted: bool,
     /// Its place has a note of the request that is in flight with it.
     pub(crate) is_watched: bool,
 }
 
-/// A tag with a share of the queue that it is of.
+impl TagState {
+    /// A tag that has no bias, and with which no request is in flight.
+    pub(crate) fn new(erased: BiasedTag, number: usize, limits: Limits) -> TagState {
+        TagState { erased, limits, keeps: false, asks_after: 0, slot: 0, number, is_noted: false, is_watched: false }
+    }
+}
+
+/// A tag with a share of its queue.
 pub(crate) struct Parts<T> {
     pub(crate) state: TagState,
     pub(crate) shared: Arc<Shared<T>>,
 }
 
-/// A tag that is out of its place, by which its holder reaches the parts. It is brought home, or it ends.
-#[must_use = "a tag is brought home or ends"]
-pub(crate) struct Body<T>(Lent<Option<Parts<T>>>);
-
-impl<T> Body<T> {
-    /// The body of a place that has a tag.
-    #[inline]
-    pub(crate) fn of(lent: Lent<Option<Parts<T>>>) -> Body<T> {
-        Body(lent)
-    }
-
-    /// Brings the tag home, unless it is asked for: then it comes back.
-    #[inline]
-    pub(crate) fn bring_unless_asked(self) -> Option<Body<T>> {
-        self.0.bring_unless_asked().map(Body)
-    }
-
-    /// Brings the tag home, also if it is asked for.
-    pub(crate) fn bring(self) {
-        self.0.bring();
-    }
-
-    /// The tag ends: its place is empty, and its share of the queue ends.
-    pub(crate) fn end(mut self) -> erased::Tag {
-        let Parts { state, shared } = self.0.take().expect(THERE);
-        self.0.bring(); // before the queue ends, perhaps, which gives its places back
-        drop(shared);
-        state.erased
-    }
-
-    /// The tag is out for ever, as its request is that was forgotten. Its share of the queue ends.
-    pub(crate) fn strand(mut self) {
-        drop(self.0.take());
-    }
-}
-
-const THERE: &str = "a tag is there until it ends";
-
-impl<T> Deref for Body<T> {
-    type Target = Parts<T>;
-
-    #[inline]
-    fn deref(&self) -> &Parts<T> {
-        self.0.as_ref().expect(THERE)
-    }
-}
-
-impl<T> DerefMut for Body<T> {
-    #[inline]
-    fn deref_mut(&mut self) -> &mut Parts<T> {
-        self.0.as_mut().expect(THERE)
-    }
-}
+/// A tag that is out of its place. It is brought home, or it ends, and its share of the queue with it.
+pub(crate) type Body<T> = Lent<Parts<T>>;
 
 #[cfg(test)]
 mod tests {
@@ -85,7 +47,7 @@ mod tests {
     use std::cell::Cell;
     use std::rc::Rc;
 
-    /// A call of it compiles only if the type isn't `Sync`: else there are two of it.
+    /// A call of it compiles only if the type isn't `Sync`: otherwise there are two such functions.
     trait NotShared<Form> {
         fn is_not_shared() {}
     }
@@ -93,7 +55,7 @@ mod tests {
     impl<T> NotShared<()> for T {}
     impl<T: Sync> NotShared<Shared> for T {}
 
-    /// The same of `Send`.
+    /// The same for `Send`.
     trait NotSent<Form> {
         fn is_not_sent() {}
     }
@@ -118,7 +80,7 @@ mod tests {
 
     #[test]
     fn a_place_is_no_larger_than_the_page_says() {
-        assert!(size_of::<Place<()>>() <= 256);
+        assert!(size_of::<Place<()>>() <= 384);
         assert_eq!(size_of::<Place<[u8; 999]>>(), size_of::<Place<()>>());
     }
 }

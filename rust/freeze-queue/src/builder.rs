@@ -1,11 +1,11 @@
-//! How a queue is made.
+//! Making a queue.
 use crate::errors::NewError;
 use crate::handed_back::HandedBack;
 use crate::limits::Limits;
 use crate::queue::Queue;
 use std::thread;
 
-/// How a queue is made: [`Queue::builder`].
+/// Builds a queue; made by [`Queue::builder`].
 ///
 /// ```
 /// use freeze_queue::{Limits, Queue};
@@ -15,7 +15,7 @@ use std::thread;
 /// # Ok::<(), Box<dyn std::error::Error>>(())
 /// ```
 #[derive(Clone, Copy, Debug)]
-#[must_use = "it makes a queue by `build`"]
+#[must_use = "a builder does nothing until `build` is called"]
 pub struct Builder<T = ()> {
     limits: Limits,
     tags: u32,
@@ -30,7 +30,7 @@ impl Builder {
     }
 }
 
-/// A slot for each processor.
+/// The number of processors.
 fn slots_of_machine() -> u32 {
     let processors = thread::available_parallelism().map_or(1, |it| u32::try_from(it.get()).unwrap_or(u32::MAX));
     processors.min(Queue::MAX_SLOTS)
@@ -42,32 +42,34 @@ impl<T> Builder<T> {
         Builder { tags, ..self }
     }
 
-    /// Sets the number of slots, 1 to 512, on which requests count. The default is the number of processors. Each slot has a cache line of
-    /// its own; threads that share one are slower.
+    /// Sets the number of counters (slots) over which requests in flight are spread, 1 to 512. The default is the number of processors.
+    /// Each slot has a cache line of its own; threads that share a slot are slower.
     pub fn slots(self, slots: u32) -> Builder<T> {
         Builder { slots: Some(slots), ..self }
     }
 
-    /// Reserves some of the tags, but not all, for threads that keep one ([`Queue::tag`]): requests that take any tag leave them alone. The
-    /// default is 0. Linux: `reserved_tags` of a `struct blk_mq_tag_set`.
+    /// Reserves some of the tags, but not all, for threads that keep one. [`Queue::enter_any`] never uses reserved tags.
+    /// [`Queue::tag`] gives them out first, and then the others. So if no tags are reserved, each tag that a thread keeps is missing
+    /// for `enter_any`. The default is 0. Linux: `reserved_tags` of a `struct blk_mq_tag_set`.
     pub fn reserved(self, reserved: u32) -> Builder<T> {
         Builder { reserved, ..self }
     }
 
-    /// Sets the value of the queue: a request is a `&U` too, and a freeze lends `&mut U` ([`Frozen::lock`](crate::Frozen::lock)).
+    /// Sets the value of the queue: a request derefs to U, and a freeze lends `&mut U`
+    /// ([`OwnedFrozen::lock`](crate::OwnedFrozen::lock)).
     pub fn value<U>(self, value: U) -> Builder<U> {
         let Builder { limits, tags, slots, reserved, .. } = self;
         Builder { limits, tags, slots, reserved, value }
     }
 
-    /// Makes the queue, live. Linux: `blk_mq_alloc_queue`.
+    /// Makes a live queue. Linux: `blk_mq_alloc_queue`.
     ///
     /// # Errors
     ///
     /// Returns [`NewError`], and hands the value back.
     pub fn build(self) -> Result<Queue<T>, HandedBack<T, NewError>> {
-        match Queue::parts(self.limits, self.slots.unwrap_or_else(slots_of_machine), self.tags, self.reserved) {
-            Ok(parts) => Ok(parts.with(self.value)),
+        match Queue::maker(self.limits, self.slots.unwrap_or_else(slots_of_machine), self.tags, self.reserved) {
+            Ok(make) => Ok(make(self.value)),
             Err(reason) => Err(HandedBack { value: self.value, reason }),
         }
     }

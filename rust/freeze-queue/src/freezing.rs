@@ -1,32 +1,27 @@
-//! A freeze that was begun, and may not be drained yet.
-use crate::drained::Drained;
+//! A freeze that has begun, and may not have drained yet.
 use crate::errors::FreezeError;
-use crate::frozen::Frozen;
-use crate::shared::{Share, Shared};
-use std::fmt;
+use crate::frozen::{Frozen, OwnedFrozen};
+use crate::queue::Queue;
+use crate::seats::wake_each;
+use crate::shared::Shared;
+use crate::tasks;
+use std::marker::PhantomData;
+use std::ops::Deref;
+use std::sync::Arc;
 use std::time::{Duration, Instant};
 
-/// A freeze that is thawed where this is dropped.
-pub(crate) struct Freeze<'q, T> {
-    /// None once it is thawed, or is for ever.
-    queue: Option<Share<'q, T>>,
+/// A freeze with a share of its queue. Dropping it thaws.
+pub(crate) struct Freeze<T> {
+    /// None after the thaw.
+    queue: Option<Arc<Shared<T>>>,
 }
 
-impl<T> Freeze<'_, T> {
+impl<T> Freeze<T> {
     pub(crate) fn queue(&self) -> &Shared<T> {
         self.queue.as_deref().expect("it is there until the freeze ends")
     }
 
-    pub(crate) fn is_drained(&self) -> bool {
-        self.queue().waits.lock().freezer.poll_drained(&self.queue().erased)
-    }
-
-    /// Whether it is drained by the deadline, for which it waits.
-    fn until_drained(&self, deadline: Option<Instant>) -> bool {
-        self.queue().waits.until_drained(&self.queue().erased, deadline)
-    }
-
-    /// Ends the freeze of a queue that no request enters any more. A waker may panic by that: it is so by then.
+    /// Marks the queue dying and ends this freeze. A waker may panic, after the freeze has ended.
     pub(crate) fn mark_dying(mut self) {
         if let Some(queue) = self.queue.take() {
             queue.mark_dying(true);
@@ -34,7 +29,18 @@ impl<T> Freeze<'_, T> {
     }
 }
 
-impl<T> Drop for Freeze<'_, T> {
+/// The borrow of a queue. Dropping it ends the borrow, so a freeze that borrows its queue is thawed before the queue ends.
+pub(crate) struct Borrow<'q, T>(PhantomData<&'q Queue<T>>);
+
+impl<T> Borrow<'_, T> {
+    pub(crate) const OF: Self = Borrow(PhantomData);
+}
+
+impl<T> Drop for Borrow<'_, T> {
+    fn drop(&mut self) {}
+}
+
+impl<T> Drop for Freeze<T> {
     fn drop(&mut self) {
         if let Some(queue) = self.queue.take() {
             queue.thaw();
@@ -42,9 +48,10 @@ impl<T> Drop for Freeze<'_, T> {
     }
 }
 
-/// A freeze that was begun ([`Queue::begin_freeze`](crate::Queue::begin_freeze)): no request enters, and those in flight drain.
+/// A freeze that has begun ([`Queue::begin_freeze`]): no request enters, except by [`try_enter_frozen`](Queue::try_enter_frozen),
+/// and those in flight drain.
 ///
-/// Dropping it thaws this freeze. [`OwnedFreezing`] has a share of its queue, and goes wherever its holder does.
+/// Dropping it thaws this freeze. It borrows its queue, and derefs to [`OwnedFreezing`].
 ///
 /// ```
 /// use freeze_queue::{Limits, Queue, EnterError};
@@ -59,60 +66,70 @@ impl<T> Drop for Freeze<'_, T> {
 /// freezing.wait().set(queue.limits().with_max(8))?;
 /// # Ok::<(), Box<dyn std::error::Error>>(())
 /// ```
-#[must_use = "a freeze is thawed where it is dropped"]
+#[must_use = "an unused freeze is thawed at once"]
 pub struct Freezing<'q, T = ()> {
-    freeze: Freeze<'q, T>,
+    owned: OwnedFreezing<T>,
+    _queue: Borrow<'q, T>,
 }
 
-/// A freeze that was begun, with a share of its queue ([`Queue::begin_freeze_owned`](crate::Queue::begin_freeze_owned)).
-pub type OwnedFreezing<T = ()> = Freezing<'static, T>;
+/// A freeze that has begun. It doesn't borrow its queue, but keeps the queue's memory alive ([`Freezing::into_owned`]).
+///
+/// ```
+/// # use freeze_queue::{Limits, Queue};
+/// # use std::thread;
+/// # let queue = Queue::new(Limits::of_hardware(64))?;
+/// let freezing = queue.begin_freeze()?.into_owned();
+/// thread::spawn(move || drop(freezing.wait())).join().unwrap();
+/// assert_eq!(queue.depth(), 0);
+/// # Ok::<(), Box<dyn std::error::Error>>(())
+/// ```
+#[must_use = "an unused freeze is thawed at once"]
+pub struct OwnedFreezing<T = ()> {
+    freeze: Freeze<T>,
+}
 
 impl<'q, T> Freezing<'q, T> {
-    pub(crate) fn begin(queue: Share<'q, T>) -> Result<Freezing<'q, T>, FreezeError> {
-        queue.waits.begin_freeze(&queue.erased, queue.shares())?;
-        Ok(Freezing { freeze: Freeze { queue: Some(queue) } })
+    pub(crate) fn begin(queue: &'q Arc<Shared<T>>) -> Result<Freezing<'q, T>, FreezeError> {
+        let updates = queue.begin_freeze()?;
+        let freeze = Freeze { queue: Some(Arc::clone(queue)) };
+        wake_each(updates); // which may panic: then the freeze is thawed
+        Ok(Freezing::of(OwnedFreezing { freeze }))
     }
 
-    /// Whether each request has left, at a moment of the call. Once it is so it stays so until the last thaw. Linux:
-    /// `percpu_ref_is_zero` in `blk_mq_freeze_queue_wait`.
-    ///
-    /// ```
-    /// # use freeze_queue::{Limits, Queue};
-    /// # let queue = Queue::builder(Limits::of_hardware(64)).slots(1).tags(1).build()?;
-    /// assert!(queue.begin_freeze()?.is_drained());
-    /// # Ok::<(), Box<dyn std::error::Error>>(())
-    /// ```
-    #[must_use]
-    pub fn is_drained(&self) -> bool {
-        self.freeze.is_drained()
+    fn of(owned: OwnedFreezing<T>) -> Freezing<'q, T> {
+        Freezing { owned, _queue: Borrow::OF }
+    }
+
+    /// Returns the same freeze, which no longer borrows the queue.
+    pub fn into_owned(self) -> OwnedFreezing<T> {
+        self.owned
     }
 
     /// Waits until each request has left. Linux: `blk_mq_freeze_queue_wait`.
     ///
     /// ```
     /// # use freeze_queue::{Limits, Queue};
-    /// # let queue = Queue::builder(Limits::of_hardware(64)).slots(1).tags(1).build()?;
+    /// # let queue = Queue::new(Limits::of_hardware(64))?;
     /// let frozen = queue.begin_freeze()?.wait();
     /// assert!(queue.is_drained());
     /// # Ok::<(), Box<dyn std::error::Error>>(())
     /// ```
     pub fn wait(self) -> Frozen<'q, T> {
-        self.freeze.until_drained(None);
-        Frozen::of(self.freeze)
+        Frozen::of(self.owned.wait())
     }
 
-    /// Waits this long at most until each request has left. Linux: `blk_mq_freeze_queue_wait_timeout`.
+    /// Waits until each request has left, or until the timeout. Linux: `blk_mq_freeze_queue_wait_timeout`.
     ///
     /// # Errors
     ///
-    /// If a request is in flight still, the freeze comes back.
+    /// Returns the freeze if a request is still in flight.
     ///
     /// # Examples
     ///
     /// ```
     /// # use freeze_queue::{Limits, Queue};
     /// # use std::time::Duration;
-    /// # let queue = Queue::builder(Limits::of_hardware(64)).slots(1).tags(1).build()?;
+    /// # let queue = Queue::new(Limits::of_hardware(64))?;
     /// # let mut tag = queue.tag()?;
     /// let request = queue.enter(&mut tag)?;
     /// let freezing = queue.begin_freeze()?.wait_timeout(Duration::ZERO).unwrap_err();
@@ -120,12 +137,11 @@ impl<'q, T> Freezing<'q, T> {
     /// assert!(freezing.wait_timeout(Duration::ZERO).is_ok());
     /// # Ok::<(), Box<dyn std::error::Error>>(())
     /// ```
-    pub fn wait_timeout(self, patience: Duration) -> Result<Frozen<'q, T>, Freezing<'q, T>> {
-        let deadline = Instant::now().checked_add(patience);
-        if self.freeze.until_drained(deadline) { Ok(Frozen::of(self.freeze)) } else { Err(self) }
+    pub fn wait_timeout(self, timeout: Duration) -> Result<Frozen<'q, T>, Freezing<'q, T>> {
+        self.owned.wait_timeout(timeout).map(Frozen::of).map_err(Freezing::of)
     }
 
-    /// Waits by a future until each request has left: the call that leaves last wakes it. Dropping the future thaws.
+    /// Waits as a task until each request has left: the last request wakes it. Dropping the future thaws the freeze.
     ///
     /// ```
     /// # use freeze_queue::{FreezeError, Limits, Queue};
@@ -137,20 +153,21 @@ impl<'q, T> Freezing<'q, T> {
     ///     frozen.set(limits.with_max(limits.max / 2)).expect("they are limits");
     ///     Ok(())
     /// }
-    /// # let queue = Queue::builder(Limits::of_hardware(64)).slots(1).tags(1).build()?;
+    /// # let queue = Queue::new(Limits::of_hardware(64))?;
     /// # let done = pin!(halve(&queue)).poll(&mut Context::from_waker(Waker::noop()));
     /// # assert_eq!((done, queue.limits().max, queue.depth()), (Poll::Ready(Ok(())), 32, 0));
     /// # Ok::<(), Box<dyn std::error::Error>>(())
     /// ```
-    pub fn drained(self) -> Drained<'q, T> {
-        Drained::of(self.freeze)
+    pub async fn drained(self) -> Frozen<'q, T> {
+        Frozen::of(self.owned.drained().await)
     }
 
-    /// Marks the queue dying, as [`Queue::mark_dying`](crate::Queue::mark_dying), and ends this freeze: no request enters between. Linux: `blk_queue_start_drain` with `QUEUE_FLAG_DYING`.
+    /// Marks the queue dying, as [`Queue::mark_dying`] does, and ends this freeze: no request enters in between. Linux:
+    /// `blk_queue_start_drain` with `QUEUE_FLAG_DYING`.
     ///
     /// ```
     /// # use freeze_queue::{Limits, Queue, EnterError};
-    /// # let queue = Queue::builder(Limits::of_hardware(64)).slots(1).tags(2).build()?;
+    /// # let queue = Queue::new(Limits::of_hardware(64))?;
     /// let (mut tag, mut other) = (queue.tag()?, queue.tag()?);
     /// let request = queue.enter(&mut tag)?; // its device may never answer
     /// queue.begin_freeze()?.mark_dying();
@@ -161,12 +178,61 @@ impl<'q, T> Freezing<'q, T> {
     /// # Ok::<(), Box<dyn std::error::Error>>(())
     /// ```
     pub fn mark_dying(self) {
+        self.owned.mark_dying();
+    }
+}
+
+impl<T> OwnedFreezing<T> {
+    pub(crate) fn queue(&self) -> &Shared<T> {
+        self.freeze.queue()
+    }
+
+    /// Returns whether all requests had left at some moment of the call. Once this call has returned true, it returns true
+    /// until the last thaw. Linux: `percpu_ref_is_zero` in `blk_mq_freeze_queue_wait`.
+    ///
+    /// ```
+    /// # use freeze_queue::{Limits, Queue};
+    /// # let queue = Queue::new(Limits::of_hardware(64))?;
+    /// assert!(queue.begin_freeze()?.is_drained());
+    /// # Ok::<(), Box<dyn std::error::Error>>(())
+    /// ```
+    #[must_use]
+    pub fn is_drained(&self) -> bool {
+        self.queue().is_drained()
+    }
+
+    /// Waits as [`Freezing::wait`] does.
+    pub fn wait(self) -> OwnedFrozen<T> {
+        self.queue().until_drained(None);
+        OwnedFrozen::of(self.freeze)
+    }
+
+    /// Waits as [`Freezing::wait_timeout`] does.
+    ///
+    /// # Errors
+    ///
+    /// Returns the freeze if a request is still in flight.
+    pub fn wait_timeout(self, timeout: Duration) -> Result<OwnedFrozen<T>, OwnedFreezing<T>> {
+        let deadline = Instant::now().checked_add(timeout);
+        if self.queue().until_drained(deadline) { Ok(OwnedFrozen::of(self.freeze)) } else { Err(self) }
+    }
+
+    /// Waits as [`Freezing::drained`] does.
+    pub async fn drained(self) -> OwnedFrozen<T> {
+        tasks::until_drained(self.queue()).await;
+        OwnedFrozen::of(self.freeze)
+    }
+
+    /// Marks the queue dying, as [`Freezing::mark_dying`] does.
+    pub fn mark_dying(self) {
         self.freeze.mark_dying();
     }
 }
 
-impl<T> fmt::Debug for Freezing<'_, T> {
-    fn fmt(&self, f: &mut fmt::Formatter<'_>) -> fmt::Result {
-        f.debug_struct("Freezing").field("queue", &self.freeze.queue().id).finish_non_exhaustive()
+impl<T> Deref for Freezing<'_, T> {
+    type Target = OwnedFreezing<T>;
+
+    fn deref(&self) -> &OwnedFreezing<T> {
+        &self.owned
     }
 }

@@ -1,11 +1,13 @@
-//! A refusal that hands back what the call was given.
+//! A refusal that returns the value that the call was given.
 use crate::errors::{EnterError, NewError, RemoveError};
 use std::error::Error;
 use std::fmt;
 
-/// A refusal of a call that takes a value: it hands the value back.
+/// A refusal of a call that takes a value. It returns the value.
 ///
-/// `?` into the reason's type, or into a boxed error, drops the value: so it demands nothing of it.
+/// `?` drops the value and returns only the reason (or boxes it). The value's type doesn't matter. `HandedBack` isn't an
+/// `Error` itself. To use `?` with an error type of another crate, take the reason first, for example with
+/// `map_err(RemoveError::from)`.
 ///
 /// ```
 /// # use freeze_queue::{HandedBack, Limits, Queue, RemoveError};
@@ -17,7 +19,7 @@ use std::fmt;
 /// # Ok::<(), Box<dyn std::error::Error>>(())
 /// ```
 pub struct HandedBack<T, E> {
-    /// The value that the call was given, as it was.
+    /// The value that the call was given, unchanged.
     pub value: T,
     /// Why the call refused.
     pub reason: E,
@@ -29,7 +31,7 @@ impl<T, E: fmt::Display> fmt::Display for HandedBack<T, E> {
     }
 }
 
-/// The reason alone, whatever the value is.
+/// Shows only the reason, whatever the value is.
 impl<T, E: fmt::Debug> fmt::Debug for HandedBack<T, E> {
     fn fmt(&self, f: &mut fmt::Formatter<'_>) -> fmt::Result {
         f.debug_struct("HandedBack").field("reason", &self.reason).finish_non_exhaustive()
@@ -48,7 +50,7 @@ impl<T, E: Error + Send + Sync + 'static> From<HandedBack<T, E>> for Box<dyn Err
     }
 }
 
-/// That `?` in a function with these errors drops what was handed back.
+/// `?` in a function with these errors drops the value.
 macro_rules! reasons {
     ($($error:ident)+) => {$(
         impl<T> From<HandedBack<T, $error>> for $error {

@@ -1,9 +1,8 @@
-//! The requests in flight, for a freeze that hangs.
-use std::sync::atomic::{AtomicBool, Ordering::Relaxed};
+//! The requests in flight, to find out why a freeze hangs.
 use std::thread::{self, ThreadId};
 use std::time::Instant;
 
-/// A request in flight, of a queue that is watched ([`Queue::in_flight`](crate::Queue::in_flight)).
+/// A request in flight, as a watched queue lists it ([`Queue::in_flight`](crate::Queue::in_flight)).
 ///
 /// ```
 /// use freeze_queue::{Limits, Queue};
@@ -22,35 +21,17 @@ use std::time::Instant;
 #[derive(Clone, Copy, Debug, PartialEq, Eq)]
 #[non_exhaustive]
 pub struct InFlight {
-    /// The number of its tag ([`Tag::number`](crate::Tag::number)).
+    /// The number of the request's tag ([`Tag::number`](crate::Tag::number)).
     pub tag: usize,
-    /// When it entered. One that stays keeps it.
+    /// When the request entered.
     pub since: Instant,
-    /// The thread by which it entered.
+    /// The thread that entered; for a task, the thread that polled it. To find the task, record the `tag_number` of its request.
     pub thread: ThreadId,
 }
 
 impl InFlight {
-    /// By this thread, as of now.
+    /// A note for the current thread and time.
     pub(crate) fn now(tag: usize) -> InFlight {
         InFlight { tag, since: Instant::now(), thread: thread::current().id() }
-    }
-}
-
-/// Whether requests note when they enter. Each request looks at it, and nobody writes it meanwhile.
-pub(crate) struct Watch(AtomicBool);
-
-impl Watch {
-    pub(crate) fn new() -> Watch {
-        Watch(AtomicBool::new(false))
-    }
-
-    #[inline]
-    pub(crate) fn is_on(&self) -> bool {
-        self.0.load(Relaxed)
-    }
-
-    pub(crate) fn set(&self, on: bool) {
-        self.0.store(on, Relaxed);
     }
 }

@@ -1,9 +1,10 @@
-//! A value that one holder has at a time, and that comes home from any thread: one of the two files of this crate with `unsafe`. To take
-//! it is one exchange, and to bring it home another. (A mutex of std's takes two for each, and its guard stays on its thread.)
-//! The memory in which such values lie is freed once each is home for good.
+//! A value that one holder at a time has, and that can come home from any thread. This is one of the files of this crate
+//! with `unsafe`. Taking it is one exchange, and bringing it home another. (A mutex of std takes two for each, and its guard
+//! stays on its thread.) The memory of such values is freed once each is home for good.
 //!
-//! A [`Lent`] is made by the step that finds the value at home and leaves it out, and no other. It is gone before the step that leaves the
-//! value at home. There is one at a time, and a value that isn't brought back stays out for ever. Each step is sequentially consistent.
+//! Only the step that finds the value at home, and leaves it out, makes a [`Lent`]. The `Lent` is gone before the step that
+//! leaves the value at home. So there is one at a time, and a value that isn't brought back stays out forever. Each step is
+//! sequentially consistent.
 #![expect(unsafe_code, reason = "the compiler can't know that there is one `Lent` at a time")]
 use crate::sync::AtomicU32;
 use std::cell::UnsafeCell;
@@ -16,11 +17,13 @@ const HERE: u32 = 0;
 const OUT: u32 = 1;
 /// Out, and asked for.
 const ASKED: u32 = 2;
+/// Taken away for good: nobody finds it here again.
+const ENDED: u32 = 3;
 
-/// Where a value lies that is lent.
+/// The place of a value that is lent.
 pub(crate) struct Home<T> {
     state: AtomicU32,
-    value: UnsafeCell<T>,
+    value: UnsafeCell<Option<T>>,
 }
 
 // SAFETY: the value is reached by the one `Lent`, which threads share only if they may share a `T`.
@@ -36,23 +39,36 @@ unsafe impl<T: Send> Send for Lent<T> {}
 unsafe impl<T: Sync> Sync for Lent<T> {}
 
 impl<T> Home<T> {
-    pub(crate) fn new(value: T) -> Home<T> {
-        Home { state: AtomicU32::new(HERE), value: UnsafeCell::new(value) }
+    /// A home that has no value yet.
+    pub(crate) fn empty() -> Home<T> {
+        Home { state: AtomicU32::new(HERE), value: UnsafeCell::new(None) }
     }
 
-    /// Whether the value is here, at a moment of the call.
+    /// Puts a value into a home that has none.
+    pub(crate) fn fill(&self, value: T) {
+        let mut lent = self.take().expect("nobody has it");
+        *lent.value() = Some(value);
+        lent.bring();
+    }
+
+    /// Whether the value was home at some moment of the call.
     #[inline]
     pub(crate) fn is_here(&self) -> bool {
         self.state.load(SeqCst) == HERE
     }
 
-    /// The value, if it is here.
+    /// Whether the value was out at some moment of the call: it had neither come home nor ended.
+    pub(crate) fn is_out(&self) -> bool {
+        matches!(self.state.load(SeqCst), OUT | ASKED)
+    }
+
+    /// The value, if it is home.
     #[inline]
     pub(crate) fn take(&self) -> Option<Lent<T>> {
         self.state.compare_exchange(HERE, OUT, SeqCst, SeqCst).ok().map(|_| Lent(NonNull::from(self)))
     }
 
-    /// The value, if it is here. From now on it is asked for, until it is brought.
+    /// The value, if it is home. From now on it is asked for, until it is brought.
     pub(crate) fn take_or_ask(&self) -> Option<Lent<T>> {
         if self.state.swap(ASKED, SeqCst) == HERE { Some(Lent(NonNull::from(self))) } else { None }
     }
@@ -65,7 +81,7 @@ impl<T> Lent<T> {
         unsafe { self.0.as_ref() }
     }
 
-    /// Brings the value home, unless it is asked for: then it comes back.
+    /// Brings the value home. If it is asked for, returns it instead.
     #[inline]
     pub(crate) fn bring_unless_asked(self) -> Option<Self> {
         self.home().state.compare_exchange(OUT, HERE, SeqCst, SeqCst).is_err().then_some(self)
@@ -75,7 +91,27 @@ impl<T> Lent<T> {
     pub(crate) fn bring(self) {
         self.home().state.store(HERE, SeqCst);
     }
+
+    /// Takes the value away for good, and leaves its home empty.
+    pub(crate) fn end(mut self) -> T {
+        let value = self.value().take();
+        self.home().state.store(ENDED, SeqCst);
+        value.expect(THERE)
+    }
+
+    /// Drops the value, whose home counts it as out forever.
+    pub(crate) fn strand(mut self) {
+        drop(self.value().take());
+    }
+
+    #[inline]
+    fn value(&mut self) -> &mut Option<T> {
+        // SAFETY: there is no other `Lent`, and this one is borrowed alone.
+        unsafe { &mut *self.home().value.get() }
+    }
 }
+
+const THERE: &str = "a value is there until it ends";
 
 impl<T> Deref for Lent<T> {
     type Target = T;
@@ -83,20 +119,20 @@ impl<T> Deref for Lent<T> {
     #[inline]
     fn deref(&self) -> &T {
         // SAFETY: there is no other `Lent`, and this one is borrowed.
-        unsafe { &*self.home().value.get() }
+        let value = unsafe { &*self.home().value.get() };
+        value.as_ref().expect(THERE)
     }
 }
 
 impl<T> DerefMut for Lent<T> {
     #[inline]
     fn deref_mut(&mut self) -> &mut T {
-        // SAFETY: there is no other `Lent`, and this one is borrowed alone.
-        unsafe { &mut *self.home().value.get() }
+        self.value().as_mut().expect(THERE)
     }
 }
 
-/// Frees places in which values were lent, whose owner is dropped. Each value is home, and no thread has a share of the queue by which it
-/// reaches a place.
+/// Frees places in which values were lent, whose owner is dropped. Each value is home or has ended, and no thread has a share of the
+/// queue by which it reaches a place.
 pub(crate) fn free<T>(places: &mut ManuallyDrop<Vec<T>>) {
     // SAFETY: a step at a value is made by a thread with a share of the queue, or ends in leaving the value home with its share. The
     // last share is gone, so each step was made. It is called once, where the owner is dropped.

@@ -1,9 +1,8 @@
-//! A request queue whose limits change while threads submit. For authors of storage services, block devices and drivers in Rust.
+//! A request queue whose limits change while threads submit, for authors of storage services, block devices and drivers.
 //!
 //! A request enters ([`Queue::enter`]), reads the limits, cuts itself into pieces by them ([`Request::pieces`]), and leaves when it is
-//! dropped. To change the limits, freeze the queue ([`Queue::freeze`], or [`Queue::update`] in one call): new requests wait, those in flight
-//! drain, the limits are set, and the queue thaws. So each request has one setting from entering to leaving. Linux does the same by
-//! `blk_mq_freeze_queue` (block/blk-mq.c).
+//! dropped. A change ([`Queue::update`], or [`Queue::freeze`]) freezes the queue: new requests wait, those in flight drain, the limits are
+//! set, and the queue thaws. So each request has one setting from entering to leaving. Linux: `blk_mq_freeze_queue`.
 //!
 //! ```
 //! use freeze_queue::{Limits, Queue};
@@ -27,49 +26,77 @@
 //! # Ok::<(), Box<dyn std::error::Error>>(())
 //! ```
 //!
-//! A request with a tag of its own takes no lock: two exchanges on a cache line of its own, some 20 ns. With any tag it is some 45 ns.
+//! As long as the queue isn't frozen, and [`watch`](Queue::watch) is off, a thread that has a tag enters and leaves without a lock.
+//! After its first request a tag is *biased*: until the next freeze it enters and leaves by a store and a load each, on a cache line
+//! of its own. A freeze takes the bias away, even from a tag whose thread sleeps or has ended. A request whose bias was taken while
+//! it was in flight takes the lock once, when it leaves. [`enter_any`](Queue::enter_any) costs two atomic exchanges more: one to take
+//! the tag, one to return it.
 //!
 #![doc = include_str!("freeze_in_time.svg")]
 //!
-//! # Requests
-//!
-//! | tag | now, or wait | with a deadline | a future | the request |
+//! | a request | now, or wait | with a timeout | as a task | gives |
 //! |---|---|---|---|---|
-//! | kept by a thread | [`try_enter`](Queue::try_enter), [`enter`](Queue::enter) | [`enter_timeout`](Queue::enter_timeout) | [`enter_async`](Queue::enter_async) | [`Request`] borrows it |
-//! | goes along | [`try_enter_owned`](Queue::try_enter_owned), [`enter_owned`](Queue::enter_owned) | [`enter_owned_timeout`](Queue::enter_owned_timeout) | [`enter_owned_async`](Queue::enter_owned_async) | [`OwnedRequest`] ends on any thread |
-//! | any that is free | [`try_enter_any`](Queue::try_enter_any), [`enter_any`](Queue::enter_any) | [`enter_any_timeout`](Queue::enter_any_timeout) | [`enter_any_async`](Queue::enter_any_async) | [`OwnedRequest`] |
+//! | with the thread's own tag | [`try_enter`](Queue::try_enter), [`enter`](Queue::enter) | [`enter_timeout`](Queue::enter_timeout) | [`enter_async`](Queue::enter_async) | [`Request`] |
+//! | that takes its tag along | [`try_enter_owned`](Queue::try_enter_owned), [`enter_owned`](Queue::enter_owned) | [`enter_owned_timeout`](Queue::enter_owned_timeout) | [`enter_owned_async`](Queue::enter_owned_async) | [`OwnedRequest`] |
+//! | with any free tag | [`try_enter_any`](Queue::try_enter_any), [`enter_any`](Queue::enter_any) | [`enter_any_timeout`](Queue::enter_any_timeout) | [`enter_any_async`](Queue::enter_any_async), [`enter_any_owned_async`](Queue::enter_any_owned_async) | [`OwnedRequest`] |
+//! | of a queue that may be frozen, until it is drained | [`try_enter_frozen`](Queue::try_enter_frozen) | | | [`Request`] |
+//! | the same, taking its tag along | [`try_enter_frozen_owned`](Queue::try_enter_frozen_owned) | | | [`OwnedRequest`] |
 //!
-//! # Changes
+//! | a change | now | wait | with a timeout | as a task |
+//! |---|---|---|---|---|
+//! | of the limits | | [`update`](Queue::update) | [`update_timeout`](Queue::update_timeout) | [`update_async`](Queue::update_async) |
+//! | a freeze, which nests | [`begin_freeze`](Queue::begin_freeze), [`try_freeze`](Queue::try_freeze) | [`freeze`](Queue::freeze) | [`freeze_timeout`](Queue::freeze_timeout) | [`freeze_async`](Queue::freeze_async) |
+//! | the device's end | [`mark_dying`](Queue::mark_dying) | [`shut_down`](Queue::shut_down) | [`shut_down_timeout`](Queue::shut_down_timeout) | [`shut_down_async`](Queue::shut_down_async) |
 //!
-//! | | wait | with a deadline | a future |
-//! |---|---|---|---|
-//! | a freeze, which nests | [`freeze`](Queue::freeze), [`begin_freeze`](Queue::begin_freeze) | [`freeze_timeout`](Queue::freeze_timeout) | [`freeze_async`](Queue::freeze_async) |
-//! | an update of the limits | [`update`](Queue::update) | [`update_timeout`](Queue::update_timeout) | [`update_async`](Queue::update_async) |
-//! | the end of a device | [`mark_dying`](Queue::mark_dying), [`shut_down`](Queue::shut_down) | [`shut_down_timeout`](Queue::shut_down_timeout) | [`shut_down_async`](Queue::shut_down_async) |
-//!
-//! A [`Queue<T>`](Queue) guards a value, for example a device: a request is a `&T`, a freeze lends `&mut T` ([`Frozen::lock`]), and
-//! [`Queue::remove`] returns it ([`Builder::value`]).
+//! A [`Queue<T>`](Queue) guards a value ([`Builder::value`]): a request derefs to T, a freeze lends `&mut T` ([`OwnedFrozen::lock`]).
 //!
 //! # Waiting
 //!
-//! Threads wait by `std`'s mutex and condition variables, tasks on any executor. Dropping a future gives up its wait. No waker runs under
-//! a lock. If a waker panics, the other waiters are woken, and the panic goes on in the call that woke it.
+//! Threads wait for a thaw or a drain with `std`'s condition variables, after up to 4 µs of polling; a thread in a line waits in
+//! `thread::park`. Tasks wait on any executor. Dropping a future gives up its wait. Threads and tasks stand in one line for a tag,
+//! and in one for the turn to update. No waker runs under a lock. If a waker panics, the other waiters are still woken, and the panic
+//! continues in the call that woke them. A waker may call this crate. If that call wakes other tasks, they are woken only after the
+//! waker has returned, so a waker must not block on them. (Executors' wakers don't.)
 //!
-//! A thread that waits for itself waits forever: it freezes while its own request is in flight, enters while it holds a [`Frozen`], or
-//! waits for a tag while it has all of them. If it enters again under a request while another thread freezes, both wait forever:
-//! [`Queue::try_enter_frozen`] lets it in at once. If a freeze hangs, [`Queue::in_flight`] lists the requests of a queue that is
-//! [watched](Queue::watch).
+//! A thread blocks for long only in `enter`, `enter_owned`, `enter_any`, `freeze`, `wait`, `update`, `shut_down`, their forms with a
+//! timeout, and [`OwnedFrozen::lock`]. Any other call, and the drop of a tag, a request or a freeze, may wait briefly for a lock,
+//! which is never held while the queue drains. [`remove`](Queue::remove) may also sleep briefly, until another thread has finished
+//! giving back a tag or thawing.
 //!
-//! The holder of a [`Frozen`] sees all writes of requests that left before; a request that enters after a thaw sees all writes from before
-//! the thaw. Refused memory is an ordinary error, except for one `Arc` when a queue is made.
+//! # What waits forever
+//!
+//! These wait forever, on a thread and as a task. (The forms with a timeout return when it expires.)
+//!
+//! - `freeze`, `update` or `shut_down`, if the caller holds a request of the same queue, or if two threads or tasks each hold a request
+//!   of the queue that the other freezes. In `match queue.enter(&mut tag)?.limits().max { .. }` the request is held to the end of the
+//!   `match`.
+//! - `enter`, `enter_owned` or `enter_any`, if the caller holds a freeze.
+//! - `enter`, `enter_owned` or `enter_any`, if the caller holds a request and a freeze begins meanwhile: the freeze waits for the
+//!   request, and the call waits for the thaw. [`Queue::try_enter_frozen`] enters at once.
+//! - The same calls, if the request is of another queue and somebody freezes both ([`Queue::begin_freeze`] on each) before waiting.
+//! - `enter`, `enter_owned` or `enter_any` on a thread that a request in flight needs in order to complete, for example a worker that
+//!   gets requests through a channel, if a freeze begins meanwhile. On these threads enter by `try_enter`, `try_enter_any` or
+//!   `try_enter_frozen`, or not at all.
+//! - `enter_any`, if the caller holds all tags that aren't reserved.
+//! - [`OwnedFrozen::lock`], if the caller holds the value already. (It may panic instead.)
+//! - A wait for a request, a tag, a freeze or a value that was leaked (`mem::forget`).
+//! - A wait for a future that was polled once, and is neither polled again nor dropped: it may have a tag, a freeze or the turn to
+//!   update.
+//! - A blocking call in a task, if another task of the same executor has what the call waits for, and no other thread runs that task.
+//!   Use the `_async` form.
+//!
+//! If a drain hangs, [`Queue::in_flight`] lists the requests.
 //!
 //! # What is proved
 //!
-//! The queue's atomic steps (`src/erased`) are generated from sources with contracts that are proved for every interleaving. This crate
-//! around them, its waits and wakes included, is tested and not proved, and so is the generator. The types exclude most misuse; an error
-//! refuses the rest. Two short files have `unsafe`: src/lent.rs, by which a tag has one holder at a time, and src/value.rs, by which a queue
-//! lends its value. The module `erased` is public for other crates of this repository alone.
-#![deny(unsafe_code)] // except in lent.rs and value.rs
+//! The queue's atomic steps (`src/erased`, only for crates of this repository) are generated from sources with contracts that are
+//! proved for every interleaving of sequentially consistent steps. The steps of biased tags are weaker here, and a barrier,
+//! `membarrier(2)`, makes up for that. This is an assumption: `docs/PROOF.md` argues for it for one request beside one freeze; whole
+//! runs are tested. The code around the steps, including
+//! the waits, and the generator are tested, not proved. The types exclude most misuse, and an error reports the rest. Four files
+//! have `unsafe`: `src/lent.rs`, `src/value.rs`, and two of `src/erased`.
+#![deny(unsafe_code)] // except in these files
+#![expect(clippy::inline_always, reason = "a call that isn't inlined would pass the request through memory")]
 
 extern crate alloc;
 
@@ -86,11 +113,7 @@ mod misuse {}
 mod body;
 mod builder;
 mod counts;
-mod drained;
-mod drains;
 mod enter_any;
-mod enter_async;
-mod enter_owned_async;
 #[doc(hidden)]
 pub mod erased;
 mod errors;
@@ -106,14 +129,17 @@ mod locked;
 mod outcomes;
 mod owned;
 mod patience;
+mod pause;
 mod pieces;
 mod places;
 mod queue;
 mod request;
 mod seats;
 mod shared;
+mod shows;
 mod sync;
 mod tag;
+mod tasks;
 mod threads;
 mod turns;
 mod value;
@@ -121,10 +147,6 @@ mod waits;
 
 pub use builder::Builder;
 pub use counts::Stats;
-pub use drained::{Drained, FreezeAsync};
-pub use enter_any::EnterAny;
-pub use enter_async::EnterAsync;
-pub use enter_owned_async::EnterOwnedAsync;
 pub use errors::{EnterError, FreezeError, LimitsError, NewError, RemoveError, UpdateError};
 pub use freezing::{Freezing, OwnedFreezing};
 pub use frozen::{Frozen, OwnedFrozen};

@@ -1,11 +1,11 @@
-//! Limits, and how a range of sectors is cut by them.
+//! Limits, and how they cut a range of sectors.
 use crate::erased::queue_limits as erased;
 use crate::errors::LimitsError;
 use crate::pieces::Pieces;
 
 /// Limits of a device, in sectors of 512 bytes. Linux: `struct queue_limits` (include/linux/blkdev.h).
 ///
-/// A queue keeps them as they are given, but for a `max` of 0, for which it has `hardware`.
+/// A queue keeps them as given, except that it replaces a `max` of 0 by `hardware`.
 ///
 /// ```
 /// use freeze_queue::Limits;
@@ -16,18 +16,19 @@ use crate::pieces::Pieces;
 #[derive(Clone, Copy, Debug, PartialEq, Eq, Hash)]
 #[non_exhaustive]
 pub struct Limits {
-    /// The most sectors that the hardware takes in one command: 1 to 65,535, and one number for the whole life of a queue.
+    /// Maximum number of sectors that the hardware takes in one command: 1 to 65,535, fixed for the life of a queue.
     pub hardware: u32,
-    /// The most that is sent in one command: 1 to `hardware`; 0 asks for `hardware`.
+    /// Maximum number of sectors in one command: 1 to `hardware`; 0 means `hardware`.
     pub max: u32,
-    /// No piece crosses a multiple of this: up to 65,535; 0 for none.
+    /// No piece crosses a multiple of this: up to 65,535; 0 means no chunks.
     pub chunk: u32,
-    /// The physical block, with which a piece ends where it can: a power of two from 1 to 32,768.
+    /// Number of sectors of a physical block: a power of two from 1 to 32,768. A piece that isn't the last ends at a physical block
+    /// boundary if there is one within the limits.
     pub physical: u32,
 }
 
 impl Limits {
-    /// Limits of a device that takes so many sectors in a command, and knows no others.
+    /// Returns the limits of a device that takes this many sectors in a command and has no other limits.
     ///
     /// ```
     /// # use freeze_queue::Limits;
@@ -39,7 +40,7 @@ impl Limits {
         Limits { hardware: sectors, max: sectors, chunk: 0, physical: 1 }
     }
 
-    /// The same limits for a device that takes so many sectors in a command. `max` stays as it is.
+    /// Returns the same limits for a device that takes this many sectors in a command. `max` stays as it is.
     ///
     /// ```
     /// # use freeze_queue::{Limits, LimitsError};
@@ -52,7 +53,7 @@ impl Limits {
         Limits { hardware: sectors, ..self }
     }
 
-    /// The same limits, with at most so many sectors in a command. 0 asks for `hardware`.
+    /// Returns the same limits with at most this many sectors in a command; 0 means `hardware`.
     ///
     /// ```
     /// # use freeze_queue::Limits;
@@ -63,7 +64,7 @@ impl Limits {
         Limits { max: sectors, ..self }
     }
 
-    /// The same limits, where no piece crosses a multiple of so many sectors. 0 asks for none.
+    /// Returns the same limits with chunks of this many sectors, which no piece crosses; 0 means no chunks.
     ///
     /// ```
     /// # use freeze_queue::Limits;
@@ -74,7 +75,7 @@ impl Limits {
         Limits { chunk: sectors, ..self }
     }
 
-    /// The same limits, with physical blocks of so many sectors.
+    /// Returns the same limits with physical blocks of this many sectors.
     ///
     /// ```
     /// # use freeze_queue::Limits;
@@ -85,12 +86,12 @@ impl Limits {
         Limits { physical: sectors, ..self }
     }
 
-    /// Whether a queue takes these limits: to be asked before a freeze, so that nobody waits for limits that are refused.
-    /// Linux: `blk_validate_limits` (block/blk-settings.c).
+    /// Checks whether a queue takes these limits. Check before freezing, so that requests don't wait for a change that is then
+    /// rejected. Linux: `blk_validate_limits` (block/blk-settings.c).
     ///
     /// # Errors
     ///
-    /// [`LimitsError`] has each; where several apply, the first of `HardwareRange`, `AboveHardware`, `ChunkTooLarge` and
+    /// Returns the first [`LimitsError`] that applies, in the order `HardwareRange`, `AboveHardware`, `ChunkTooLarge`,
     /// `BadPhysical`.
     ///
     /// # Examples
@@ -105,13 +106,14 @@ impl Limits {
         self.checked().map(drop)
     }
 
-    /// The pieces of the `count` sectors from `start` on, in order: each within these limits. A request that has entered a
-    /// queue has them by its limits in force ([`Request::pieces`](crate::Request::pieces)). Linux: `get_max_io_size`
+    /// Returns the pieces of the `count` sectors from `start` on, in order, each within these limits. For a request that has
+    /// entered use [`Request::pieces`](crate::Request::pieces), which cuts by the limits in force. Linux: `get_max_io_size`
     /// (block/blk-merge.c).
     ///
     /// # Errors
     ///
-    /// Returns [`LimitsError`] if the limits are invalid, or else [`LimitsError::TooFar`].
+    /// Returns the error of [`check`](Limits::check) if the limits are invalid, or else [`LimitsError::TooFar`] if the range goes
+    /// beyond 4 TiB. (`TooFar` says how to cut it.)
     ///
     /// # Examples
     ///
@@ -126,14 +128,14 @@ impl Limits {
         Pieces::of(self.checked()?, start, count)
     }
 
-    /// The same limits, where a queue takes them.
+    /// The same limits, if a queue takes them.
     pub(crate) fn checked(&self) -> Result<erased::Limits, LimitsError> {
         let mut limits = erased::Limits::new(self.hardware, self.max, self.chunk)?;
         limits.set_physical(self.physical)?;
         Ok(limits)
     }
 
-    /// The same limits, of a queue in force.
+    /// The limits in force of a queue, as the erased type.
     #[inline]
     pub(crate) fn in_force(&self) -> erased::Limits {
         let words = [self.max, self.chunk, self.physical].map(u64::from);

@@ -1,47 +1,28 @@
-//! A lock that the thread sanitizer sees. A standard library that isn't built for the sanitizer takes a contended mutex unseen,
-//! so under `--cfg freeze_queue_tsan` the thread that has the lock steps on an atomic number too, first and last. Without it
-//! nothing of this is there.
+//! A lock that the thread sanitizer sees. A standard library that isn't built for the sanitizer hides a contended mutex from
+//! it. So under `--cfg freeze_queue_tsan` the thread that has the lock also performs an atomic operation, first and
+//! last.
+//! Without this option the extra steps don't exist.
 use crate::sync::{Condvar, Mutex, MutexGuard};
 use std::ops::{Deref, DerefMut};
 use std::sync::PoisonError;
 use std::time::Instant;
 
-#[cfg(freeze_queue_tsan)]
-struct Order(std::sync::atomic::AtomicU64);
-
-#[cfg(freeze_queue_tsan)]
-impl Order {
-    const fn new() -> Order {
-        Order(std::sync::atomic::AtomicU64::new(0))
-    }
-
-    fn step(&self) {
-        self.0.fetch_add(1, std::sync::atomic::Ordering::SeqCst);
-    }
-}
-
-#[cfg(not(freeze_queue_tsan))]
-struct Order;
-
-#[cfg(not(freeze_queue_tsan))]
-impl Order {
-    const fn new() -> Order {
-        Order
-    }
-
-    #[expect(clippy::unused_self, reason = "the other form of it, above, has a number")]
-    fn step(&self) {}
-}
-
-/// A value that one thread has at a time. If that thread panics, the next one finds it as it is.
+/// A value that one thread has at a time. If that thread panics, the next one finds the value as it is.
 pub(crate) struct Lock<T> {
     value: Mutex<T>,
-    order: Order,
+    #[cfg(freeze_queue_tsan)]
+    steps: std::sync::atomic::AtomicU64,
 }
+
+const HELD: &str = "the lock is held";
 
 impl<T> Lock<T> {
     pub(crate) const fn new(value: T) -> Lock<T> {
-        Lock { value: Mutex::new(value), order: Order::new() }
+        Lock {
+            value: Mutex::new(value),
+            #[cfg(freeze_queue_tsan)]
+            steps: std::sync::atomic::AtomicU64::new(0),
+        }
     }
 
     /// Takes the lock.
@@ -52,29 +33,33 @@ impl<T> Lock<T> {
 
     #[inline]
     fn locked<'l>(&'l self, guard: MutexGuard<'l, T>) -> Locked<'l, T> {
-        self.order.step();
-        Locked { last: LastStep(&self.order), guard, of: self }
+        self.step();
+        Locked { guard: Some(guard), of: self }
     }
 
-    /// The value, of a lock that nobody else has.
+    #[cfg_attr(not(freeze_queue_tsan), expect(clippy::unused_self, reason = "it has a number under the sanitizer"))]
+    fn step(&self) {
+        #[cfg(freeze_queue_tsan)]
+        self.steps.fetch_add(1, std::sync::atomic::Ordering::SeqCst);
+    }
+
+    /// The value of a lock that nobody else has.
     pub(crate) fn into_inner(self) -> T {
         self.value.into_inner().unwrap_or_else(PoisonError::into_inner)
     }
 }
 
-/// The value, for as long as this thread has the lock.
+/// The value, as long as this thread has the lock.
 pub(crate) struct Locked<'l, T> {
-    /// Before the guard, so that it is dropped before the lock is let go.
-    last: LastStep<'l>,
-    guard: MutexGuard<'l, T>,
+    guard: Option<MutexGuard<'l, T>>,
     of: &'l Lock<T>,
 }
 
 impl<'l, T> Locked<'l, T> {
-    /// Lets the lock go, sleeps until somebody notifies, and takes it again. Whether that was before the deadline.
-    pub(crate) fn sleep(self, on: &Condvar, deadline: Option<Instant>) -> (Locked<'l, T>, bool) {
-        let Locked { last, guard, of } = self;
-        drop(last);
+    /// Releases the lock, sleeps until notified, and takes the lock again. Returns whether that was before the deadline.
+    pub(crate) fn sleep(mut self, on: &Condvar, deadline: Option<Instant>) -> (Locked<'l, T>, bool) {
+        let (guard, of) = (self.guard.take().expect(HELD), self.of);
+        drop(self); // the last step, before the lock is released
         let Some(deadline) = deadline else {
             return (of.locked(on.wait(guard).unwrap_or_else(PoisonError::into_inner)), true);
         };
@@ -89,22 +74,21 @@ impl<T> Deref for Locked<'_, T> {
 
     #[inline]
     fn deref(&self) -> &T {
-        &self.guard
+        self.guard.as_ref().expect(HELD)
     }
 }
 
 impl<T> DerefMut for Locked<'_, T> {
     #[inline]
     fn deref_mut(&mut self) -> &mut T {
-        &mut self.guard
+        self.guard.as_mut().expect(HELD)
     }
 }
 
-struct LastStep<'l>(&'l Order);
-
-impl Drop for LastStep<'_> {
+/// The last step is made before the guard is dropped.
+impl<T> Drop for Locked<'_, T> {
     #[inline]
     fn drop(&mut self) {
-        self.0.step();
+        self.of.step();
     }
 }

@@ -1,4 +1,4 @@
-//! The outcomes of calls.
+//! The results of calls.
 use crate::limits::Limits;
 
 /// The last state of a queue that was removed.
@@ -15,12 +15,12 @@ use crate::limits::Limits;
 /// ```
 #[derive(Clone, Copy, Debug, PartialEq, Eq, Hash)]
 pub struct Final<T = ()> {
-    /// How often it was frozen from live.
+    /// Number of times that the queue was frozen while live.
     pub kills: u64,
-    /// How often a call found it drained.
+    /// Number of these freezes that drained the queue.
     pub releases: u64,
-    /// Its limits.
+    /// The limits of the queue.
     pub limits: Limits,
-    /// Its value.
+    /// The value of the queue.
     pub value: T,
 }

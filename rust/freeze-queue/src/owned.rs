@@ -5,12 +5,13 @@ use crate::limits::Limits;
 use crate::pieces::Pieces;
 use crate::shared::Shared;
 use crate::tag::Tag;
-use std::fmt;
 
-/// A request that has entered with a tag of its own, which has a share of the queue: it may end on any thread.
+/// A request that has entered with a tag that it takes along. It borrows nothing, keeps the memory of its queue alive, and
+/// may end on any thread.
 ///
-/// Dropping it leaves, and gives its tag back to the queue; [`leave`](OwnedRequest::leave) gives the tag to the caller. It is
-/// `Sync`: if the pieces of a request end on several threads, each has a clone of an `Arc` of it, and the last one leaves.
+/// Dropping it leaves the queue, and gives the tag back to it; [`leave`](OwnedRequest::leave) returns the tag to the caller.
+/// It is `Sync`: if the pieces of a request end on several threads, put the request into an `Arc` and give each piece a
+/// clone. The drop of the last clone leaves the queue.
 ///
 /// ```
 /// use freeze_queue::{Limits, Queue};
@@ -29,28 +30,22 @@ use std::fmt;
 /// queue.remove()?; // each tag was given back
 /// # Ok::<(), Box<dyn std::error::Error>>(())
 /// ```
-#[must_use = "a request leaves where it is dropped"]
+#[must_use = "an unused request leaves at once"]
 pub struct OwnedRequest<T = ()> {
-    /// Request, until it was taken.
+    /// None after it was taken.
     tag: Tag<T>,
-    limits: Limits,
 }
 
-impl<T> OwnedRequest<T> {
-    /// The request of a tag that has entered its queue.
-    #[inline]
-    pub(crate) fn of(mut tag: Tag<T>) -> OwnedRequest<T> {
-        let (queue, state) = tag.parts_mut();
-        let limits = queue.limits_under(state);
-        OwnedRequest { tag, limits }
-    }
+/// The request, or the tag and the reason why it didn't enter.
+pub(crate) type Entered<T> = Result<OwnedRequest<T>, HandedBack<Tag<T>, EnterError>>;
 
+impl<T> OwnedRequest<T> {
     #[inline]
     pub(crate) fn queue(&self) -> &Shared<T> {
         &self.tag.parts().shared
     }
 
-    /// The number of its tag ([`Tag::number`]), by which [`Queue::in_flight`](crate::Queue::in_flight) lists it.
+    /// Returns the number of its tag ([`Tag::number`]), which [`Queue::in_flight`](crate::Queue::in_flight) lists.
     ///
     /// ```
     /// # use freeze_queue::{Limits, Queue};
@@ -66,19 +61,15 @@ impl<T> OwnedRequest<T> {
         self.tag.number()
     }
 
-    /// The request of a tag that entered; or why it didn't, with the tag.
     #[inline]
-    pub(crate) fn or_handed_back(
-        tag: Tag<T>,
-        entered: Result<(), EnterError>,
-    ) -> Result<OwnedRequest<T>, HandedBack<Tag<T>, EnterError>> {
+    pub(crate) fn or_handed_back(tag: Tag<T>, entered: Result<(), EnterError>) -> Entered<T> {
         match entered {
-            Ok(()) => Ok(OwnedRequest::of(tag)),
+            Ok(()) => Ok(OwnedRequest { tag }),
             Err(reason) => Err(HandedBack { value: tag, reason }),
         }
     }
 
-    /// Leaves, and gives the tag back.
+    /// Leaves, and returns the tag.
     ///
     /// ```
     /// # use freeze_queue::{Limits, Queue};
@@ -89,7 +80,7 @@ impl<T> OwnedRequest<T> {
     /// # Ok::<(), Box<dyn std::error::Error>>(())
     /// ```
     #[inline]
-    #[must_use = "the drop of a request gives its tag back"]
+    #[must_use = "to give the tag back, drop the request instead"]
     pub fn leave(mut self) -> Tag<T> {
         let mut tag = self.tag.take(); // before a waker is called, which may panic: it leaves once
         let (queue, state) = tag.parts_mut();
@@ -97,7 +88,7 @@ impl<T> OwnedRequest<T> {
         tag
     }
 
-    /// The limits in force, the same until it leaves.
+    /// Returns the limits in force, which stay the same until the request leaves.
     ///
     /// ```
     /// # use freeze_queue::{Limits, Queue};
@@ -109,15 +100,15 @@ impl<T> OwnedRequest<T> {
     #[inline]
     #[must_use]
     pub fn limits(&self) -> &Limits {
-        &self.limits
+        &self.tag.parts().state.limits
     }
 
-    /// The pieces of the `count` sectors from `start` on, in order, by the limits in force. Linux: `get_max_io_size`
+    /// Returns the pieces of the `count` sectors from `start` on, in order, by the limits in force. Linux: `get_max_io_size`
     /// (block/blk-merge.c).
     ///
     /// # Errors
     ///
-    /// [`LimitsError::TooFar`].
+    /// Returns [`LimitsError::TooFar`] if the range goes beyond 4 TiB.
     ///
     /// # Examples
     ///
@@ -129,7 +120,7 @@ impl<T> OwnedRequest<T> {
     /// # Ok::<(), Box<dyn std::error::Error>>(())
     /// ```
     pub fn pieces(&self, start: u64, count: u32) -> Result<Pieces<'_>, LimitsError> {
-        Pieces::of(self.limits.in_force(), start, count)
+        Pieces::of(self.limits().in_force(), start, count)
     }
 }
 
@@ -138,19 +129,7 @@ impl<T> Drop for OwnedRequest<T> {
     fn drop(&mut self) {
         let tag = self.tag.take();
         if tag.is_there() {
-            end(tag);
+            tag.leave_and_go_home();
         }
-    }
-}
-
-/// A request leaves that is dropped, and its tag goes home. (Out of line, so that [`OwnedRequest::leave`] inlines.)
-#[inline(never)]
-fn end<T>(tag: Tag<T>) {
-    tag.leave_and_go_home();
-}
-
-impl<T> fmt::Debug for OwnedRequest<T> {
-    fn fmt(&self, f: &mut fmt::Formatter<'_>) -> fmt::Result {
-        f.debug_tuple("OwnedRequest").field(&self.tag).finish()
     }
 }

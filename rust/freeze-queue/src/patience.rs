@@ -1,16 +1,16 @@
-//! How long a thread that waits looks again and again before it sleeps.
+//! How long a waiting thread polls before it sleeps.
 //!
-//! A thread that stays entered notices a freeze within a microsecond, and a short freeze is over as soon. To sleep and to be woken takes
-//! longer. Patience halves where it was in vain, as where requests take long or their threads don't run, and doubles where it paid. One wait of
-//! sixteen tries all of it, so that it comes back.
+//! A busy thread leaves within a microsecond, and a short freeze is over as quickly. Sleeping and being woken takes longer.
+//! Patience halves if it was in vain, for example if requests take long or their threads don't run, and doubles if it paid.
+//! One wait in sixteen has full patience, so that it can grow again.
 use std::hint;
 use std::sync::atomic::{AtomicU32, Ordering::Relaxed};
 use std::time::{Duration, Instant};
 
-/// One wait of so many has all the patience that there is.
+/// One wait in this many has full patience.
 const EXPLORES: u32 = 16;
 
-/// The patience of those that wait for one thing. Threads share it: a wait that misses what another learned is as good.
+/// The patience of the threads that wait for one thing. They share it; a lost update does no harm.
 pub(crate) struct Patience {
     most: u32,
     nanoseconds: AtomicU32,
@@ -18,13 +18,13 @@ pub(crate) struct Patience {
 }
 
 impl Patience {
-    /// A patience of at most this time, which is below a second.
+    /// Makes a patience with this maximum, which is below a second.
     pub(crate) const fn new(most: Duration) -> Patience {
         let most = most.subsec_nanos();
         Patience { most, nanoseconds: AtomicU32::new(most), waits: AtomicU32::new(0) }
     }
 
-    /// Looks until it sees it, or until the patience or the time is at its end: whether it saw it.
+    /// Polls until the condition holds, or until the patience or the time is over. Returns whether it held.
     pub(crate) fn sees(&self, deadline: Option<Instant>, mut look: impl FnMut() -> bool) -> bool {
         if look() {
             return true;
@@ -46,14 +46,14 @@ impl Patience {
         false
     }
 
-    /// The nanoseconds of the next wait.
+    /// The number of nanoseconds of the next wait.
     fn next(&self) -> u32 {
         let waits = self.waits.load(Relaxed).wrapping_add(1);
         self.waits.store(waits, Relaxed);
         if waits % EXPLORES == 0 { self.most } else { self.nanoseconds.load(Relaxed) }
     }
 
-    /// Whether a wait of so many paid.
+    /// Notes whether a wait of this many nanoseconds paid.
     fn learns(&self, known: u32, paid: bool) {
         let next = if paid { known.saturating_mul(2) } else { known / 2 };
         self.nanoseconds.store(next.clamp(self.most / 16, self.most), Relaxed);

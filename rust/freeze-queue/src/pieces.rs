@@ -5,7 +5,7 @@ use crate::limits::Limits;
 use std::iter::FusedIterator;
 use std::marker::PhantomData;
 
-/// Where sectors end: each lies below this.
+/// The bound of sector numbers: each is below this.
 const SECTORS: u64 = 1 << 33;
 
 /// A piece of a range, for one command to the device.
@@ -20,16 +20,16 @@ const SECTORS: u64 = 1 << 33;
 /// ```
 #[derive(Clone, Copy, Debug, PartialEq, Eq, Hash)]
 pub struct Piece {
-    /// Its first sector.
+    /// The first sector of the piece.
     pub start: u64,
-    /// How many sectors it has, 1 or more.
+    /// The number of sectors of the piece, 1 or more.
     pub sectors: u32,
 }
 
-/// The pieces of a range, in order: one after the other they are the range.
+/// The pieces of a range, in order, without gaps.
 ///
-/// Each is as long as the limits allow: all that is left, where they allow it; else up to the last end of a physical block
-/// that they allow, or as much as they allow where none ends there. No sector, no piece.
+/// A piece takes all sectors that are left if the limits allow it. Otherwise it ends at the last physical block boundary
+/// within the limits or, if there is none, at the limit. An empty range has no pieces.
 ///
 /// ```
 /// use freeze_queue::Limits;
@@ -40,7 +40,7 @@ pub struct Piece {
 /// # Ok::<(), Box<dyn std::error::Error>>(())
 /// ```
 #[derive(Clone, Debug)]
-#[must_use = "it is an iterator"]
+#[must_use = "iterators are lazy and do nothing unless consumed"]
 pub struct Pieces<'l> {
     limits: erased::Limits,
     start: u64,
@@ -49,7 +49,7 @@ pub struct Pieces<'l> {
 }
 
 impl<'l> Pieces<'l> {
-    /// The pieces of a range below 2^33.
+    /// The pieces of a range that ends below 2^33.
     pub(crate) fn of(limits: erased::Limits, start: u64, count: u32) -> Result<Pieces<'l>, LimitsError> {
         match start.checked_add(u64::from(count)) {
             Some(end) if end <= SECTORS => Ok(Pieces { limits, start, left: count, of: PhantomData }),

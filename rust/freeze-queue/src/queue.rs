@@ -1,44 +1,44 @@
-//! A queue: made and ended, its tags, and what it is asked.
+//! A queue: making and ending it, its tags, and its state.
 use crate::body::{Parts, TagState};
 use crate::builder::Builder;
 use crate::counts::Stats;
+use crate::erased::biased_queue::BiasedQueue;
+use crate::erased::fences;
 use crate::erased::percpu_core::SLOT_LIMIT;
-use crate::erased::queue_core::{self as erased, BlockQueue, Mode};
+use crate::erased::queue_core::{self as erased, Mode};
 use crate::errors::{EnterError, NewError, RemoveError};
 use crate::handed_back::HandedBack;
-use crate::in_flight::{InFlight, Watch};
+use crate::in_flight::InFlight;
 use crate::limits::Limits;
-use crate::line::Line;
 use crate::outcomes::Final;
-use crate::places::{Place, Places};
-use crate::seats::Seats;
-use crate::shared::{Share, Shared};
+use crate::pause::Pause;
+use crate::places::Places;
+use crate::shared::Shared;
 use crate::sync::{MOST_PATIENCE, sleep};
 use crate::tag::Tag;
-use crate::turns::Turns;
 use crate::value::Value;
 use crate::waits::{Held, Waits};
-use std::fmt;
 use std::num::NonZeroU64;
 use std::panic::{RefUnwindSafe, UnwindSafe};
 use std::sync::Arc;
-use std::sync::atomic::{AtomicU64, Ordering::Relaxed};
+use std::sync::atomic::Ordering::{Relaxed, SeqCst};
+use std::sync::atomic::{AtomicBool, AtomicU64};
 
 mod dying;
 mod enters;
 mod enters_any;
 mod enters_owned;
 mod freezes;
-mod stays;
 mod updates;
-
-pub(crate) use updates::Update;
 
 /// A queue that requests enter and leave on many threads, and whose limits change under a freeze.
 ///
-/// Threads share it by `&`, or by an `Arc`. With a tag at hand, on a live queue that isn't [watched](Queue::watch), entering and leaving
-/// take no lock, and wait for no thread. Tags, owned requests and owned freezes have shares of the queue of their own, and may
-/// outlive this handle. A dropped queue ends with the last of them; [`remove`](Queue::remove) ends it at once, and returns its value.
+/// Threads share it by `&`, or by an `Arc`. As long as the queue isn't frozen, and [`watch`](Queue::watch) is off, a thread
+/// that has a tag enters and leaves without a lock, and waits for no thread.
+///
+/// [`remove`](Queue::remove) ends a queue and returns its value. You may also drop a queue, even while a device hangs.
+/// Tags, owned requests and owned freezes hold a reference-counted handle of their queue, which keeps its memory and its
+/// value alive; the last handle that is dropped frees both.
 ///
 /// ```
 /// use freeze_queue::{Limits, Queue};
@@ -62,7 +62,7 @@ pub struct Queue<T = ()> {
     shared: Arc<Shared<T>>,
 }
 
-/// A panic leaves the queue as it is: a request that unwinds leaves, and a freeze thaws.
+/// A panic leaves the queue usable: a request that unwinds leaves, and a freeze thaws.
 impl<T: RefUnwindSafe> UnwindSafe for Queue<T> {}
 impl<T: RefUnwindSafe> RefUnwindSafe for Queue<T> {}
 
@@ -102,31 +102,40 @@ impl Queue {
 }
 
 impl<T> Queue<T> {
-    /// The parts of a queue, before it has its value.
-    pub(crate) fn parts(limits: Limits, slots: u32, tags: u32, reserved: u32) -> Result<Unmade<T>, NewError> {
+    /// Returns a closure that builds the queue around its value. Everything that can fail has been done by then.
+    pub(crate) fn maker(
+        limits: Limits,
+        slots: u32,
+        tags: u32,
+        reserved: u32,
+    ) -> Result<impl FnOnce(T) -> Queue<T>, NewError> {
         let limits = limits.checked()?;
         let sizes = [(slots, 1, Queue::MAX_SLOTS), (tags, 1, Queue::MAX_TAGS), (reserved, 0, tags.saturating_sub(1))];
         if sizes.iter().any(|(size, least, most)| size < least || size > most) {
             return Err(NewError::Size);
         }
-        Unmade::of(limits, slots, tags, reserved as usize).ok_or(NewError::NoMemory)
+        let (erased, freezer, tags) = BiasedQueue::new(limits, slots, tags).map_err(|_| NewError::NoMemory)?;
+        let waits = Waits::of(Held::new(freezer, tags.len()).ok_or(NewError::NoMemory)?);
+        let places = Places::new(tags.len(), reserved as usize).ok_or(NewError::NoMemory)?;
+        Ok(move |value| {
+            static IDS: AtomicU64 = AtomicU64::new(0);
+            let id = NonZeroU64::MIN.saturating_add(IDS.fetch_add(1, Relaxed));
+            let (watch, pause, value) = (AtomicBool::new(false), Pause::new(), Value::of(value));
+            let shared = Arc::new(Shared { id, watch, erased, places, waits, pause, value });
+            for (number, (erased, place)) in tags.into_iter().zip(shared.places.all()).enumerate() {
+                let state = TagState::new(erased, number, limits.into());
+                place.home.fill(Parts { state, shared: Arc::clone(&shared) });
+            }
+            Queue { shared }
+        })
     }
 
-    #[inline]
-    pub(crate) fn shared(&self) -> &Shared<T> {
-        &self.shared
-    }
-
-    /// For a freeze with a share of the queue.
-    pub(crate) fn share(&self) -> Share<'static, T> {
-        Share::Own(Arc::clone(&self.shared))
-    }
-
-    /// Returns a free tag, for a thread that keeps one. A reserved tag comes first. The queue may be frozen. Dropping the tag gives it back.
+    /// Returns a free tag, for a thread that keeps one. Reserved tags are given out first. The queue may be frozen or dying.
+    /// Dropping the tag gives it back.
     ///
     /// # Errors
     ///
-    /// Returns [`EnterError::NoTag`] if at one moment of the call no tag was free.
+    /// Returns [`EnterError::NoTag`] if no tag was free at some moment of the call.
     ///
     /// # Examples
     ///
@@ -140,10 +149,10 @@ impl<T> Queue<T> {
     /// # Ok::<(), Box<dyn std::error::Error>>(())
     /// ```
     pub fn tag(&self) -> Result<Tag<T>, EnterError> {
-        self.shared.try_tag().map(Tag::of).ok_or(EnterError::NoTag)
+        self.shared.try_tag().ok_or(EnterError::NoTag)
     }
 
-    /// Returns the number of tags, reserved ones included.
+    /// Returns the number of tags, including reserved ones.
     #[must_use]
     pub fn tags(&self) -> u32 {
         u32::try_from(self.shared.places.all().len()).unwrap_or(u32::MAX)
@@ -155,14 +164,19 @@ impl<T> Queue<T> {
         self.shared.erased.slots()
     }
 
-    /// Ends a queue, live or frozen, whose tags were all given back or dropped. Needs no memory. Linux: `blk_mq_destroy_queue`.
+    /// Ends a live or dying queue once all its tags have been given back, and returns its value and last state. This call
+    /// doesn't allocate. Linux: `blk_mq_destroy_queue`.
     ///
-    /// It waits while another thread returns from the call that gave a tag back, or that thawed a freeze with a share of the queue: for
-    /// some steps, and for no waker. A waker may call it.
+    /// `remove` may sleep briefly until another thread has finished giving back a tag or thawing an owned freeze. It may be
+    /// called from a waker.
     ///
     /// # Errors
     ///
     /// Returns [`RemoveError`], and hands the queue back.
+    ///
+    /// # Panics
+    ///
+    /// Panics in the same case as [`freeze`](Queue::freeze).
     ///
     /// # Examples
     ///
@@ -178,9 +192,8 @@ impl<T> Queue<T> {
     /// # Ok::<(), Box<dyn std::error::Error>>(())
     /// ```
     pub fn remove(self) -> Result<Final<T>, HandedBack<Queue<T>, RemoveError>> {
-        match self.take_all_back() {
-            Ok(()) => {}
-            Err(reason) => return Err(HandedBack { value: self, reason }),
+        if let Err(reason) = self.take_all_back() {
+            return Err(HandedBack { value: self, reason });
         }
         let mut shared = Arc::clone(&self.shared);
         drop(self);
@@ -199,26 +212,27 @@ impl<T> Queue<T> {
         Ok(Final { kills: left.kills, releases: left.releases, limits, value: value.into_inner() })
     }
 
-    /// Takes all tags back, of a queue that is to end; or none, and why.
+    /// Takes all tags back, or takes none and returns why.
     fn take_all_back(&self) -> Result<(), RemoveError> {
         let (shared, places) = (&self.shared, self.shared.places.all());
         let mut held = shared.waits.lock();
         if held.shares > 0 {
-            return Err(RemoveError::FreezeOut);
+            return Err(RemoveError::Shared);
         }
-        if !places.iter().all(Place::is_home) {
+        if !places.iter().all(|place| place.home.is_here()) {
             return Err(RemoveError::TagsOut);
         }
-        held.shut(&shared.erased);
+        held.shut(&shared.erased, &shared.pause);
         held.is_closed = true;
-        for tag in places.iter().filter_map(Place::take_or_ask) {
-            held.take_back(tag.end());
+        for tag in places.iter().filter_map(|place| place.home.take_or_ask()) {
+            held.take_back(&shared.erased, tag.end().state.erased);
         }
         Ok(())
     }
 
-    /// Counts on one shared word from now on, a frozen queue once it is thawed. Linux: `percpu_ref_switch_to_atomic_sync`
-    /// of `q_usage_counter`.
+    /// Switches the queue to one shared counter: requests of unbiased tags count there. This is slower for several threads, but a
+    /// freeze has no slots to close and sum. Tags are biased as before. A frozen queue does so once it is thawed. Linux:
+    /// `percpu_ref_switch_to_atomic_sync` of `q_usage_counter`.
     ///
     /// ```
     /// # use freeze_queue::{Limits, Queue};
@@ -230,7 +244,7 @@ impl<T> Queue<T> {
         self.shared.waits.lock().freezer.mode(&self.shared.erased, Mode::Atomic);
     }
 
-    /// Counts on slots from now on, as a queue does that is made; a frozen queue once it is thawed. Linux:
+    /// Makes the queue count requests on its slots, as a new queue does. A frozen queue does so once it is thawed. Linux:
     /// `percpu_ref_switch_to_percpu` of `q_usage_counter`.
     ///
     /// ```
@@ -243,7 +257,7 @@ impl<T> Queue<T> {
         self.shared.waits.lock().freezer.mode(&self.shared.erased, Mode::Slots);
     }
 
-    /// The limits, as they were at a moment of the call. (An entered request has limits that hold still.)
+    /// Returns the limits at some moment of the call. (The limits of an entered request don't change.)
     ///
     /// ```
     /// # use freeze_queue::{Limits, Queue};
@@ -256,7 +270,8 @@ impl<T> Queue<T> {
         self.shared.waits.lock().freezer.limits().into()
     }
 
-    /// The freezes that weren't thawed yet, at a moment of the call; 0 of a live queue. Linux: `mq_freeze_depth`.
+    /// Returns the number of freezes that weren't thawed at some moment of the call. It is 0 if no freeze is held, even if the
+    /// queue is dying. Linux: `mq_freeze_depth`.
     ///
     /// ```
     /// # use freeze_queue::{Limits, Queue};
@@ -272,7 +287,7 @@ impl<T> Queue<T> {
         self.shared.waits.lock().depth()
     }
 
-    /// Whether the queue is frozen and drained, at a moment of the call. Linux: `percpu_ref_is_zero` in
+    /// Returns whether the queue was frozen or dying, and drained, at some moment of the call. Linux: `percpu_ref_is_zero` in
     /// `blk_mq_freeze_queue_wait`.
     ///
     /// ```
@@ -285,10 +300,10 @@ impl<T> Queue<T> {
     /// ```
     #[must_use]
     pub fn is_drained(&self) -> bool {
-        self.shared.waits.lock().freezer.poll_drained(&self.shared.erased)
+        self.shared.is_drained()
     }
 
-    /// What the queue has done since it was made.
+    /// Returns counts of what the queue has done since it was made.
     ///
     /// ```
     /// # use freeze_queue::{Limits, Queue};
@@ -300,10 +315,11 @@ impl<T> Queue<T> {
     /// ```
     #[must_use]
     pub fn stats(&self) -> Stats {
-        self.shared.waits.lock().counts.stats()
+        let stats = self.shared.waits.lock().counts.stats;
+        Stats { biased: self.shared.erased.biased.load(SeqCst), membarrier: fences::has_heavy_fence(), ..stats }
     }
 
-    /// Whether its device is gone: [`mark_dying`](Queue::mark_dying). Linux: `blk_queue_dying`.
+    /// Returns whether the queue was marked dying ([`mark_dying`](Queue::mark_dying)). Linux: `blk_queue_dying`.
     ///
     /// ```
     /// # use freeze_queue::{Limits, Queue};
@@ -314,11 +330,11 @@ impl<T> Queue<T> {
     /// ```
     #[must_use]
     pub fn is_dying(&self) -> bool {
-        self.shared.waits.is_dying()
+        self.shared.waits.lock().is_dying
     }
 
-    /// Whether requests note from now on when they enter, for [`in_flight`](Queue::in_flight). A request of a queue that is watched takes
-    /// some 100 nanoseconds more, and a lock of its own tag; else it takes one look at a flag.
+    /// Starts or stops noting when requests enter, for [`in_flight`](Queue::in_flight). Each request of a watched queue takes
+    /// a lock of its own tag, reads the clock, and uses no bias. While the queue isn't watched, a request only reads a flag for this.
     ///
     /// ```
     /// # use freeze_queue::{FreezeError, Limits, Queue};
@@ -335,12 +351,12 @@ impl<T> Queue<T> {
     /// # Ok::<(), Box<dyn std::error::Error>>(())
     /// ```
     pub fn watch(&self, on: bool) {
-        self.shared.watch.set(on);
+        self.shared.watch.store(on, Relaxed);
     }
 
-    /// The requests in flight that entered while the queue was [watched](Queue::watch), each as it was when the iterator reached it. A
-    /// request that was forgotten (`mem::forget`) is in flight for ever. Needs no memory. Linux: the list `busy` of debugfs
-    /// (block/blk-mq-debugfs.c).
+    /// Returns the requests in flight that entered while the queue was [watched](Queue::watch). The iterator looks at one tag after
+    /// another, so this isn't a snapshot. A leaked request (`mem::forget`) is in flight forever. This call doesn't allocate. Linux:
+    /// the list `busy` of debugfs (block/blk-mq-debugfs.c).
     ///
     /// ```
     /// # use freeze_queue::{Limits, Queue};
@@ -352,7 +368,7 @@ impl<T> Queue<T> {
     /// # Ok::<(), Box<dyn std::error::Error>>(())
     /// ```
     pub fn in_flight(&self) -> impl Iterator<Item = InFlight> {
-        self.shared.places.all().iter().filter_map(Place::in_flight)
+        self.shared.places.all().iter().filter_map(|place| *place.noted.lock())
     }
 
     /// Returns a unique id, starting at 1.
@@ -371,49 +387,8 @@ impl<T> Queue<T> {
     }
 }
 
-/// The parts of a queue, before it has its value.
-pub(crate) struct Unmade<T> {
-    erased: BlockQueue,
-    tags: Vec<erased::Tag>,
-    places: Places<T>,
-    held: Held<T>,
-    turns: Turns,
-}
-
-impl<T> Unmade<T> {
-    /// None if memory is refused.
-    fn of(limits: erased::Limits, slots: u32, tags: u32, reserved: usize) -> Option<Unmade<T>> {
-        let (erased, freezer, tags) = BlockQueue::new(limits, slots, tags).ok()?;
-        let (count, mut room) = (tags.len(), Vec::new());
-        room.try_reserve_exact(count).ok()?;
-        let (seats, places, line) = (Seats::new(count)?, Places::new(count, reserved)?, Line::new(count)?);
-        Some(Unmade { erased, tags, places, held: Held::new(freezer, seats, line, room), turns: Turns::new()? })
-    }
-
-    /// The queue around a value, with its tags, each in its place.
-    pub(crate) fn with(self, value: T) -> Queue<T> {
-        static IDS: AtomicU64 = AtomicU64::new(0);
-        let Unmade { erased, tags, places, held, turns } = self;
-        let id = NonZeroU64::MIN.saturating_add(IDS.fetch_add(1, Relaxed));
-        let (waits, watch, value) = (Waits::of(held), Watch::new(), Value::of(value));
-        let shared = Arc::new(Shared { id, watch, erased, places, waits, turns, value });
-        for (number, (erased, place)) in tags.into_iter().zip(shared.places.all()).enumerate() {
-            let state = TagState { erased, slot: 0, number, is_noted: false, is_watched: false };
-            place.fill(Parts { state, shared: Arc::clone(&shared) });
-        }
-        Queue { shared }
-    }
-}
-
 impl<T> Drop for Queue<T> {
     fn drop(&mut self) {
-        self.shared.waits.close(self.shared.places.all());
-    }
-}
-
-impl<T> fmt::Debug for Queue<T> {
-    /// Its number alone, since the rest is under its lock.
-    fn fmt(&self, f: &mut fmt::Formatter<'_>) -> fmt::Result {
-        f.debug_struct("Queue").field("id", &self.shared.id).finish_non_exhaustive()
+        self.shared.close();
     }
 }

@@ -1,27 +1,22 @@
-//! Where the futures of a queue leave their wakers: a seat for each tag, so that none asks for memory.
+//! The wakers of a queue's futures: a seat for each tag, so that no future allocates.
 use crate::line::Notify;
 use std::any::Any;
-use std::array;
 use std::cell::RefCell;
 use std::collections::VecDeque;
-use std::iter::{self, Flatten};
 use std::mem;
 use std::panic::{AssertUnwindSafe, catch_unwind, resume_unwind};
 use std::task::Waker;
 use std::thread;
 
-/// Wakers that are taken under one lock at most. They lie on the stack, so that a wake asks for no memory either.
-const MOST_AT_ONCE: usize = 64;
-
-/// The seats of a queue, by the numbers of its tags: each has the waker of the future that waits with its tag, if one does.
+/// The seats of a queue, by the numbers of its tags. Each has the waker of the future that waits with its tag, if one does.
 pub(crate) struct Seats {
     seats: Vec<Option<Waker>>,
-    /// How many wait.
+    /// The number of waiting futures.
     waiting: usize,
 }
 
 impl Seats {
-    /// For a queue of so many tags. None if memory is refused.
+    /// Makes seats for this many tags. None if memory is refused.
     pub(crate) fn new(tags: usize) -> Option<Seats> {
         let mut seats = Vec::new();
         seats.try_reserve_exact(tags).ok()?;
@@ -29,77 +24,38 @@ impl Seats {
         Some(Seats { seats, waiting: 0 })
     }
 
-    /// Notes a waker, in place of the one that was there.
+    /// Notes a waker, and returns the old one.
     pub(crate) fn note(&mut self, seat: usize, waker: Waker) -> Option<Waker> {
         let old = self.seats[seat].replace(waker);
         self.waiting += usize::from(old.is_none());
         old
     }
 
-    /// No future waits with this seat's tag any more.
+    /// Removes the waker of this seat, whose tag no future waits with any more.
     pub(crate) fn forget(&mut self, seat: usize) -> Option<Waker> {
         let old = self.seats[seat].take();
         self.waiting -= usize::from(old.is_some());
         old
     }
 
-    /// Those that wait in the seats from this one on, as many as may be taken at once.
-    pub(crate) fn take_wakers(&mut self, from: usize) -> Wakers {
-        if self.waiting == 0 || from >= self.seats.len() {
-            return Wakers::none();
-        }
-        let mut taken = array::from_fn(|_| None);
-        let (mut next, mut count) = (from, 0);
-        while count < MOST_AT_ONCE && self.waiting > 0 && next < self.seats.len() {
-            taken[count] = self.forget(next);
-            count += usize::from(taken[count].is_some());
-            next += 1;
-        }
-        let is_more = self.waiting > 0 && next < self.seats.len();
-        Wakers { taken: Some(taken.into_iter().flatten()), next: is_more.then_some(next) }
-    }
-}
-
-/// Futures to be woken, if there are any; and the seat from which on the others are to be taken, if these aren't the last.
-#[must_use = "what waits is to be woken"]
-pub(crate) struct Wakers {
-    taken: Option<Flatten<array::IntoIter<Option<Waker>, MOST_AT_ONCE>>>,
-    next: Option<usize>,
-}
-
-impl Wakers {
-    pub(crate) fn none() -> Wakers {
-        Wakers { taken: None, next: None }
-    }
-
-    /// Whether no future waits in a later seat.
-    pub(crate) fn are_last(&self) -> bool {
-        self.next.is_none()
-    }
-
-    /// Each of them, and then each that `take` finds from the next seat on. It is called without the lock, and takes it.
-    pub(crate) fn and_then(mut self, mut take: impl FnMut(usize) -> Wakers) -> impl Iterator<Item = Notify> {
-        iter::from_fn(move || {
-            loop {
-                if let Some(waker) = self.taken.as_mut().and_then(Iterator::next) {
-                    return Some(Notify::Task(waker));
-                }
-                self = take(self.next?);
-            }
-        })
+    /// Returns the first seat from this one on in which a future waits.
+    pub(crate) fn next(&self, from: usize) -> Option<usize> {
+        let end = if self.waiting > 0 { self.seats.len() } else { from };
+        (from..end).find(|seat| self.seats[*seat].is_some())
     }
 }
 
 thread_local! {
-    /// The tasks that a waker of this thread woke in its turn, by calls of this crate. None while no waker is called.
+    /// The tasks to wake that wakers on this thread asked for by calling this crate. None while no waker is called.
     static PUT_OFF: RefCell<Option<VecDeque<Notify>>> = const { RefCell::new(None) };
 }
 
-/// Wakes each, also if waking one of them panics. The first panic goes on then, unless the thread panics already: a second one
-/// would abort. A panic that doesn't go on is forgotten, since dropping what it carries may panic again.
+/// Wakes each waiter, even if waking one of them panics. Then the first panic continues, unless the thread is already
+/// panicking: a second panic would abort. A panic that doesn't continue is forgotten, since dropping its payload may panic
+/// again.
 ///
-/// A waker may make calls that wake others, as one whose task ends and hands its tag on. Their wakes are put off until that waker
-/// has returned, so no row of such tasks deepens the stack.
+/// A waker may make calls that wake others, for example if its task ends and passes its tag on. Their wakes are postponed
+/// until that waker has returned, so a chain of such tasks doesn't deepen the stack.
 pub(crate) fn wake_each(all: impl Iterator<Item = Notify>) {
     let (is_outermost, mut first) = (is_outermost(), None);
     for one in all {
@@ -124,42 +80,44 @@ fn wake(one: Notify, first: &mut Option<Box<dyn Any + Send>>) {
     }
 }
 
-/// Whether no waker is called on this thread yet. The caller does so from now on, until nothing is put off. (A thread that ends has
-/// no such list any more: each of its calls wakes at once.)
+/// Runs a closure over the postponed wakes of this thread. None if the thread is ending, and no longer has them.
+fn with_put_off<R>(closure: impl FnOnce(&mut Option<VecDeque<Notify>>) -> R) -> Option<R> {
+    PUT_OFF.try_with(|off| closure(&mut off.borrow_mut())).ok()
+}
+
+/// Whether no waker is being called on this thread. The caller calls wakers from now on, until nothing is postponed. (Each
+/// call of a thread that is ending wakes at once.)
 fn is_outermost() -> bool {
-    let begin = |off: &RefCell<Option<VecDeque<Notify>>>| {
-        let mut off = off.borrow_mut();
+    with_put_off(|off| {
         let is_outermost = off.is_none();
         off.get_or_insert_default();
         is_outermost
-    };
-    PUT_OFF.try_with(begin).unwrap_or(true)
+    })
+    .unwrap_or(true)
 }
 
-/// Puts the wake of a task off. A thread is to be woken at once, which runs nobody's code, and a task if memory is refused.
+/// Postpones waking a task. A thread is woken at once, which runs nobody's code, and so is a task if memory is refused.
 fn put_off(one: Notify) -> Option<Notify> {
     let mut one = Some(one);
     if matches!(one, Some(Notify::Task(_))) {
-        let _ended = PUT_OFF.try_with(|off| {
-            let mut off = off.borrow_mut();
-            let Some(off) = off.as_mut() else { return };
-            if off.try_reserve(1).is_ok() {
-                off.extend(one.take());
-            }
+        with_put_off(|off| {
+            let off = off.as_mut()?;
+            off.try_reserve(1).ok()?;
+            off.extend(one.take());
+            Some(())
         });
     }
     one
 }
 
-/// The next that was put off. If there is none, no waker is called on this thread any more.
+/// The next postponed wake. If there is none, no waker is being called on this thread any more.
 fn next_put_off() -> Option<Notify> {
-    let next = |off: &RefCell<Option<VecDeque<Notify>>>| {
-        let mut off = off.borrow_mut();
-        let next = off.as_mut().and_then(VecDeque::pop_front);
+    with_put_off(|off| {
+        let next = off.as_mut()?.pop_front();
         if next.is_none() {
             *off = None;
         }
         next
-    };
-    PUT_OFF.try_with(next).ok().flatten()
+    })
+    .flatten()
 }

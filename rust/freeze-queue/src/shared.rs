@@ -1,145 +1,196 @@
-//! The part of a queue that it shares with its tags and its freezes.
+//! The part of a queue that it shares with its tags and its freezes. In comments a *share* of a queue is an `Arc` of this part.
 use crate::body::{Body, TagState};
-use crate::erased::queue_core::{self, BlockQueue, Entry, Put, Stay};
+use crate::erased::biased_queue::{BiasedEntry, BiasedQueue, BiasedTag};
+use crate::erased::queue_core::{self, Put};
 use crate::errors::{EnterError, UpdateError};
 use crate::excluded::excluded;
-use crate::in_flight::{InFlight, Watch};
+use crate::in_flight::InFlight;
 use crate::limits::Limits;
 use crate::line::Notify;
-use crate::places::Places;
-use crate::queue::Update;
-use crate::seats::{Wakers, wake_each};
+use crate::pause::Pause;
+use crate::places::{self, Place, Places};
+use crate::seats::wake_each;
+use crate::tag::Tag;
 use crate::threads;
-use crate::turns::Turns;
 use crate::value::Value;
-use crate::waits::{Held, Seen, Waits};
+use crate::waits::{Held, Waits};
+use std::future;
 use std::iter;
 use std::mem;
 use std::num::NonZeroU64;
-use std::ops::Deref;
+use std::panic::{AssertUnwindSafe, catch_unwind, resume_unwind};
 use std::sync::Arc;
-use std::task::{Context, Waker};
-use std::time::{Duration, Instant};
+use std::sync::atomic::{AtomicBool, Ordering::Relaxed};
+use std::task::{Context, Poll, Waker};
+use std::time::Instant;
 
-/// A queue: what each request reads, and nobody writes, and the lock for the rest.
+/// The number of requests after which a tag checks again whether it may be biased.
+const REQUESTS_BETWEEN_LOOKS: u32 = 32;
+
+/// A queue: what each request reads and nobody writes, and the lock for the rest.
 pub(crate) struct Shared<T> {
-    /// No other queue has it.
+    /// The queue's unique id.
     pub(crate) id: NonZeroU64,
-    pub(crate) watch: Watch,
-    pub(crate) erased: BlockQueue,
+    /// Whether requests note when they enter.
+    pub(crate) watch: AtomicBool,
+    pub(crate) erased: BiasedQueue,
     /// One for each tag.
     pub(crate) places: Places<T>,
     pub(crate) waits: Waits<T>,
-    pub(crate) turns: Turns,
+    pub(crate) pause: Pause,
     pub(crate) value: Value<T>,
 }
 
 impl<T> Shared<T> {
-    /// The tag enters, or why it doesn't.
+    /// Enters by the tag's bias: by a store and a load. Returns whether it did.
+    #[inline(always)]
+    fn in_by_bias(&self, tag: &mut TagState) -> bool {
+        !self.is_watched() && tag.erased.try_enter_biased(&self.erased)
+    }
+
     #[inline]
+    fn is_watched(&self) -> bool {
+        self.watch.load(Relaxed)
+    }
+
+    /// Enters, or returns why not.
+    #[inline(always)]
     pub(crate) fn in_at_once(&self, tag: &mut TagState) -> Result<(), EnterError> {
-        if tag.erased.entered() {
-            return Err(EnterError::StillEntered);
-        }
-        match self.erased.try_enter(&mut tag.erased, tag.slot) {
-            Entry::Entered => {
-                self.noted_if_watched(tag);
-                Ok(())
-            }
-            Entry::Refused(put) => Err(self.not_in(put)),
-        }
+        if self.in_by_bias(tag) { Ok(()) } else { self.in_slowly(tag) }
     }
 
-    /// Why a try was refused, which dropped its reference again by this put.
-    #[cold]
-    fn not_in(&self, put: Put) -> EnterError {
-        self.dropped(put);
-        if self.waits.is_dying() { EnterError::Dying } else { EnterError::Frozen }
+    /// Enters with a tag that didn't by its bias, or returns why not.
+    #[inline(never)]
+    fn in_slowly(&self, tag: &mut TagState) -> Result<(), EnterError> {
+        self.in_by_gate(tag, EnterError::Frozen, BiasedTag::try_enter)
     }
 
-    /// The tag enters a queue that may be frozen, or why it doesn't.
+    /// Enters a queue that may be frozen, or returns why not.
     pub(crate) fn in_to_look(&self, tag: &mut TagState) -> Result<(), EnterError> {
+        self.in_by_gate(tag, EnterError::Drained, BiasedTag::try_enter_frozen)
+    }
+
+    /// Enters by the gate, or returns why not.
+    #[inline(always)]
+    fn in_by_gate(
+        &self,
+        tag: &mut TagState,
+        closed: EnterError,
+        enter: impl Fn(&mut BiasedTag, &BiasedQueue, u32) -> BiasedEntry,
+    ) -> Result<(), EnterError> {
         if tag.erased.entered() {
             return Err(EnterError::StillEntered);
         }
-        match self.erased.try_enter_frozen(&mut tag.erased, tag.slot) {
-            Entry::Entered => {
-                self.noted_if_watched(tag);
-                Ok(())
+        let had_bias = tag.erased.is_biased();
+        if had_bias && self.is_watched() {
+            self.end_bias(tag);
+        }
+        let mut found = enter(&mut tag.erased, &self.erased, tag.slot);
+        while found == BiasedEntry::InHand {
+            self.waits.let_freezer_go_on();
+            found = enter(&mut tag.erased, &self.erased, tag.slot);
+        }
+        if let BiasedEntry::Refused(put) = found {
+            self.left_gate(put, had_bias);
+            let is_gone = closed == EnterError::Frozen && self.waits.lock().is_dying;
+            return Err(if is_gone { EnterError::Dying } else { closed });
+        }
+        if !tag.erased.is_biased() {
+            tag.limits = tag.erased.limits().into();
+            tag.keeps = self.may_be_biased(tag);
+            if self.is_watched() {
+                self.note(tag, true);
             }
-            Entry::Refused(put) => {
-                self.dropped(put);
-                Err(EnterError::Drained)
+        }
+        Ok(())
+    }
+
+    /// Ends the bias of a tag that isn't in, and drops its reference of the gate.
+    fn end_bias(&self, tag: &mut TagState) {
+        loop {
+            match tag.erased.end_bias(&self.erased, tag.slot) {
+                Some(put) => return self.left_gate(put, true),
+                None => self.waits.let_freezer_go_on(),
             }
         }
     }
 
-    #[inline]
-    pub(crate) fn in_or_waits(&self, tag: &mut TagState) -> Result<(), EnterError> {
+    /// Whether a tag that has entered the gate becomes biased when it leaves. It asks the clock at most once
+    /// every 32 requests while biases are paused.
+    fn may_be_biased(&self, tag: &mut TagState) -> bool {
+        if tag.asks_after > 0 {
+            tag.asks_after -= 1;
+            return false;
+        }
+        let may = !self.is_watched() && self.pause.is_over();
+        tag.asks_after = if may { 0 } else { REQUESTS_BETWEEN_LOOKS };
+        may
+    }
+
+    /// Enters, waiting until the deadline if the queue is frozen. The deadline is computed only then.
+    #[inline(always)]
+    pub(crate) fn in_by(
+        &self,
+        tag: &mut TagState,
+        deadline: impl FnOnce() -> Option<Instant>,
+    ) -> Result<(), EnterError> {
         match self.in_at_once(tag) {
-            Err(EnterError::Frozen) => self.waits_until(tag, None),
+            Err(EnterError::Frozen) => self.waits_until(tag, deadline()),
             done => done,
         }
     }
 
-    /// The tag enters within this time.
+    /// Enters, waiting as a task.
     #[inline]
-    pub(crate) fn in_by_then(&self, tag: &mut TagState, timeout: Duration) -> Result<(), EnterError> {
+    pub(crate) async fn in_as_task(&self, tag: &mut TagState) -> Result<(), EnterError> {
         match self.in_at_once(tag) {
-            Err(EnterError::Frozen) => self.waits_until(tag, Instant::now().checked_add(timeout)),
-            done => done,
+            Err(EnterError::Frozen) => {}
+            done => return done,
         }
+        let noted = Noted { queue: self, tag };
+        future::poll_fn(|context| noted.queue.in_or_noted(noted.tag, context)).await
     }
 
-    /// The tag enters, or doesn't; none if it waits, and the context's waker is noted. If cloning that waker panics, nothing
-    /// has changed: a later poll tries again.
-    pub(crate) fn in_or_noted(&self, tag: &mut TagState, context: &Context<'_>) -> Option<Result<(), EnterError>> {
+    /// Enters, or returns why not; or it waits, and the context's waker is noted.
+    fn in_or_noted(&self, tag: &mut TagState, context: &Context<'_>) -> Poll<Result<(), EnterError>> {
         loop {
             match self.in_at_once(tag) {
                 Err(EnterError::Frozen) => {}
-                done => return Some(done),
+                done => return Poll::Ready(done),
             }
             let mut waker = Some(context.waker().clone()); // before the lock, since it is somebody's code
-            let mut held = self.waits.lock();
-            let seen = held.seen_or_noted(tag.number, &mut waker);
-            held.counts.waited += u64::from(seen.is_none() && !tag.is_noted);
-            drop(held);
-            tag.is_noted |= seen.is_none();
-            match seen {
-                Some(Seen::Live) => {}
-                Some(Seen::Dying) => return Some(Err(EnterError::Dying)),
-                None => return None, // here the waker that was noted before is dropped, which may panic as well
+            if self.waits.lock().notes(tag, &mut waker) {
+                return Poll::Pending; // here the waker that was noted before is dropped, which may panic as well
             }
         }
     }
 
-    /// No future waits with this tag any more: the waker that one left, if it did.
+    /// Removes the waker that a future left for this tag, if it did: no future waits with the tag any more.
     #[inline]
     pub(crate) fn forget_waker(&self, tag: &mut TagState) -> Option<Waker> {
         if mem::take(&mut tag.is_noted) { self.waits.lock().seats.forget(tag.number) } else { None }
     }
 
-    /// The tag enters by the deadline. At its last try the queue was frozen.
+    /// Enters by the deadline. At the last try the queue was frozen.
     #[cold]
-    pub(crate) fn waits_until(&self, tag: &mut TagState, deadline: Option<Instant>) -> Result<(), EnterError> {
-        let _waits = self.waits.begin_to_wait();
-        loop {
-            match self.waits.until_live(deadline) {
-                Some(Seen::Live) => {}
-                Some(Seen::Dying) => return Err(EnterError::Dying),
-                None => return Err(EnterError::TimedOut),
-            }
-            match self.in_at_once(tag) {
-                Err(EnterError::Frozen) => {}
-                done => return done,
-            }
+    fn waits_until(&self, tag: &mut TagState, deadline: Option<Instant>) -> Result<(), EnterError> {
+        let waits = self.waits.begin_to_wait();
+        let mut entered = Err(EnterError::Frozen);
+        while entered == Err(EnterError::Frozen) {
+            let is_open = self.waits.until_open(deadline);
+            entered = if is_open { self.in_at_once(tag) } else { Err(EnterError::TimedOut) };
         }
+        // The last request to enter wakes the task of an update, whose waker may panic.
+        if let Err(panic) = catch_unwind(AssertUnwindSafe(|| drop(waits))) {
+            entered.is_ok().then(|| self.leave(tag));
+            resume_unwind(panic);
+        }
+        entered
     }
 
-    /// The limits in force, under a tag of this queue that has entered.
-    #[inline]
-    pub(crate) fn limits_under(&self, tag: &mut TagState) -> Limits {
-        self.erased.limits(&mut tag.erased).into()
+    /// Whether the queue is frozen and drained.
+    pub(crate) fn is_drained(&self) -> bool {
+        self.waits.lock().freezer.poll_drained(&self.erased)
     }
 
     /// Sets limits that were checked, under a freeze that has drained the queue.
@@ -152,13 +203,14 @@ impl<T> Shared<T> {
         Ok(())
     }
 
-    /// Sets the limits of an update in place of those that it saw, in one hold of the lock; or nothing, if others are in force by now.
-    pub(crate) fn replace_limits(&self, Update { from, to }: Update) -> bool {
+    /// Sets the limits of an update if the limits that it saw are still in force, and returns whether they are. The lock is held
+    /// from the look to the store.
+    pub(crate) fn replace_limits(&self, from: Limits, to: queue_core::Limits) -> bool {
         let mut held = self.waits.lock();
         let is_so_still = Limits::from(held.freezer.limits()) == from;
         if is_so_still {
             self.set(&mut held, to);
-            held.counts.updates += 1;
+            held.counts.stats.updates += 1;
         }
         is_so_still
     }
@@ -168,92 +220,78 @@ impl<T> Shared<T> {
     }
 
     /// A tag of this queue that has entered leaves.
-    #[inline]
+    #[inline(always)]
     pub(crate) fn leave(&self, tag: &mut TagState) {
-        self.forget_if_watched(tag);
-        let put = self.erased.leave(&mut tag.erased, tag.slot);
-        self.dropped(put);
-    }
-
-    /// A tag has entered.
-    #[inline]
-    fn noted_if_watched(&self, tag: &mut TagState) {
-        if self.watch.is_on() {
-            self.note(tag);
+        if !tag.erased.leave_biased(&self.erased) {
+            self.leave_slowly(tag);
         }
     }
 
+    /// A tag without a bias, or whose bias is over, leaves. If it had none, it becomes biased if it may.
+    #[inline(never)]
+    fn leave_slowly(&self, tag: &mut TagState) {
+        let had_bias = tag.erased.is_biased();
+        let put = if had_bias {
+            tag.erased.end_bias(&self.erased, tag.slot)
+        } else {
+            if tag.is_watched {
+                self.note(tag, false);
+            }
+            Some(tag.erased.leave(&self.erased, tag.slot, tag.keeps))
+        };
+        if let Some(put) = put {
+            self.left_gate(put, had_bias);
+        }
+    }
+
+    /// Notes that a request of the tag is in, or that it has left.
     #[cold]
-    fn note(&self, tag: &mut TagState) {
-        tag.is_watched = true;
-        self.places.all()[tag.number].note(Some(InFlight::now(tag.number)));
+    fn note(&self, tag: &mut TagState, is_in: bool) {
+        tag.is_watched = is_in;
+        *self.places.all()[tag.number].noted.lock() = is_in.then(|| InFlight::now(tag.number));
     }
 
-    /// A tag leaves.
+    /// Handles a tag that isn't in. If its put was the last of a freeze, the waiters for the drain are woken. They are also
+    /// woken if a bias ended, whose lane was busy for a moment: a freezer that saw it looks again.
     #[inline]
-    fn forget_if_watched(&self, tag: &mut TagState) {
-        if tag.is_watched {
-            self.forget_note(tag);
+    fn left_gate(&self, put: Put, had_bias: bool) {
+        if put == Put::Last || had_bias {
+            self.tell_drained();
         }
     }
 
-    #[cold]
-    fn forget_note(&self, tag: &mut TagState) {
-        tag.is_watched = false;
-        self.places.all()[tag.number].note(None);
-    }
-
-    /// Whether a tag of this queue that has entered stays entered. If not, it has left: the caller reports the dropped count.
+    /// Returns a tag that is home and not reserved, for a request on the slot of this thread.
     #[inline]
-    pub(crate) fn stays(&self, tag: &mut TagState) -> Stay {
-        let stay = self.erased.stay(&mut tag.erased, tag.slot);
-        if stay != Stay::Stayed {
-            self.forget_if_watched(tag);
-        }
-        stay
-    }
-
-    /// A count was dropped: if it was the last of a freeze, those are woken that wait for the drain.
-    #[inline]
-    pub(crate) fn dropped(&self, put: Put) {
-        if put == Put::Last {
-            self.waits.tell_drained();
-        }
-    }
-
-    /// A tag that is home and not reserved, for a request on the slot of this thread.
-    #[inline]
-    pub(crate) fn try_any(&self) -> Option<Body<T>> {
+    pub(crate) fn try_any(&self) -> Option<Tag<T>> {
         let (thread, from) = threads::hint();
         let (number, mut tag) = self.places.try_take(from)?;
         let slot = self.slot_of(thread);
-        // Mostly they are so already, and a store delays the exchange that comes next.
+        // Mostly they are equal already, and a store delays the exchange that comes next.
         if number != from {
             threads::note(thread, number);
         }
         if tag.state.slot != slot {
             tag.state.slot = slot;
         }
-        Some(tag)
+        Some(Tag::of(tag))
     }
 
-    /// A tag that is home and not reserved, looked for under the lock. None only if at one moment of the call none was home.
+    /// Returns a tag that is home in one of these places, searching under the lock. `None` only if none was home at some
+    /// moment of the call.
     #[cold]
-    pub(crate) fn under_lock(&self) -> Option<Body<T>> {
+    pub(crate) fn under_lock(&self, places: &[Place<T>]) -> Option<Body<T>> {
         let _held = self.waits.lock(); // so none comes home behind the look
-        self.places.take_or_ask()
+        places::take_or_ask(places)
     }
 
-    /// A tag that is home, for a caller that keeps it: a reserved one, if there is one. It counts on a slot by its number. None only if at one
-    /// moment of the call no tag was home.
-    pub(crate) fn try_tag(&self) -> Option<Body<T>> {
-        let mut tag =
-            self.places.try_reserved().or_else(|| self.places.try_take(0).map(|(_, tag)| tag)).or_else(|| {
-                let _held = self.waits.lock();
-                self.places.take_or_ask_all()
-            })?;
+    /// Returns a tag that is home, for a caller that keeps it: a reserved one, if there is one. It counts on a slot by its
+    /// number. `None` only if none was home at some moment of the call.
+    pub(crate) fn try_tag(&self) -> Option<Tag<T>> {
+        let reserved = self.places.reserved().iter().find_map(|place| place.home.take());
+        let tag = reserved.or_else(|| self.places.try_take(0).map(|(_, tag)| tag));
+        let mut tag = tag.or_else(|| self.under_lock(self.places.all()))?;
         tag.state.slot = u32::try_from(tag.state.number).unwrap_or(0) % self.erased.slots();
-        Some(tag)
+        Some(Tag::of(tag))
     }
 
     /// The slot of a thread, by its number.
@@ -264,67 +302,54 @@ impl<T> Shared<T> {
     }
 }
 
-/// A tag comes home: into its place, or to the first in line.
-#[inline]
-pub(crate) fn bring_home<T>(tag: Body<T>) {
-    if let Some(tag) = tag.bring_unless_asked() {
-        hand_over(tag);
-    }
-}
-
-/// A tag comes home that is asked for, or whose queue was dropped.
+/// Brings home a tag that was asked for, or whose queue was dropped: gives it to the first in line, puts it into its place, or ends it.
 #[cold]
 pub(crate) fn hand_over<T>(tag: Body<T>) {
     let shared = Arc::clone(&tag.shared);
-    let first = shared.waits.hand_over(tag);
+    let mut held = shared.waits.lock();
+    let first = if held.is_closed {
+        drop(tag.end());
+        None
+    } else if shared.places.is_reserved(tag.state.number) {
+        tag.bring();
+        None
+    } else {
+        held.line.hand(tag).map_err(Body::bring).ok()
+    };
+    drop(held);
     drop(shared); // before a waker is called, which may remove the queue
     wake_each(first.into_iter());
 }
 
-/// A queue that is borrowed, or that a freeze has a share of.
-pub(crate) enum Share<'q, T> {
-    Borrowed(&'q Shared<T>),
-    Own(Arc<Shared<T>>),
-}
-
-impl<T> Share<'_, T> {
-    /// How many shares it counts for, of those that a queue knows of.
-    pub(crate) fn shares(&self) -> u32 {
-        u32::from(matches!(self, Share::Own(_)))
-    }
-
-    /// Ends a freeze, and wakes those that wait to enter if it was the last.
-    pub(crate) fn thaw(self) {
-        let wakers = self.waits.thaw(&self.erased, self.shares());
-        self.wake(iter::empty(), wakers);
-    }
-
-    /// No request enters any more, and the freeze of this share ends, if it is one's. Wakes those that wait to enter, or for a tag, which
-    /// are refused.
-    pub(crate) fn mark_dying(self, is_freeze: bool) {
-        let (line, wakers) = self.waits.mark_dying(&self.erased, is_freeze.then(|| self.shares()));
-        self.wake(line, wakers);
-    }
-
-    /// Wakes these, and the futures of later seats. The share is over before the last futures are woken, one of which may remove the queue.
-    fn wake(self, line: impl Iterator<Item = Notify>, wakers: Wakers) {
-        let mut share = (!wakers.are_last()).then_some(self); // else it is over here
-        let later = |next| {
-            let wakers = share.as_ref().map_or_else(Wakers::none, |it| it.waits.later_wakers(next, it.shares()));
-            share = share.take().filter(|_| !wakers.are_last());
-            wakers
-        };
-        wake_each(line.chain(wakers.and_then(later)));
-    }
-}
-
-impl<T> Deref for Share<'_, T> {
-    type Target = Shared<T>;
-
-    fn deref(&self) -> &Shared<T> {
-        match self {
-            Share::Borrowed(shared) => shared,
-            Share::Own(shared) => shared,
+/// Wakes the futures that wait to enter. The share ends before the last of them is woken, since that may remove the queue.
+/// Each is taken under the lock; if the queue is frozen again meanwhile, a future is woken for nothing.
+pub(crate) fn entering<T>(share: Arc<Shared<T>>) -> impl Iterator<Item = Notify> {
+    let (mut share, mut seat) = (Some(share), 0);
+    iter::from_fn(move || {
+        let queue = share.take()?;
+        let mut held = queue.waits.lock();
+        let next = held.seats.next(seat);
+        let waker = next.and_then(|next| held.seats.forget(next));
+        seat = next.map_or(seat, |next| next + 1);
+        if held.seats.next(seat).is_some() {
+            drop(held);
+            share = Some(queue);
+        } else {
+            held.shares -= 1;
         }
+        waker.map(Notify::Task)
+    })
+}
+
+/// A tag with which a future waits. Dropping it removes the noted waker.
+struct Noted<'e, T> {
+    queue: &'e Shared<T>,
+    tag: &'e mut TagState,
+}
+
+impl<T> Drop for Noted<'_, T> {
+    fn drop(&mut self) {
+        let noted = self.queue.forget_waker(self.tag);
+        drop(noted);
     }
 }

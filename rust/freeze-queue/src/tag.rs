@@ -1,15 +1,15 @@
 //! A tag: the right to have one request in flight.
 use crate::body::{Body, Parts, TagState};
 use crate::shared::{self, Shared};
-use std::fmt;
 use std::ptr;
 use std::sync::Arc;
 
 /// A tag, with which one request at a time enters its queue.
 ///
-/// A thread that ends what it begins keeps a tag; else a tag goes along with its request
-/// ([`OwnedRequest`](crate::OwnedRequest)). It is one pointer, to a place with a share of its queue. Dropping it gives
-/// it back to its queue, on any thread. A tag under a forgotten request (`mem::forget`) is out for ever. One that is forgotten itself keeps its queue for ever.
+/// A thread whose requests end on that thread keeps a tag. A request that ends on another thread takes its tag along
+/// ([`OwnedRequest`](crate::OwnedRequest)). A tag has the size of one pointer, and keeps the memory of its queue alive.
+/// Dropping it, on any thread, gives it back to the queue. If its request was leaked (`mem::forget`), the tag is out
+/// forever. A leaked tag keeps its queue alive forever.
 ///
 /// ```
 /// use freeze_queue::{Limits, Queue};
@@ -22,7 +22,7 @@ use std::sync::Arc;
 /// # Ok::<(), Box<dyn std::error::Error>>(())
 /// ```
 pub struct Tag<T = ()> {
-    /// None once it was given back.
+    /// None after it was given back.
     body: Option<Body<T>>,
 }
 
@@ -31,7 +31,7 @@ impl<T> Tag<T> {
         Tag { body: Some(body) }
     }
 
-    /// The same tag, out of one that is about to be dropped.
+    /// Moves the tag out of this value, which is about to be dropped.
     #[inline]
     pub(crate) fn take(&mut self) -> Tag<T> {
         Tag { body: self.body.take() }
@@ -42,15 +42,16 @@ impl<T> Tag<T> {
         self.body.as_ref().expect("it is there until it is dropped")
     }
 
-    /// Its queue, and what changes as it is used.
+    /// Its queue, and the part that changes as the tag is used.
     #[inline]
     pub(crate) fn parts_mut(&mut self) -> (&Arc<Shared<T>>, &mut TagState) {
         let Parts { state, shared } = &mut **self.body.as_mut().expect("it is there until it is dropped");
         (shared, state)
     }
 
-    /// Its request leaves, and it goes home. If a waker panics, it goes home all the same.
-    #[inline]
+    /// Its request leaves, and the tag goes home, even if a waker panics. (Out of line, so that
+    /// [`OwnedRequest::leave`](crate::OwnedRequest::leave) inlines.)
+    #[inline(never)]
     pub(crate) fn leave_and_go_home(mut self) {
         let (queue, state) = self.parts_mut();
         queue.leave(state);
@@ -65,15 +66,15 @@ impl<T> Tag<T> {
         self.body.is_some()
     }
 
-    /// The part that changes as it is used, if it is a tag of this queue.
+    /// The part that changes as the tag is used, if it is a tag of this queue.
     #[inline]
     pub(crate) fn state_of(&mut self, queue: &Shared<T>) -> Option<&mut TagState> {
         let (shared, state) = self.parts_mut();
         ptr::eq(Arc::as_ptr(shared), queue).then_some(state)
     }
 
-    /// Its number, from 0 on, which no other tag of its queue has. It stays the same while the tag comes and goes, and is the one of
-    /// [`InFlight::tag`](crate::InFlight::tag). Linux: the `tag` of a `struct request`.
+    /// Returns the tag's number, which is unique in its queue and below its number of tags. The number stays the same while the tag is
+    /// given out and comes back, and is [`InFlight::tag`](crate::InFlight::tag). Linux: the `tag` of a `struct request`.
     ///
     /// ```
     /// # use freeze_queue::{Limits, Queue};
@@ -89,7 +90,7 @@ impl<T> Tag<T> {
         self.parts().state.number
     }
 
-    /// The id of its queue ([`Queue::id`](crate::Queue::id)).
+    /// Returns the id of its queue ([`Queue::id`](crate::Queue::id)).
     ///
     /// ```
     /// # use freeze_queue::{Limits, Queue};
@@ -114,7 +115,7 @@ impl<T> Drop for Tag<T> {
     }
 }
 
-/// The tag goes home, unless its request was forgotten: then it is out for ever.
+/// The tag goes home, unless its request was leaked: then it is out forever.
 #[inline(never)]
 fn go_home<T>(body: Body<T>) {
     if body.state.erased.entered() {
@@ -128,12 +129,8 @@ fn go_home<T>(body: Body<T>) {
 fn bring<T>(mut body: Body<T>) {
     let Parts { state, shared } = &mut *body;
     let noted = shared.forget_waker(state);
-    shared::bring_home(body);
-    drop(noted);
-}
-
-impl<T> fmt::Debug for Tag<T> {
-    fn fmt(&self, f: &mut fmt::Formatter<'_>) -> fmt::Result {
-        f.debug_struct("Tag").field("queue", &self.queue_id()).field("number", &self.number()).finish_non_exhaustive()
+    if let Some(asked_for) = body.bring_unless_asked() {
+        shared::hand_over(asked_for);
     }
+    drop(noted);
 }

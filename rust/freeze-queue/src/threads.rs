@@ -4,30 +4,30 @@ use std::cell::Cell;
 use std::cmp::Reverse;
 use std::collections::BinaryHeap;
 
-/// For a thread that has no number yet.
+/// The value for a thread that has no number yet.
 const NONE: u32 = u32::MAX;
 
 thread_local! {
-    /// The thread's number, and where its search for a tag begins.
+    /// The thread's number, and the place where its search for a tag begins.
     static HINT: Cell<(u32, usize)> = const { Cell::new((NONE, 0)) };
-    /// Gives the thread's number back as the thread ends.
+    /// Gives the thread's number back when the thread ends.
     static NUMBER: Number = Number::take();
 }
 
-/// The thread's number, and where its search for a tag begins.
+/// Returns the thread's number, and the place where its search for a tag begins.
 #[inline]
 pub(crate) fn hint() -> (u32, usize) {
     let (thread, from) = HINT.get();
     if thread == NONE { first_hint() } else { (thread, from) }
 }
 
-/// Its next search begins at this tag.
+/// Lets the thread's next search begin at this tag.
 #[inline]
 pub(crate) fn note(thread: u32, from: usize) {
     HINT.set((thread, from));
 }
 
-/// Gives the thread a number. (A thread that ends, and gave its number back, has 0.)
+/// Gives the thread a number. (A thread that is ending, and gave its number back, has 0.)
 #[cold]
 fn first_hint() -> (u32, usize) {
     let thread = NUMBER.try_with(|number| number.0).unwrap_or(0);
@@ -35,7 +35,7 @@ fn first_hint() -> (u32, usize) {
     (thread, thread as usize)
 }
 
-/// The numbers that no thread has: those that were given back, with room for all, and each from `next` on.
+/// The free numbers: the numbers that were given back (with capacity for all), and all numbers from `next` on.
 struct Numbers {
     back: BinaryHeap<Reverse<u32>>,
     next: u32,
@@ -43,7 +43,7 @@ struct Numbers {
 
 static NUMBERS: Lock<Numbers> = Lock::new(Numbers { back: BinaryHeap::new(), next: 0 });
 
-/// The number of a thread that is alive: the lowest that no other has, so that threads have slots of their own while there are enough.
+/// The number of a live thread: the lowest free one, so that threads have slots of their own as long as there are enough.
 struct Number(u32);
 
 impl Number {

@@ -1,151 +1,78 @@
-//! The turn to update. One update runs at a time, in order of arrival: so none is lost, and no closure of a user runs under the queue's lock.
-use crate::line::{self, Line, Notify, Turn, Waited};
-use crate::locked::Lock;
+//! The turn to update. One update runs at a time, in order of arrival, so none is lost, and no closure of a user runs under
+//! the queue's lock.
+use crate::errors::UpdateError;
+use crate::line::{Line, Lined};
 use crate::seats::wake_each;
-use crate::sync;
+use crate::shared::Shared;
+use crate::waits::Held;
 use std::mem;
-use std::task::{Context, Poll};
+use std::panic::{AssertUnwindSafe, catch_unwind, resume_unwind};
 use std::thread::{self, ThreadId};
-use std::time::Instant;
 
-/// The turn, which one update has at a time.
-pub(crate) struct Turns(Lock<State>);
-
-struct State {
+/// The turn, which one update at a time has. It is under the queue's lock.
+pub(crate) struct Turns {
     is_taken: bool,
-    /// The thread that runs the closure of the update whose turn it is.
+    /// The thread that runs the closure of the update that has the turn.
     in_closure: Option<ThreadId>,
     line: Line<()>,
 }
 
-/// Why an update has no turn.
-pub(crate) enum NoTurn {
-    /// The closure of an update of this queue, on this thread, updates it.
-    Nested,
-    TimedOut,
-    NoMemory,
-}
-
-/// The turn of an update, which ends where this is dropped.
-#[must_use = "the turn ends where it is dropped"]
-pub(crate) struct Taken<'q>(&'q Turns);
-
 impl Turns {
     /// None if memory is refused.
     pub(crate) fn new() -> Option<Turns> {
-        Some(Turns(Lock::new(State { is_taken: false, in_closure: None, line: Line::new(1)? })))
+        Some(Turns { is_taken: false, in_closure: None, line: Line::new(1)? })
+    }
+}
+
+/// The turn of an update. Dropping it passes the turn to the first in line.
+#[must_use = "the turn ends when it is dropped"]
+pub(crate) struct Taken<'q, T>(&'q Shared<T>);
+
+impl<T> Lined<T> for Turns {
+    type Thing = ();
+    type Got<'q>
+        = Taken<'q, T>
+    where
+        T: 'q;
+    type Error = UpdateError;
+    const NO_MEMORY: UpdateError = UpdateError::NoMemory;
+    /// Never returned: nobody is sent away from this line, since each update borrows the queue.
+    const SENT_AWAY: UpdateError = UpdateError::TimedOut;
+    const TIMED_OUT: UpdateError = UpdateError::TimedOut;
+
+    fn line(held: &mut Held<T>) -> &mut Line<()> {
+        &mut held.turns.line
     }
 
-    /// Waits for the turn, until the deadline.
-    pub(crate) fn take(&self, deadline: Option<Instant>) -> Result<Taken<'_>, NoTurn> {
-        let lock = || self.0.lock();
-        let mut state = lock();
-        if state.takes()? {
-            return Ok(Taken(self));
+    fn get(_: &Shared<T>, held: &mut Held<T>) -> Result<Option<()>, UpdateError> {
+        if held.turns.in_closure == Some(thread::current().id()) {
+            return Err(UpdateError::Nested);
         }
-        let number = state.line.join(Notify::Thread(sync::current())).map_err(|_| NoTurn::NoMemory)?;
-        match line::wait(state, lock, |state| &mut state.line, number, deadline) {
-            Waited::Has(()) => Ok(Taken(self)),
-            Waited::SentAway | Waited::TimedOut => Err(NoTurn::TimedOut),
-        }
+        Ok((!mem::replace(&mut held.turns.is_taken, true)).then_some(()))
     }
 
-    /// The turn, by a future.
-    pub(crate) fn turn(&self) -> TakeTurn<'_> {
-        TakeTurn { turns: self, number: None }
+    fn got(queue: &Shared<T>, (): ()) -> Taken<'_, T> {
+        Taken(queue)
     }
+}
 
-    /// The turn ends: the first in line has it.
-    fn pass_on(&self) {
-        let mut state = self.0.lock();
-        let next = state.line.hand(());
-        state.is_taken = next.is_ok();
-        drop(state);
+impl<T> Taken<'_, T> {
+    /// Runs the closure of the update that has the turn. An update inside it, on this thread, gets no turn.
+    pub(crate) fn runs<R>(&self, closure: impl FnOnce() -> R) -> R {
+        let is_run_by = |thread| self.0.waits.lock().turns.in_closure = thread;
+        is_run_by(Some(thread::current().id()));
+        let result = catch_unwind(AssertUnwindSafe(closure));
+        is_run_by(None);
+        result.unwrap_or_else(|panic| resume_unwind(panic))
+    }
+}
+
+impl<T> Drop for Taken<'_, T> {
+    fn drop(&mut self) {
+        let mut held = self.0.waits.lock();
+        let next = held.turns.line.hand(());
+        held.turns.is_taken = next.is_ok();
+        drop(held);
         wake_each(next.into_iter());
-    }
-}
-
-impl State {
-    /// Whether the caller has the turn from now on; else another has it.
-    fn takes(&mut self) -> Result<bool, NoTurn> {
-        if self.in_closure == Some(thread::current().id()) {
-            return Err(NoTurn::Nested);
-        }
-        Ok(!mem::replace(&mut self.is_taken, true))
-    }
-}
-
-impl Taken<'_> {
-    /// Runs the closure of the update whose turn it is. An update in it, on this thread, has no turn.
-    pub(crate) fn runs<T>(&self, closure: impl FnOnce() -> T) -> T {
-        struct InClosure<'q>(&'q Turns);
-
-        impl Drop for InClosure<'_> {
-            fn drop(&mut self) {
-                self.0.0.lock().in_closure = None;
-            }
-        }
-
-        self.0.0.lock().in_closure = Some(thread::current().id());
-        let _in_closure = InClosure(self.0);
-        closure()
-    }
-}
-
-impl Drop for Taken<'_> {
-    fn drop(&mut self) {
-        self.0.pass_on();
-    }
-}
-
-/// The future of a turn. Dropping it leaves the line.
-pub(crate) struct TakeTurn<'q> {
-    turns: &'q Turns,
-    /// In line, by this number.
-    number: Option<u64>,
-}
-
-impl<'q> Future for TakeTurn<'q> {
-    type Output = Result<Taken<'q>, NoTurn>;
-
-    fn poll(self: std::pin::Pin<&mut Self>, context: &mut Context<'_>) -> Poll<Self::Output> {
-        let this = self.get_mut();
-        let mut waker = Some(context.waker().clone()); // before the lock, since it is somebody's code
-        let mut state = this.turns.0.lock();
-        if let Some(number) = this.number {
-            let turn = state.line.look(number, &mut waker);
-            drop(state); // before the waker
-            return match turn {
-                Turn::Has(()) => {
-                    this.number = None;
-                    Poll::Ready(Ok(Taken(this.turns)))
-                }
-                Turn::Waits | Turn::SentAway => Poll::Pending,
-            };
-        }
-        if state.takes()? {
-            drop(state);
-            return Poll::Ready(Ok(Taken(this.turns)));
-        }
-        let joined = state.line.join(Notify::Task(waker.take().expect("it was cloned")));
-        drop(state);
-        match joined {
-            Ok(number) => {
-                this.number = Some(number);
-                Poll::Pending
-            }
-            Err(_waker) => Poll::Ready(Err(NoTurn::NoMemory)),
-        }
-    }
-}
-
-impl Drop for TakeTurn<'_> {
-    fn drop(&mut self) {
-        let Some(number) = self.number.take() else { return };
-        let (turn, notify) = self.turns.0.lock().line.go(number);
-        if turn.is_some() {
-            self.turns.pass_on();
-        }
-        drop(notify);
     }
 }

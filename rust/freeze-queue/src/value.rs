@@ -1,12 +1,13 @@
-//! The value of a queue: one of the two files of this crate with `unsafe`. A request lends it for as long as the request is borrowed. A
-//! freeze lends it alone, for as long as the freeze is borrowed, under a lock, since freezes nest. The two never meet, by laws of the queue,
-//! which are proved of its sources:
+//! The value of a queue: one of the files of this crate with `unsafe`. A request lends it for as long as the request is borrowed. A
+//! freeze lends it alone, for as long as the freeze is borrowed, under a lock, since freezes nest. The two never meet, by laws of the
+//! queue, which are proved of its sources:
 //!
-//! - A queue isn't drained while a request is in flight. One that was forgotten is in flight for ever.
-//! - A queue that is frozen and drained lets no request in before each freeze is thawed. One that was forgotten is never thawed.
-//! - Each step is sequentially consistent: a leave happens before the load that sees the drain, and a thaw before an entering.
+//! - A queue isn't drained while a request is in flight. A leaked request is in flight forever.
+//! - A queue that is frozen and drained lets no request in before each freeze is thawed. A leaked freeze is never thawed.
+//! - A leave happens before the load that sees the drain, and a thaw before a later entry: each step of the gate is sequentially consistent. A biased
+//!   request leaves by a release store, which the freezer's look finds behind its fence, and enters by an acquire load of the epoch.
 #![expect(unsafe_code, reason = "the compiler can't know the laws of the queue")]
-use crate::frozen::Frozen;
+use crate::frozen::OwnedFrozen;
 use crate::locked::{Lock, Locked};
 use crate::owned::OwnedRequest;
 use crate::request::Request;
@@ -20,7 +21,7 @@ pub(crate) struct Value<T> {
     cell: UnsafeCell<T>,
 }
 
-// SAFETY: threads share `&T` under their requests, and a thread that froze the queue changes the T of another.
+// SAFETY: threads share `&T` under their requests, and a thread that froze the queue may change a T that another thread made.
 unsafe impl<T: Send + Sync> Sync for Value<T> {}
 
 impl<T> Value<T> {
@@ -53,10 +54,12 @@ impl<T> Deref for OwnedRequest<T> {
     }
 }
 
-impl<T> Frozen<'_, T> {
-    /// Lends the value, to be changed. Freezes nest, so it waits while another freeze has the value. A thread that has it already waits
-    /// for ever, or panics, as with a `Mutex`. After an [`Alone`] was forgotten (`mem::forget`), so does each later `lock`. The end of the
-    /// queue gives the value back still.
+impl<T> OwnedFrozen<T> {
+    /// Lends the value as `&mut T`. Since freezes nest, this call waits while another freeze has the value.
+    ///
+    /// Calling `lock` on a thread that still holds an [`Alone`] of this queue blocks forever or panics, like `Mutex`. So does every
+    /// `lock` after an [`Alone`] was leaked (`mem::forget`); removing the queue still returns the value. A task that may move between
+    /// threads can't hold an `Alone` over an `.await`: it isn't `Send`.
     ///
     /// ```
     /// # use freeze_queue::{Limits, Queue};
@@ -67,15 +70,15 @@ impl<T> Frozen<'_, T> {
     /// # drop((frozen, nested));
     /// # Ok::<(), Box<dyn std::error::Error>>(())
     /// ```
-    #[must_use = "it is let go where it is dropped"]
+    #[must_use = "the value is released when the guard is dropped"]
     pub fn lock(&self) -> Alone<'_, T> {
         let value = &self.queue().value;
         Alone { cell: &value.cell, _lock: value.lock.lock() }
     }
 }
 
-/// The value of a frozen queue, for one freeze at a time: [`Frozen::lock`]. Like a guard of std's mutex it stays on its thread.
-#[must_use = "it is let go where it is dropped"]
+/// The value of a frozen queue, for one freeze at a time: [`OwnedFrozen::lock`]. Like a guard of std's mutex it stays on its thread.
+#[must_use = "the value is released when the guard is dropped"]
 pub struct Alone<'f, T> {
     cell: &'f UnsafeCell<T>,
     _lock: Locked<'f, ()>,

@@ -1,5 +1,5 @@
-//! Misuses that compile: each is refused by an error, or does what its documentation says. (src/misuse.rs
-//! has the ones that don't compile.) An answer that the types exclude would panic as a bug of the crate, and fail the test.
+//! Misuses that compile: each is refused by an error, or does what its documentation says. (misuse.md
+//! has those that don't compile.) An answer that the types exclude would panic as a bug of the crate, and fail the test.
 use freeze_queue::{EnterError, FreezeError, Limits, OwnedRequest, Queue, RemoveError, Tag};
 use std::cell::RefCell;
 use std::mem::{self, ManuallyDrop};
@@ -49,7 +49,7 @@ fn an_owned_request_is_forgotten() {
     assert_eq!(queue.remove().unwrap_err().reason, RemoveError::TagsOut);
 }
 
-/// A freeze that is forgotten is never thawed: nested ones come and go, and the queue can be removed.
+/// A freeze that is forgotten is never thawed: nested ones come and go, and it keeps its share of the queue.
 #[test]
 fn a_freeze_is_forgotten() {
     let (queue, mut tag, other) = with_tags();
@@ -59,7 +59,7 @@ fn a_freeze_is_forgotten() {
     assert_eq!(queue.try_enter(&mut tag).unwrap_err(), EnterError::Frozen);
     drop(tag);
     drop(other);
-    assert_eq!(queue.remove().unwrap().kills, 1);
+    assert_eq!(queue.remove().unwrap_err().reason, RemoveError::Shared);
 }
 
 /// Tags of two queues are swapped: each is of its own queue still.
@@ -82,6 +82,25 @@ fn queues_are_swapped() {
     mem::swap(&mut here, &mut there);
     assert_eq!(here.enter(&mut tag).unwrap_err(), EnterError::OtherQueue);
     assert!(there.enter(&mut tag).is_ok());
+}
+
+/// Requests and freezes of two queues are swapped: each ends what it began.
+#[test]
+fn guards_are_swapped() {
+    let ((here, mut one, _one), (there, mut other, _other)) = (with_tags(), with_tags());
+    let (mut first, mut second) = (here.enter(&mut one).unwrap(), there.enter(&mut other).unwrap());
+    mem::swap(&mut first, &mut second);
+    drop(first);
+    assert!(there.try_freeze().is_ok());
+    assert_eq!(here.try_freeze().unwrap_err(), FreezeError::NotDrained);
+    drop(second);
+    let (mut first, mut second) = (here.freeze().unwrap(), there.freeze().unwrap());
+    mem::swap(&mut first, &mut second);
+    first.set(LIMITS.with_max(1)).unwrap();
+    drop(first);
+    assert_eq!((here.depth(), there.depth(), here.limits().max, there.limits().max), (1, 0, 32, 1));
+    drop(second);
+    assert!(here.try_enter(&mut one).is_ok());
 }
 
 /// The queue goes first: a tag of it can only be dropped.
@@ -188,6 +207,33 @@ fn a_request_leaks_in_a_cycle() {
     assert_eq!(queue.try_freeze().unwrap_err(), FreezeError::NotDrained);
 }
 
+/// Two that look into a frozen queue in turns, each before the other leaves, hold the freeze off until they stop.
+#[test]
+fn relays_hold_a_freeze_off() {
+    let (queue, mut tag, other) = with_tags();
+    let mut request = queue.enter_owned(other).unwrap();
+    let freezing = queue.begin_freeze().unwrap();
+    for _ in 0..1_000 {
+        let next = queue.try_enter_frozen_owned(tag).unwrap();
+        tag = request.leave();
+        request = next;
+        assert!(!freezing.is_drained());
+    }
+    drop(request);
+    assert!(freezing.is_drained());
+}
+
+/// A request whose limits are matched is held to the end of the match.
+#[test]
+fn a_match_holds_its_request() {
+    let (queue, mut tag, _other) = with_tags();
+    match queue.enter(&mut tag).unwrap().limits().max {
+        32 => assert_eq!(queue.try_freeze().unwrap_err(), FreezeError::NotDrained),
+        other => panic!("at most {other} sectors"),
+    }
+    assert!(queue.try_freeze().is_ok());
+}
+
 /// A waker that comes back to the queue, on the thread that thaws it: no lock is held then.
 struct ComesBack {
     queue: Arc<Queue>,
@@ -214,7 +260,7 @@ fn a_waker_comes_back_to_the_queue() {
         Arc::new(ComesBack { queue: Arc::clone(&queue), tags: Mutex::new(vec![other]), woken: AtomicU64::new(0) });
     let waker = Waker::from(Arc::clone(&comes_back));
     let frozen = queue.freeze().unwrap();
-    let mut entering = queue.enter_async(&mut tag);
+    let mut entering = Box::pin(queue.enter_async(&mut tag));
     assert!(Pin::new(&mut entering).poll(&mut Context::from_waker(&waker)).is_pending());
     drop(frozen);
     assert_eq!(comes_back.woken.load(Ordering::SeqCst), 1);
@@ -247,13 +293,13 @@ fn a_waker_gives_a_tag_back_where_it_is_dropped() {
     };
     let mut tag = queue.tag().unwrap();
     let frozen = queue.freeze().unwrap();
-    let mut entering = queue.enter_async(&mut tag);
+    let mut entering = Box::pin(queue.enter_async(&mut tag));
     assert!(Pin::new(&mut entering).poll(&mut Context::from_waker(&waker())).is_pending());
     assert!(Pin::new(&mut entering).poll(&mut Context::from_waker(&waker())).is_pending());
     assert_eq!(dropped.load(Ordering::SeqCst), 1);
     drop(entering);
     assert_eq!(dropped.load(Ordering::SeqCst), 2);
-    let mut entering = queue.enter_async(&mut tag);
+    let mut entering = Box::pin(queue.enter_async(&mut tag));
     assert!(Pin::new(&mut entering).poll(&mut Context::from_waker(&waker())).is_pending());
     mem::forget(entering);
     drop(tag);
@@ -287,7 +333,7 @@ fn a_waker_panics() {
     let counts = Arc::new(Counts(AtomicU64::new(0)));
     let wakers = [Arc::clone(&counts).into(), Arc::new(Panics).into(), Arc::clone(&counts).into()];
     let frozen = queue.freeze().unwrap();
-    let mut entering: Vec<_> = tags.iter_mut().map(|tag| queue.enter_async(tag)).collect();
+    let mut entering: Vec<_> = tags.iter_mut().map(|tag| Box::pin(queue.enter_async(tag))).collect();
     for (future, waker) in entering.iter_mut().zip(&wakers) {
         assert!(Pin::new(future).poll(&mut Context::from_waker(waker)).is_pending());
     }
@@ -307,7 +353,7 @@ fn a_waker_panics_as_the_device_goes() {
     let counts = Arc::new(Counts(AtomicU64::new(0)));
     let wakers = [Arc::new(Panics).into(), Arc::clone(&counts).into()];
     let frozen = queue.freeze().unwrap();
-    let mut entering: Vec<_> = tags.iter_mut().map(|tag| queue.enter_async(tag)).collect();
+    let mut entering: Vec<_> = tags.iter_mut().map(|tag| Box::pin(queue.enter_async(tag))).collect();
     for (future, waker) in entering.iter_mut().zip(&wakers) {
         assert!(Pin::new(future).poll(&mut Context::from_waker(waker)).is_pending());
     }
@@ -326,7 +372,7 @@ fn a_waker_panics_as_the_device_goes() {
 #[test]
 fn a_waker_panics_while_a_thread_does() {
     let (queue, mut tag, _other) = with_tags();
-    let mut entering = queue.enter_async(&mut tag);
+    let mut entering = Box::pin(queue.enter_async(&mut tag));
     let frozen = queue.freeze().unwrap();
     let waker = Waker::from(Arc::new(Panics));
     assert!(Pin::new(&mut entering).poll(&mut Context::from_waker(&waker)).is_pending());
@@ -341,7 +387,7 @@ fn a_waker_panics_while_a_thread_does() {
 #[test]
 fn a_future_is_polled_once_it_is_done() {
     let (queue, mut tag, _other) = with_tags();
-    let mut entering = queue.enter_async(&mut tag);
+    let mut entering = Box::pin(queue.enter_async(&mut tag));
     let mut context = Context::from_waker(Waker::noop());
     let Poll::Ready(Ok(request)) = Pin::new(&mut entering).poll(&mut context) else { panic!("it is live") };
     assert!(panics(|| Pin::new(&mut entering).poll(&mut context).is_ready()));

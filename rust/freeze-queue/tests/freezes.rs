@@ -1,5 +1,5 @@
 //! Freezes that are begun first and waited for later, by threads and by futures, and freezes with a share of the queue.
-use freeze_queue::{Drained, EnterError, FreezeError, Frozen, OwnedFrozen, Queue, RemoveError, Tag};
+use freeze_queue::{EnterError, FreezeError, OwnedFrozen, Queue, RemoveError, Tag};
 use std::future::Future;
 use std::mem;
 use std::pin::{Pin, pin};
@@ -18,7 +18,7 @@ fn with_tags() -> (Queue, Tag, Tag) {
     (queue, tag, other)
 }
 
-fn polled<'q>(future: &mut Drained<'q>, woken: &Arc<Woken>) -> Poll<Frozen<'q>> {
+fn polled<F: Future>(future: &mut Pin<Box<F>>, woken: &Arc<Woken>) -> Poll<F::Output> {
     Pin::new(future).poll(&mut Context::from_waker(&Waker::from(Arc::clone(woken))))
 }
 
@@ -51,7 +51,7 @@ fn the_drain_wakes_each_future() {
     let (queue, mut tag, mut other) = with_tags();
     let (request, last) = (queue.enter(&mut tag).unwrap(), queue.enter(&mut other).unwrap());
     let mut all: Vec<_> = (0..4)
-        .map(|_| (queue.begin_freeze().unwrap().drained(), Arc::<Woken>::default(), Arc::<Woken>::default()))
+        .map(|_| (Box::pin(queue.begin_freeze().unwrap().drained()), Arc::<Woken>::default(), Arc::<Woken>::default()))
         .collect();
     for (future, first, woken) in &mut all {
         assert!(polled(future, first).is_pending() && polled(future, woken).is_pending());
@@ -90,7 +90,7 @@ fn a_freeze_by_a_future() {
         assert_eq!(queue.depth(), 0);
         assert!(freezes.as_mut().poll(&mut Context::from_waker(&waker)).is_pending());
         assert_eq!(queue.depth(), 1);
-        let mut entering = queue.enter_async(&mut other);
+        let mut entering = Box::pin(queue.enter_async(&mut other));
         assert!(Pin::new(&mut entering).poll(&mut Context::from_waker(&waker)).is_pending());
     }
     assert_eq!((queue.depth(), woken.times()), (0, 0));
@@ -98,9 +98,9 @@ fn a_freeze_by_a_future() {
     drop(request);
     let frozen = block_on(queue.freeze_async()).unwrap();
     frozen.set(LIMITS.with_max(1)).unwrap();
-    let all: Vec<_> = (1..Queue::MAX_DEPTH).map(|_| queue.begin_freeze_owned().unwrap()).collect();
+    let all: Vec<_> = (1..Queue::MAX_DEPTH).map(|_| queue.begin_freeze().unwrap().into_owned()).collect();
     assert_eq!(queue.begin_freeze().unwrap_err(), FreezeError::DepthFull);
-    assert_eq!(queue.freeze_owned().unwrap_err(), FreezeError::DepthFull);
+    assert_eq!(queue.freeze().unwrap_err(), FreezeError::DepthFull);
     assert_eq!(block_on(queue.freeze_async()).unwrap_err(), FreezeError::DepthFull);
     drop((all, frozen));
     assert_eq!((queue.depth(), queue.limits().max), (0, 1));
@@ -117,7 +117,7 @@ fn a_freeze_is_kept_between_messages() {
     let service = thread::spawn(move || {
         let mut kept: Option<OwnedFrozen> = None;
         for freezes in messages {
-            kept = freezes.then(|| its.freeze_owned().unwrap());
+            kept = freezes.then(|| its.freeze().unwrap().into_owned());
             asks.send(()).unwrap();
         }
         kept
@@ -139,19 +139,19 @@ fn a_freeze_is_kept_between_messages() {
 #[test]
 fn shares_of_freezes() {
     let queue = Queue::builder(LIMITS).slots(1).tags(1).build().unwrap();
-    let frozen = queue.freeze_owned().unwrap();
+    let frozen = queue.freeze().unwrap().into_owned();
     let refused = queue.remove().unwrap_err();
-    assert_eq!(refused.reason, RemoveError::FreezeOut);
+    assert_eq!(refused.reason, RemoveError::Shared);
     drop(frozen);
-    let drained = refused.value.begin_freeze_owned().unwrap().drained();
+    let drained = refused.value.begin_freeze().unwrap().into_owned().drained();
     let refused = refused.value.remove().unwrap_err();
-    assert_eq!(refused.reason, RemoveError::FreezeOut);
+    assert_eq!(refused.reason, RemoveError::Shared);
     drop(drained);
-    refused.value.freeze_owned().unwrap().mark_dying();
+    refused.value.freeze().unwrap().into_owned().mark_dying();
     assert_eq!(refused.value.remove().unwrap().kills, 3);
     let queue = Queue::builder(LIMITS).slots(1).tags(1).build().unwrap();
-    mem::forget(queue.freeze_owned().unwrap());
-    assert_eq!(queue.remove().unwrap_err().reason, RemoveError::FreezeOut);
+    mem::forget(queue.freeze().unwrap().into_owned());
+    assert_eq!(queue.remove().unwrap_err().reason, RemoveError::Shared);
 }
 
 /// Tasks freeze while requests come and go on other threads: each freeze drains.
@@ -173,8 +173,8 @@ fn tasks_freeze_under_load() {
                 threads.spawn(move || {
                     for _ in 0..rounds {
                         let frozen = match way {
-                            0 => block_on(queue.freeze_async()).unwrap(),
-                            _ => block_on(queue.begin_freeze_owned().unwrap().drained()),
+                            0 => block_on(queue.freeze_async()).unwrap().into_owned(),
+                            _ => block_on(queue.begin_freeze().unwrap().into_owned().drained()),
                         };
                         assert!(queue.is_drained());
                         drop(frozen);

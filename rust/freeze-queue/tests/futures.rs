@@ -1,5 +1,5 @@
 //! Entering by futures: which is woken, when, and that a future which is cancelled takes nothing along.
-use freeze_queue::{EnterAsync, EnterError, OwnedFrozen, Queue, Request, Tag};
+use freeze_queue::{EnterError, OwnedFrozen, Queue, Tag};
 use std::pin::Pin;
 use std::sync::{Arc, Mutex};
 use std::task::{Context, Poll, Wake, Waker};
@@ -14,7 +14,7 @@ fn queue(tags: u32) -> (Queue, Vec<Tag>) {
     (queue, all)
 }
 
-fn polled<'e>(future: &mut EnterAsync<'e>, woken: &Arc<Woken>) -> Poll<Result<Request<'e>, EnterError>> {
+fn polled<F: Future>(future: &mut Pin<Box<F>>, woken: &Arc<Woken>) -> Poll<F::Output> {
     Pin::new(future).poll(&mut Context::from_waker(&Waker::from(Arc::clone(woken))))
 }
 
@@ -35,7 +35,7 @@ impl Wake for Thaws {
 fn a_live_queue_is_entered_at_once() {
     let (queue, mut tags) = queue(1);
     let woken = never_woken();
-    let mut entering = queue.enter_async(&mut tags[0]);
+    let mut entering = Box::pin(queue.enter_async(&mut tags[0]));
     let Poll::Ready(Ok(request)) = polled(&mut entering, &woken) else { panic!("it is live") };
     assert_eq!(request.limits(), &LIMITS);
     assert!(queue.try_freeze().is_err());
@@ -49,8 +49,9 @@ fn a_live_queue_is_entered_at_once() {
 fn a_waker_wakes_by_a_call() {
     let ((one, mut its_tags), (other, mut other_tags)) = (queue(1), queue(1));
     let frozen = one.freeze().unwrap();
-    let thaws = Waker::from(Arc::new(Thaws(Mutex::new(Some(other.freeze_owned().unwrap())))));
-    let (mut first, mut second) = (one.enter_async(&mut its_tags[0]), other.enter_async(&mut other_tags[0]));
+    let thaws = Waker::from(Arc::new(Thaws(Mutex::new(Some(other.freeze().unwrap().into_owned())))));
+    let (mut first, mut second) =
+        (Box::pin(one.enter_async(&mut its_tags[0])), Box::pin(other.enter_async(&mut other_tags[0])));
     let woken = never_woken();
     assert!(Pin::new(&mut first).poll(&mut Context::from_waker(&thaws)).is_pending());
     assert!(polled(&mut second, &woken).is_pending());
@@ -64,7 +65,7 @@ fn a_waker_wakes_by_a_call() {
 fn the_last_waker_is_woken_once() {
     let (queue, mut tags) = queue(1);
     let (first, last) = (never_woken(), never_woken());
-    let mut entering = queue.enter_async(&mut tags[0]);
+    let mut entering = Box::pin(queue.enter_async(&mut tags[0]));
     let frozen = queue.freeze().unwrap();
     let nested = queue.freeze().unwrap();
     assert!(polled(&mut entering, &first).is_pending());
@@ -85,7 +86,7 @@ fn the_last_waker_is_woken_once() {
 fn a_future_that_comes_too_late_waits_on() {
     let (queue, mut tags) = queue(1);
     let woken = never_woken();
-    let mut entering = queue.enter_async(&mut tags[0]);
+    let mut entering = Box::pin(queue.enter_async(&mut tags[0]));
     for times in 1..=3 {
         let frozen = queue.freeze().unwrap();
         assert!(polled(&mut entering, &woken).is_pending());
@@ -101,8 +102,8 @@ fn a_cancelled_future_is_not_woken() {
     let [one, two, three] = &mut tags[..] else { unreachable!() };
     let (cancelled, stays) = (never_woken(), never_woken());
     let frozen = queue.freeze().unwrap();
-    let mut first = queue.enter_async(one);
-    let (mut second, mut third) = (queue.enter_async(two), queue.enter_async(three));
+    let mut first = Box::pin(queue.enter_async(one));
+    let (mut second, mut third) = (Box::pin(queue.enter_async(two)), Box::pin(queue.enter_async(three)));
     assert!(polled(&mut first, &stays).is_pending());
     assert!(polled(&mut second, &cancelled).is_pending());
     assert!(polled(&mut third, &stays).is_pending());
@@ -123,10 +124,10 @@ fn a_future_is_forgotten() {
     let (queue, mut tags) = queue(1);
     let (forgotten, next) = (never_woken(), never_woken());
     let frozen = queue.freeze().unwrap();
-    let mut entering = queue.enter_async(&mut tags[0]);
+    let mut entering = Box::pin(queue.enter_async(&mut tags[0]));
     assert!(polled(&mut entering, &forgotten).is_pending());
     std::mem::forget(entering);
-    let mut entering = queue.enter_async(&mut tags[0]);
+    let mut entering = Box::pin(queue.enter_async(&mut tags[0]));
     assert!(polled(&mut entering, &next).is_pending());
     drop(frozen);
     assert_eq!((forgotten.times(), next.times()), (0, 1));
@@ -137,7 +138,7 @@ fn a_future_is_forgotten() {
 fn the_end_of_a_device_wakes_a_future() {
     let (queue, mut tags) = queue(1);
     let woken = never_woken();
-    let mut entering = queue.enter_async(&mut tags[0]);
+    let mut entering = Box::pin(queue.enter_async(&mut tags[0]));
     let frozen = queue.freeze().unwrap();
     assert!(polled(&mut entering, &woken).is_pending());
     frozen.mark_dying();
@@ -158,7 +159,7 @@ fn as_many_futures_as_there_are_tags() {
         (0..20).for_each(|_| tags.push(queue.tag().unwrap()));
         let frozen = queue.freeze().unwrap();
         let all: Vec<Arc<Woken>> = (0..1_023).map(|_| never_woken()).collect();
-        let mut entering: Vec<_> = tags.iter_mut().map(|tag| queue.enter_async(tag)).collect();
+        let mut entering: Vec<_> = tags.iter_mut().map(|tag| Box::pin(queue.enter_async(tag))).collect();
         for (future, woken) in entering.iter_mut().zip(&all) {
             assert!(polled(future, woken).is_pending());
         }
@@ -175,7 +176,7 @@ fn enter_and_cancel(queue: &Queue, tag: &mut Tag, seed: u64, rounds: u64) -> u64
     let (mut chance, woken, mut entered) = (Chance(seed), never_woken(), 0);
     while entered < rounds {
         if chance.one_in(3) {
-            let mut cancelled = queue.enter_async(tag);
+            let mut cancelled = Box::pin(queue.enter_async(tag));
             let _ = polled(&mut cancelled, &woken).map(|done| drop(done.unwrap()));
             if chance.one_in(4) {
                 thread::yield_now();

@@ -1,15 +1,16 @@
 //! The requests in flight that a queue which is watched lists: each form of a request, until it leaves, and no other.
-use freeze_queue::{EnterError, FreezeError, InFlight, Limits, Queue};
+use freeze_queue::{FreezeError, InFlight, Limits, Queue};
 use std::future::Future;
 use std::mem;
 use std::pin::pin;
+use std::sync::atomic::{AtomicBool, Ordering};
 use std::sync::mpsc;
 use std::task::{Context, Poll, Waker};
 use std::thread;
 use std::time::{Duration, Instant};
 
 mod shared;
-use shared::{LIMITS, ends, until};
+use shared::{LIMITS, ends, number_of, until};
 
 fn watched(tags: u32) -> Queue {
     let queue = Queue::builder(LIMITS).slots(4).tags(tags).build().unwrap();
@@ -33,12 +34,10 @@ fn a_request_is_listed_from_entering_to_leaving() {
     let (queue, before) = (watched(2), Instant::now());
     let (_idle, mut tag) = (queue.tag().unwrap(), queue.tag().unwrap());
     assert_eq!(listed(&queue), [], "a tag that a caller keeps is not in flight");
-    let mut request = queue.enter(&mut tag).unwrap();
+    let request = queue.enter(&mut tag).unwrap();
     let noted = only(&queue);
     assert_eq!((noted.tag, noted.thread), (request.tag_number(), thread::current().id()));
     assert!((before..=Instant::now()).contains(&noted.since));
-    request = request.stay().unwrap();
-    assert_eq!(only(&queue), noted, "as it entered");
     drop(request);
     assert_eq!(listed(&queue), []);
 }
@@ -116,29 +115,31 @@ fn a_freeze_that_hangs_is_explained() {
     });
 }
 
-/// A request that a freeze put out is listed no more, and after the thaw as of then.
+/// The watch begins and ends while threads enter and leave: under a freeze the list is empty.
 #[test]
-fn a_request_that_left_by_a_stay_is_not_listed() {
+fn a_watch_is_switched_under_load() {
     ends(|| {
-        let queue = watched(1);
-        let mut tag = queue.tag().unwrap();
-        let request = queue.enter(&mut tag).unwrap();
-        let noted = only(&queue);
-        let freezing = queue.begin_freeze().unwrap();
-        assert_eq!(request.stay().unwrap_err(), EnterError::Frozen);
-        assert_eq!(listed(&queue), []);
-        drop(freezing);
-        until("the clock shows another time", || Instant::now() > noted.since);
-        let request = queue.enter(&mut tag).unwrap();
-        assert!(only(&queue).since > noted.since);
+        let (queue, over) = (Queue::builder(LIMITS).slots(2).tags(3).build().unwrap(), AtomicBool::new(false));
         thread::scope(|threads| {
-            let freezing = queue.begin_freeze().unwrap();
-            threads.spawn(|| drop(freezing));
-            let again = request.stay_or_enter().unwrap();
-            assert!(only(&queue).since > noted.since);
-            drop(again);
+            for _ in 0..2 {
+                threads.spawn(|| {
+                    let mut tag = queue.tag().unwrap();
+                    while !over.load(Ordering::Relaxed) {
+                        let request = queue.enter(&mut tag).unwrap();
+                        drop(request);
+                        drop(queue.enter_any().unwrap());
+                    }
+                });
+            }
+            let is_empty = (0..number_of("FREEZE_QUEUE_ROUNDS", 2_000).min(2_000)).all(|round| {
+                queue.watch(round % 2 == 0);
+                let _frozen = queue.freeze().unwrap();
+                queue.in_flight().count() == 0
+            });
+            over.store(true, Ordering::Relaxed);
+            assert!(is_empty, "no request is in flight under a freeze");
         });
-        assert_eq!(listed(&queue), []);
+        queue.remove().unwrap();
     });
 }
 

@@ -378,7 +378,7 @@ fn the_end() -> Result<(), Box<dyn Error>> {
     let queue = refused.value;
     assert_eq!(queue.depth(), 0);
     drop(tag);
-    mem::forget(queue.freeze()?); // stays frozen, and is drained
+    queue.mark_dying(); // stays frozen, and is drained
     assert_eq!(queue.remove()?, Final { kills: 1, releases: 1, limits: LIMITS, value: () });
     Ok(())
 }
@@ -403,24 +403,19 @@ fn what_is_shown() {
     let (queue, mut tag) = with_tag();
     let id = queue.id();
     assert_eq!(format!("{queue:?}"), format!("Queue {{ id: {id}, .. }}"));
-    let shown = format!("Tag {{ queue: {id}, number: 0, .. }}");
-    assert_eq!(format!("{tag:?}"), shown);
+    assert_eq!(format!("{tag:?}"), format!("Tag {{ queue: {id}, number: 0, .. }}"));
     let of_queue = format!("queue: {id}, ..");
     assert_eq!(format!("{:?}", queue.enter(&mut tag).unwrap()), format!("Request {{ queue: {id}, tag: 0, .. }}"));
     assert_eq!(format!("{:?}", queue.freeze().unwrap()), format!("Frozen {{ {of_queue} }}"));
     assert_eq!(format!("{:?}", queue.begin_freeze().unwrap()), format!("Freezing {{ {of_queue} }}"));
-    assert_eq!(format!("{:?}", queue.begin_freeze().unwrap().drained()), "Drained { is_done: false, .. }");
-    assert_eq!(format!("{:?}", queue.enter_async(&mut tag)), "EnterAsync { is_done: false, .. }");
-    assert_eq!(format!("{:?}", queue.enter_any_async()), "EnterAny { is_done: false, .. }");
+    assert_eq!(format!("{:?}", queue.freeze().unwrap().into_owned()), format!("Frozen {{ {of_queue} }}"));
     let request = queue.enter_owned(tag).unwrap();
-    assert_eq!(format!("{request:?}"), format!("OwnedRequest({shown})"));
-    let entering = queue.enter_owned_async(request.leave());
-    assert!(format!("{entering:?}").starts_with("EnterOwnedAsync { tag: Some(Tag {"));
+    assert_eq!(format!("{request:?}"), format!("OwnedRequest {{ queue: {id}, tag: 0, .. }}"));
 }
 
 #[test]
 fn sizes_in_memory() {
     assert_eq!((mem::size_of::<Tag>(), mem::size_of::<Queue>()), (8, 8));
-    assert_eq!(mem::size_of::<OwnedRequest>(), 24);
-    assert!(mem::size_of::<Result<OwnedRequest, HandedBack<Tag, EnterError>>>() <= 32);
+    assert_eq!(mem::size_of::<OwnedRequest>(), 8);
+    assert!(mem::size_of::<Result<OwnedRequest, HandedBack<Tag, EnterError>>>() <= 16);
 }

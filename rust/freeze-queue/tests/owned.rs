@@ -1,7 +1,7 @@
 //! Requests with a tag of their own: what goes from thread to thread, each way to enter, and a refusal with its tag.
 use freeze_queue::{
-    Drained, EnterAny, EnterAsync, EnterError, EnterOwnedAsync, FreezeAsync, FreezeError, Freezing, Frozen, HandedBack,
-    OwnedRequest, Queue, Request, Tag,
+    EnterError, FreezeError, Freezing, Frozen, HandedBack, OwnedFreezing, OwnedFrozen, OwnedRequest, Queue, Request,
+    Tag,
 };
 use std::error::Error;
 use std::pin::Pin;
@@ -23,12 +23,26 @@ fn threads_share() {
     is_shared::<OwnedRequest>();
     is_shared::<Frozen<'_>>();
     is_shared::<Freezing<'_>>();
-    is_shared::<Drained<'_>>();
-    is_shared::<FreezeAsync<'_>>();
-    is_shared::<EnterAsync<'_>>();
-    is_shared::<EnterOwnedAsync>();
-    is_shared::<EnterAny<'_>>();
+    is_shared::<OwnedFrozen>();
+    is_shared::<OwnedFreezing>();
     is_shared::<HandedBack<Tag, EnterError>>();
+}
+
+/// Futures move from thread to thread, and the owned ones borrow nothing.
+#[test]
+fn threads_share_futures() {
+    fn is_shared<T: Send + Sync>(_: T) {}
+    fn is_owned<T: Send + Sync + 'static>(_: T) {}
+    let (queue, mut tag) = with_tag();
+    is_shared(queue.enter_async(&mut tag));
+    is_shared(queue.enter_any_async());
+    is_shared(queue.freeze_async());
+    is_shared(queue.update_async(|limits| limits));
+    is_shared(queue.shut_down_async());
+    is_shared(queue.begin_freeze().unwrap().drained());
+    is_owned(queue.begin_freeze().unwrap().into_owned().drained());
+    is_owned(queue.enter_owned_async(tag));
+    is_owned(queue.enter_any_owned_async());
 }
 
 /// A refusal goes into a box of any error as its reason, and drops the tag.
@@ -75,7 +89,7 @@ fn the_owned_forms() {
     assert_eq!(refused.reason, EnterError::TimedOut);
     let refused = queue.try_enter_frozen_owned(refused.value).unwrap_err();
     assert_eq!(refused.reason, EnterError::Drained);
-    let mut entering = queue.enter_owned_async(refused.value);
+    let mut entering = Box::pin(queue.enter_owned_async(refused.value));
     let mut context = Context::from_waker(Waker::noop());
     assert!(Pin::new(&mut entering).poll(&mut context).is_pending());
     drop(freezing);
@@ -85,11 +99,11 @@ fn the_owned_forms() {
     assert_eq!(refused.reason, EnterError::OtherQueue);
     let refused = other.try_enter_frozen_owned(refused.value).unwrap_err();
     assert_eq!(refused.reason, EnterError::OtherQueue);
-    let mut entering = other.enter_owned_async(refused.value);
+    let mut entering = Box::pin(other.enter_owned_async(refused.value));
     let Poll::Ready(Err(refused)) = Pin::new(&mut entering).poll(&mut context) else { panic!("it is another's") };
     assert_eq!(refused.reason, EnterError::OtherQueue);
     queue.freeze().unwrap().mark_dying();
-    let mut entering = queue.enter_owned_async(refused.value);
+    let mut entering = Box::pin(queue.enter_owned_async(refused.value));
     let Poll::Ready(Err(refused)) = Pin::new(&mut entering).poll(&mut context) else { panic!("it is gone") };
     assert_eq!(refused.reason, EnterError::Dying);
     let refused = queue.enter_owned_timeout(refused.value, Duration::MAX).unwrap_err();

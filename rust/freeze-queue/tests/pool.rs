@@ -1,5 +1,5 @@
 //! Requests with any tag: the line, its order, its ends, and that no tag is lost.
-use freeze_queue::{EnterAny, EnterError, OwnedRequest, Queue};
+use freeze_queue::{EnterError, OwnedRequest, Queue};
 use std::future::Future;
 use std::pin::Pin;
 use std::sync::atomic::{AtomicBool, AtomicU32, AtomicU64, Ordering};
@@ -22,13 +22,17 @@ fn whose_tag_is_out() -> (Arc<Queue>, OwnedRequest) {
     (queue, request)
 }
 
-fn polled(future: &mut EnterAny<'_>, woken: &Arc<Woken>) -> Poll<Result<OwnedRequest, EnterError>> {
+/// A future that enters with any tag.
+type Entering<'q> = Pin<Box<dyn Future<Output = Result<OwnedRequest, EnterError>> + Send + 'q>>;
+
+fn polled<F: Future + ?Sized>(future: &mut Pin<Box<F>>, woken: &Arc<Woken>) -> Poll<F::Output> {
     Pin::new(future).poll(&mut Context::from_waker(&Waker::from(Arc::clone(woken))))
 }
 
 /// Futures that wait in line, each with a waker of its own.
-fn in_line(queue: &Queue, count: usize) -> Vec<(EnterAny<'_>, Arc<Woken>)> {
-    let mut all: Vec<_> = (0..count).map(|_| (queue.enter_any_async(), Arc::<Woken>::default())).collect();
+fn in_line(queue: &Queue, count: usize) -> Vec<(Entering<'_>, Arc<Woken>)> {
+    let entering = |_| (Box::pin(queue.enter_any_async()) as Entering<'_>, Arc::<Woken>::default());
+    let mut all: Vec<_> = (0..count).map(entering).collect();
     for (future, woken) in &mut all {
         assert!(polled(future, woken).is_pending());
     }
@@ -146,7 +150,7 @@ fn each_tag_goes_to_the_line() {
                 assert_eq!(woken.times(), 0);
                 drop(queue.enter_owned(tag).unwrap());
             }
-            _ => drop(queue.enter_owned_async(tag)),
+            _ => drop(Box::pin(queue.enter_owned_async(tag))),
         }
         assert_eq!(woken.times(), 1);
         assert!(matches!(polled(&mut future, &woken), Poll::Ready(Ok(_))));
@@ -171,11 +175,11 @@ fn wakers_come_back_to_the_queue() {
         let comes_back = Arc::new(ComesBack(Arc::clone(&queue), AtomicU64::new(0)));
         let waker = Waker::from(Arc::clone(&comes_back));
         let request = queue.enter_any().unwrap();
-        let mut line = [queue.enter_any_async(), queue.enter_any_async()];
+        let mut line = [Box::pin(queue.enter_any_async()), Box::pin(queue.enter_any_async())];
         for future in &mut line {
             assert!(Pin::new(future).poll(&mut Context::from_waker(&waker)).is_pending());
         }
-        let mut drained = queue.begin_freeze().unwrap().drained();
+        let mut drained = Box::pin(queue.begin_freeze().unwrap().drained());
         assert!(Pin::new(&mut drained).poll(&mut Context::from_waker(&waker)).is_pending());
         drop(request); // wakes at the drain, and the first in line
         assert_eq!(comes_back.1.load(Ordering::SeqCst), 2);
@@ -209,6 +213,7 @@ fn the_device_goes() {
     assert_eq!(late.unwrap_err(), EnterError::Dying);
     let held = queue.tag().unwrap();
     assert_eq!(queue.enter_any().unwrap_err(), EnterError::Dying, "nobody waits in line any more");
+    assert_eq!(queue.try_enter_any().unwrap_err(), EnterError::Dying, "it doesn't ask for another try");
     drop((line, held));
     remove(queue);
 }
@@ -218,7 +223,7 @@ fn the_device_goes() {
 fn the_handle_is_dropped() {
     let queue = Queue::builder(LIMITS).slots(2).tags(3).build().unwrap();
     let (request, tag) = (queue.enter_any().unwrap(), queue.tag().unwrap());
-    let freezing = queue.begin_freeze_owned().unwrap();
+    let freezing = queue.begin_freeze().unwrap().into_owned();
     drop(queue);
     assert!(!freezing.is_drained());
     let gone = thread::spawn(move || drop(request));
@@ -279,7 +284,7 @@ fn more_that_enter_than_tags() {
                                 0 => serve(block_on(queue.enter_any_async()).unwrap()),
                                 1 => drop(queue.enter_any_timeout(Duration::from_micros(30)).map(serve)),
                                 2 => {
-                                    let mut cancelled = queue.enter_any_async();
+                                    let mut cancelled = Box::pin(queue.enter_any_async());
                                     let _ = polled(&mut cancelled, &Arc::default()).map(|done| drop(done.unwrap()));
                                 }
                                 _ => serve(queue.enter_any().unwrap()),

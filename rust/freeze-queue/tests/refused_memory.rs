@@ -76,8 +76,8 @@ fn a_queue_has_the_bytes_of_the_page() {
     for (slots, tags) in [(1, 1), (512, 1), (1, 1_023), (512, 1_023)] {
         let before = BYTES.get();
         let queue = Queue::builder(LIMITS).slots(slots).tags(tags).build().unwrap();
-        let rest = BYTES.get() - before - 128 * i64::from(slots) - 448 * i64::from(tags);
-        assert!((1_700..2_000).contains(&rest), "{rest} bytes beside {slots} slots and {tags} tags");
+        let rest = BYTES.get() - before - 128 * i64::from(slots) - 897 * i64::from(tags);
+        assert!((2_200..2_500).contains(&rest), "{rest} bytes beside {slots} slots and {tags} tags");
         queue.remove().unwrap();
     }
 }
@@ -184,7 +184,7 @@ fn memory_of_what_waits() {
         assert_eq!(late.unwrap_err(), EnterError::NoMemory);
         assert!(matches!(pin!(queue.enter_any_async()).poll(&mut context), Poll::Ready(Err(EnterError::NoMemory))));
         drop(other);
-        let mut drained = pin!(queue.begin_freeze_owned().unwrap().drained());
+        let mut drained = pin!(queue.begin_freeze().unwrap().into_owned().drained());
         assert!(drained.as_mut().poll(&mut context).is_pending());
         let mut entering = pin!(queue.enter_any_async());
         assert!(entering.as_mut().poll(&mut context).is_pending(), "it has a tag, and waits for the thaw");
@@ -228,7 +228,7 @@ fn what_is_dropped_is_freed() {
     mem::forget(queue.enter(&mut tag).unwrap());
     drop(queue.enter_owned(other).unwrap());
     let request = queue.enter_owned(taken).unwrap();
-    let freezing = queue.begin_freeze_owned().unwrap();
+    let freezing = queue.begin_freeze().unwrap().into_owned();
     drop(queue);
     drop(tag);
     drop(request.leave());

@@ -1,12 +1,13 @@
 //! The removal of a queue within a waker: by a task that its waker polls, on the thread that wakes it. Each such call ends.
-use freeze_queue::{Final, Queue, RemoveError, Tag};
+use freeze_queue::{EnterError, Final, Queue, RemoveError, Tag};
 use std::future::Future;
 use std::pin::Pin;
 use std::sync::{Arc, Mutex};
-use std::task::{Context, Wake, Waker};
+use std::task::{Context, Poll, Wake, Waker};
+use std::thread;
 
 mod shared;
-use shared::{LIMITS, ends};
+use shared::{LIMITS, ends, number_of};
 
 /// A task that its waker polls.
 struct Inline(Mutex<Option<Pin<Box<dyn Future<Output = ()> + Send>>>>);
@@ -62,7 +63,7 @@ fn a_tag_that_comes_home_wakes() {
 /// A freeze with a share of the queue thaws: the task that waits enters.
 #[test]
 fn a_thaw_wakes() {
-    wakes(|queue| queue.freeze_owned().unwrap());
+    wakes(|queue| queue.freeze().unwrap().into_owned());
 }
 
 /// The device goes, by a freeze with a share of the queue: a task that waits with its tag is sent away, and one in line.
@@ -71,7 +72,7 @@ fn the_end_of_a_device_wakes() {
     for is_in_line in [false, true] {
         ends(move || {
             let queue = one_tag();
-            let frozen = queue.freeze_owned().unwrap();
+            let frozen = queue.freeze().unwrap().into_owned();
             let kept = is_in_line.then(|| queue.tag().unwrap());
             let removed = removes_once_woken(queue, kept);
             frozen.mark_dying();
@@ -80,14 +81,33 @@ fn the_end_of_a_device_wakes() {
     }
 }
 
+/// A removal that is tried again and again, beside a thread that drops the last shares: it succeeds as soon as they are gone.
+#[test]
+fn a_removal_beside_the_last_shares() {
+    ends(|| {
+        for _ in 0..number_of("FREEZE_QUEUE_ROUNDS", 200).min(200) {
+            let queue = one_tag();
+            let (request, freezing) = (queue.enter_any().unwrap(), queue.begin_freeze().unwrap().into_owned());
+            let drops = thread::spawn(move || drop((request, freezing)));
+            let mut left = queue.remove();
+            while let Err(refused) = left {
+                assert!(matches!(refused.reason, RemoveError::TagsOut | RemoveError::Shared));
+                left = refused.value.remove();
+            }
+            drops.join().unwrap();
+            assert_eq!(left.unwrap().kills, 2);
+        }
+    });
+}
+
 /// A thaw that wakes more tasks than it takes from their seats at once. Each tries the removal: the others' tags are out, and the freeze
 /// is there until the last seats were taken.
 #[test]
 fn a_thaw_wakes_many() {
     ends(|| {
         let queue = Queue::builder(LIMITS).slots(1).tags(1_023).build().unwrap();
-        let frozen = queue.freeze_owned().unwrap();
-        let enters = |_| queue.enter_owned_async(queue.tag().unwrap());
+        let frozen = queue.freeze().unwrap().into_owned();
+        let enters = |_| Box::pin(queue.enter_owned_async(queue.tag().unwrap()));
         let entering: Vec<_> = (0..1_023).map(enters).collect();
         let (queue, answers) = (Arc::new(Mutex::new(Some(queue))), Arc::<Mutex<Vec<_>>>::default());
         for future in entering {
@@ -104,7 +124,45 @@ fn a_thaw_wakes_many() {
         }
         drop(frozen);
         let answers = answers.lock().unwrap();
-        assert_eq!((answers.len(), answers[0], answers[1_022]), (1_023, Err(RemoveError::FreezeOut), Ok(())));
+        assert_eq!((answers.len(), answers[0], answers[1_022]), (1_023, Err(RemoveError::Shared), Ok(())));
         assert!(answers[..1_022].iter().all(Result::is_err));
     });
+}
+
+/// A future that is polled for the first time after its queue was dropped learns that the queue is gone, whether a tag is out or not.
+#[test]
+fn a_future_outlives_its_queue() {
+    for is_out in [false, true] {
+        let value = Arc::new(());
+        let queue = Queue::builder(LIMITS).slots(1).tags(2).value(Arc::clone(&value)).build().unwrap();
+        let request = is_out.then(|| queue.enter_any().unwrap());
+        let mut entering = [Box::pin(queue.enter_any_owned_async()), Box::pin(queue.enter_any_owned_async())];
+        drop(queue);
+        for future in &mut entering {
+            let polled = future.as_mut().poll(&mut Context::from_waker(Waker::noop()));
+            assert!(matches!(polled, Poll::Ready(Err(EnterError::Dying))));
+        }
+        drop((request, entering));
+        assert_eq!(Arc::strong_count(&value), 1, "the queue has ended");
+    }
+}
+
+/// A future with a share of the queue holds a removal up until it is dropped: before a poll, and as it was sent away.
+#[test]
+fn a_future_has_a_share() {
+    let queue = one_tag();
+    let unpolled = queue.enter_any_owned_async();
+    let refused = queue.remove().unwrap_err();
+    assert_eq!(refused.reason, RemoveError::Shared);
+    drop(unpolled);
+    let queue = refused.value;
+    let request = queue.enter_any().unwrap();
+    let mut in_line = Box::pin(queue.enter_any_owned_async());
+    assert!(in_line.as_mut().poll(&mut Context::from_waker(Waker::noop())).is_pending());
+    queue.mark_dying();
+    drop(request);
+    let refused = queue.remove().unwrap_err();
+    assert_eq!(refused.reason, RemoveError::Shared);
+    drop(in_line);
+    assert_eq!(refused.value.remove().unwrap().kills, 1);
 }

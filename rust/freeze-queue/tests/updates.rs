@@ -10,7 +10,7 @@ use std::thread;
 use std::time::Duration;
 
 mod shared;
-use shared::{number_of, until};
+use shared::{block_on, ends, number_of, until};
 
 const THREADS: u32 = 4;
 
@@ -163,21 +163,32 @@ fn updates_by_futures() {
     assert_eq!(queue.update(one_more).unwrap().max, 5);
 }
 
-/// An update lets a thread in that waited at the last thaw: its request has left when the update is done.
+/// An update lets a thread in that waited at the last thaw: its request has left when the update is done. One by a task waits for that
+/// without being polled.
 #[test]
 fn an_update_lets_a_thread_in() {
+    ends(|| {
+        lets_a_thread_in(|queue| queue.update(one_more).unwrap());
+        lets_a_thread_in(|queue| block_on(queue.update_async(one_more)).unwrap());
+    });
+}
+
+fn lets_a_thread_in(update: fn(&Queue) -> Limits) {
     let queue = queue();
     for round in 1..=u64::from(rounds().min(200)) {
-        let has_entered = AtomicBool::new(false);
+        let (has_entered, is_done) = (AtomicBool::new(false), AtomicBool::new(false));
         let frozen = queue.freeze().unwrap();
         thread::scope(|threads| {
             threads.spawn(|| {
-                let _request = queue.enter_any().unwrap();
+                let request = queue.enter_any().unwrap();
                 has_entered.store(true, Relaxed);
+                drop(request);
+                until("the update is done", || is_done.load(Relaxed)); // the end of a thread wakes the one that waits for it
             });
             until("it waits", || queue.stats().waited == round);
             drop(frozen);
-            queue.update(one_more).unwrap();
+            update(&queue);
+            is_done.store(true, Relaxed);
             assert!(has_entered.load(Relaxed), "round {round}");
         });
     }

@@ -3,7 +3,6 @@ use freeze_queue::{EnterError, FreezeError, Limits, NewError, OwnedRequest, Queu
 use std::env;
 use std::future::Future;
 use std::mem;
-use std::ops::ControlFlow::{Break, Continue};
 use std::panic::{AssertUnwindSafe, catch_unwind};
 use std::sync::atomic::{AtomicU64, Ordering::Relaxed};
 use std::sync::{Arc, mpsc};
@@ -169,6 +168,22 @@ fn what_is_forgotten_stays() {
     assert_eq!(dropped.load(Relaxed), 1);
 }
 
+/// A value whose drop panics, by the last share of its queue: the panic goes on in the call that dropped that.
+#[test]
+fn the_drop_of_the_value_panics() {
+    struct Panics;
+    impl Drop for Panics {
+        fn drop(&mut self) {
+            panic!("the device fails");
+        }
+    }
+    let (one, other) = (queue(Panics), queue(Panics));
+    let request = one.enter_any().unwrap();
+    drop(one);
+    assert!(catch_unwind(AssertUnwindSafe(|| drop(request))).is_err());
+    assert!(catch_unwind(AssertUnwindSafe(|| drop(other))).is_err());
+}
+
 /// Each end of a queue drops its value once.
 #[test]
 fn the_value_is_dropped_once() {
@@ -231,36 +246,14 @@ fn a_device_is_served() {
     let queue = queue(1);
     let mut tag = queue.tag().unwrap();
     for value in 1..4 {
-        let mut turns = 0;
-        let served = queue.serve(&mut tag, |device| {
-            turns += 1;
-            if turns == 3 { Break(**device) } else { Continue(()) }
-        });
-        assert_eq!((served, turns), (Ok(value), 3));
+        for _ in 0..3 {
+            assert_eq!(*queue.enter(&mut tag).unwrap(), value);
+        }
         *queue.freeze().unwrap().lock() += 1;
     }
-    assert_eq!(queue.enter(&mut tag).unwrap().stay().map(|request| *request).unwrap(), 4);
+    assert_eq!(*queue.enter(&mut tag).unwrap(), 4);
     drop(tag);
     assert_eq!(queue.remove().unwrap().value, 4);
-}
-
-/// A request that stays reads the value as it is; one that had to enter again, as it was changed meanwhile.
-#[test]
-fn a_request_stays() {
-    let queue = queue(vec![1]);
-    let mut tag = queue.tag().unwrap();
-    let request = queue.enter(&mut tag).unwrap().stay_or_enter().unwrap();
-    assert_eq!(*request, [1]);
-    thread::scope(|threads| {
-        let changes = threads.spawn(|| queue.freeze().unwrap().lock().push(2));
-        while queue.depth() == 0 && !changes.is_finished() {
-            thread::yield_now();
-        }
-        assert_eq!(*request, [1]);
-        assert_eq!(*request.stay_or_enter().unwrap(), [1, 2]);
-    });
-    queue.freeze().unwrap().mark_dying();
-    assert_eq!(queue.enter(&mut tag).unwrap_err(), EnterError::Dying);
 }
 
 /// An owned request keeps the queue and its value; the value is dropped with the last share, after the request has left.
@@ -341,7 +334,7 @@ fn freezes_with_a_share_and_in_steps() {
     let refused = queue.try_enter_owned(request.leave()).unwrap_err();
     assert_eq!(refused.reason, EnterError::Frozen);
     *freezing.wait().lock() += 1;
-    let owned = queue.freeze_owned().unwrap();
+    let owned = queue.freeze().unwrap().into_owned();
     *owned.lock() += 1;
     let mut waits = Box::pin(queue.enter_owned_async(refused.value));
     let mut context = Context::from_waker(Waker::noop());
@@ -351,7 +344,7 @@ fn freezes_with_a_share_and_in_steps() {
     let Poll::Ready(Ok(request)) = waits.as_mut().poll(&mut context) else { panic!("it is live") };
     assert_eq!((*request, request.limits().chunk), (9, 8));
     drop((request, waits));
-    queue.freeze_owned().unwrap().mark_dying();
+    queue.freeze().unwrap().into_owned().mark_dying();
     assert_eq!(queue.enter_any().unwrap_err(), EnterError::Dying);
     assert_eq!(Arc::into_inner(queue).unwrap().remove().unwrap().value, 9);
 }

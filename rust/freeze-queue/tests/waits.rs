@@ -153,6 +153,64 @@ fn a_late_request_leaves_nothing() {
     });
 }
 
+/// A deadline beyond what a clock can show never passes: each wait ends by what it waits for.
+#[test]
+fn patience_without_end() {
+    let secs = [u64::MAX, u64::MAX >> 2, 1 << 40];
+    for patience in secs.map(Duration::from_secs).into_iter().chain([Duration::MAX]) {
+        ends(move || {
+            let (queue, mut tags) = queue(1);
+            let mut tag = tags.pop().unwrap();
+            let later = |end: Box<dyn FnOnce() + Send>| {
+                thread::spawn(|| {
+                    thread::sleep(SOON);
+                    end();
+                })
+            };
+            let frozen = queue.freeze().unwrap().into_owned();
+            let thaws = later(Box::new(|| drop(frozen)));
+            drop(queue.enter_timeout(&mut tag, patience).unwrap());
+            let request = queue.enter_owned(tag).unwrap();
+            let leaves = later(Box::new(|| drop(request)));
+            drop(queue.freeze_timeout(patience).unwrap());
+            let request = queue.enter_any_timeout(patience).unwrap();
+            let leaves_too = later(Box::new(|| drop(request)));
+            assert_eq!(queue.update_timeout(patience, |limits| limits.with_max(8)).unwrap().max, 8);
+            let request = queue.enter_any().unwrap();
+            let leaves_last = later(Box::new(|| drop(request)));
+            drop(queue.enter_any_timeout(patience).unwrap());
+            assert!(queue.shut_down_timeout(patience));
+            for thread in [thaws, leaves, leaves_too, leaves_last] {
+                thread.join().unwrap();
+            }
+        });
+    }
+}
+
+/// A thread that tries again as long as no tag is free learns of the shutdown, even if no tag comes back.
+#[test]
+fn tries_without_a_tag_end_with_the_queue() {
+    ends(|| {
+        let (queue, _tags) = queue(1);
+        let tried = AtomicBool::new(false);
+        thread::scope(|threads| {
+            let loops = threads.spawn(|| {
+                loop {
+                    match queue.try_enter_any().map(drop) {
+                        Err(EnterError::NoTag) => tried.store(true, Ordering::SeqCst),
+                        ended => break ended,
+                    }
+                }
+            });
+            while !tried.load(Ordering::SeqCst) {
+                thread::yield_now();
+            }
+            queue.mark_dying();
+            assert_eq!(loops.join().unwrap(), Err(EnterError::Dying));
+        });
+    });
+}
+
 /// The drop of an owned request, and of one that looked at a frozen queue, wake a thread that freezes as well.
 #[test]
 fn other_guards_wake_who_freezes() {

@@ -2,7 +2,7 @@
 //! (A waker by hand is made by `unsafe`.)
 #![allow(unsafe_code)]
 
-use freeze_queue::{EnterAny, OwnedRequest, Queue};
+use freeze_queue::{OwnedRequest, Queue};
 use std::cell::{Cell, RefCell};
 use std::panic::{AssertUnwindSafe, catch_unwind};
 use std::pin::Pin;
@@ -69,11 +69,11 @@ fn a_task_waits_for_the_thaw() {
     with_queue(|queue| {
         let frozen = queue.freeze().unwrap();
         let mut tag = queue.tag().unwrap();
-        let mut entering = queue.enter_async(&mut tag);
+        let mut entering = Box::pin(queue.enter_async(&mut tag));
         assert!(polled(&mut entering).is_pending());
         assert!(polled(&mut entering).is_pending(), "another waker in place of the first");
         drop(entering);
-        let mut entering = queue.enter_owned_async(tag);
+        let mut entering = Box::pin(queue.enter_owned_async(tag));
         assert!(polled(&mut entering).is_pending());
         drop(frozen);
         assert!(polled(&mut entering).is_ready());
@@ -84,7 +84,7 @@ fn a_task_waits_for_the_thaw() {
 fn a_task_waits_in_line() {
     with_queue(|queue| {
         let request = queue.enter_any().unwrap();
-        let mut line: Vec<EnterAny<'_>> = (0..3).map(|_| queue.enter_any_async()).collect();
+        let mut line: Vec<_> = (0..3).map(|_| Box::pin(queue.enter_any_async())).collect();
         for future in &mut line {
             assert!(polled(future).is_pending());
         }
@@ -102,28 +102,26 @@ fn a_task_waits_in_line() {
 fn a_tag_comes_home_just_before_the_line() {
     with_queue(|queue| {
         LEAVES.set(Some(queue.enter_any().unwrap()));
-        assert!(matches!(polled(&mut queue.enter_any_async()), Poll::Ready(Ok(_))));
+        assert!(matches!(polled(&mut Box::pin(queue.enter_any_async())), Poll::Ready(Ok(_))));
     });
 }
 
-/// The waker that a future doesn't need panics as it is dropped: the future has its tag all the same, before the line and in it.
+/// The waker that a future doesn't need panics as it is dropped: the tag that it got goes home, before the line and in it.
 #[test]
 fn a_waker_panics_as_a_tag_is_there() {
     with_queue(|queue| {
-        let panics = |future: &mut EnterAny<'_>| {
+        fn panics(future: &mut (impl Future + Unpin)) -> bool {
             PANICS.set(true);
             catch_unwind(AssertUnwindSafe(|| polled(future).is_ready())).is_err()
-        };
+        }
         LEAVES.set(Some(queue.enter_any().unwrap()));
-        let mut before = queue.enter_any_async();
+        let mut before = Box::pin(queue.enter_any_async());
         assert!(panics(&mut before));
-        let Poll::Ready(Ok(request)) = polled(&mut before) else { panic!("it has its tag") };
-        let mut in_line = queue.enter_any_async();
+        let request = queue.try_enter_any().unwrap();
+        let mut in_line = Box::pin(queue.enter_any_async());
         assert!(polled(&mut in_line).is_pending());
         drop(request);
         assert!(panics(&mut in_line));
-        assert!(queue.try_enter_any().is_err());
-        drop(in_line);
         assert!(queue.try_enter_any().is_ok());
     });
 }
@@ -132,7 +130,7 @@ fn a_waker_panics_as_a_tag_is_there() {
 fn a_task_waits_for_the_drain() {
     with_queue(|queue| {
         let request = queue.enter_any().unwrap();
-        let (mut freezing, mut another) = (queue.freeze_async(), queue.freeze_async());
+        let (mut freezing, mut another) = (Box::pin(queue.freeze_async()), Box::pin(queue.freeze_async()));
         assert!(polled(&mut freezing).is_pending() && polled(&mut another).is_pending());
         assert!(polled(&mut freezing).is_pending(), "another waker in place of the first");
         drop(another);

@@ -1,5 +1,5 @@
-//! Who frees a device that is removed while a request is in flight? In every interleaving exactly one call returns `last`, and that
-//! caller frees it.
+//! Shows who frees a device that is removed while a request is in flight. In every interleaving exactly one call returns `last`, and its
+//! caller frees the device.
 use std::collections::BTreeMap;
 use std::error::Error;
 

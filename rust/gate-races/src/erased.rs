@@ -1,5 +1,5 @@
-//! The race explorer of ../../../crates without its contracts. Nothing here is checked for a caller: it is for this crate and its
-//! tests. tools/erase writes the files that say so in their first line.
+//! The race explorer of ../../../crates without its contracts, for this crate and its tests. Nothing here checks its callers.
+//! tools/erase writes the files that say so in their first line.
 #![forbid(unsafe_code)]
 #![allow(missing_docs, missing_debug_implementations, clippy::all, clippy::pedantic, rustdoc::all)]
 

@@ -1,10 +1,10 @@
-//! Why there is no answer.
+//! The error of a search.
 use crate::erased::races_run;
 use blkq::LineError;
 use std::error::Error;
 use std::fmt;
 
-/// Why [`outcomes`](crate::outcomes()) has no answer.
+/// Why [`outcomes`](crate::outcomes()) failed.
 ///
 /// ```
 /// let refused = gate_races::outcomes(b"races 1\nworld 1 1 atomic 0\n1 try 0\n").unwrap_err();
@@ -13,9 +13,9 @@ use std::fmt;
 #[derive(Clone, Copy, Debug, PartialEq, Eq, Hash)]
 #[non_exhaustive]
 pub enum RaceError {
-    /// Memory was refused: the race may have more states than there is memory for.
+    /// There isn't enough memory for the states of the race.
     Memory,
-    /// The input is no race.
+    /// The input isn't a race.
     Race(LineError),
 }
 
@@ -31,7 +31,7 @@ impl fmt::Display for RaceError {
 impl Error for RaceError {}
 
 impl From<races_run::Fault> for RaceError {
-    /// As for a script, reading and writing fail for want of memory alone.
+    /// As for a script, reading and writing fail only if memory is refused.
     fn from(fault: races_run::Fault) -> RaceError {
         match fault {
             races_run::Fault::Parse(fault) => RaceError::Race(fault.into()),

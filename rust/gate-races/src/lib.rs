@@ -1,6 +1,8 @@
-//! A race is the calls of several actors at a gate that counts references as Linux's `percpu_ref` does. [`outcomes`] goes through
-//! every interleaving of their atomic steps, and returns each outcome: what the calls return, and a shortest schedule that leads there.
-//! The program `gate_races` does the same from standard input to standard output, and answers questions about a race.
+//! Lists what can happen when several actors call a gate, which counts references as Linux's `percpu_ref` does.
+//!
+//! A race is the calls of the actors. [`outcomes`] goes through every interleaving of their atomic steps and returns each outcome: what
+//! the calls return, and a shortest schedule that leads there. The program `gate_races` does the same from standard input to standard
+//! output, and answers questions about a race.
 //!
 //! ```
 //! // A try beside the start of a kill: it is given or refused.
@@ -11,17 +13,17 @@
 //! # Ok::<(), gate_races::RaceError>(())
 //! ```
 //!
-//! docs/races/FORMATS.md of the repository has the format of a race, and docs/races/TOUR.md shows the program. A schedule of one gate is an
-//! input of [`blkq::replay()`].
+//! In the repository, docs/races/FORMATS.md has the format of a race, and docs/races/TOUR.md introduces the program. [`blkq::replay()`] replays
+//! a schedule of one gate.
 //!
 //! # What is proved, and what isn't
 //!
-//! The function is in `src/erased`: Rust that a program cut out of sources with contracts, all of which are proved. The proof is of those
-//! sources: for every race, each outcome that some interleaving has is written once, with a schedule that leads to it, and none is
-//! shorter. The program that cuts, its stand-ins for maps and memory, the Rust compiler and this file aren't proved.
+//! The function is in `src/erased`: Rust that was made by a program that removes the contracts from proved sources. It is proved of those
+//! sources that for every race, each outcome of some interleaving is written once, with a shortest schedule that leads to it. These aren't
+//! proved: the program that removes the contracts, its stand-ins for maps and memory, the Rust compiler, and this file.
 //!
-//! The module `erased` is public for the program, and no part of what versions promise: its functions trust their preconditions, so no
-//! user calls them.
+//! The module `erased` is public only for the program, and isn't part of the stable API: its functions trust their preconditions, so don't
+//! call them.
 
 #[doc(hidden)]
 pub mod erased;
@@ -32,7 +34,7 @@ pub use blkq::{LineError, Reason};
 pub use error::RaceError;
 pub use outcomes::outcomes;
 
-/// The example of the page beside the crate.
+/// Compiles the example in README.md.
 #[cfg(doctest)]
 #[doc = include_str!("../README.md")]
 mod readme {}

@@ -4,21 +4,23 @@ use crate::erased::races_run::{Form, NoWatch, Request, outcomes_bytes};
 use crate::error::RaceError;
 use blkq::text::Text;
 
-/// Goes through all orders of the atomic steps of a race, and returns its outcomes: what the calls answer, and a shortest schedule
-/// that leads there, which [`blkq::replay()`] takes unchanged if it has at most 1,048,576 bytes. The program
-/// `gate_races --outcomes` writes the same. The questions of a race are read, and not answered.
+/// Goes through all orders of the atomic steps of a race, and returns its outcomes.
 ///
-/// It keeps the states that it has seen until all are, so a race of many calls takes much memory. Passes that make equal calls may change
-/// places in any state, so it keeps one of those that differ in this alone. At most 1,048,576 bytes are a race.
+/// An outcome is what the calls return, and a shortest schedule that leads there. [`blkq::replay()`] accepts the schedule unchanged if it has
+/// at most 1,048,576 bytes, which is also the maximum size of a race. The program `gate_races --outcomes` writes the same. The questions of a
+/// race are read but not answered.
+///
+/// The search keeps all states that it has seen, so a race of many calls takes much memory. Passes that make equal calls may change
+/// places in any state; of the states that differ only by that, one is kept.
 ///
 /// # Errors
 ///
-/// [`RaceError`] has each. A race with more states than there is memory for is refused for memory.
+/// Returns [`RaceError`]. If a race has more states than there is memory for, the error is that of refused memory.
 ///
 /// # Examples
 ///
 /// ```
-/// // A request on a device that is removed meanwhile: exactly one of both is the last, in each outcome.
+/// // A request on a device that is removed meanwhile: in each outcome, exactly one of the two is last.
 /// let race = b"races 1\nworld 1 1 atomic 0\n0 live 0 / put 0 1\nc kill\n";
 /// let outcomes = String::from_utf8(gate_races::outcomes(race)?).unwrap();
 /// let answers: Vec<&str> = outcomes.split("outcome ").skip(1).collect();

@@ -1,4 +1,4 @@
-//! Each race of the repository's examples/races, with its answer from the file beside it.
+//! Compares each race of the repository's examples/races with its .answer file.
 use std::fs;
 use std::path::Path;
 

@@ -1,4 +1,4 @@
-//! Races of several gates from inside: their outcomes, against those that tests/races/searched.py finds.
+//! Compares the outcomes of races of several gates with those that tests/races/searched.py finds.
 
 use gate_races::erased::gates_world::{CallAt, CallsAt, GateStart, GatesRace};
 use gate_races::erased::percpu_core::Start;
@@ -27,7 +27,7 @@ fn found(race: &GatesRace) -> Outcomes<GatesRace> {
     outcomes(race, None, &mut NoWatch).unwrap()
 }
 
-/// How many outcomes there are, and how many steps lead to all of them, each by its shortest schedule.
+/// Returns the number of outcomes, and the sum of the steps of their shortest schedules.
 fn sizes(found: &Outcomes<GatesRace>) -> (usize, usize) {
     let all = found.as_slice();
     (all.len(), all.iter().map(|outcome| outcome.schedule().len()).sum())
@@ -60,7 +60,7 @@ fn a_freeze_of_two_gates() {
     }
 }
 
-/// Each waits for what the other does later: the pass for the kill of the second gate, the control for a flag that the pass sets then.
+/// A deadlock: the pass waits for the kill of the second gate, and the control for a flag that the pass sets afterwards.
 #[test]
 fn calls_that_wait_crosswise() {
     let pass = vec![at(0, PassCall::Awaits(Awaited::Flagged(A))), at(1, TRY), at(0, PassCall::Sets(B))];

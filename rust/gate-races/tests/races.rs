@@ -1,4 +1,4 @@
-//! Races from inside: the calls that a text gives, and long lists of answers.
+//! Tests the calls that a text gives, and long lists of answers.
 
 use gate_races::erased::gates_world::CallAt;
 use gate_races::erased::line_text::ScriptFault;
@@ -55,7 +55,7 @@ fn calls_of_every_kind() {
     assert!(race.control() == control);
 }
 
-/// Each call of a race of several gates has its gate, counted from 0.
+/// Each call of a race of several gates has its gate, numbered from 0.
 #[test]
 fn calls_at_several_gates() {
     let text = "races 1\nworld 1 1 atomic 0\nworld 2 1 dead 3\nc @2 kill / kill\n0 zero / @2 zero\n0 @1 front\nask never @2 zero\n";
@@ -72,7 +72,7 @@ fn calls_at_several_gates() {
 
 const CALLS: &str = "0 try 1\nc kill\nask never zero\n";
 
-/// Whether this is the race of CALLS at a counter of 2 slots and with 2 passes, which starts dead behind 3 kills.
+/// Whether this is the race of CALLS on a counter with 2 slots and 2 passes, which starts dead after 3 kills.
 fn has_its_calls(race: &Race) -> bool {
     let [first, second] = race.passes() else { panic!("two passes") };
     (race.slots(), race.start(), race.kills()) == (2, Start::Dead, 3)
@@ -90,7 +90,7 @@ fn linux_in_place_of_guarded_words() {
     assert!(race.race().words().is_empty() && has_its_calls(race.race()));
 }
 
-/// The plan of a text is the same on either gate, but for the guarded words. It is of one gate.
+/// The plan of a text is the same on either gate, except for the guarded words. It has one gate.
 #[test]
 fn plans_of_either_gate() {
     for (behind, words) in [("", &[][..]), (" linux", &[]), (" 7 8", &[7, 8])] {
@@ -103,7 +103,7 @@ fn plans_of_either_gate() {
     }
 }
 
-// A list is as deep as it is long: a call for each of its answers would end the program, since a thread's stack has some megabytes.
+// A list is as deep as it is long. Recursion over its answers would overflow a thread's stack of some megabytes.
 const MANY: u64 = 1_000_000;
 
 /// The numbers from 0 on.
@@ -127,7 +127,7 @@ fn long_lists_are_compared() {
     assert!(!answers.is_same(&numbers(MANY - 1)));
 }
 
-/// Both go on from the answers that they share, which outlive the list that is dropped first.
+/// Two lists share their first answers, which outlive the list that is dropped first.
 #[test]
 fn a_copy_goes_its_own_way() {
     let answers = numbers(MANY);
@@ -139,8 +139,8 @@ fn a_copy_goes_its_own_way() {
     assert_eq!((read.len(), read.first(), read.last()), (1_000_001, Some(&Answer::Number(0)), Some(&Answer::Yes)));
 }
 
-/// An answer that feeds a hasher the same again: without their lengths the numbers of its lists would be equal, and a search would
-/// compare every two.
+/// An answer that feeds the hasher the same bytes again. Without their lengths its lists would have equal hashes, and a search would
+/// compare every pair.
 #[test]
 fn repeated_answers_have_other_numbers() {
     let mut answers = Answers::new();
@@ -151,7 +151,7 @@ fn repeated_answers_have_other_numbers() {
     }
 }
 
-/// One list that very many share.
+/// One list that very many lists share.
 #[test]
 fn many_lists_share_one() {
     let answers = numbers(1_000);

@@ -1,4 +1,4 @@
-//! Why a race is refused, by its line and its reason (docs/races/FORMATS.md).
+//! Tests the line and the reason of refused races (docs/races/FORMATS.md).
 use gate_races::{LineError, RaceError, Reason, outcomes};
 
 fn refused(race: &[u8]) -> Option<LineError> {
@@ -15,7 +15,7 @@ fn what_is_no_race() {
     assert_eq!(RaceError::Memory.to_string(), "memory");
 }
 
-/// The longest text that there is, and one with a byte more.
+/// The longest possible text, and a text with one byte more.
 #[test]
 fn the_longest_text() {
     let mut text = b"races 1\nworld 1 1 slots 0\n#".to_vec();

@@ -1,5 +1,5 @@
-//! Want of memory: each allocation of a race's search is refused in turn, and each growth of a map.
-//! (This program's allocator is its own, which refuses and counts, so it has `unsafe`.)
+//! Refuses each allocation of a race's search in turn, and each growth of a map.
+//! (This program has its own allocator, which refuses and counts, so it has `unsafe`.)
 #![allow(unsafe_code)]
 
 use gate_races::erased::counted_io::Counted;
@@ -13,7 +13,7 @@ use std::path::{Path, PathBuf};
 mod refused_thread;
 use refused_thread::{ALLOWED, BLOCKS, IS_ONE};
 
-/// An input that comes whole, and counts how often it is read.
+/// An input that is read whole, and counts its reads.
 struct Feed<'a> {
     rest: &'a [u8],
     reads: u32,
@@ -26,7 +26,7 @@ impl Read for Feed<'_> {
     }
 }
 
-/// Searches a race with one allocation refused, if so many succeed before it. Whether that was asked for.
+/// Searches a race with one allocation refused, after this many succeed. Returns whether that allocation was made.
 fn one_run(race: &[u8], answer: &[u8], allowed: u64) -> bool {
     let mut room = vec![0; answer.len() + 1];
     let mut feed = Feed { rest: race, reads: 0 };
@@ -46,7 +46,7 @@ fn one_run(race: &[u8], answer: &[u8], allowed: u64) -> bool {
     is_refused
 }
 
-/// The search either needs no such memory, or returns that it was refused, and writes nothing. It frees its blocks.
+/// The search either doesn't make that allocation, or returns that it was refused and writes nothing. It frees its blocks.
 #[test]
 fn each_allocation_of_a_search() {
     let here = Path::new(env!("CARGO_MANIFEST_DIR"));

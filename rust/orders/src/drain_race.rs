@@ -1,7 +1,7 @@
 //! Races of threads that wait for the drain of a queue.
 
 use crate::actor::{at_once, join};
-use crate::erased::freeze_queue::{BlockQueue, Enter, Freezer, Mode, SharedFreezer, Tag};
+use crate::erased::freeze_queue::{BlockQueue, Enter, Freezer, Mode, NewQueue, SharedFreezer, Tag};
 use crate::orders::Race;
 use crate::wait_race::{queue_of, share};
 
@@ -16,15 +16,15 @@ pub enum Finish {
     Refreeze,
 }
 
-/// A queue that is frozen with a tag in. Threads wait for the drain by the shared freezer, threads freeze once more by it and
+/// A frozen queue with an entered tag. Threads wait for the drain with the shared freezer, other threads freeze once more with it and
 /// wait too, and another thread ends the wait.
 #[derive(Clone, Copy, Debug)]
 pub struct DrainRace {
-    /// How often the queue is frozen before.
+    /// The number of earlier freezes.
     pub depth: u32,
-    /// How many threads wait.
+    /// The number of threads that wait.
     pub waiting: usize,
-    /// How many threads freeze and wait.
+    /// The number of threads that freeze and wait.
     pub freezing: usize,
     /// How the wait ends.
     pub finish: Finish,
@@ -39,9 +39,9 @@ pub enum Drained {
     Finished,
     /// At the end.
     Left {
-        /// The freezes that aren't thawed.
+        /// The number of freezes that aren't thawed.
         depth: u32,
-        /// How often the gate was killed.
+        /// The number of kills.
         kills: u64,
         /// Whether a live queue counts on slots.
         on_slots: bool,
@@ -50,7 +50,7 @@ pub enum Drained {
     },
 }
 
-/// A queue in which its one tag is, frozen so often.
+/// Makes a queue with its one tag entered, frozen this often.
 fn frozen_with_a_tag_in(depth: u32) -> (BlockQueue, Freezer, Tag) {
     let (queue, mut freezer, mut tags) = queue_of(1);
     let mut tag = tags.swap_remove(0);
@@ -108,10 +108,55 @@ impl Race for DrainRace {
     }
 }
 
-/// A tag that looks in, beside a thread that freezes by the shared freezer, waits for the drain and thaws.
+/// Tags that leave, or are refused, beside the thread that has the freezer alone: it freezes, waits for the drain and thaws.
+#[derive(Clone, Copy, Debug)]
+pub struct AloneRace {
+    /// How many tags are in, and leave.
+    pub leaving: usize,
+    /// How many tags try to enter, and leave if they are let in.
+    pub entering: usize,
+    /// How often the thread freezes.
+    pub freezes: usize,
+}
+
+impl AloneRace {
+    /// The queue with the tags in that will leave.
+    fn parts(&self) -> NewQueue {
+        let (queue, freezer, mut tags) = queue_of(self.leaving + self.entering);
+        for tag in &mut tags[..self.leaving] {
+            assert_eq!(queue.try_enter(tag, 0), Enter::Entered);
+        }
+        (queue, freezer, tags)
+    }
+}
+
+impl Race for AloneRace {
+    /// How often the queue was drained, or whether the tag was let in.
+    type Answer = usize;
+
+    fn actors(&self) -> usize {
+        self.leaving + self.entering + 1
+    }
+
+    fn act(&self, actor: usize) -> usize {
+        let (queue, mut freezer, mut tags) = at_once(|| self.parts());
+        let Some(tag) = tags.get_mut(actor) else {
+            let drains =
+                || freezer.freeze(&queue).is_ok() && freezer.poll_drained(&queue) && freezer.thaw(&queue).is_ok();
+            return std::iter::repeat_with(drains).take(self.freezes).filter(|is_drained| *is_drained).count();
+        };
+        let is_in = tag.entered() || queue.try_enter(tag, 0) == Enter::Entered;
+        if is_in {
+            leaves(&queue, tag);
+        }
+        usize::from(is_in)
+    }
+}
+
+/// A tag that enters a frozen queue, beside a thread that freezes with the shared freezer, waits for the drain and thaws.
 #[derive(Clone, Copy, Debug)]
 pub struct LookRace {
-    /// How often the thread freezes.
+    /// The number of freezes by the thread.
     pub freezes: usize,
 }
 
@@ -121,7 +166,7 @@ fn freezes_and_thaws(shared: &SharedFreezer<'_>) {
 }
 
 impl Race for LookRace {
-    /// Whether the tag was let in.
+    /// Whether the tag entered.
     type Answer = bool;
 
     fn actors(&self) -> usize {

@@ -1,9 +1,10 @@
-//! The erased gate and queue, over stand-ins that hand each step to the scheduler. Nothing here is checked for a caller. The files of
-//! `gate`, `queue` and `waits` are those of the crates beside this one.
+//! The erased gate and queue, over stand-ins that hand each step to the scheduler. Nothing here checks its callers. The files of
+//! `gate`, `queue` and `waits` are those of the neighbouring crates.
 #![allow(dead_code, missing_docs, missing_debug_implementations, clippy::all, clippy::pedantic, rustdoc::all)]
 
 pub mod atomic_table;
 pub mod crossbeam_utils;
+pub mod pointers;
 pub mod sync;
 
 #[path = "../../percpu-gate/src/erased"]

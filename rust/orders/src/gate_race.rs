@@ -7,7 +7,7 @@ use crate::erased::percpu_gate::{
 use crate::orders::Race;
 use std::fmt::{self, Display};
 
-/// How many guarded words the gate has, of which a race may name fewer.
+/// The number of guarded words of the gate. A race may name fewer.
 const WORDS: usize = 8;
 
 /// The words of a gate's table.
@@ -20,14 +20,14 @@ const WORDS_OF_A_SLOT: usize = 16;
 /// A call of an actor: its name, and its numbers.
 #[derive(Clone, Debug)]
 pub struct Call {
-    /// As the text of a race has it.
+    /// The name in the text of a race.
     pub name: String,
     /// The slot, the count, the word or its value.
     pub numbers: Vec<u64>,
 }
 
 impl Call {
-    /// A call by name.
+    /// Makes a call from its name and numbers.
     #[must_use]
     pub fn of(name: &str, numbers: &[u64]) -> Call {
         Call { name: name.to_owned(), numbers: numbers.to_vec() }
@@ -51,9 +51,9 @@ impl Display for Call {
 pub struct GateRace {
     /// `slots`, `atomic` or `dead`.
     pub start: String,
-    /// How many slots the gate has.
+    /// The number of slots.
     pub slots: u32,
-    /// The kills behind the gate.
+    /// The number of earlier kills.
     pub kills: u64,
     /// Its guarded words.
     pub words: Vec<u64>,
@@ -64,11 +64,11 @@ pub struct GateRace {
 }
 
 impl GateRace {
-    /// The race of a text that is right.
+    /// Parses a race.
     ///
     /// # Panics
     ///
-    /// If it isn't.
+    /// If the text isn't a race.
     #[must_use]
     pub fn parse(text: &str) -> GateRace {
         let mut lines = text.lines().map(str::trim).filter(|line| !line.is_empty() && !line.starts_with('#')).skip(1);
@@ -95,7 +95,7 @@ impl GateRace {
         }
     }
 
-    /// The gate at the start. The kills behind it are made: each is over at once, as nothing is held.
+    /// Makes the gate at the start, with its earlier kills. Each is over at once, since nothing is held.
     fn make(&self) -> NewGate<WORDS> {
         let mut words = [0; WORDS];
         words[..self.words.len()].copy_from_slice(&self.words);
@@ -114,7 +114,7 @@ impl GateRace {
         (gate, control, passes)
     }
 
-    /// The steps of the actor that looks at the words once the others have ended.
+    /// The steps of the actor that reads the words once the others have ended.
     #[must_use]
     pub fn last_steps(&self) -> usize {
         3 + self.slots as usize + self.words.len()
@@ -137,8 +137,8 @@ impl Display for GateRace {
     }
 }
 
-/// A pass answers the results of its calls, and the references that it holds at the end; the control answers its results, and
-/// its kills. One more actor waits for all of them, and answers the shared word, the front, the slots and the guarded words.
+/// The answer of a pass is the results of its calls and the references that it holds at the end; that of the control is its results and
+/// its kills. One more actor waits for all of them; its answer is the shared word, the front, the slots and the guarded words.
 impl Race for GateRace {
     type Answer = (Vec<String>, Vec<u64>);
 
@@ -166,7 +166,7 @@ impl Race for GateRace {
     }
 }
 
-/// A number that is in range.
+/// Parses a number in its range.
 fn small(number: u64) -> u32 {
     u32::try_from(number).expect("a number in range")
 }
@@ -188,7 +188,7 @@ fn is_so(is_so: bool) -> String {
     if is_so { "yes" } else { "no" }.to_owned()
 }
 
-/// Makes a call if it can be made here.
+/// Makes a call if its condition is met.
 fn pass_call(race: &GateRace, gate: &Gate<WORDS>, pass: &mut Pass<WORDS>, call: &Call) -> String {
     let held = u64::from(pass.held());
     let most = u64::from(HELD_LIMIT);

@@ -1,6 +1,7 @@
 //! The shared freezer's lock guards a freezer, which can't be copied. It is written down, and made again by its own calls.
 
 use crate::actor::apart;
+use crate::erased::crossbeam_utils::sync::Parker;
 use crate::erased::freeze_queue::{BlockQueue, Freezer, Pair};
 use crate::erased::percpu_words::Mode;
 use crate::erased::queue_core;
@@ -31,7 +32,9 @@ impl<'q> Guarded for Pair<'q> {
     }
 
     fn restore(saved: Saved, queue: &'q BlockQueue) -> Pair<'q> {
-        Pair { freezer: Freezer { core: apart(|| freezer_of(&saved)) }, queue }
+        // A shared freezer never parks, so any parker does.
+        let parker = apart(Parker::try_new).expect("memory");
+        Pair { freezer: Freezer { core: apart(|| freezer_of(&saved)), parker }, queue }
     }
 }
 
@@ -61,8 +64,8 @@ fn freezer_of(saved: &Saved) -> queue_core::Freezer {
 
 #[cfg(test)]
 mod tests {
-    use super::{Guarded, Pair, freezer_of};
-    use crate::erased::freeze_queue::{BlockQueue, Freezer};
+    use super::{Guarded, Pair};
+    use crate::erased::freeze_queue::BlockQueue;
     use crate::erased::percpu_words::Mode;
     use crate::erased::queue_limits::Limits;
 
@@ -81,8 +84,7 @@ mod tests {
                 _ => pair.freezer.mode(&queue, if call % 3 == 0 { Mode::Atomic } else { Mode::Slots }),
             }
             let (saved, _) = pair.save();
-            let again = Pair { freezer: Freezer { core: freezer_of(&saved) }, queue: &queue };
-            let (twice, _) = again.save();
+            let (twice, _) = Pair::restore(saved.clone(), &queue).save();
             assert_eq!(twice, saved, "after call {call}");
             pair = Pair::restore(saved, &queue);
         }

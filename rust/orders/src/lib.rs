@@ -13,7 +13,7 @@
 //! ended, is a deadlock or a lost wake: [`Fault::Stuck`] has a schedule that leads to it.
 //!
 //! If a race has too many orders, [`Orders::switches`] bounds the context switches beyond those that a wait needs. The races of `gate`, and
-//! most of `queue`, have no bound. Two of `queue` have 4 and 6, those of `waits` 2 to 4, of `whole` 2 to 8, and of `whole_gate` 2, 3 and 9.
+//! most of `queue`, have no bound. Two of `queue` have 4 and 6, those of `waits` 2 to 4, of `whole` 2 to 8, of `biased` 2 to 4, and of `whole_gate` 2, 3 and 9.
 //!
 //! The races are in `tests/`:
 //!
@@ -21,20 +21,21 @@
 //!   machine and not by the code.
 //! - `queue`: tags enter, read the limits twice, stay, leave and look in, beside nested freezes, new limits, thaws and the
 //!   removal. The limits hold still under a tag, each drain has one last release, and each call is answered as its contract says.
-//! - `waits`: tags that wait to enter, and tags that stay, beside threads that freeze by one shared freezer; and several
-//!   threads that wait for one drain. No wake is lost, and a wait changes nothing.
+//! - `waits`: tags that wait to enter, and tags that stay, beside threads that freeze by one shared freezer; several threads
+//!   that wait for one drain; and a thread that has the freezer alone. No wake is lost, and a wait changes nothing.
 //!
 //! The public crates have wakers, futures and any values behind their locks, which can't be written down: [`turns`] goes through the orders
 //! of these, by threads that take turns.
 //!
 //! - `whole`: freeze-queue's own files. Threads and tasks enter beside freezes, wait in line for a tag, and wait for the drain; a device goes
 //!   away, deadlines pass at any moment, futures are dropped, a waker panics. Each wait ends. A guarded value is never lent twice.
+//! - `biased`: the queue of biased tags, with store buffers. Owners enter by their lanes and by the gate, beside freezes that take their biases away.
 //! - `whole_gate`: percpu-gate's own files. References lend a guarded value beside kills, changes, revivals and the removal.
 //!
 //! `tests/planted/run orders` plants mistakes in a copy, each of which they find.
 //!
-//! Two things aren't tried: a memory order weaker than sequentially consistent, which no step asks for, and a thread that wakes
-//! with no call. A waiter tries once before it announces its wait, and not eleven times.
+//! Two things aren't tried: loads out of order, and a thread that wakes with no call. Relaxed and release stores are seen late by [`turns`] alone;
+//! the other races have none. A waiter tries once before it announces its wait, and not eleven times.
 #![forbid(unsafe_code)]
 
 extern crate alloc;
@@ -54,7 +55,7 @@ pub mod turns;
 mod wait_race;
 
 pub use actor::{at_once, join};
-pub use drain_race::{DrainRace, Drained, Finish, LookRace};
+pub use drain_race::{AloneRace, DrainRace, Drained, Finish, LookRace};
 pub use gate_race::{Call, GateRace};
 pub use orders::{Ending, Fault, Found, Orders, Race};
 pub use queue_race::{FIRST_MOST, Freezing, QueueAnswer, QueueRace, Visit};

@@ -15,28 +15,28 @@ pub(crate) enum Op {
     Or(u64),
     /// Stores the second if the word is the first.
     Exchange(u64, u64),
-    /// Takes a lock, once it is free: the word has 0 while it is taken, else 1 more than the number of what it guards.
+    /// Takes a lock once it is free. The word is 0 while the lock is taken, otherwise 1 more than the number of the guarded value.
     Lock,
-    /// Lets a condition's lock go, with what it guards, and sleeps. A bit of the condition's word is set for each sleeper.
+    /// Releases the lock of a condition, with the guarded value, and sleeps. The condition's word has a bit for each sleeper.
     Sleep {
         bit: u64,
         lock: Word,
         guarded: u64,
     },
-    /// Wakes, once it is notified, and takes the lock again, once that is free.
+    /// Wakes once it is notified, and takes the lock again once that is free.
     Wake {
         bit: u64,
         lock: Word,
     },
-    /// Wakes one sleeper, whichever it is.
+    /// Wakes any one sleeper.
     NotifyOne,
     /// Waits until every other actor has ended or waits for that too. (The word isn't looked at.)
     Join,
 }
 
 impl Op {
-    /// Changes the words by a step, and returns its result; none, and nothing is changed, where the actor has to wait. A
-    /// sleeper that is notified alone is the one that `chosen` has the bit of.
+    /// Changes the words by a step, and returns its result. If the actor has to wait, changes nothing and returns none. If one
+    /// sleeper is notified, it is the one whose bit is in `chosen`.
     pub(crate) fn apply(self, words: &mut [u64], word: Word, chosen: u64) -> Option<u64> {
         let at = word as usize;
         let found = words[at];

@@ -10,7 +10,7 @@ use crate::orders::Race;
 pub enum Freezing {
     /// Begins a freeze.
     Freeze,
-    /// Sets limits of so many sectors at most.
+    /// Sets limits with this maximum number of sectors.
     Set(u32),
     /// Ends a freeze.
     Thaw,
@@ -18,7 +18,7 @@ pub enum Freezing {
     Count(Mode),
 }
 
-/// A visit of a tag, if it is let in: it reads the limits twice, and leaves. One that stays asks for that between the two.
+/// A visit of a tag. If the tag enters, it reads the limits twice and leaves. A visit that stays asks to stay between the two reads.
 #[derive(Clone, Copy, Debug, PartialEq, Eq)]
 pub enum Visit {
     /// It enters unless the queue is frozen.
@@ -29,7 +29,7 @@ pub enum Visit {
     Stay,
 }
 
-/// Tags that visit a queue, each on a slot, and a freezer, which removes the queue once all tags are through.
+/// Tags that visit a queue, each on a slot, and a freezer, which removes the queue once all visits are over.
 #[derive(Clone, Debug)]
 pub struct QueueRace {
     /// The visits of each tag.
@@ -41,17 +41,17 @@ pub struct QueueRace {
 /// An answer.
 #[derive(Clone, Copy, Debug, PartialEq, Eq, PartialOrd, Ord)]
 pub enum QueueAnswer {
-    /// A visit: the largest request at both looks, and whether the tag was the last to leave.
+    /// A visit: the largest request at both reads, and whether the tag was the last to leave.
     Visited(u32, u32, bool),
-    /// A visit of a tag that didn't stay: the largest request at its one look, and whether it was the last to leave.
+    /// A visit of a tag that didn't stay: the largest request at its one read, and whether it was the last to leave.
     Left(u32, bool),
-    /// A tag wasn't let in; whether the count that it dropped was the last.
+    /// A tag was refused; whether the count that it dropped was the last.
     Refused(bool),
     /// The depth; whether the kill's own count was the last.
     Frozen(u32, bool),
     /// Limits were set.
     Set,
-    /// They weren't, since the queue isn't drained.
+    /// Limits weren't set, since the queue isn't drained.
     NotDrained,
     /// Another refusal.
     Fault(u8),

@@ -8,13 +8,13 @@ use crate::wait_race::{FIRST, Waited, ended, freezes, queue_of, share};
 /// Tags that enter once and stay, or leave for a freeze and enter again; and a thread that freezes, sets limits and thaws.
 #[derive(Clone, Copy, Debug)]
 pub struct StayRace {
-    /// How many tags stay.
+    /// The number of tags.
     pub tags: usize,
-    /// How often each asks to stay before it leaves.
+    /// How often each tag asks to stay before it leaves.
     pub turns: usize,
 }
 
-/// A visit for each stay: the largest request at its first look and at its last one.
+/// A visit for each stay: the largest request at its first and at its last read.
 fn stays(race: &StayRace, queue: &BlockQueue, mut tag: Tag) -> Waited {
     queue.enter(&mut tag, 0);
     let mut first = queue.limits(&mut tag).max();

@@ -8,18 +8,28 @@
 //! [`Turns::switches`] bounds the switches away from a thread that could go on; a switch that a wait needs is free. A notification of one
 //! sleeper is a choice of the sleeper, and a wait with a deadline may end at each moment.
 //!
-//! Not tried: a memory order weaker than sequentially consistent, a sleeper that wakes with no call, and refused memory.
+//! A relaxed or release store is seen by other threads at any later moment, in any order across words; a release store after the stores before
+//! it. A step that stores otherwise, a lock and [`heavy_fence`] have them seen: `turns/buffers.rs` has the rules.
+//!
+//! Not tried: a load that is made before an earlier one or before an earlier store of its own thread, a sleeper that wakes with no call,
+//! and refused memory.
 
 mod atomic;
 mod board;
+mod buffers;
+mod meetings;
+mod noted;
+mod state;
 mod sync;
 mod thread;
 
 pub use atomic::{AtomicBool, AtomicU32, AtomicU64, AtomicUsize};
+pub use noted::Noted;
 pub use sync::{Condvar, Mutex, MutexGuard, WaitTimeoutResult};
-pub use thread::{Thread, block_on, current, hint, park, pause, waker};
+pub use thread::{Thread, block_on, current, heavy_fence, hint, park, pause, waker};
 
-use board::{Board, End};
+use board::Board;
+use state::End;
 use std::fmt::Debug;
 use std::panic::{AssertUnwindSafe, catch_unwind};
 use std::sync::{Arc, Mutex as StdMutex, PoisonError};
@@ -46,6 +56,7 @@ pub trait Play: Send + Sync + 'static {
 #[derive(Clone, Copy, Debug)]
 pub struct Turns {
     switches: usize,
+    skips_equal: bool,
 }
 
 /// What was gone through.
@@ -105,7 +116,14 @@ impl Turns {
     /// Orders with so many switches at most away from an actor that could go on.
     #[must_use]
     pub fn switches(most: usize) -> Turns {
-        Turns { switches: most }
+        Turns { switches: most, skips_equal: false }
+    }
+
+    /// Skips orders that differ in nothing from one that is gone through. All that the actors share has to be of this module then: what is there for
+    /// the check alone is [`Noted`].
+    #[must_use]
+    pub fn skip_equal(self) -> Turns {
+        Turns { skips_equal: true, ..self }
     }
 
     /// Goes through them. At a fault the threads of that order are left where they are.
@@ -119,7 +137,7 @@ impl Turns {
     /// If the play isn't the same in each run of one order.
     pub fn play<P: Play>(self, play: P) -> Result<Played, Failed> {
         let actors = play.actors();
-        let board = Arc::new(Board::new(actors, self.switches));
+        let board = Arc::new(Board::new(actors, self.switches, self.skips_equal));
         let stage = Arc::new(Stage { play, board, parts: StdMutex::new(None) });
         let start = |actor| {
             let stage = Arc::clone(&stage);

@@ -5,12 +5,12 @@ use crate::erased::freeze_queue::{BlockQueue, FreezeFault, Freezer, Limits, NewQ
 use crate::erased::wait_queue::WaitQueue;
 use crate::orders::Race;
 
-/// Tags that enter, and wait for that; and threads that freeze by one shared freezer, wait for the drain, set limits and thaw.
+/// Tags that wait to enter; and threads that freeze with one shared freezer, wait for the drain, set limits and thaw.
 #[derive(Clone, Copy, Debug)]
 pub struct WaitRace {
-    /// How many tags enter.
+    /// The number of tags that enter.
     pub tags: usize,
-    /// How many threads freeze.
+    /// The number of threads that freeze.
     pub freezers: usize,
     /// How often each tag enters.
     pub rounds: usize,
@@ -21,7 +21,7 @@ pub struct WaitRace {
 /// An answer.
 #[derive(Clone, Debug, PartialEq, Eq, PartialOrd, Ord)]
 pub enum Waited {
-    /// The largest request at both looks of each visit, and the releases of the tag.
+    /// The largest request at both reads of each visit, and the releases of the tag.
     Entered(Vec<(u32, u32)>, u64),
     /// The depths that were seen, and whether others thawed the queue before its drain was seen.
     Froze(Vec<u32>, bool),
@@ -29,10 +29,10 @@ pub enum Waited {
     End(u32, u64, u64),
 }
 
-/// The largest request at the start. Freezers set one less, two less and so on.
+/// The largest request at the start. Freezers set this minus one, minus two and so on.
 pub const FIRST: u32 = 8;
 
-/// Has a thread wait and another wake it, for each lock to be named.
+/// Lets one thread wait and another wake it, so that each lock gets its name.
 fn use_once(waits: &WaitQueue) {
     let mut tries = waits.announced_tries();
     tries.next();
@@ -44,6 +44,8 @@ pub(crate) fn queue_of(tags: usize) -> NewQueue {
     let made = BlockQueue::new(Limits::start(FIRST).expect("limits"), 1, tags).expect("memory");
     use_once(&made.0.drained);
     use_once(&made.0.thawed);
+    made.0.freezer.unpark();
+    made.1.parker.park();
     made
 }
 
@@ -70,7 +72,7 @@ fn enters(race: &WaitRace, queue: &BlockQueue, shared: &SharedFreezer<'_>, mut t
     Waited::Entered(seen, tag.into_pass().into_parts().1)
 }
 
-/// Freezes, sets the limits and thaws; a thaw that comes from another meanwhile is no fault.
+/// Freezes, sets the limits and thaws. A thaw by another thread meanwhile isn't a fault.
 pub(crate) fn freezes(shared: &SharedFreezer<'_>, most: u32) -> Waited {
     let mut guard = match shared.freeze() {
         Ok(guard) => guard,
@@ -84,7 +86,7 @@ pub(crate) fn freezes(shared: &SharedFreezer<'_>, most: u32) -> Waited {
     Waited::Froze(vec![before, after], false)
 }
 
-/// Depth, kills and releases of a freezer, once all others are through.
+/// Returns depth, kills and releases of a freezer, once all other actors have ended.
 pub(crate) fn ended(shared: SharedFreezer<'_>) -> Waited {
     join();
     let freezer = shared.into_inner().freezer;

@@ -4,7 +4,8 @@
 use orders::erased::atomic_table::Table;
 use orders::erased::wait_queue::WaitQueue;
 use orders::{
-    DrainRace, Drained, FIRST, Fault, Finish, Found, LookRace, Orders, Race, StayRace, WaitRace, Waited, at_once,
+    AloneRace, DrainRace, Drained, FIRST, Fault, Finish, Found, LookRace, Orders, Race, StayRace, WaitRace, Waited,
+    at_once,
 };
 
 /// Goes through the orders of a race, in which no thread may wait for ever.
@@ -158,6 +159,21 @@ fn a_thaw_ends_both_waits_for_the_drain() {
 fn a_freeze_of_an_empty_queue_ends_both_waits_for_the_drain() {
     let outcomes = both_drained(1, Finish::Refreeze);
     assert!(outcomes.iter().flatten().all(|it| matches!(it, Drained::Waited(Ok(1) | Err(2)))), "{outcomes:?}");
+}
+
+/// The freezer alone parks until the last drop of each drain wakes it, by a leave or by a refused try.
+#[test]
+fn the_freezer_parks_until_each_drain() {
+    for (leaving, entering, freezes, switches) in [(1, 0, 2, 4), (2, 0, 1, 3), (1, 1, 2, 3), (0, 2, 2, 3)] {
+        let found = found(&mut Orders::of(&AloneRace { leaving, entering, freezes }).switches(switches));
+        println!(
+            "orders of {leaving} that leave and {entering} that enter beside the one freezer, {switches} switches: {} states, {} interleavings",
+            found.states, found.interleavings
+        );
+        for answers in found.outcomes.keys() {
+            assert_eq!(answers.last(), Some(&freezes), "{answers:?}");
+        }
+    }
 }
 
 /// A look in that found the queue drained may drop the last count of a later freeze.

@@ -19,7 +19,14 @@ pub mod gate {
     pub mod percpu_words;
 }
 
+/// What both libraries answer, from the package c-memory: it stands on the gate's `Put`, which each library compiles for itself.
+#[path = "../../c-memory/src/erased"]
+pub mod answers {
+    pub mod c_answers;
+}
+
 pub use ::percpu_gate::erased::fallible;
+pub use answers::c_answers;
 pub use c_memory as pointers;
 pub use c_memory::erased::atomic_table;
 pub use c_memory::erased::loose_box;

@@ -1,11 +1,11 @@
-//! A device that is removed while two threads submit requests to it: the thread that drops the last reference powers it off.
+//! Removes a device while two threads submit requests to it. The thread that drops the last reference powers it off.
 use percpu_gate::{Gate, Pass, Start, Word};
 use std::error::Error;
 use std::sync::atomic::{AtomicBool, AtomicU32, AtomicU64, Ordering};
 use std::sync::{Arc, mpsc};
 use std::thread;
 
-/// A setting of the gate, which holds still while a request is under way.
+/// A setting of the gate, which doesn't change while a request is in flight.
 const BYTES: Word = Word::new(0).unwrap();
 
 #[derive(Default)]
@@ -27,7 +27,7 @@ impl Device {
     }
 }
 
-/// Submits requests until the device is going, and says when a thousand were served.
+/// Submits requests until the device is being removed, and reports when a thousand were served.
 fn submit(device: &Device, pass: &Pass, thousand: &mpsc::Sender<()>) -> u64 {
     let mut served = 0;
     while let Ok(request) = pass.try_get_live() {
@@ -44,8 +44,8 @@ fn main() -> Result<(), Box<dyn Error>> {
     let device = Arc::new(Device::default());
     let to_power_off = Arc::clone(&device);
     let on_last = Arc::new(move || to_power_off.power_off());
-    let mut control = Gate::new(2, 2, Start::Slots, [512, 0, 0, 0, 0, 0, 0, 0], on_last)?;
-    let passes = [control.next_pass(0)?, control.next_pass(1)?]; // each on a slot of its own
+    let mut gate = Gate::new(2, 2, Start::Slots, [512, 0, 0, 0, 0, 0, 0, 0], on_last)?;
+    let passes = [gate.next_pass(0)?, gate.next_pass(1)?]; // each on a slot of its own
     let (thousand, thousands) = mpsc::channel();
     let threads = passes.map(|pass| {
         let (device, thousand) = (Arc::clone(&device), thousand.clone());
@@ -53,17 +53,17 @@ fn main() -> Result<(), Box<dyn Error>> {
     });
     thousands.recv()?;
     thousands.recv()?;
-    control.kill()?; // from here on the device may be off
+    gate.kill()?; // from here on the device may be off
     let mut served = 0;
     for thread in threads {
         let (count, pass) = thread.join().expect("no request finds the device off");
         served += count;
-        control.retire(pass)?;
+        gate.retire(pass)?;
     }
     let bytes = device.bytes.load(Ordering::Relaxed);
     println!("each byte was sent: {}", bytes == 512 * served);
-    println!("at zero: {}, powered off {} time(s)", control.is_zero(), device.times_off.load(Ordering::Relaxed));
-    let last = control.exit()?;
+    println!("at zero: {}, powered off {} time(s)", gate.is_zero(), device.times_off.load(Ordering::Relaxed));
+    let last = gate.exit()?;
     println!("dead {}, kills {}, releases {}, word 0: {}", last.dead, last.kills, last.releases, last.words[0]);
     Ok(())
 }

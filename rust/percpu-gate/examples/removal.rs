@@ -1,5 +1,5 @@
-//! A device that is pulled out under load, again and again, and replaced, with no `unsafe`: requests see a device that is powered, and
-//! it is powered off when none of them is left. usage: removal [DEVICES]
+//! Pulls out a device under load and replaces it, again and again, without `unsafe`. Requests only see a device that is powered on; it
+//! is powered off when no request is left. usage: removal [DEVICES]
 
 use percpu_gate::guarded::{Gate, Pass};
 use percpu_gate::{OnLast, Start};
@@ -10,11 +10,11 @@ use std::sync::mpsc::{Receiver, channel};
 use std::sync::{Arc, Mutex};
 use std::thread;
 
-/// A device, which its requests share, and its removal has alone.
+/// A device. Requests share it; the removal has it alone.
 struct Device {
     serial: u64,
     is_powered: bool,
-    /// A request writes its own sector, by its thread.
+    /// One for each thread: a request writes the sector of its thread.
     sectors: Vec<AtomicU64>,
     served: AtomicU64,
 }
@@ -31,7 +31,7 @@ impl Device {
         self.served.fetch_add(1, Relaxed);
     }
 
-    /// How many requests it has served.
+    /// Returns the number of requests that the device has served.
     fn power_off(&mut self) -> u64 {
         self.is_powered = false;
         self.sectors.clear(); // a request that came now would be out of range
@@ -39,7 +39,7 @@ impl Device {
     }
 }
 
-/// Kills the gate, and waits until the last request is gone.
+/// Kills the gate and waits until the last request is gone.
 fn drain(gate: &mut Gate<Device>, released: &Receiver<()>) -> Result<(), Box<dyn Error>> {
     gate.kill()?;
     released.recv()?;
@@ -69,8 +69,9 @@ fn main() -> Result<(), Box<dyn Error>> {
         threads.push(thread::spawn(move || submit(&pass, thread, &is_over)));
     }
     let mut served = 0;
+    // Repeat until a thread has served a request.
     while served == 0 {
-        drain(&mut gate, &released)?; // until the threads run
+        drain(&mut gate, &released)?;
         served = *gate.get_mut()?.served.get_mut();
         gate.reinit()?;
     }
@@ -82,7 +83,7 @@ fn main() -> Result<(), Box<dyn Error>> {
         gate.reinit()?;
     }
     drain(&mut gate, &released)?;
-    let mut device = gate.remove()?; // though its passes are out
+    let mut device = gate.remove()?; // even though passes are out
     served += device.power_off();
     is_over.store(true, Relaxed);
     for thread in threads {

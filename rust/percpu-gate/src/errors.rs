@@ -1,8 +1,9 @@
-//! The refusals of calls. A refusal leaves everything as it was. A later version may refuse for one reason more.
+//! Errors of calls. A call that returns an error has changed nothing, except that a refused try may make the release. A later version may
+//! add a reason.
 use core::error::Error;
 use core::fmt;
 
-/// Writes out the texts of errors that have no data, and that each is an `Error`.
+/// Implements `Display` and `Error` for errors that have no data.
 macro_rules! texts {
     ($($error:ident { $($kind:ident => $text:literal,)+ })+) => {$(
         impl fmt::Display for $error {
@@ -15,7 +16,7 @@ macro_rules! texts {
     )+};
 }
 
-/// Why [`Gate::new`](crate::Gate::new) makes no gate.
+/// Why [`Gate::new`](crate::Gate::new) failed.
 ///
 /// ```
 /// use percpu_gate::{Gate, NewError, Start};
@@ -29,19 +30,19 @@ macro_rules! texts {
 pub enum NewError {
     /// A gate has 1 to 512 slots and 1 to 1,024 passes.
     Size,
-    /// There is no memory for it.
+    /// There is no memory for the gate.
     NoMemory,
 }
 
-/// Why [`Control::next_pass`](crate::Control::next_pass) gives no pass.
+/// Why [`Gate::next_pass`](crate::Gate::next_pass) returned no pass.
 ///
 /// ```
 /// # use percpu_gate::{Gate, NextPassError, Start};
 /// # use std::sync::Arc;
-/// let mut control = Gate::new(2, 1, Start::Slots, [0; 8], Arc::new(|| {}))?;
-/// assert_eq!(control.next_pass(2).unwrap_err(), NextPassError::NoSlot);
-/// let pass = control.next_pass(1)?;
-/// assert_eq!(control.next_pass(1).unwrap_err(), NextPassError::NoPass);
+/// let mut gate = Gate::new(2, 1, Start::Slots, [0; 8], Arc::new(|| {}))?;
+/// assert_eq!(gate.next_pass(2).unwrap_err(), NextPassError::NoSlot);
+/// let pass = gate.next_pass(1)?;
+/// assert_eq!(gate.next_pass(1).unwrap_err(), NextPassError::NoPass);
 /// # Ok::<(), Box<dyn std::error::Error>>(())
 /// ```
 #[derive(Clone, Copy, Debug, PartialEq, Eq, Hash)]
@@ -49,17 +50,17 @@ pub enum NewError {
 pub enum NextPassError {
     /// The gate has no such slot.
     NoSlot,
-    /// Every pass is out: the gate has as many as it was made with, and none of them is retired.
+    /// Every pass that the gate was made with is out.
     NoPass,
 }
 
-/// Why [`Pass::use_slot`](crate::Pass::use_slot) changes nothing.
+/// Why [`Pass::use_slot`](crate::Pass::use_slot) failed.
 ///
 /// ```
 /// # use percpu_gate::{Gate, SlotError, Start};
 /// # use std::sync::Arc;
-/// let mut control = Gate::new(2, 1, Start::Slots, [0; 8], Arc::new(|| {}))?;
-/// let pass = control.next_pass(0)?;
+/// let mut gate = Gate::new(2, 1, Start::Slots, [0; 8], Arc::new(|| {}))?;
+/// let pass = gate.next_pass(0)?;
 /// assert_eq!(pass.use_slot(2), Err(SlotError::NoSlot));
 /// # Ok::<(), Box<dyn std::error::Error>>(())
 /// ```
@@ -70,36 +71,36 @@ pub enum SlotError {
     NoSlot,
 }
 
-/// Why a try gives no reference.
+/// Why a try returned no reference.
 ///
 /// ```
 /// # use percpu_gate::{Gate, Start, TryGetError};
 /// # use std::sync::Arc;
-/// let mut control = Gate::new(1, 1, Start::Dead, [0; 8], Arc::new(|| {}))?;
-/// let pass = control.next_pass(0)?;
+/// let mut gate = Gate::new(1, 1, Start::Dead, [0; 8], Arc::new(|| {}))?;
+/// let pass = gate.next_pass(0)?;
 /// assert_eq!(pass.try_get().unwrap_err(), TryGetError::NotGiven);
 /// # Ok::<(), Box<dyn std::error::Error>>(())
 /// ```
 #[derive(Clone, Copy, Debug, PartialEq, Eq, Hash)]
 #[non_exhaustive]
 pub enum TryGetError {
-    /// The gate was killed, or, where any gate will do, it is at zero.
+    /// The gate was killed or, for a try that also accepts dead gates, it is at zero.
     NotGiven,
     /// The pass holds 65,535 references already.
     HeldFull,
 }
 
-/// Why a pass can't hold so many references more.
+/// Why a pass can't take more references.
 ///
 /// ```
 /// # use percpu_gate::{Gate, GetError, Start};
 /// # use std::sync::Arc;
-/// let mut control = Gate::new(1, 1, Start::Slots, [0; 8], Arc::new(|| {}))?;
-/// let pass = control.next_pass(0)?;
+/// let mut gate = Gate::new(1, 1, Start::Slots, [0; 8], Arc::new(|| {}))?;
+/// let pass = gate.next_pass(0)?;
 /// let first = pass.try_get()?;
-/// let others: Result<Vec<_>, _> = (1..Gate::MOST_HELD).map(|_| first.try_clone()).collect();
+/// let others: Result<Vec<_>, _> = (1..Gate::MAX_HELD).map(|_| first.try_clone()).collect();
 /// assert_eq!(others?.len(), 65_534);
-/// let most: Vec<_> = (1..Gate::MOST_HELD).map_while(|_| first.try_clone().ok()).collect();
+/// let most: Vec<_> = (1..Gate::MAX_HELD).map_while(|_| first.try_clone().ok()).collect();
 /// assert_eq!(first.try_clone().unwrap_err(), GetError::HeldFull);
 /// # Ok::<(), Box<dyn std::error::Error>>(())
 /// ```
@@ -110,7 +111,7 @@ pub enum GetError {
     HeldFull,
 }
 
-/// Why [`Control::retire`](crate::Control::retire) hands a pass back.
+/// Why [`Gate::retire`](crate::Gate::retire) handed the pass back.
 ///
 /// ```
 /// # use percpu_gate::{Gate, RetireError, Start};
@@ -126,64 +127,64 @@ pub enum GetError {
 #[derive(Clone, Copy, Debug, PartialEq, Eq, Hash)]
 #[non_exhaustive]
 pub enum RetireError {
-    /// The pass is of another gate.
+    /// The pass belongs to another gate.
     OtherGate,
-    /// The pass holds a reference that was forgotten (`mem::forget`), and is held for ever.
+    /// The pass holds a leaked reference (`mem::forget`).
     StillHeld,
 }
 
-/// Why [`Control::exit`](crate::Control::exit) hands the control back.
+/// Why [`Gate::exit`](crate::Gate::exit) handed the gate back.
 ///
 /// ```
 /// # use percpu_gate::{ExitError, Gate, Start};
 /// # use std::sync::Arc;
-/// let mut control = Gate::new(1, 1, Start::Slots, [0; 8], Arc::new(|| {}))?;
-/// let pass = control.next_pass(0)?;
-/// let refused = control.exit().unwrap_err();
+/// let mut gate = Gate::new(1, 1, Start::Slots, [0; 8], Arc::new(|| {}))?;
+/// let pass = gate.next_pass(0)?;
+/// let refused = gate.exit().unwrap_err();
 /// assert_eq!(refused.reason, ExitError::PassesOut);
-/// let mut control = refused.value;
-/// control.retire(pass)?;
-/// control.exit()?;
+/// let mut gate = refused.value;
+/// gate.retire(pass)?;
+/// gate.exit()?;
 /// # Ok::<(), Box<dyn std::error::Error>>(())
 /// ```
 #[derive(Clone, Copy, Debug, PartialEq, Eq, Hash)]
 #[non_exhaustive]
 pub enum ExitError {
-    /// A pass that was given isn't retired. One that was dropped never will be: then drop the control.
+    /// A pass isn't retired. A pass that was dropped never will be; in that case drop the gate.
     PassesOut,
 }
 
-/// Why a kill does nothing.
+/// Why a kill failed.
 ///
 /// ```
 /// # use percpu_gate::{Gate, KillError, Start};
 /// # use std::sync::Arc;
-/// let mut control = Gate::new(1, 1, Start::Dead, [0; 8], Arc::new(|| {}))?;
-/// assert_eq!(control.kill(), Err(KillError::AlreadyDead));
+/// let mut gate = Gate::new(1, 1, Start::Dead, [0; 8], Arc::new(|| {}))?;
+/// assert_eq!(gate.kill(), Err(KillError::AlreadyDead));
 /// # Ok::<(), Box<dyn std::error::Error>>(())
 /// ```
 #[derive(Clone, Copy, Debug, PartialEq, Eq, Hash)]
 #[non_exhaustive]
 pub enum KillError {
-    /// The gate was killed, or started dead, and wasn't revived since.
+    /// The gate is dead: it was killed or started dead, and hasn't been revived.
     AlreadyDead,
-    /// The gate was killed 2^40 times.
+    /// The gate has been killed 2^40 times.
     WornOut,
 }
 
-/// Why [`Control::reinit`](crate::Control::reinit) revives nothing.
+/// Why [`Gate::reinit`](crate::Gate::reinit) failed.
 ///
 /// ```
 /// # use percpu_gate::{Gate, ReinitError, Start};
 /// # use std::sync::Arc;
-/// let mut control = Gate::new(1, 1, Start::Slots, [0; 8], Arc::new(|| {}))?;
-/// let pass = control.next_pass(0)?;
-/// assert_eq!(control.reinit(), Err(ReinitError::NotDead));
+/// let mut gate = Gate::new(1, 1, Start::Slots, [0; 8], Arc::new(|| {}))?;
+/// let pass = gate.next_pass(0)?;
+/// assert_eq!(gate.reinit(), Err(ReinitError::NotDead));
 /// let reference = pass.try_get_live()?;
-/// control.kill()?;
-/// assert_eq!(control.reinit(), Err(ReinitError::NotZero));
+/// gate.kill()?;
+/// assert_eq!(gate.reinit(), Err(ReinitError::NotZero));
 /// drop(reference);
-/// control.reinit()?;
+/// gate.reinit()?;
 /// # Ok::<(), Box<dyn std::error::Error>>(())
 /// ```
 #[derive(Clone, Copy, Debug, PartialEq, Eq, Hash)]
@@ -195,13 +196,13 @@ pub enum ReinitError {
     NotZero,
 }
 
-/// Why [`Control::resurrect`](crate::Control::resurrect) revives nothing.
+/// Why [`Gate::resurrect`](crate::Gate::resurrect) failed.
 ///
 /// ```
 /// # use percpu_gate::{Gate, ResurrectError, Start};
 /// # use std::sync::Arc;
-/// let mut control = Gate::new(1, 1, Start::Slots, [0; 8], Arc::new(|| {}))?;
-/// assert_eq!(control.resurrect(), Err(ResurrectError::NotDead));
+/// let mut gate = Gate::new(1, 1, Start::Slots, [0; 8], Arc::new(|| {}))?;
+/// assert_eq!(gate.resurrect(), Err(ResurrectError::NotDead));
 /// # Ok::<(), Box<dyn std::error::Error>>(())
 /// ```
 #[derive(Clone, Copy, Debug, PartialEq, Eq, Hash)]
@@ -211,13 +212,13 @@ pub enum ResurrectError {
     NotDead,
 }
 
-/// Why [`Control::store_word`](crate::Control::store_word) stores nothing.
+/// Why [`Gate::store_word`](crate::Gate::store_word) failed.
 ///
 /// ```
 /// # use percpu_gate::{Gate, Start, StoreError, Word};
 /// # use std::sync::Arc;
-/// let mut control = Gate::new(1, 1, Start::Slots, [0; 8], Arc::new(|| {}))?;
-/// assert_eq!(control.store_word(Word::ALL[0], 1), Err(StoreError::NotDead));
+/// let mut gate = Gate::new(1, 1, Start::Slots, [0; 8], Arc::new(|| {}))?;
+/// assert_eq!(gate.store_word(Word::ALL[0], 1), Err(StoreError::NotDead));
 /// # Ok::<(), Box<dyn std::error::Error>>(())
 /// ```
 #[derive(Clone, Copy, Debug, PartialEq, Eq, Hash)]
@@ -230,7 +231,7 @@ pub enum StoreError {
 }
 
 texts! {
-    NewError { Size => "no gate has this size", NoMemory => "no memory", }
+    NewError { Size => "number of slots or passes out of range", NoMemory => "no memory", }
     NextPassError { NoSlot => "no such slot", NoPass => "every pass is out", }
     SlotError { NoSlot => "no such slot", }
     TryGetError {

@@ -1,5 +1,6 @@
-//! A gate that guards a value of Rust's own, as a device: [`Gate<T>`](Gate) lends `&T` under a reference, `&mut T` of a gate that is
-//! dead and at zero, and gives T back at the end.
+//! A gate that guards a Rust value, such as a device.
+//!
+//! [`Gate<T>`](Gate) lends `&T` under a reference and `&mut T` while the gate is dead and at zero, and returns T at the end.
 //!
 //! ```
 //! use percpu_gate::Start;
@@ -34,7 +35,7 @@
 //! # while !gate.is_zero() {
 //! #     thread::yield_now();
 //! # }
-//! let device: Device = gate.remove()?; // though threads have their passes still
+//! let device: Device = gate.remove()?; // although threads still have their passes
 //! assert_eq!(device.sectors, 2000);
 //! # for thread in threads {
 //! #     thread.join().unwrap();
@@ -42,19 +43,17 @@
 //! # Ok::<(), Box<dyn std::error::Error>>(())
 //! ```
 //!
-//! A reference costs what one of the plain gate does. No call waits, takes a lock or tries again. Unlike a `Mutex`, a gate isn't poisoned:
-//! a thread that panics leaves the value as it is. [`misuse`] shows the misuse that doesn't compile.
+//! A reference costs the same as with the plain gate. No call waits, takes a lock or retries. Unlike a `Mutex`, a gate isn't poisoned:
+//! a thread that panics leaves the value as it is.
 //!
-//! The value needs to be `Send` and `Sync` for its passes to move to other threads, as in an `RwLock` that threads share.
-use crate::{Control, HandedBack, Killed, NewError, NextPassError, OnLast, Phase, RetireError, Start};
+//! The passes can move to other threads only if the value is `Send` and `Sync`, as with a shared `RwLock`.
+use crate::{HandedBack, Killed, NewError, NextPassError, OnLast, Phase, RetireError, Start};
 use crate::{KillError, ReinitError, ResurrectError, Revived};
 use alloc::sync::Arc;
 use core::fmt;
 use value::Value;
 
 mod errors;
-#[cfg(any(doc, doctest))]
-pub mod misuse;
 mod pass;
 mod reference;
 mod value;
@@ -63,24 +62,24 @@ pub use errors::ChangeError;
 pub use pass::Pass;
 pub use reference::{OwnedReference, Reference};
 
-/// The control of a gate that guards a T: it gives out the passes, kills and revives, changes the value, and gives it back.
+/// A gate that guards a T. Its owner gives out passes, kills and revives the gate, changes the value, and gets it back at the end.
 ///
-/// It moves from thread to thread, but two never use it at once (it is `Send`, and not `Sync`). If it is dropped, the value is dropped with
-/// the last pass.
+/// A gate can move between threads, but two threads can't use it at the same time (it is `Send`, and not `Sync`). If it is dropped, the
+/// value is dropped with the last pass.
 pub struct Gate<T> {
-    control: Control,
-    /// The value of the gate of this control.
+    gate: crate::Gate,
+    /// The value of this gate.
     value: Arc<Value<T>>,
 }
 
 impl<T> Gate<T> {
-    /// Makes a gate around this value, of 1 to 512 slots and 1 to 1,024 passes. [`Gate::new`](crate::Gate::new) says when `on_last` is
+    /// Makes a gate around this value, with 1 to 512 slots and 1 to 1,024 passes. [`Gate::new`](crate::Gate::new) says when `on_last` is
     /// called.
     ///
     /// # Errors
     ///
-    /// [`NewError::Size`] or [`NewError::NoMemory`]. They hand the value back. (Two blocks, each an [`Arc`], can't be refused in
-    /// stable Rust: one that the control and its passes share, and one for the value.)
+    /// Returns [`NewError::Size`] or [`NewError::NoMemory`], with the value. The gate and its passes share one [`Arc`], and the value is in
+    /// another. Stable Rust can't report a failure of these two allocations: the program ends.
     ///
     /// # Examples
     ///
@@ -101,73 +100,73 @@ impl<T> Gate<T> {
         on_last: OnLast,
     ) -> Result<Gate<T>, HandedBack<T, NewError>> {
         match crate::Gate::new(slots, passes, start, [0; crate::WORD_COUNT], on_last) {
-            Ok(control) => Ok(Gate { value: Arc::new(Value::of(&control, value)), control }),
+            Ok(gate) => Ok(Gate { value: Arc::new(Value::of(&gate, value)), gate }),
             Err(reason) => Err(HandedBack { value, reason }),
         }
     }
 
-    /// Gives a pass that isn't out, as [`Control::next_pass`] does.
+    /// Returns a pass that isn't out, as [`Gate::next_pass`](crate::Gate::next_pass) does.
     ///
     /// # Errors
     ///
-    /// [`NextPassError::NoSlot`] or [`NextPassError::NoPass`].
+    /// Returns [`NextPassError::NoSlot`] or [`NextPassError::NoPass`].
     pub fn next_pass(&mut self, slot: u32) -> Result<Pass<T>, NextPassError> {
-        Ok(Pass::of(self.control.next_pass(slot)?, Arc::clone(&self.value)))
+        Ok(Pass::of(self.gate.next_pass(slot)?, Arc::clone(&self.value)))
     }
 
-    /// Takes a pass back, as [`Control::retire`] does.
+    /// Takes a pass back, as [`Gate::retire`](crate::Gate::retire) does.
     ///
     /// # Errors
     ///
-    /// [`RetireError::OtherGate`] or [`RetireError::StillHeld`]. They hand the pass back.
+    /// Returns [`RetireError::OtherGate`] or [`RetireError::StillHeld`], with the pass.
     #[expect(clippy::result_large_err, reason = "a refusal hands the pass back")]
     pub fn retire(&mut self, pass: Pass<T>) -> Result<(), HandedBack<Pass<T>, RetireError>> {
         let (pass, value) = pass.into_parts();
-        let refused = self.control.retire(pass);
+        let refused = self.gate.retire(pass);
         refused.map_err(|refused| HandedBack { value: Pass::of(refused.value, value), reason: refused.reason })
     }
 
-    /// Kills the gate, as [`Control::kill`] does: no live reference is given from now on.
+    /// Kills the gate, as [`Gate::kill`](crate::Gate::kill) does: from now on `try_get_live` is refused.
     ///
     /// # Errors
     ///
-    /// [`KillError::AlreadyDead`] or [`KillError::WornOut`].
+    /// Returns [`KillError::AlreadyDead`] or [`KillError::WornOut`].
     pub fn kill(&mut self) -> Result<Killed, KillError> {
-        self.control.kill()
+        self.gate.kill()
     }
 
-    /// Kills the gate, as [`Control::kill_and_confirm`] does.
+    /// Kills the gate, as [`Gate::kill_and_confirm`](crate::Gate::kill_and_confirm) does.
     ///
     /// # Errors
     ///
-    /// [`KillError::AlreadyDead`] or [`KillError::WornOut`].
+    /// Returns [`KillError::AlreadyDead`] or [`KillError::WornOut`].
     pub fn kill_and_confirm(&mut self, confirm: impl FnOnce(u64)) -> Result<Killed, KillError> {
-        self.control.kill_and_confirm(confirm)
+        self.gate.kill_and_confirm(confirm)
     }
 
-    /// Brings back a dead gate that has reached zero, as [`Control::reinit`] does. References see the value as it was changed.
+    /// Revives a dead gate that has reached zero, as [`Gate::reinit`](crate::Gate::reinit) does. New references see the changed value.
     ///
     /// # Errors
     ///
-    /// [`ReinitError::NotDead`] or [`ReinitError::NotZero`].
+    /// Returns [`ReinitError::NotDead`] or [`ReinitError::NotZero`].
     pub fn reinit(&mut self) -> Result<(), ReinitError> {
-        self.control.reinit()
+        self.gate.reinit()
     }
 
-    /// Brings back a dead gate, whether references are held or not, as [`Control::resurrect`] does.
+    /// Revives a dead gate, whether references are held or not, as [`Gate::resurrect`](crate::Gate::resurrect) does.
     ///
     /// # Errors
     ///
-    /// [`ResurrectError::NotDead`].
+    /// Returns [`ResurrectError::NotDead`].
     pub fn resurrect(&mut self) -> Result<Revived, ResurrectError> {
-        self.control.resurrect()
+        self.gate.resurrect()
     }
 
-    /// Lends the value of a gate that is dead and at zero, to be changed.
+    /// Lends the value for a change while the gate is dead and at zero.
     ///
     /// # Errors
     ///
-    /// [`ChangeError::NotDead`] or [`ChangeError::NotZero`].
+    /// Returns [`ChangeError::NotDead`] or [`ChangeError::NotZero`].
     ///
     /// # Examples
     ///
@@ -186,16 +185,16 @@ impl<T> Gate<T> {
     #[expect(clippy::missing_panics_doc, reason = "it never does")]
     pub fn get_mut(&mut self) -> Result<&mut T, ChangeError> {
         self.check()?;
-        let value = self.value.alone(&mut self.control).expect("it is dead and at zero");
+        let value = self.value.alone(&mut self.gate).expect("it is dead and at zero");
         Ok(value.as_mut().expect("it is taken out where the gate ends"))
     }
 
-    /// Ends a gate that is dead and at zero, and gives the value back, though passes are out: none of them is given a reference any
-    /// more. Linux: `percpu_ref_exit`, and the free of the device that it counted for.
+    /// Ends a gate that is dead and at zero, and returns the value. Passes may still be out; they get no more references. Linux:
+    /// `percpu_ref_exit`, and freeing the device.
     ///
     /// # Errors
     ///
-    /// [`ChangeError::NotDead`] or [`ChangeError::NotZero`]. They hand the gate back.
+    /// Returns [`ChangeError::NotDead`] or [`ChangeError::NotZero`], with the gate.
     ///
     /// # Examples
     ///
@@ -220,45 +219,45 @@ impl<T> Gate<T> {
         if let Err(reason) = self.check() {
             return Err(HandedBack { value: self, reason });
         }
-        let value = self.value.alone(&mut self.control).expect("it is dead and at zero");
+        let value = self.value.alone(&mut self.gate).expect("it is dead and at zero");
         Ok(value.take().expect("it is taken out here alone, where the gate ends"))
     }
 
-    /// Whether the count has reached zero, as [`Control::is_zero`] says.
+    /// Returns whether the count has reached zero, as [`Gate::is_zero`](crate::Gate::is_zero) does.
     #[must_use]
     pub fn is_zero(&self) -> bool {
-        self.control.is_zero()
+        self.gate.is_zero()
     }
 
-    /// The control of the plain gate, to be asked and no more.
+    /// Returns the plain gate, for queries only.
     ///
     /// ```
     /// # use percpu_gate::{Phase, Start, guarded::Gate};
     /// # use std::sync::Arc;
     /// let mut gate = Gate::new((), 1, 1, Start::Slots, Arc::new(|| {}))?;
     /// gate.kill()?;
-    /// assert_eq!((gate.control().phase(), gate.control().kills()), (Phase::Dead, 1));
+    /// assert_eq!((gate.as_gate().phase(), gate.as_gate().kills()), (Phase::Dead, 1));
     /// # Ok::<(), Box<dyn std::error::Error>>(())
     /// ```
     #[must_use]
-    pub fn control(&self) -> &Control {
-        &self.control
+    pub fn as_gate(&self) -> &crate::Gate {
+        &self.gate
     }
 
-    /// Counts on the shared word alone from now on, as [`Control::switch_to_atomic`] does.
+    /// Makes the gate count only on the shared word, as [`Gate::switch_to_atomic`](crate::Gate::switch_to_atomic) does.
     pub fn switch_to_atomic(&mut self) {
-        self.control.switch_to_atomic();
+        self.gate.switch_to_atomic();
     }
 
-    /// Counts on slots from now on, as [`Control::switch_to_slots`] does.
+    /// Makes the gate count on slots, as [`Gate::switch_to_slots`](crate::Gate::switch_to_slots) does.
     pub fn switch_to_slots(&mut self) {
-        self.control.switch_to_slots();
+        self.gate.switch_to_slots();
     }
 
-    /// Why the value isn't lent to be changed. A gate that is dead and at zero stays so while its control isn't used.
+    /// Why the value can't be lent for a change. A gate that is dead and at zero stays so while its owner doesn't use it.
     fn check(&self) -> Result<(), ChangeError> {
-        match self.control.phase() {
-            Phase::Dead if self.control.is_zero() => Ok(()),
+        match self.gate.phase() {
+            Phase::Dead if self.gate.is_zero() => Ok(()),
             Phase::Dead => Err(ChangeError::NotZero),
             _ => Err(ChangeError::NotDead),
         }
@@ -267,6 +266,6 @@ impl<T> Gate<T> {
 
 impl<T> fmt::Debug for Gate<T> {
     fn fmt(&self, f: &mut fmt::Formatter<'_>) -> fmt::Result {
-        f.debug_struct("Gate").field("control", &self.control).finish_non_exhaustive()
+        f.debug_struct("Gate").field("gate", &self.gate).finish_non_exhaustive()
     }
 }

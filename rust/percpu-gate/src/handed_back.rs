@@ -1,34 +1,34 @@
-//! A refusal that hands back what the call was given.
-use crate::control::Control;
+//! An error that hands back the argument of the call.
 use crate::errors::{ExitError, RetireError, TryGetError};
+use crate::gate::Gate;
 use crate::pass::Pass;
 use alloc::boxed::Box;
 use core::error::Error;
 use core::fmt;
 
-/// A refusal of a call that takes a value: it hands the value back.
+/// The error of a call that takes a value: hands the value back with the reason.
 ///
-/// `?` turns it into its reason, or into a boxed [`Error`], and so drops the value. (It is no `Error` itself, since one that has a
-/// pass could be no `Box<dyn Error + Send + Sync>`.)
+/// `?` converts it into its reason, or into a boxed [`Error`], and drops the value. (It isn't an `Error` itself, since with a pass inside
+/// it couldn't become a `Box<dyn Error + Send + Sync>`.)
 ///
 /// ```
 /// # use percpu_gate::{ExitError, Gate, HandedBack, Start};
 /// # use std::sync::Arc;
-/// # let mut control = Gate::new(1, 1, Start::Slots, [0; 8], Arc::new(|| {}))?;
-/// # let pass = control.next_pass(0)?;
-/// let HandedBack { value: control, reason } = control.exit().unwrap_err();
+/// # let mut gate = Gate::new(1, 1, Start::Slots, [0; 8], Arc::new(|| {}))?;
+/// # let pass = gate.next_pass(0)?;
+/// let HandedBack { value: gate, reason } = gate.exit().unwrap_err();
 /// assert_eq!(reason, ExitError::PassesOut);
-/// assert_eq!(control.kills(), 0);
+/// assert_eq!(gate.kills(), 0);
 /// # Ok::<(), Box<dyn std::error::Error>>(())
 /// ```
 pub struct HandedBack<T, E> {
-    /// The value that the call was given, as it was.
+    /// The argument of the call, unchanged.
     pub value: T,
     /// Why the call refused.
     pub reason: E,
 }
 
-/// The reason alone, whatever the value is.
+/// Shows only the reason, so the value needs no `Debug`.
 impl<T, E: fmt::Debug> fmt::Debug for HandedBack<T, E> {
     fn fmt(&self, f: &mut fmt::Formatter<'_>) -> fmt::Result {
         f.debug_struct("HandedBack").field("reason", &self.reason).finish_non_exhaustive()
@@ -41,7 +41,7 @@ impl<T, E: fmt::Display> fmt::Display for HandedBack<T, E> {
     }
 }
 
-/// That `?` in a function with these errors drops what was handed back.
+/// Lets `?` drop the value in functions that return these errors.
 macro_rules! reasons {
     ($($value:ty, $error:ident;)+) => {$(
         impl From<HandedBack<$value, $error>> for $error {
@@ -67,7 +67,7 @@ macro_rules! reasons {
 reasons! {
     Pass, RetireError;
     Pass, TryGetError;
-    Control, ExitError;
+    Gate, ExitError;
 }
 
 #[cfg(test)]

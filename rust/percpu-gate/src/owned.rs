@@ -6,10 +6,10 @@ use crate::pass::Pass;
 use crate::word::Word;
 use core::fmt;
 
-/// A reference with the pass that took it: it may end on another thread.
+/// A reference together with the pass that took it, so that it can end on another thread.
 ///
-/// Linux's `percpu_ref` lets any thread put what another took; here a reference belongs to its pass, so a request that
-/// ends on another thread takes its pass along. [`put`](OwnedReference::put) gives the pass back. Dropping it puts the
+/// In Linux any thread may put a reference that another took. Here a reference belongs to its pass, so a request that
+/// ends on another thread takes its pass along. [`put`](OwnedReference::put) returns the pass. Dropping this value puts the
 /// reference and drops the pass, which then can't be retired.
 ///
 /// ```
@@ -17,21 +17,21 @@ use core::fmt;
 /// use std::sync::Arc;
 /// use std::thread;
 ///
-/// let mut control = Gate::new(1, 1, Start::Slots, [0; 8], Arc::new(|| {}))?;
-/// let request = control.next_pass(0)?.into_reference_live()?;
+/// let mut gate = Gate::new(1, 1, Start::Slots, [0; 8], Arc::new(|| {}))?;
+/// let request = gate.next_pass(0)?.into_reference_live()?;
 /// let pass = thread::spawn(move || request.put()).join().unwrap();
-/// control.retire(pass)?;
-/// control.exit()?;
+/// gate.retire(pass)?;
+/// gate.exit()?;
 /// # Ok::<(), Box<dyn std::error::Error>>(())
 /// ```
-#[must_use = "a reference is put where it is dropped"]
+#[must_use = "an unused reference is put at once"]
 pub struct OwnedReference {
     /// The pass, which holds one more than it has given out; none once it was given back.
     pass: Option<Pass>,
 }
 
 impl OwnedReference {
-    /// The reference that a try took on the pass; or the pass back, if the try was refused.
+    /// Makes the reference that a try took on the pass, or hands the pass back if the try was refused.
     #[expect(clippy::result_large_err, reason = "a refusal hands the pass back")]
     pub(crate) fn of(
         pass: Pass,
@@ -43,13 +43,13 @@ impl OwnedReference {
         }
     }
 
-    /// Puts the reference, and gives the pass back. (If `on_last` panics in this call, the pass is dropped.)
+    /// Puts the reference and returns the pass. If `on_last` panics in this call, the pass is dropped.
     ///
     /// ```
     /// # use percpu_gate::{Gate, Start};
     /// # use std::sync::Arc;
-    /// # let mut control = Gate::new(1, 1, Start::Slots, [0; 8], Arc::new(|| {}))?;
-    /// # let pass = control.next_pass(0)?;
+    /// # let mut gate = Gate::new(1, 1, Start::Slots, [0; 8], Arc::new(|| {}))?;
+    /// # let pass = gate.next_pass(0)?;
     /// let request = pass.into_reference()?;
     /// let pass = request.put();
     /// assert!(pass.try_get_live().is_ok());
@@ -62,13 +62,13 @@ impl OwnedReference {
         pass
     }
 
-    /// The pass: more references may be taken with it.
+    /// Returns the pass, with which more references may be taken.
     ///
     /// ```
     /// # use percpu_gate::{Gate, Start};
     /// # use std::sync::Arc;
-    /// # let mut control = Gate::new(1, 1, Start::Slots, [0; 8], Arc::new(|| {}))?;
-    /// # let pass = control.next_pass(0)?;
+    /// # let mut gate = Gate::new(1, 1, Start::Slots, [0; 8], Arc::new(|| {}))?;
+    /// # let pass = gate.next_pass(0)?;
     /// let request = pass.into_reference()?;
     /// let another = request.pass().try_get_live()?;
     /// assert!(!request.pass().is_dying());
@@ -81,13 +81,13 @@ impl OwnedReference {
         self.pass.as_ref().expect("it is there until it is put")
     }
 
-    /// A guarded word: one value for as long as a reference is held.
+    /// Reads a guarded word, which keeps its value while a reference is held.
     ///
     /// ```
     /// # use percpu_gate::{Gate, Start, Word};
     /// # use std::sync::Arc;
-    /// # let mut control = Gate::new(1, 1, Start::Slots, [512; 8], Arc::new(|| {}))?;
-    /// # let pass = control.next_pass(0)?;
+    /// # let mut gate = Gate::new(1, 1, Start::Slots, [512; 8], Arc::new(|| {}))?;
+    /// # let pass = gate.next_pass(0)?;
     /// let request = pass.into_reference()?;
     /// assert_eq!(request.word(Word::ALL[0]), 512);
     /// # Ok::<(), Box<dyn std::error::Error>>(())
@@ -97,13 +97,13 @@ impl OwnedReference {
         self.pass().word(which)
     }
 
-    /// All eight guarded words.
+    /// Reads all eight guarded words.
     ///
     /// ```
     /// # use percpu_gate::{Gate, Start};
     /// # use std::sync::Arc;
-    /// # let mut control = Gate::new(1, 1, Start::Slots, [7; 8], Arc::new(|| {}))?;
-    /// # let pass = control.next_pass(0)?;
+    /// # let mut gate = Gate::new(1, 1, Start::Slots, [7; 8], Arc::new(|| {}))?;
+    /// # let pass = gate.next_pass(0)?;
     /// let request = pass.into_reference()?;
     /// assert_eq!(request.words(), [7; 8]);
     /// # Ok::<(), Box<dyn std::error::Error>>(())

@@ -12,18 +12,19 @@ use core::fmt;
 
 /// A pass, with which one thread at a time takes references of its gate.
 ///
-/// It moves from thread to thread, but two never use it at once (it is `Send`, and not `Sync`). It lies alone on 256
-/// bytes, so that the passes of two threads share no cache line. No call waits, takes a lock or tries again, and none
-/// asks for memory. [`Control::retire`](crate::Control::retire) takes it back, and gives it out again. A gate whose pass was
-/// dropped instead counts it as out for ever, and can't [`exit`](crate::Control::exit).
+/// A pass can move between threads, but two threads can't use it at the same time (it is `Send`, and not `Sync`). It is alone on 256
+/// bytes, so the passes of two threads share no cache line. No call waits, takes a lock, retries or allocates.
+///
+/// Give a pass back to its gate with [`Gate::retire`](crate::Gate::retire), to be given out again. A pass that is dropped instead
+/// counts as out forever, and its gate can't [`exit`](crate::Gate::exit).
 ///
 /// ```
 /// use percpu_gate::{Gate, Start};
 /// use std::sync::Arc;
 /// use std::thread;
 ///
-/// let mut control = Gate::new(2, 2, Start::Slots, [0; 8], Arc::new(|| {}))?;
-/// let passes = [control.next_pass(0)?, control.next_pass(1)?];
+/// let mut gate = Gate::new(2, 2, Start::Slots, [0; 8], Arc::new(|| {}))?;
+/// let passes = [gate.next_pass(0)?, gate.next_pass(1)?];
 /// let threads = passes.map(|pass| {
 ///     thread::spawn(move || {
 ///         let served = (0..1000).filter(|_| pass.try_get_live().is_ok()).count();
@@ -33,68 +34,67 @@ use core::fmt;
 /// for thread in threads {
 ///     let (pass, served) = thread.join().unwrap();
 ///     assert_eq!(served, 1000);
-///     control.retire(pass)?;
+///     gate.retire(pass)?;
 /// }
 /// # Ok::<(), Box<dyn std::error::Error>>(())
 /// ```
 #[repr(align(128))]
 pub struct Pass {
-    /// The pass of the gate of `shared`. It holds a reference for each [`Reference`] that is there or was forgotten.
+    /// The pass of the gate of `shared`. It holds a reference for each [`Reference`] that exists or was leaked.
     ///
-    /// Borrowed during a call of it alone, and no such call comes back to this crate: so no borrow fails.
+    /// Borrowed only during its own calls, and none of these calls back into this crate, so no borrow fails.
     erased: RefCell<ErasedPass>,
-    /// Below the gate's slots.
+    /// Below the number of the gate's slots.
     slot: Cell<u32>,
-    /// The releases that fell to it since it was given out.
+    /// The releases that this pass made since it was given out.
     releases: Cell<u64>,
     shared: Arc<Shared>,
 }
 
 impl Pass {
-    /// A pass of this gate that holds nothing, on one of its slots.
+    /// Makes a pass that holds nothing, on a slot of this gate.
     pub(crate) fn on_slot(pass: ErasedPass, slot: u32, shared: Arc<Shared>) -> Pass {
         Pass { erased: RefCell::new(pass), slot: Cell::new(slot), releases: Cell::new(0), shared }
     }
 
-    /// The gate that it counts at.
+    /// The gate that it belongs to.
     pub(crate) fn shared(&self) -> &Arc<Shared> {
         &self.shared
     }
 
-    /// The references that it holds.
+    /// The number of references that it holds.
     pub(crate) fn held(&self) -> u32 {
         self.erased.borrow().held()
     }
 
-    /// The erased pass, and the releases that fell to it since it was given out.
+    /// The erased pass, and the releases that this pass made since it was given out.
     pub(crate) fn into_parts(self) -> (ErasedPass, u64) {
         (self.erased.into_inner(), self.releases.get())
     }
 
-    /// A release fell to this pass.
+    /// Counts a release that this pass made, and calls `on_last`.
     #[cold]
     fn release(&self) {
         self.releases.set(self.releases.get() + 1);
         self.shared.call_on_last();
     }
 
-    /// Takes a reference unless the gate has reached zero; while this pass holds one it is given one more. Linux:
+    /// Takes a reference unless the gate has reached zero. A pass that holds a reference always gets another. Linux:
     /// `percpu_ref_tryget`.
     ///
     /// # Errors
     ///
-    /// [`TryGetError::NotGiven`] or [`TryGetError::HeldFull`]. A try that is refused may be the call that the release
-    /// falls to: then it has called `on_last`.
+    /// Returns [`TryGetError::NotGiven`] or [`TryGetError::HeldFull`]. A refused try may make the release; then it has called `on_last`.
     ///
     /// # Examples
     ///
     /// ```
     /// # use percpu_gate::{Gate, Start, TryGetError};
     /// # use std::sync::Arc;
-    /// # let mut control = Gate::new(1, 2, Start::Slots, [0; 8], Arc::new(|| {}))?;
-    /// # let (pass, other) = (control.next_pass(0)?, control.next_pass(0)?);
+    /// # let mut gate = Gate::new(1, 2, Start::Slots, [0; 8], Arc::new(|| {}))?;
+    /// # let (pass, other) = (gate.next_pass(0)?, gate.next_pass(0)?);
     /// let reference = other.try_get()?;
-    /// control.kill()?;
+    /// gate.kill()?;
     /// assert!(pass.try_get().is_ok());
     /// drop(reference);
     /// assert_eq!(pass.try_get().unwrap_err(), TryGetError::NotGiven);
@@ -110,18 +110,17 @@ impl Pass {
     ///
     /// # Errors
     ///
-    /// [`TryGetError::NotGiven`] or [`TryGetError::HeldFull`]. A try that is refused may be the call that the release
-    /// falls to: then it has called `on_last`.
+    /// Returns [`TryGetError::NotGiven`] or [`TryGetError::HeldFull`]. A refused try may make the release; then it has called `on_last`.
     ///
     /// # Examples
     ///
     /// ```
     /// # use percpu_gate::{Gate, Start, TryGetError};
     /// # use std::sync::Arc;
-    /// # let mut control = Gate::new(1, 1, Start::Slots, [0; 8], Arc::new(|| {}))?;
-    /// # let pass = control.next_pass(0)?;
+    /// # let mut gate = Gate::new(1, 1, Start::Slots, [0; 8], Arc::new(|| {}))?;
+    /// # let pass = gate.next_pass(0)?;
     /// let reference = pass.try_get_live()?;
-    /// control.kill()?;
+    /// gate.kill()?;
     /// assert_eq!(pass.try_get_live().unwrap_err(), TryGetError::NotGiven);
     /// # Ok::<(), Box<dyn std::error::Error>>(())
     /// ```
@@ -131,24 +130,24 @@ impl Pass {
         Ok(Reference::of(self))
     }
 
-    /// As [`try_get`](Pass::try_get), for a reference that takes the pass along.
+    /// Takes a reference as [`try_get`](Pass::try_get) does, and moves the pass into it.
     ///
     /// # Errors
     ///
-    /// [`TryGetError::NotGiven`] or [`TryGetError::HeldFull`]. They hand the pass back.
+    /// Returns [`TryGetError::NotGiven`] or [`TryGetError::HeldFull`], with the pass.
     ///
     /// # Examples
     ///
     /// ```
     /// # use percpu_gate::{Gate, Start};
     /// # use std::sync::Arc;
-    /// # let mut control = Gate::new(1, 1, Start::Slots, [0; 8], Arc::new(|| {}))?;
-    /// # let pass = control.next_pass(0)?;
+    /// # let mut gate = Gate::new(1, 1, Start::Slots, [0; 8], Arc::new(|| {}))?;
+    /// # let pass = gate.next_pass(0)?;
     /// let request = pass.into_reference()?;
-    /// control.kill()?;
+    /// gate.kill()?;
     /// let pass = request.put();
     /// let refused = pass.into_reference().unwrap_err();
-    /// control.retire(refused.value)?;
+    /// gate.retire(refused.value)?;
     /// # Ok::<(), Box<dyn std::error::Error>>(())
     /// ```
     #[expect(clippy::result_large_err, reason = "a refusal hands the pass back")]
@@ -157,22 +156,22 @@ impl Pass {
         OwnedReference::of(self, taken)
     }
 
-    /// As [`try_get_live`](Pass::try_get_live), for a reference that takes the pass along.
+    /// Takes a reference as [`try_get_live`](Pass::try_get_live) does, and moves the pass into it.
     ///
     /// # Errors
     ///
-    /// [`TryGetError::NotGiven`] or [`TryGetError::HeldFull`]. They hand the pass back.
+    /// Returns [`TryGetError::NotGiven`] or [`TryGetError::HeldFull`], with the pass.
     ///
     /// # Examples
     ///
     /// ```
     /// # use percpu_gate::{Gate, Start, TryGetError};
     /// # use std::sync::Arc;
-    /// # let mut control = Gate::new(1, 1, Start::Dead, [0; 8], Arc::new(|| {}))?;
-    /// # let pass = control.next_pass(0)?;
+    /// # let mut gate = Gate::new(1, 1, Start::Dead, [0; 8], Arc::new(|| {}))?;
+    /// # let pass = gate.next_pass(0)?;
     /// let refused = pass.into_reference_live().unwrap_err();
     /// assert_eq!(refused.reason, TryGetError::NotGiven);
-    /// control.reinit()?;
+    /// gate.reinit()?;
     /// let request = refused.value.into_reference_live()?;
     /// # Ok::<(), Box<dyn std::error::Error>>(())
     /// ```
@@ -182,13 +181,13 @@ impl Pass {
         OwnedReference::of(self, taken)
     }
 
-    /// The slot that this pass counts on.
+    /// Returns the slot that this pass counts on.
     ///
     /// ```
     /// # use percpu_gate::{Gate, Start};
     /// # use std::sync::Arc;
-    /// # let mut control = Gate::new(2, 1, Start::Slots, [0; 8], Arc::new(|| {}))?;
-    /// let pass = control.next_pass(1)?;
+    /// # let mut gate = Gate::new(2, 1, Start::Slots, [0; 8], Arc::new(|| {}))?;
+    /// let pass = gate.next_pass(1)?;
     /// assert_eq!(pass.slot(), 1);
     /// # Ok::<(), Box<dyn std::error::Error>>(())
     /// ```
@@ -197,20 +196,20 @@ impl Pass {
         self.slot.get()
     }
 
-    /// Counts on another slot from now on, for example the slot of the thread's processor. A reference that was taken on one
+    /// Makes the pass count on another slot, for example the slot of the thread's processor. A reference that was taken on one
     /// slot may be put on another.
     ///
     /// # Errors
     ///
-    /// [`SlotError::NoSlot`].
+    /// Returns [`SlotError::NoSlot`].
     ///
     /// # Examples
     ///
     /// ```
     /// # use percpu_gate::{Gate, Start};
     /// # use std::sync::Arc;
-    /// # let mut control = Gate::new(2, 1, Start::Slots, [0; 8], Arc::new(|| {}))?;
-    /// # let pass = control.next_pass(0)?;
+    /// # let mut gate = Gate::new(2, 1, Start::Slots, [0; 8], Arc::new(|| {}))?;
+    /// # let pass = gate.next_pass(0)?;
     /// let reference = pass.try_get_live()?;
     /// pass.use_slot(1)?;
     /// drop(reference);
@@ -224,15 +223,15 @@ impl Pass {
         Ok(())
     }
 
-    /// Whether the gate was killed, or started dead, and wasn't revived since. Linux: `percpu_ref_is_dying`.
+    /// Returns whether the gate is dead: killed or started dead, and not revived since. Linux: `percpu_ref_is_dying`.
     ///
     /// ```
     /// # use percpu_gate::{Gate, Start};
     /// # use std::sync::Arc;
-    /// # let mut control = Gate::new(1, 1, Start::Slots, [0; 8], Arc::new(|| {}))?;
-    /// # let pass = control.next_pass(0)?;
+    /// # let mut gate = Gate::new(1, 1, Start::Slots, [0; 8], Arc::new(|| {}))?;
+    /// # let pass = gate.next_pass(0)?;
     /// assert!(!pass.is_dying());
-    /// control.kill()?;
+    /// gate.kill()?;
     /// assert!(pass.is_dying());
     /// # Ok::<(), Box<dyn std::error::Error>>(())
     /// ```
@@ -241,14 +240,14 @@ impl Pass {
         self.erased.borrow_mut().is_dying(&self.shared.gate)
     }
 
-    /// Whether the count has reached zero. It doesn't say that `on_last` was called yet, or has returned. Linux:
+    /// Returns whether the count has reached zero. `on_last` may not have been called yet, or not have returned. Linux:
     /// `percpu_ref_is_zero`.
     ///
     /// ```
     /// # use percpu_gate::{Gate, Start};
     /// # use std::sync::Arc;
-    /// # let mut control = Gate::new(1, 1, Start::Dead, [0; 8], Arc::new(|| {}))?;
-    /// # let pass = control.next_pass(0)?;
+    /// # let mut gate = Gate::new(1, 1, Start::Dead, [0; 8], Arc::new(|| {}))?;
+    /// # let pass = gate.next_pass(0)?;
     /// assert!(pass.is_zero());
     /// # Ok::<(), Box<dyn std::error::Error>>(())
     /// ```
@@ -257,18 +256,21 @@ impl Pass {
         self.erased.borrow_mut().is_zero(&self.shared.gate)
     }
 
-    /// The front: a number that only grows, odd from the confirmation of a kill, or from a dead start, to the next life. A pass that
-    /// has seen the front of [`kill_and_confirm`](crate::Control::kill_and_confirm) gets no live reference before the next life.
+    /// Returns the front: a number that only grows. It is odd from the confirmation of a kill, or from a dead start, until the next
+    /// revival.
+    ///
+    /// A pass that has seen the front of [`kill_and_confirm`](crate::Gate::kill_and_confirm) gets no live reference before the next
+    /// revival.
     ///
     /// ```
     /// # use percpu_gate::{Gate, Start};
     /// # use std::sync::Arc;
-    /// # let mut control = Gate::new(1, 1, Start::Slots, [0; 8], Arc::new(|| {}))?;
-    /// # let pass = control.next_pass(0)?;
+    /// # let mut gate = Gate::new(1, 1, Start::Slots, [0; 8], Arc::new(|| {}))?;
+    /// # let pass = gate.next_pass(0)?;
     /// assert_eq!(pass.front(), 0);
-    /// control.kill()?;
+    /// gate.kill()?;
     /// assert_eq!(pass.front(), 1);
-    /// control.reinit()?;
+    /// gate.reinit()?;
     /// assert_eq!(pass.front(), 2);
     /// # Ok::<(), Box<dyn std::error::Error>>(())
     /// ```
@@ -277,23 +279,23 @@ impl Pass {
         self.erased.borrow_mut().front(&self.shared.gate)
     }
 
-    /// The number of the gate, from 1 on, which no other has.
+    /// Returns the unique id of the gate, at least 1.
     ///
     /// ```
     /// # use percpu_gate::{Gate, Start};
     /// # use std::sync::Arc;
-    /// # let mut control = Gate::new(1, 1, Start::Slots, [0; 8], Arc::new(|| {}))?;
-    /// # let pass = control.next_pass(0)?;
-    /// assert_eq!(pass.gate_number(), control.gate_number());
+    /// # let mut gate = Gate::new(1, 1, Start::Slots, [0; 8], Arc::new(|| {}))?;
+    /// # let pass = gate.next_pass(0)?;
+    /// assert_eq!(pass.gate_id(), gate.id());
     /// # Ok::<(), Box<dyn std::error::Error>>(())
     /// ```
     #[inline]
     #[must_use]
-    pub fn gate_number(&self) -> u64 {
+    pub fn gate_id(&self) -> u64 {
         self.shared.number
     }
 
-    /// Takes a reference by this kind of try.
+    /// Takes a reference with this kind of try.
     #[inline]
     fn take(&self, try_by: impl FnOnce(&mut ErasedPass, &ErasedGate, u32) -> Tried) -> Result<(), TryGetError> {
         let mut pass = self.erased.borrow_mut();
@@ -312,7 +314,7 @@ impl Pass {
         }
     }
 
-    /// Takes as many references more, in one step. The caller has a reference of this pass.
+    /// Takes `count` more references in one step. The caller has a reference of this pass.
     pub(crate) fn get(&self, count: u32) -> Result<(), GetError> {
         let mut pass = self.erased.borrow_mut();
         if count > HELD_LIMIT - pass.held() {
@@ -324,7 +326,7 @@ impl Pass {
         Ok(())
     }
 
-    /// Drops so many references of the caller's, one or more, which this pass holds.
+    /// Drops `count` references of the caller, at least one, which this pass holds.
     #[inline]
     pub(crate) fn put(&self, count: u32) {
         let put = self.erased.borrow_mut().put(&self.shared.gate, self.slot.get(), count);
@@ -333,7 +335,7 @@ impl Pass {
         }
     }
 
-    /// A guarded word, for a caller that has a reference of this pass.
+    /// Reads a guarded word. The caller has a reference of this pass.
     #[inline]
     pub(crate) fn word(&self, which: Word) -> u64 {
         self.erased.borrow_mut().word(&self.shared.gate, which.number())
@@ -342,6 +344,6 @@ impl Pass {
 
 impl fmt::Debug for Pass {
     fn fmt(&self, f: &mut fmt::Formatter<'_>) -> fmt::Result {
-        f.debug_struct("Pass").field("gate", &self.gate_number()).field("slot", &self.slot()).finish_non_exhaustive()
+        f.debug_struct("Pass").field("gate", &self.gate_id()).field("slot", &self.slot()).finish_non_exhaustive()
     }
 }

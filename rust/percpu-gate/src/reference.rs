@@ -6,12 +6,14 @@ use crate::references::References;
 use crate::word::Word;
 use core::fmt;
 
-/// A reference: while it is there the gate doesn't reach zero, and the guarded words hold still.
+/// A reference. While it exists, the gate doesn't reach zero and the guarded words don't change.
 ///
-/// It borrows the pass that took it, as no other pass can put it, and stays on its thread; one that ends on another
-/// thread is an [`OwnedReference`](crate::OwnedReference). Dropping it puts it, on the slot that the pass uses then.
-/// Where it was the last after a kill, `on_last` is called before the drop is over. One that is forgotten (`mem::forget`)
-/// is held for ever: its gate never reaches zero, and its pass can't be retired. Linux: `percpu_ref_put`.
+/// It borrows the pass that took it, since no other pass can put it, and stays on the pass's thread. Use
+/// [`OwnedReference`](crate::OwnedReference) for a reference that ends on another thread.
+///
+/// Dropping a reference puts it, on the slot that the pass uses then (Linux: `percpu_ref_put`). If it was the last one after a kill,
+/// `on_last` is called before the drop returns. A leaked reference (`mem::forget`) is held forever: its gate never reaches zero, and its
+/// pass can't be retired.
 ///
 /// ```
 /// use percpu_gate::{Gate, Start};
@@ -21,16 +23,16 @@ use core::fmt;
 /// let released = Arc::new(AtomicU32::new(0));
 /// let count = Arc::clone(&released);
 /// let on_last = Arc::new(move || { count.fetch_add(1, Ordering::SeqCst); });
-/// let mut control = Gate::new(1, 1, Start::Slots, [0; 8], on_last)?;
-/// let pass = control.next_pass(0)?;
+/// let mut gate = Gate::new(1, 1, Start::Slots, [0; 8], on_last)?;
+/// let pass = gate.next_pass(0)?;
 /// let reference = pass.try_get_live()?;
-/// control.kill()?;
+/// gate.kill()?;
 /// assert_eq!(released.load(Ordering::SeqCst), 0);
 /// drop(reference);
 /// assert_eq!(released.load(Ordering::SeqCst), 1);
 /// # Ok::<(), Box<dyn std::error::Error>>(())
 /// ```
-#[must_use = "a reference is put where it is dropped"]
+#[must_use = "an unused reference is put at once"]
 pub struct Reference<'p> {
     pass: &'p Pass,
 }
@@ -41,32 +43,32 @@ impl<'p> Reference<'p> {
         Reference { pass }
     }
 
-    /// The number of its gate.
+    /// The id of its gate.
     #[inline]
-    pub(crate) fn gate_number(&self) -> u64 {
-        self.pass.gate_number()
+    pub(crate) fn gate_id(&self) -> u64 {
+        self.pass.gate_id()
     }
 
-    /// One more reference, live or dead. A pass that holds one always gets another, up to 65,535. Linux: `percpu_ref_get`.
+    /// Takes another reference, of a live or dead gate. A pass that holds one always gets another, up to 65,535. Linux: `percpu_ref_get`.
     ///
     /// # Errors
     ///
-    /// [`GetError::HeldFull`].
+    /// Returns [`GetError::HeldFull`].
     ///
     /// # Examples
     ///
     /// ```
     /// # use percpu_gate::{Gate, Start};
     /// # use std::sync::Arc;
-    /// # let mut control = Gate::new(1, 1, Start::Slots, [0; 8], Arc::new(|| {}))?;
-    /// # let pass = control.next_pass(0)?;
+    /// # let mut gate = Gate::new(1, 1, Start::Slots, [0; 8], Arc::new(|| {}))?;
+    /// # let pass = gate.next_pass(0)?;
     /// let reference = pass.try_get_live()?;
-    /// control.kill()?;
+    /// gate.kill()?;
     /// let another = reference.try_clone()?;
     /// drop(reference);
-    /// assert!(!control.is_zero());
+    /// assert!(!gate.is_zero());
     /// drop(another);
-    /// assert!(control.is_zero());
+    /// assert!(gate.is_zero());
     /// # Ok::<(), Box<dyn std::error::Error>>(())
     /// ```
     pub fn try_clone(&self) -> Result<Reference<'p>, GetError> {
@@ -74,28 +76,28 @@ impl<'p> Reference<'p> {
         Ok(Reference::of(self.pass))
     }
 
-    /// Takes as many references more, live or dead, in one step. (A try of several is a try of one, and this.) Linux:
+    /// Takes `count` more references in one step, of a live or dead gate. (To try for several, try for one and call this.) Linux:
     /// `percpu_ref_get_many`.
     ///
     /// # Errors
     ///
-    /// [`GetError::HeldFull`].
+    /// Returns [`GetError::HeldFull`].
     ///
     /// # Examples
     ///
     /// ```
     /// # use percpu_gate::{Gate, Start};
     /// # use std::sync::Arc;
-    /// # let mut control = Gate::new(1, 1, Start::Slots, [0; 8], Arc::new(|| {}))?;
-    /// # let pass = control.next_pass(0)?;
+    /// # let mut gate = Gate::new(1, 1, Start::Slots, [0; 8], Arc::new(|| {}))?;
+    /// # let pass = gate.next_pass(0)?;
     /// let request = pass.try_get_live()?;
     /// let mut bios = request.get_many(8)?;
-    /// control.kill()?;
+    /// gate.kill()?;
     /// drop(request);
     /// bios.put_many(5);
     /// assert_eq!(bios.count(), 3);
     /// drop(bios); // the other three, in one step
-    /// assert!(control.is_zero());
+    /// assert!(gate.is_zero());
     /// # Ok::<(), Box<dyn std::error::Error>>(())
     /// ```
     pub fn get_many(&self, count: u32) -> Result<References<'p>, GetError> {
@@ -103,15 +105,15 @@ impl<'p> Reference<'p> {
         Ok(References::of(self.pass, count))
     }
 
-    /// A guarded word: one value for as long as a reference is held.
+    /// Reads a guarded word, which keeps its value while a reference is held.
     ///
     /// ```
     /// # use percpu_gate::{Gate, Start, Word};
     /// # use std::sync::Arc;
     /// const SECTOR_LIMIT: Word = Word::new(0).unwrap();
     /// let words = [512, 0, 0, 0, 0, 0, 0, 0];
-    /// # let mut control = Gate::new(1, 1, Start::Slots, words, Arc::new(|| {}))?;
-    /// # let pass = control.next_pass(0)?;
+    /// # let mut gate = Gate::new(1, 1, Start::Slots, words, Arc::new(|| {}))?;
+    /// # let pass = gate.next_pass(0)?;
     /// let reference = pass.try_get_live()?;
     /// assert_eq!(reference.word(SECTOR_LIMIT), 512);
     /// # Ok::<(), Box<dyn std::error::Error>>(())
@@ -121,13 +123,13 @@ impl<'p> Reference<'p> {
         self.pass.word(which)
     }
 
-    /// All eight guarded words.
+    /// Reads all eight guarded words.
     ///
     /// ```
     /// # use percpu_gate::{Gate, Start};
     /// # use std::sync::Arc;
-    /// # let mut control = Gate::new(1, 1, Start::Slots, [7; 8], Arc::new(|| {}))?;
-    /// # let pass = control.next_pass(0)?;
+    /// # let mut gate = Gate::new(1, 1, Start::Slots, [7; 8], Arc::new(|| {}))?;
+    /// # let pass = gate.next_pass(0)?;
     /// let reference = pass.try_get_live()?;
     /// assert_eq!(reference.words(), [7; 8]);
     /// # Ok::<(), Box<dyn std::error::Error>>(())

@@ -1,4 +1,4 @@
-//! The parts of a gate that its control and its passes share.
+//! The part of a gate that its owner and its passes share.
 use crate::OnLast;
 use crate::erased::percpu_gate as erased;
 use core::sync::atomic::{AtomicU64, Ordering::Relaxed};
@@ -10,10 +10,10 @@ pub(crate) type ErasedGate = erased::Gate<WORD_COUNT>;
 pub(crate) type ErasedControl = erased::Control<WORD_COUNT>;
 pub(crate) type ErasedPass = erased::Pass<WORD_COUNT>;
 
-/// A gate that several threads have a share of.
+/// The gate that owner and passes share.
 pub(crate) struct Shared {
     pub(crate) gate: ErasedGate,
-    /// From 1 on. No other gate has it.
+    /// A unique id, at least 1.
     pub(crate) number: u64,
     on_last: OnLast,
 }
@@ -24,8 +24,8 @@ impl Shared {
         Shared { gate, number: NUMBERS.fetch_add(1, Relaxed), on_last }
     }
 
-    /// Calls `on_last`, for the one call of the gate that was answered that its reference was the last. A thread that unwinds
-    /// already goes on with its first panic, if `on_last` panics too. (Without `std` the program ends then.)
+    /// Calls `on_last`, on behalf of the call that made the release. If the thread is already unwinding and `on_last` panics too, the
+    /// first panic continues. (Without `std` the program ends then.)
     #[cold]
     pub(crate) fn call_on_last(&self) {
         #[cfg(feature = "std")]

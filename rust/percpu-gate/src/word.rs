@@ -1,9 +1,9 @@
-//! Which guarded word.
+//! Names of guarded words.
 use crate::shared::WORD_COUNT;
 
-/// One of a gate's eight guarded words, by its number from 0 to 7.
+/// One of a gate's eight guarded words, numbered from 0 to 7.
 ///
-/// As a constant it has a name, and a number that there isn't doesn't compile:
+/// Make it a constant to give the word a name; a wrong number then doesn't compile:
 ///
 /// ```
 /// use percpu_gate::Word;
@@ -16,7 +16,7 @@ use crate::shared::WORD_COUNT;
 pub struct Word(u32);
 
 impl Word {
-    /// All eight, in order.
+    /// All eight words, in order.
     ///
     /// ```
     /// # use percpu_gate::Word;
@@ -25,7 +25,7 @@ impl Word {
     /// ```
     pub const ALL: [Word; WORD_COUNT] = [Word(0), Word(1), Word(2), Word(3), Word(4), Word(5), Word(6), Word(7)];
 
-    /// The word of this number, where there is one.
+    /// Returns the word with this number, if there is one.
     ///
     /// ```
     /// # use percpu_gate::Word;
@@ -37,7 +37,7 @@ impl Word {
         if (number as usize) < WORD_COUNT { Some(Word(number)) } else { None }
     }
 
-    /// Its number, from 0 to 7.
+    /// Returns the number of the word, from 0 to 7.
     ///
     /// ```
     /// # use percpu_gate::Word;

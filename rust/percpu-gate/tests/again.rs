@@ -1,5 +1,5 @@
-//! Passes that are given again, counts of several, and errors that are boxed.
-use percpu_gate::{Control, Final, Gate, GetError, NextPassError, OnLast, Pass, Start, TryGetError};
+//! Tests passes that are given out again, counts of several references, and boxed errors.
+use percpu_gate::{Final, Gate, GetError, NextPassError, OnLast, Pass, Start, TryGetError};
 use std::error::Error;
 use std::panic::{AssertUnwindSafe, catch_unwind};
 use std::sync::Arc;
@@ -8,7 +8,7 @@ use std::thread;
 
 type Boxed = Box<dyn Error + Send + Sync>;
 
-fn gate(passes: u32) -> (Control, Arc<AtomicU64>) {
+fn gate(passes: u32) -> (Gate, Arc<AtomicU64>) {
     let released = Arc::new(AtomicU64::new(0));
     let count = Arc::clone(&released);
     let on_last: OnLast = Arc::new(move || {
@@ -17,7 +17,7 @@ fn gate(passes: u32) -> (Control, Arc<AtomicU64>) {
     (Gate::new(2, passes, Start::Slots, [0; 8], on_last).unwrap(), released)
 }
 
-/// A gate of two passes serves ten thousand threads that come and go, while no more than two are there.
+/// A gate with two passes serves ten thousand threads that come and go, at most two at a time.
 #[test]
 fn a_retired_pass_is_given_again() {
     let (mut control, _) = gate(2);
@@ -33,7 +33,7 @@ fn a_retired_pass_is_given_again() {
     assert_eq!(control.exit().unwrap(), Final { dead: false, kills: 0, releases: 0, words: [0; 8] });
 }
 
-/// Each release is counted once, by the pass that it fell to while it was out, however often that pass is given.
+/// Each release is counted once, by the pass that made it while it was out, however often that pass is given out.
 #[test]
 fn a_pass_that_is_given_again_tells_its_releases_once() {
     let (mut control, released) = gate(1);
@@ -91,10 +91,10 @@ fn the_most_references_by_one_step() {
     let (mut control, released) = gate(1);
     let pass = control.next_pass(0).unwrap();
     let first = pass.try_get_live().unwrap();
-    for too_many in [Gate::MOST_HELD, u32::MAX] {
+    for too_many in [Gate::MAX_HELD, u32::MAX] {
         assert_eq!(first.get_many(too_many).unwrap_err(), GetError::HeldFull);
     }
-    let most = first.get_many(Gate::MOST_HELD - 1).unwrap();
+    let most = first.get_many(Gate::MAX_HELD - 1).unwrap();
     assert_eq!(first.get_many(1).unwrap_err(), GetError::HeldFull);
     assert_eq!((first.get_many(0).unwrap().count(), pass.try_get().unwrap_err()), (0, TryGetError::HeldFull));
     assert!(format!("{most:?}").ends_with("count: 65534 }"));
@@ -105,17 +105,17 @@ fn the_most_references_by_one_step() {
     assert_eq!(released.load(Ordering::SeqCst), 1);
 }
 
-/// `?` leads into a boxed error that crosses threads, from each refusal that hands something back too.
+/// `?` converts each error, including those that hand something back, into a boxed error that can cross threads.
 #[test]
 fn errors_are_boxed() {
-    fn retires(control: &mut Control, pass: Pass) -> Result<(), Boxed> {
+    fn retires(control: &mut Gate, pass: Pass) -> Result<(), Boxed> {
         Ok(control.retire(pass)?)
     }
     fn enters(pass: Pass) -> Result<(), Boxed> {
         drop(pass.into_reference_live()?);
         Ok(())
     }
-    fn ends(control: Control) -> Result<Final, Boxed> {
+    fn ends(control: Gate) -> Result<Final, Boxed> {
         let _made = Gate::new(1, 1, Start::Slots, [0; 8], Arc::new(|| {}))?;
         Ok(control.exit()?)
     }
@@ -128,7 +128,7 @@ fn errors_are_boxed() {
     assert_eq!(ends(control).unwrap_err().to_string(), "passes aren't retired");
 }
 
-/// The first panic goes on, and the kill is ended, where `confirm` and `on_last` both panic.
+/// If `confirm` and `on_last` both panic, the first panic continues, and the kill is completed.
 #[test]
 fn confirm_and_on_last_panic() {
     let mut control = Gate::new(1, 1, Start::Slots, [0; 8], Arc::new(|| panic!("the second"))).unwrap();
@@ -148,7 +148,7 @@ fn confirm_and_on_last_panic() {
     assert_eq!(killed.unwrap_err().downcast_ref(), Some(&"the second"), "one panic alone goes on");
 }
 
-/// Several that are put by a thread whose `on_last` panics aren't put again by the drop.
+/// If `on_last` panics in `put_many`, the drop doesn't put the same references again.
 #[test]
 fn several_are_put_once_where_on_last_panics() {
     let mut control = Gate::new(1, 1, Start::Slots, [0; 8], Arc::new(|| panic!("powered off"))).unwrap();

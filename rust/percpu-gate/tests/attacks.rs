@@ -1,7 +1,7 @@
-//! Misuses that compile: each is refused by an error, or does what its documentation says. (src/misuse.rs
-//! has the ones that don't compile.) An answer that the types exclude would panic as a bug of the crate, and fail the test.
+//! Tests misuse that compiles: each is refused by an error, or does what its documentation says. (misuse.md
+//! has misuse that doesn't compile.) A result that the types exclude would panic as a bug of the crate, and fail the test.
 use percpu_gate::{
-    Control, ExitError, Gate, GetError, KillError, Killed, OnLast, Pass, Phase, RetireError, Start, TryGetError, Word,
+    ExitError, Gate, GetError, KillError, Killed, OnLast, Pass, Phase, RetireError, Start, TryGetError, Word,
 };
 use std::cell::RefCell;
 use std::mem::{self, ManuallyDrop};
@@ -20,7 +20,7 @@ fn counted() -> (OnLast, Arc<AtomicU64>) {
     (on_last, released)
 }
 
-fn gate(passes: u32) -> (Control, Arc<AtomicU64>) {
+fn gate(passes: u32) -> (Gate, Arc<AtomicU64>) {
     let (on_last, released) = counted();
     (Gate::new(2, passes, Start::Slots, [0; 8], on_last).unwrap(), released)
 }
@@ -29,12 +29,12 @@ fn panics<T>(call: impl FnOnce() -> T) -> bool {
     catch_unwind(AssertUnwindSafe(call)).is_err()
 }
 
-/// A reference that is forgotten is held for ever: no release comes, its pass never retires, and the most are refused.
+/// A leaked reference is held forever: no release comes, its pass can't be retired, and with the maximum held a try is refused.
 #[test]
 fn references_are_forgotten() {
     let (mut control, released) = gate(2);
     let pass = control.next_pass(0).unwrap();
-    for _ in 0..Gate::MOST_HELD {
+    for _ in 0..Gate::MAX_HELD {
         mem::forget(pass.try_get_live().unwrap());
     }
     assert_eq!(pass.try_get().unwrap_err(), TryGetError::HeldFull);
@@ -49,7 +49,7 @@ fn references_are_forgotten() {
     assert_eq!(control.exit().unwrap_err().reason, ExitError::PassesOut);
 }
 
-/// A forgotten owned reference takes its pass along, into nowhere.
+/// A leaked owned reference leaks its pass.
 #[test]
 fn an_owned_reference_is_forgotten() {
     let (mut control, released) = gate(1);
@@ -60,13 +60,13 @@ fn an_owned_reference_is_forgotten() {
     assert_eq!(released.load(Ordering::SeqCst), 0);
 }
 
-/// Passes of two gates are swapped, and each still counts for its own gate.
+/// Swapped passes of two gates still count for their own gates.
 #[test]
 fn passes_of_two_gates_are_swapped() {
     let ((mut here, here_told), (mut there, there_told)) = (gate(1), gate(1));
     let (mut one, mut other) = (here.next_pass(0).unwrap(), there.next_pass(1).unwrap());
     mem::swap(&mut one, &mut other);
-    assert_eq!((one.gate_number(), other.gate_number()), (there.gate_number(), here.gate_number()));
+    assert_eq!((one.gate_id(), other.gate_id()), (there.id(), here.id()));
     let held = other.try_get_live().unwrap();
     assert_eq!(there.kill(), Ok(Killed::AtZero));
     assert_eq!(here.kill(), Ok(Killed::WhileHeld));
@@ -78,7 +78,7 @@ fn passes_of_two_gates_are_swapped() {
     here.retire(other).unwrap();
 }
 
-/// Controls are swapped, also while references are held, and a pass is retired by the right one alone.
+/// Controls can be swapped, even while references are held; only the right one can retire a pass.
 #[test]
 fn controls_are_swapped() {
     let ((mut here, _), (mut there, _)) = (gate(1), gate(1));
@@ -92,7 +92,7 @@ fn controls_are_swapped() {
     there.retire(here.retire(pass).unwrap_err().value).unwrap();
 }
 
-/// The control goes first: passes still count, and the put of the last reference still calls `on_last`.
+/// If the control is dropped first, passes still count, and the put of the last reference still calls `on_last`.
 #[test]
 fn the_control_is_dropped_first() {
     let (mut control, released) = gate(2);
@@ -110,7 +110,7 @@ fn the_control_is_dropped_first() {
     assert_eq!(stranger.retire(pass).unwrap_err().reason, RetireError::OtherGate);
 }
 
-/// A pass that is dropped is out for ever; its place isn't given again.
+/// A dropped pass is out forever; its place isn't given out again.
 #[test]
 fn a_pass_is_dropped() {
     let (mut control, _) = gate(1);
@@ -120,7 +120,7 @@ fn a_pass_is_dropped() {
     assert_eq!(refused.reason, ExitError::PassesOut);
 }
 
-/// `on_last` panics, in a drop, in a kill and in the middle of nothing else: it was called once, and the gate goes on.
+/// If `on_last` panics, in a drop or in a kill, it was called once, and the gate goes on.
 #[test]
 fn on_last_panics() {
     let released = Arc::new(AtomicU64::new(0));
@@ -150,7 +150,7 @@ fn on_last_panics() {
     assert_eq!(control.exit().unwrap_err().reason, ExitError::PassesOut);
 }
 
-/// The function that is called at the confirmation panics: the kill ends, and `on_last` is called, all the same.
+/// If the function called at the confirmation panics, the kill is still completed, and `on_last` is called.
 #[test]
 fn confirm_panics() {
     let (mut control, released) = gate(1);
@@ -165,7 +165,7 @@ fn confirm_panics() {
     control.reinit().unwrap();
 }
 
-/// A thread that panics under a reference puts it as it unwinds.
+/// A thread that panics while it holds a reference puts it while unwinding.
 #[test]
 fn a_thread_panics_under_its_reference() {
     let (mut control, released) = gate(1);
@@ -183,7 +183,7 @@ thread_local! {
     static SHARED: RefCell<Vec<Rc<Pass>>> = const { RefCell::new(Vec::new()) };
 }
 
-/// `on_last` uses the very pass whose put is under way: the erased call is over by then.
+/// `on_last` may use the pass whose put called it, since the erased call is over by then.
 #[test]
 fn on_last_comes_back_to_the_pass() {
     let seen = Arc::new(AtomicU64::new(0));
@@ -203,10 +203,10 @@ fn on_last_comes_back_to_the_pass() {
     assert_eq!(seen.load(Ordering::SeqCst), 1);
 }
 
-/// `on_last` revives the gate under a lock, from another thread than the killer's, and kills it again: it is called in turn.
+/// `on_last` revives the gate under a lock, on another thread than the kill's, and kills it again; it is then called again.
 #[test]
 fn on_last_has_the_control() {
-    let shared: Arc<Mutex<Option<Control>>> = Arc::new(Mutex::new(None));
+    let shared: Arc<Mutex<Option<Gate>>> = Arc::new(Mutex::new(None));
     let released = Arc::new(AtomicU64::new(0));
     let (control, count) = (Arc::clone(&shared), Arc::clone(&released));
     let on_last: OnLast = Arc::new(move || {
@@ -229,10 +229,10 @@ fn on_last_has_the_control() {
     }
 }
 
-/// The control is dropped in `on_last`, which another thread calls.
+/// The control can be dropped in `on_last`, on another thread.
 #[test]
 fn on_last_drops_the_control() {
-    let shared: Arc<Mutex<Option<Control>>> = Arc::new(Mutex::new(None));
+    let shared: Arc<Mutex<Option<Gate>>> = Arc::new(Mutex::new(None));
     let place = Arc::clone(&shared);
     let on_last: OnLast = Arc::new(move || drop(place.lock().unwrap().take()));
     let mut control = Gate::new(1, 1, Start::Slots, [0; 8], on_last).unwrap();
@@ -244,7 +244,7 @@ fn on_last_drops_the_control() {
     assert!(pass.is_zero());
 }
 
-/// Owned references and passes travel through channels, and are let go on threads that never saw their gate.
+/// Owned references and passes can be sent through channels, and dropped on threads that never saw their gate.
 #[test]
 fn passes_travel() {
     let (mut control, released) = gate(2);
@@ -267,7 +267,7 @@ fn passes_travel() {
     assert_eq!((control.exit().unwrap().releases, released.load(Ordering::SeqCst)), (1, 1));
 }
 
-/// References outlive one another in any order, clones too, and one that is never dropped is one that is forgotten.
+/// References, clones too, can be dropped in any order. A reference that is never dropped is a leaked one.
 #[test]
 fn references_are_dropped_in_any_order() {
     let (mut control, released) = gate(1);
@@ -287,7 +287,7 @@ fn references_are_dropped_in_any_order() {
     assert_eq!(released.load(Ordering::SeqCst), 1);
 }
 
-/// A reference leaks through a cycle: held for ever, as one that is forgotten.
+/// A reference that leaks through a cycle is held forever.
 #[test]
 fn a_reference_leaks_in_a_cycle() {
     struct Node(RefCell<Option<Rc<Node>>>, #[expect(dead_code, reason = "it is held")] percpu_gate::OwnedReference);
@@ -299,7 +299,7 @@ fn a_reference_leaks_in_a_cycle() {
     assert_eq!((control.is_zero(), released.load(Ordering::SeqCst)), (false, 0));
 }
 
-/// The most references at once, by clones, is an ordinary refusal.
+/// Cloning beyond the maximum number of references returns an ordinary error.
 #[test]
 fn clones_without_end() {
     let (mut control, _) = gate(1);
@@ -315,7 +315,7 @@ fn clones_without_end() {
     assert_eq!((all.len(), why), (65_534, GetError::HeldFull));
 }
 
-/// A gate ends while `on_last` of its last release is under way on another thread.
+/// A gate can end while `on_last` of its last release is running on another thread.
 #[test]
 fn the_gate_ends_under_on_last() {
     let (entered, enters) = mpsc::channel();

@@ -1,10 +1,10 @@
-//! Plain memory under the gate's guard, from life to life: threads write it while they hold a reference, and
-//! the call of the release reads what they wrote and frees it. The thread that revives the gate has made it anew. Built for
+//! Guards plain memory with a gate, from life to life. Threads write it while they hold a reference, and
+//! the call that makes the release reads what they wrote and frees it. The thread that revives the gate allocates it again. Built for
 //! the thread sanitizer with `--cfg percpu_gate_tsan`, this is a race wherever the crate doesn't announce the gate's order
-//! to it. The gate alone guards the memory, which no type of Rust can know, so this test has `unsafe` of its own.
+//! to it. Only the gate guards the memory, which Rust's types can't express, so this test has its own `unsafe`.
 #![allow(unsafe_code)]
 
-use percpu_gate::{Control, Gate, Killed, OnLast, Pass, Revived, Start};
+use percpu_gate::{Gate, Killed, OnLast, Pass, Revived, Start};
 use std::cell::UnsafeCell;
 use std::env;
 use std::ptr;
@@ -17,13 +17,13 @@ const THREADS: u32 = 4;
 
 type Counts = [u64; THREADS as usize];
 
-/// A device that is there while the gate isn't at zero, with a count for each thread; null while it isn't.
+/// A device with a count for each thread. It exists while the gate isn't at zero; otherwise the pointer is null.
 struct Device(UnsafeCell<*mut Counts>);
 
 // SAFETY: the gate guards it: each thread changes its own count under a reference. The call of the release, or a revival of
 // the gate from zero, has it alone.
 unsafe impl Sync for Device {}
-// SAFETY: what it leads to is plain numbers.
+// SAFETY: it points to plain numbers.
 unsafe impl Send for Device {}
 
 impl Device {
@@ -51,19 +51,19 @@ impl Device {
     }
 }
 
-/// Signs to the threads, and from them. All but `over` is relaxed: it orders nothing.
+/// Signals to and from the threads. All except `over` are relaxed, so they order nothing.
 #[derive(Default)]
 struct Signs {
     over: AtomicBool,
-    /// Nobody asks for a reference, so that a kill may find nobody.
+    /// While set, no thread asks for a reference, so that a kill may find none held.
     quiet: AtomicBool,
-    /// The threads that look whether they may ask, and hold nothing.
+    /// The number of threads that wait to ask, and hold nothing.
     resting: [AtomicBool; THREADS as usize],
-    /// Requests so far, of all threads.
+    /// The number of requests of all threads so far.
     requests: AtomicU64,
 }
 
-/// Serves until the end, and returns how often.
+/// Serves until the end, and returns the number of requests.
 fn serve(pass: &Pass, thread: u32, device: &Device, signs: &Signs) -> u64 {
     let mut served = 0;
     while !signs.over.load(Ordering::SeqCst) {
@@ -83,7 +83,7 @@ fn serve(pass: &Pass, thread: u32, device: &Device, signs: &Signs) -> u64 {
     served
 }
 
-/// Waits until the threads have served in this life too; in some lives then until nobody asks.
+/// Waits until the threads have served in this life too, and in some lives also until no thread asks.
 fn let_serve(signs: &Signs, life: u64) {
     let before = signs.requests.load(Ordering::Relaxed);
     while signs.requests.load(Ordering::Relaxed) < before + 20 {
@@ -97,9 +97,9 @@ fn let_serve(signs: &Signs, life: u64) {
     }
 }
 
-/// One life after another: kills, waits until the device was freed, makes another, and revives. How many kills found the
-/// gate without references.
-fn live_and_die(control: &mut Control, device: &Device, freed: &AtomicU64, signs: &Signs, lives: u64) -> u64 {
+/// Kills, waits until the device was freed, makes another, and revives, for many lives. Returns the number of kills that found no
+/// reference held.
+fn live_and_die(control: &mut Gate, device: &Device, freed: &AtomicU64, signs: &Signs, lives: u64) -> u64 {
     let mut at_zero = 0;
     for life in 1..=lives {
         let_serve(signs, life);

@@ -1,6 +1,6 @@
-//! Four threads count on a gate while it is killed, revived, switched and its setting changed: `on_last` is called as
-//! often as releases are counted, and a request sees one setting. `PERCPU_GATE_ROUNDS` changes how long it goes on.
-use percpu_gate::{Control, Final, Gate, Killed, OwnedReference, Pass, Phase, Revived, Start, TryGetError, Word};
+//! Four threads count on a gate while it is killed, revived and switched, and its setting changed. `on_last` is called as
+//! often as releases are counted, and each request sees one setting. `PERCPU_GATE_ROUNDS` is the number of rounds.
+use percpu_gate::{Final, Gate, Killed, OwnedReference, Pass, Phase, Revived, Start, TryGetError, Word};
 use std::env;
 use std::sync::atomic::{AtomicBool, AtomicU64, Ordering};
 use std::sync::{Arc, Condvar, Mutex, mpsc};
@@ -32,8 +32,8 @@ fn count(pass: &Pass, rounds: u64) {
     }
 }
 
-/// One life after another until all threads are done. How many kills, and how many of them no revival cut short.
-fn live_and_die(control: &mut Control, done: &AtomicU64) -> (u64, u64) {
+/// Runs one life after another until all threads are done. Returns the number of kills, and of those that no revival cut short.
+fn live_and_die(control: &mut Gate, done: &AtomicU64) -> (u64, u64) {
     let (mut kills, mut at_zero) = (0, 0);
     while kills < 1000 || done.load(Ordering::SeqCst) < u64::from(THREADS) {
         let killed = if kills % 3 == 0 {
@@ -85,7 +85,7 @@ fn counts_under_kills() {
     assert_eq!((dead, releases), (false, at_zero));
 }
 
-/// The releases so far, and a wait for one.
+/// Counts releases, and waits for one.
 #[derive(Default)]
 struct Told(Mutex<u64>, Condvar);
 
@@ -100,7 +100,7 @@ impl Told {
     }
 }
 
-/// Takes free passes, and hands them on with a reference. A try that isn't given frees the pass again.
+/// Takes free passes, and passes them on with a reference. A refused try frees the pass again.
 fn submit(
     free: &Mutex<mpsc::Receiver<Pass>>,
     back: &mpsc::Sender<Pass>,
@@ -131,8 +131,8 @@ fn complete(sent: &Mutex<mpsc::Receiver<OwnedReference>>, back: &mpsc::Sender<Pa
     }
 }
 
-/// Changes the setting so many times, each when all requests under way are done.
-fn change(control: &mut Control, released: &Told, changes: u64) {
+/// Changes the setting this many times, each time when all requests in flight are done.
+fn change(control: &mut Gate, released: &Told, changes: u64) {
     for change in 1..=changes {
         control.kill().unwrap();
         released.wait_for(change);

@@ -1,7 +1,7 @@
-//! Each call on one thread: its outcome, each refusal, and that a refusal leaves everything as it was.
+//! Tests each call on one thread: its result, each error, and that an error changes nothing.
 use percpu_gate::{
-    Control, ExitError, Final, Gate, GetError, KillError, Killed, NewError, NextPassError, OnLast, Pass, Phase,
-    ReinitError, ResurrectError, RetireError, Revived, SlotError, Start, StoreError, TryGetError, Word,
+    ExitError, Final, Gate, GetError, KillError, Killed, NewError, NextPassError, OnLast, Pass, Phase, ReinitError,
+    ResurrectError, RetireError, Revived, SlotError, Start, StoreError, TryGetError, Word,
 };
 use std::error::Error;
 use std::mem;
@@ -10,8 +10,8 @@ use std::sync::atomic::{AtomicU64, Ordering};
 
 const WORDS: [u64; 8] = [3, 0, 0, 0, 0, 0, 0, u64::MAX];
 
-/// A gate, and how many times its `on_last` was called.
-fn gate(slots: u32, passes: u32, start: Start) -> (Control, Arc<AtomicU64>) {
+/// A gate, and the number of calls of its `on_last`.
+fn gate(slots: u32, passes: u32, start: Start) -> (Gate, Arc<AtomicU64>) {
     let released = Arc::new(AtomicU64::new(0));
     let count = Arc::clone(&released);
     let on_last: OnLast = Arc::new(move || {
@@ -24,7 +24,7 @@ fn released(count: &AtomicU64) -> u64 {
     count.load(Ordering::SeqCst)
 }
 
-fn with_pass() -> (Control, Pass, Arc<AtomicU64>) {
+fn with_pass() -> (Gate, Pass, Arc<AtomicU64>) {
     let (mut control, count) = gate(2, 2, Start::Slots);
     let pass = control.next_pass(0).unwrap();
     (control, pass, count)
@@ -194,7 +194,7 @@ fn slots() {
 fn as_many_references_as_there_are() {
     let (mut control, pass, count) = with_pass();
     let first = pass.try_get_live().unwrap();
-    let most: Vec<_> = (1..Gate::MOST_HELD).map(|_| first.try_clone().unwrap()).collect();
+    let most: Vec<_> = (1..Gate::MAX_HELD).map(|_| first.try_clone().unwrap()).collect();
     assert_eq!(first.try_clone().unwrap_err(), GetError::HeldFull);
     assert_eq!(pass.try_get().unwrap_err(), TryGetError::HeldFull);
     assert_eq!(pass.try_get_live().unwrap_err(), TryGetError::HeldFull);
@@ -236,8 +236,8 @@ fn the_end() -> Result<(), Box<dyn Error>> {
     let (mut other, _) = gate(1, 1, Start::Dead);
     let refused = other.retire(pass).unwrap_err();
     assert_eq!(refused.reason, RetireError::OtherGate);
-    assert_ne!(refused.value.gate_number(), other.gate_number());
-    assert_eq!(refused.value.gate_number(), control.gate_number());
+    assert_ne!(refused.value.gate_id(), other.id());
+    assert_eq!(refused.value.gate_id(), control.id());
     drop(refused.value.try_get_live()?);
     control.retire(refused.value)?;
     other.exit()?;
@@ -247,14 +247,14 @@ fn the_end() -> Result<(), Box<dyn Error>> {
 
 #[test]
 fn the_question_mark_drops_what_is_handed_back() {
-    fn ends(control: Control) -> Result<Final, ExitError> {
+    fn ends(control: Gate) -> Result<Final, ExitError> {
         Ok(control.exit()?)
     }
     fn takes(pass: Pass) -> Result<(), TryGetError> {
         drop(pass.into_reference_live()?);
         Ok(())
     }
-    fn retires(control: &mut Control, pass: Pass) -> Result<(), RetireError> {
+    fn retires(control: &mut Gate, pass: Pass) -> Result<(), RetireError> {
         Ok(control.retire(pass)?)
     }
     let (mut control, pass, _) = with_pass();
@@ -268,8 +268,8 @@ fn the_question_mark_drops_what_is_handed_back() {
 #[test]
 fn what_is_shown() {
     let (mut control, pass, _) = with_pass();
-    let number = control.gate_number();
-    assert_eq!(format!("{control:?}"), format!("Control {{ gate: {number}, phase: LiveOnSlots, .. }}"));
+    let number = control.id();
+    assert_eq!(format!("{control:?}"), format!("Gate {{ id: {number}, phase: LiveOnSlots, .. }}"));
     assert_eq!(format!("{pass:?}"), format!("Pass {{ gate: {number}, slot: 0, .. }}"));
     let reference = pass.try_get_live().unwrap();
     assert_eq!(format!("{reference:?}"), format!("Reference({pass:?})"));

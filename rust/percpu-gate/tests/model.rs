@@ -1,8 +1,8 @@
-//! Random calls on one thread, on a few gates, beside a model of plain numbers: the plain counter of docs/GATE.md, its
-//! front and its guarded words. Each answer, and each call of `on_last`, is what the model says. `PERCPU_GATE_CALLS` and
-//! `PERCPU_GATE_SEED` change how many calls, and which.
+//! Makes random calls on one thread, on a few gates, and compares each result and each call of `on_last` with a model of plain numbers:
+//! the plain counter of docs/GATE.md, its front and its guarded words. `PERCPU_GATE_CALLS` is the number of calls, and
+//! `PERCPU_GATE_SEED` their seed.
 use percpu_gate::{
-    Control, ExitError, Final, Gate, GetError, HandedBack, NewError, NextPassError, OwnedReference, Pass, Reference,
+    ExitError, Final, Gate, GetError, HandedBack, NewError, NextPassError, OwnedReference, Pass, Reference,
     RetireError, SlotError, Start, TryGetError,
 };
 use std::env;
@@ -20,24 +20,24 @@ use counter::Counter;
 const CONTROLS: usize = 3;
 const SEATS: usize = 12;
 
-/// A gate that was made: its model, and what its `on_last` counts.
+/// A gate with its model, and the count of its `on_last`.
 struct Made {
     counter: Counter,
     releases: Arc<AtomicU64>,
     number: u64,
 }
 
-/// The forms that the crate has of a pass that counts.
+/// The forms of a counting pass that the crate has.
 enum Counting {
     Free(Pass),
     Owned(OwnedReference),
-    /// A pass that stays where it is for ever, with its references.
+    /// A pass that is never moved again, with its references.
     Many(&'static Pass, Vec<Reference<'static>>),
 }
 
 struct Seat {
     gate: usize,
-    /// References that were forgotten, and releases that fell to this pass.
+    /// Leaked references, and releases that this pass made.
     forgotten: u64,
     releases: u64,
     counting: Counting,
@@ -52,7 +52,7 @@ impl Seat {
         }
     }
 
-    /// Notes a release that the model says fell to this pass.
+    /// Notes a release that this pass made in the model.
     fn notes(&mut self, releases: bool) {
         self.releases += u64::from(releases);
     }
@@ -61,7 +61,7 @@ impl Seat {
 struct Run {
     seed: u64,
     made: Vec<Made>,
-    controls: [Option<(usize, Control)>; CONTROLS],
+    controls: [Option<(usize, Gate)>; CONTROLS],
     seats: [Option<Seat>; SEATS],
 }
 
@@ -93,7 +93,7 @@ impl Run {
         match Gate::new(slots, passes, start, words, on_last) {
             Ok(control) => {
                 assert!(fits);
-                let number = control.gate_number();
+                let number = control.id();
                 assert!(self.made.iter().all(|other| other.number != number));
                 self.made.push(Made { counter: Counter::new(slots, passes, start, words), releases, number });
                 self.controls[c] = Some((self.made.len() - 1, control));
@@ -119,7 +119,7 @@ impl Run {
         self.controls[c] = Some((gate, control));
     }
 
-    /// Drops the pass or reference of a seat: what it held is put, but for what was forgotten.
+    /// Drops the pass or reference of a seat, which puts everything it held except leaked references.
     fn let_go(&mut self, s: usize) {
         let Some(seat) = self.seats[s].take() else { return };
         let counter = &mut self.made[seat.gate].counter;
@@ -169,7 +169,7 @@ impl Run {
         }
     }
 
-    /// A try, live or not, by a seat that keeps, drops or forgets what it is given.
+    /// Makes a try, live or not, and keeps, drops or leaks the reference.
     fn take(&mut self, s: usize) {
         let (live, kept, slot) = (self.chance(2), self.below(8), self.below(70));
         let Some(seat) = &mut self.seats[s] else { return };
@@ -266,7 +266,7 @@ impl Run {
         let Some(seat) = &self.seats[s] else { return };
         let (Made { counter, number, .. }, pass) = (&self.made[seat.gate], seat.pass());
         assert_eq!((pass.is_dying(), pass.is_zero()), (counter.killed, counter.released));
-        assert_eq!((pass.front(), pass.gate_number()), (counter.front, *number));
+        assert_eq!((pass.front(), pass.gate_id()), (counter.front, *number));
         assert!(pass.slot() < counter.slots);
     }
 

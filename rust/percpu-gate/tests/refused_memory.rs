@@ -1,19 +1,19 @@
-//! Each allocation is refused in turn: the call returns an ordinary error, nothing is lost and nothing leaks.
-//! (This program's allocator is its own, which refuses and counts on one thread, so it has `unsafe`.)
+//! Refuses each allocation in turn: the call returns an ordinary error, nothing is lost and nothing leaks.
+//! (This program has its own allocator, which refuses and counts on one thread, so it has `unsafe`.)
 #![allow(unsafe_code)]
 
-use percpu_gate::{Control, Gate, NewError, OnLast, Start};
+use percpu_gate::{Gate, NewError, OnLast, Start};
 use std::alloc::{GlobalAlloc, Layout, System};
 use std::cell::Cell;
 use std::ptr;
 use std::sync::Arc;
 
 thread_local! {
-    /// How many allocations succeed before one is refused. `None`: none is refused.
+    /// The number of allocations that succeed before one is refused. `None`: none is refused.
     static ALLOWED: Cell<Option<u64>> = const { Cell::new(None) };
-    /// Allocations that were asked for.
+    /// Number of allocations.
     static ASKED: Cell<u64> = const { Cell::new(0) };
-    /// Blocks that were allocated, less those that were freed.
+    /// Number of blocks in use.
     static BLOCKS: Cell<i64> = const { Cell::new(0) };
 }
 
@@ -45,7 +45,7 @@ unsafe impl GlobalAlloc for Refusing {
 #[global_allocator]
 static ALLOCATOR: Refusing = Refusing;
 
-/// The result of a call if so many allocations succeed and the next one fails.
+/// Returns the result of a call if this many allocations succeed and the next one fails.
 fn after<T>(allowed: u64, call: impl FnOnce() -> T) -> T {
     ALLOWED.set(Some(allowed));
     let answer = call();
@@ -53,12 +53,12 @@ fn after<T>(allowed: u64, call: impl FnOnce() -> T) -> T {
     answer
 }
 
-fn end(mut control: Control, pass: percpu_gate::Pass) {
+fn end(mut control: Gate, pass: percpu_gate::Pass) {
     control.retire(pass).unwrap();
     assert_eq!(control.exit().unwrap().words, [3; 8]);
 }
 
-/// Each allocation but the last, the `Arc` that the control and its passes share: stable Rust can't refuse it.
+/// Refuses each allocation except the last, the `Arc` that the control and its passes share, whose failure stable Rust can't report.
 #[test]
 fn each_allocation_refused() {
     let on_last: OnLast = Arc::new(|| {});
@@ -78,7 +78,7 @@ fn each_allocation_refused() {
     assert_eq!((BLOCKS.get(), Arc::strong_count(&on_last)), (blocks, 1), "nothing leaks");
 }
 
-/// No call but `Gate::new` asks for memory, and the end needs none.
+/// Only `Gate::new` allocates, and the end doesn't.
 #[test]
 fn the_rest_needs_no_memory() {
     let on_last: OnLast = Arc::new(|| {});
@@ -104,7 +104,7 @@ fn the_rest_needs_no_memory() {
     assert_eq!(BLOCKS.get(), blocks, "nothing leaks");
 }
 
-/// Dropping in place of ending leaks nothing: a pass after its control, and a pass under a forgotten reference.
+/// Dropping instead of ending leaks nothing: a pass after its control, and a pass with a leaked reference.
 #[test]
 fn what_is_dropped_is_freed() {
     let on_last: OnLast = Arc::new(|| {});

@@ -1,5 +1,5 @@
-//! A gate that guards a value: `&T` under a reference, `&mut T` of a gate that is dead and at zero, and T back. Run under the thread
-//! sanitizer, and by Miri, too.
+//! Tests a gate that guards a value: `&T` under a reference, `&mut T` while the gate is dead and at zero, and T at the end. Also run under
+//! the thread sanitizer and by Miri.
 use percpu_gate::guarded::{ChangeError, Gate, Pass};
 use percpu_gate::{NewError, RetireError, Start, TryGetError};
 use std::env;
@@ -14,7 +14,7 @@ fn gate<T>(value: T, start: Start) -> Gate<T> {
     Gate::new(value, 2, 4, start, Arc::new(|| {})).unwrap()
 }
 
-/// Counts how often it is dropped.
+/// Counts its drops.
 #[derive(Debug)]
 struct Dropped(Arc<AtomicU64>);
 
@@ -43,7 +43,7 @@ fn drain<T>(gate: &mut Gate<T>) {
     }
 }
 
-/// References see each change whole, though a change frees what they read before; at the end the device goes away under them.
+/// References see each change whole, although a change frees what they read before. At the end the device is removed under them.
 #[test]
 fn references_beside_changes() {
     let lives = env::var("PERCPU_GATE_LIVES").map_or(500, |it| it.parse().unwrap());
@@ -117,7 +117,7 @@ fn refusals_hand_back() {
     there.retire(refused.value).unwrap();
 }
 
-/// A reference that was forgotten is held for ever: the value is never lent, and is dropped with the last pass.
+/// A leaked reference is held forever: the value is never lent for a change, and is dropped with the last pass.
 #[test]
 fn what_is_forgotten_stays() {
     let dropped = Arc::new(AtomicU64::new(0));
@@ -133,7 +133,7 @@ fn what_is_forgotten_stays() {
     assert_eq!(dropped.load(Relaxed), 1);
 }
 
-/// Each end of a gate drops its value once, and not while a reference is there.
+/// Each way to end a gate drops its value once, and not while a reference exists.
 #[test]
 fn the_value_is_dropped_once() {
     let dropped = Arc::new(AtomicU64::new(0));
@@ -155,7 +155,7 @@ fn the_value_is_dropped_once() {
     assert_eq!(dropped.load(Relaxed), 4);
 }
 
-/// A thread that panics under a reference puts it; one that panics while it changes the value leaves it as it is.
+/// A thread that panics with a reference puts it. A thread that panics while it changes the value leaves the value as it is.
 #[test]
 fn panics_in_the_middle() {
     let mut gate = gate(vec![1], Start::Slots);
@@ -176,7 +176,7 @@ fn panics_in_the_middle() {
     assert_eq!(*pass.try_get_live().unwrap(), [1, 2]);
 }
 
-/// `on_last` that panics in the drop of the last reference doesn't keep the value lent.
+/// If `on_last` panics in the drop of the last reference, the value can still be lent.
 #[test]
 fn on_last_panics() {
     let mut gate = Gate::new(vec![1], 1, 1, Start::Slots, Arc::new(|| panic!("powered off"))).unwrap();

@@ -1,10 +1,10 @@
-//! Texts of calls that have a fault: the player names the first one by its line, and writes no answer. tests/rows has the rows that are
-//! played.
+//! Tests texts of calls with a fault: the player reports the line of the first one, and writes no answer. tests/rows has the rows without
+//! faults.
 
 use std::io::Write;
 use std::process::{Command, Stdio};
 
-/// A text behind its first line, and its fault.
+/// A text after its first line, and its fault.
 const REFUSED: &[(&str, &str)] = &[
     ("", "line 2: no world"),
     ("world 1 1 up 0\n", "line 2: unknown word"),
@@ -23,12 +23,12 @@ const REFUSED: &[(&str, &str)] = &[
     ("queue 1 1 8\nc kill\n", "line 3: unknown word"),
     ("queue 1 1 8\n0 held\n", "line 3: unknown word"),
     ("queue 1 1 8\nf set 4 0\n", "line 3: unknown word"),
-    // Behind the end a call is passed over, and a fault is still one.
+    // After the end a call is passed over, but a fault is still reported.
     ("world 1 1 slots 0\n0 retire\nc exit\n0 held\n0 jump\n", "line 6: unknown word"),
     ("queue 1 1 8\n0 give_back\nf remove\n0 entered\nf jump\n", "line 6: unknown word"),
 ];
 
-/// The status of the player, and what it writes to both outputs.
+/// Runs the player. Returns its status, and what it writes to both outputs.
 fn played(text: &str) -> (Option<i32>, String, String) {
     let mut command = Command::new(env!("CARGO_BIN_EXE_play_calls"));
     let pipes = command.stdin(Stdio::piped()).stdout(Stdio::piped()).stderr(Stdio::piped());

@@ -1,5 +1,5 @@
-//! Readers and writers that fail in one call and do well in the next, or are interrupted before each piece; and faults far down an
-//! input. A call has its own answer, though an earlier one failed. No contract says so, since each may return want of memory.
+//! Tests readers and writers that fail in one call and succeed in the next, or are interrupted before each piece; and faults far down an
+//! input. A call returns its own result even if an earlier call failed. No contract says so, since each call may return Memory.
 
 use blkq::erased::blk_workers::{Config, NoStall};
 use blkq::erased::blkq_run::{Fault, command, run_bytes};
@@ -15,14 +15,14 @@ const TEXT: &[u8] = b"0123456789";
 const TIMED_OUT: Does = Does::Fails(ErrorKind::TimedOut);
 const INTERRUPTED: Does = Does::Fails(ErrorKind::Interrupted);
 
-/// One call of a device: it fails so, or moves up to so many bytes.
+/// One call of a device: it fails in this way, or moves up to this many bytes.
 #[derive(Clone, Copy)]
 enum Does {
     Fails(ErrorKind),
     Moves(usize),
 }
 
-/// A device that does these in turn, and from then on all that it is asked for.
+/// A device that makes these calls in turn, and afterwards does everything that it is asked for.
 #[derive(Default)]
 struct Device {
     does: VecDeque<Does>,
@@ -70,7 +70,7 @@ impl Write for Device {
     }
 }
 
-/// A reader that failed in earlier calls is read, and a failure ends the call, as ever.
+/// A reader that failed in earlier calls is still read, and another failure ends the call.
 #[test]
 fn a_reader_that_failed_before() {
     let mut device = Device::with_input(TEXT, [TIMED_OUT, TIMED_OUT, Does::Moves(3), TIMED_OUT, INTERRUPTED]);
@@ -84,7 +84,7 @@ fn a_reader_that_failed_before() {
     assert_eq!(device.calls, 7);
 }
 
-/// A writer that failed in earlier calls is written to, and a failure ends the call, as ever.
+/// A writer that failed in earlier calls is still written to, and another failure ends the call.
 #[test]
 fn a_writer_that_failed_before() {
     let mut device = Device::with_input(b"", [TIMED_OUT, Does::Moves(0), Does::Moves(3), TIMED_OUT, INTERRUPTED]);
@@ -98,7 +98,7 @@ fn a_writer_that_failed_before() {
     assert_eq!((device.output.as_slice(), device.calls), (TEXT, 6));
 }
 
-/// As many interruptions as are borne come before each byte, and many have come before.
+/// The maximum number of interruptions comes before each byte, after many earlier ones.
 #[test]
 fn interrupted_before_each_byte() {
     let borne = TRIES as usize - 1;
@@ -116,7 +116,7 @@ fn interrupted_before_each_byte() {
     assert_eq!(device.output, [TEXT, TEXT].concat());
 }
 
-/// A writer that keeps bytes back is its owner's to flush, also where it fails.
+/// A buffering writer is flushed by its owner, even if it fails.
 #[test]
 fn nothing_is_flushed() {
     let mut device = Device::with_input(b"", [Does::Moves(1), INTERRUPTED, Does::Moves(4)]);
@@ -132,7 +132,7 @@ fn nothing_is_flushed() {
     assert_eq!(device.flushes, 0);
 }
 
-/// Nor is a long text, or a long answer: each goes out in one write.
+/// A long text, or a long answer, isn't flushed either: it goes out in one write.
 #[test]
 fn nothing_long_is_flushed() {
     let text = vec![b'#'; 3_000_000];
@@ -146,7 +146,19 @@ fn nothing_long_is_flushed() {
     assert_eq!((device.output.len() > 3_000_000, device.calls, device.flushes), (true, 1, 0));
 }
 
-/// However often a device broke before, a call that is interrupted is tried as often as ever, and then given up.
+/// A reader is asked for 65,536 bytes each time, up to the last, and a writer is offered all that is left.
+#[test]
+fn as_few_calls_as_the_device_allows() {
+    let input = vec![b'#'; 1_000_000];
+    let mut device = Device::with_input(&input, []);
+    assert_eq!(read_whole(&mut Counted::new(&mut device), 1_000_000).as_deref(), Ok(&input[..]));
+    assert_eq!(device.calls, 1_000_000usize.div_ceil(65_536));
+    let mut device = Device::with_input(b"", [Does::Moves(1), INTERRUPTED, Does::Moves(500_000)]);
+    assert_eq!(write_whole(&mut Counted::new(&mut device), &input), Ok(()));
+    assert_eq!((device.output == input, device.calls), (true, 4));
+}
+
+/// However often a device failed before, an interrupted call is tried the same number of times, and then given up.
 #[test]
 fn interrupted_after_it_broke() {
     for broke in [1, 1_000] {
@@ -163,7 +175,7 @@ fn interrupted_after_it_broke() {
     }
 }
 
-/// A writer that is interrupted as often as it is tried has failed, and that is what the program says.
+/// A writer that is interrupted in every try has failed, and the program reports that.
 #[test]
 fn interrupted_too_often() {
     for (word, input, answer) in [("run", SCRIPT, ANSWER), ("replay", SCHEDULE, SHOWN)] {
@@ -182,14 +194,14 @@ fn interrupted_too_often() {
     }
 }
 
-/// The status of a program of this word, and its line of errors.
+/// Returns the status of the program with this argument, and its line of errors.
 fn status(word: &str, reader: &mut Counted<&mut Device>, writer: &mut Counted<&mut Device>) -> (u8, String) {
     let mut errors = Vec::new();
     let status = command(&[word.into()], reader, writer, &mut errors);
     (status, String::from_utf8(errors).expect("a line is a text"))
 }
 
-/// A program whose reader or writer failed before does its work; if one fails again, the program says so.
+/// A program whose reader or writer failed before does its work. If one fails again, the program reports it.
 #[test]
 fn a_program_whose_devices_failed_before() {
     for (word, input, answer) in [("run", SCRIPT, ANSWER), ("replay", SCHEDULE, SHOWN)] {
@@ -220,7 +232,7 @@ fn a_program_that_is_interrupted() {
     }
 }
 
-/// An input that ends at once is at its end, whatever comes later.
+/// An input that ends at once has ended, whatever the device would return later.
 #[test]
 fn an_empty_input_is_not_read_again() {
     for word in ["run", "replay"] {
@@ -232,7 +244,7 @@ fn an_empty_input_is_not_read_again() {
     }
 }
 
-/// The status and the line of an input that is refused for a line far down.
+/// Returns the status and the error line of an input that is refused for a line far down.
 fn refused(word: &str, input: &[u8]) -> (u8, String) {
     let (mut from, mut to) = (Device::with_input(input, []), Device::default());
     let answered = status(word, &mut Counted::new(&mut from), &mut Counted::new(&mut to));
@@ -240,7 +252,7 @@ fn refused(word: &str, input: &[u8]) -> (u8, String) {
     answered
 }
 
-/// The fault of the last line is the answer, however many lines there are before it.
+/// The fault of the last line is reported, however many lines come before it.
 #[test]
 fn faults_far_down() {
     for lines in [10usize, 65_534, 65_535, 65_536, 1_000_000] {

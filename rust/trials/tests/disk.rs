@@ -1,10 +1,11 @@
-//! The disk from inside: examples by hand, and the calls compared with plain loops over bytes.
+//! Tests the disk from inside: examples by hand, and calls compared with plain loops over bytes.
 
 use blkq::erased::blk_script::parse;
 use blkq::erased::fallible::TryClone;
+use blkq::erased::in_flight::{UniformSectors, answer_to};
 use blkq::erased::queue_limits::Limits;
 use blkq::erased::ram_disk::{Disk, DiskFault, SECTOR_BYTES, Sector, patterned, runs};
-use blkq::erased::run_desk::{UniformSectors, answer_to};
+use std::collections::BTreeSet;
 
 // The bytes of sectors, one after another.
 fn joined(sectors: &[Sector]) -> Vec<u8> {
@@ -46,20 +47,54 @@ fn patterns_are_the_plain_ones() {
     }
 }
 
-// All writes of one byte share one sector, also behind thousands of other lines.
+// All writes of one byte share one sector, whatever their length, and also after thousands of other lines.
 #[test]
 fn writes_of_one_byte_share_a_sector() {
     const BEFORE: usize = 20_000;
-    let text = format!("blkq 1\ndisk 8 hw 8\n{}write 0 3 61\nread 7 1\nwrite 4 2 61\n", "read 0 1\n".repeat(BEFORE));
+    const LONGEST: usize = 4_096;
+    let writes: String = (1..=LONGEST).map(|count| format!("write 0 {count} 61\n")).collect();
+    let text = format!("blkq 1\ndisk 4096 hw 8\n{writes}{}write 4 2 61\n", "read 0 1\n".repeat(BEFORE));
     let script = parse(text.as_bytes()).unwrap();
     let uniform = UniformSectors::of(&script).unwrap();
     let limits = Limits::start(8).unwrap();
-    let answers = [BEFORE, BEFORE + 2].map(|position| answer_to(&uniform, &script, position, limits, &[]).unwrap());
-    let places: Vec<_> = answers.iter().flat_map(|it| &it.sectors).map(|sector| sector.bytes().as_ptr()).collect();
-    assert_eq!(places, [places[0]; 5]);
+    let places = |position| {
+        let answer = answer_to(&uniform, &script, position, limits, &[]).unwrap();
+        answer.sectors.iter().map(|sector| sector.bytes().as_ptr()).collect::<Vec<_>>()
+    };
+    let first = places(0)[0];
+    for count in 1..=LONGEST {
+        assert_eq!(places(count - 1), vec![first; count]);
+    }
+    assert_eq!(places(LONGEST + BEFORE), [first; 2]);
 }
 
-// The runs of so many sectors of a pattern.
+// So do the writes of each byte, and of no other.
+#[test]
+fn each_byte_has_a_sector() {
+    let writes: String = (0..256).map(|byte| format!("write {byte} 2 {byte:02x}\n")).collect();
+    let script = parse(format!("blkq 2\ndisk 4096 hw 8\n{writes}{writes}").as_bytes()).unwrap();
+    let uniform = UniformSectors::of(&script).unwrap();
+    let limits = Limits::start(8).unwrap();
+    let answers: Vec<_> =
+        (0..512).map(|position| answer_to(&uniform, &script, position, limits, &[]).unwrap().sectors).collect();
+    let place = |position: usize| answers[position][0].bytes().as_ptr();
+    assert_eq!((0..256).map(place).collect::<BTreeSet<_>>().len(), 256);
+    assert!((0..256).all(|position| place(position) == place(position + 256)));
+}
+
+// A pattern makes each of its different sectors once: its length by the greatest common divisor with a sector's, and one if it has one byte.
+#[test]
+fn a_pattern_makes_each_sector_once() {
+    for (pattern, made) in
+        [(&[7; 5][..], 1), (&SAMPLE[..2], 1), (&SAMPLE[..3], 3), (&SAMPLE[..12], 3), (&SAMPLE[..63], 63)]
+    {
+        let sectors = patterned(pattern, 200).unwrap();
+        let places: BTreeSet<_> = sectors.iter().map(|sector| sector.bytes().as_ptr()).collect();
+        assert_eq!(places.len(), made, "a pattern of {} bytes", pattern.len());
+    }
+}
+
+// The runs of this many sectors of a pattern.
 fn runs_of_pattern(pattern: &[u8], count: u32) -> Vec<(u8, u64)> {
     runs(&patterned(pattern, count).unwrap()).unwrap()
 }
@@ -133,7 +168,7 @@ fn the_largest_disk() {
     assert_eq!(disk.all_runs().unwrap(), [(255, 2_097_152)]);
 }
 
-// How many sectors a disk of 4 shares of a range.
+// The number of sectors of a range that a disk of 4 sectors shares.
 fn count_shared(start: u64, count: u32) -> Result<usize, DiskFault> {
     let disk = Disk::new(4)?;
     Ok(disk.share(start, count)?.len())

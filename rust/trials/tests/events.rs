@@ -54,12 +54,12 @@ fn a_dropped_wait_leaves_its_wake() {
     events.notify_one();
     drop(first);
     second.wait();
-    // One that is dropped before it is woken takes no wake away.
+    // A wait that is dropped before it is woken takes no wake away.
     let (first, second) = (events.prepare_wait(), events.prepare_wait());
     drop(first);
     events.notify_one();
     second.wait();
-    // A wake of all is for all, and for none that comes later.
+    // A wake of all wakes every current waiter, and no later one.
     let keys = [events.prepare_wait(), events.prepare_wait()];
     events.notify_all();
     let later = events.prepare_wait();

@@ -1,7 +1,7 @@
 //! The running gate from inside: its sizes, its texts, the closure of a kill, and threads that count. tests/rows has its rows of
 //! calls.
 
-use blkq::erased::percpu_gate::Put::Last;
+use blkq::erased::percpu_gate::Put::{Last, NotLast};
 use blkq::erased::percpu_gate::{Control, ControlFault, ExitWhy, Gate, Pass, Start, Tried};
 use std::thread;
 
@@ -46,20 +46,42 @@ fn given_once_given_again() {
     assert_eq!((pass.put(&gate, 0, 2), pass.held()), (Last, 0));
 }
 
-/// While the closure of a kill runs, the front is stored and the initial reference still held: the gate is dying and not at zero, in
-/// either mode. The closure of a kill that is refused isn't called.
+/// While the closure of a kill runs, the odd front is stored and the initial reference still held: the gate is dying and not at zero,
+/// in either mode, of one slot and of the most, in each of its lives. The closure of a kill that is refused isn't called.
 #[test]
 fn closure_finds_the_base_held() {
-    for start in [Start::Slots, Start::Atomic] {
-        let (gate, mut control, mut passes) = Gate::<0>::new(1, 1, start, []).unwrap();
+    for (start, slots) in [(Start::Slots, 1), (Start::Slots, 512), (Start::Atomic, 1), (Start::Atomic, 512)] {
+        let (gate, mut control, mut passes) = Gate::<0>::new(slots, 1, start, []).unwrap();
         let mut pass = passes.pop().unwrap();
-        let seen = control
-            .kill_and_confirm(&gate, |front| (front == pass.front(&gate), pass.is_dying(&gate), pass.is_zero(&gate)));
-        assert_eq!(seen, Ok((Last, (true, true, false))));
-        assert!(control.is_zero(&gate));
-        let mut called = false;
-        let again = control.kill_and_confirm(&gate, |_front| called = true);
-        assert_eq!((again, called), (Err(ControlFault::AlreadyDead), false));
+        for life in 0..5 {
+            assert_eq!(pass.front(&gate), 2 * life);
+            let seen = control
+                .kill_and_confirm(&gate, |front| (front, pass.front(&gate), pass.is_dying(&gate), pass.is_zero(&gate)));
+            assert_eq!(seen, Ok((Last, (2 * life + 1, 2 * life + 1, true, false))));
+            assert!(control.is_zero(&gate));
+            let mut called = false;
+            let again = control.kill_and_confirm(&gate, |_front| called = true);
+            assert_eq!((again, called), (Err(ControlFault::AlreadyDead), false));
+            control.reinit(&gate).unwrap();
+        }
+    }
+}
+
+/// A switch to the mode that is in force moves no count: the slot tells the kill what was counted there, in each life.
+#[test]
+fn a_switch_to_the_same_mode_moves_nothing() {
+    let (gate, mut control, mut passes) = Gate::<0>::new(2, 1, Start::Slots, []).unwrap();
+    let pass = &mut passes[0];
+    for _life in 0..5 {
+        assert_eq!(pass.try_get_live(&gate, 1), Tried::Given);
+        pass.get(&gate, 1, 2);
+        control.switch_to_slots(&gate).unwrap();
+        assert_eq!(control.mark_dead(&gate), Ok(2));
+        assert_eq!([control.close_next(&gate), control.close_next(&gate)], [0, 3]);
+        control.collect(&gate);
+        control.confirm(&gate);
+        assert_eq!((control.drop_base(&gate), pass.put(&gate, 1, 3)), (NotLast, Last));
+        control.reinit(&gate).unwrap();
     }
 }
 

@@ -1,5 +1,5 @@
-//! No clause says of a run that its threads work at the same time, or that it drains through the queue. These runs are held at
-//! their points.
+//! Tests, on runs that are held at their points, that the threads of a run work at the same time, and that it drains through the
+//! queue. No clause says so.
 
 use blkq::erased::blk_workers::{Point, Stall};
 use std::sync::atomic::{AtomicBool, AtomicU32, Ordering::SeqCst};
@@ -12,12 +12,14 @@ mod both_texts;
 mod meeting;
 
 use both_texts::both_texts;
-use meeting::{ended, hold_for, is_met_within};
+use meeting::{ended, is_met_within};
 
 /// Two writes, a drain, and a read of both.
-const WRITTEN_THEN_READ: &[u8] = b"blkq 1\ndisk 4 hw 4\nwrite 0 1 01\nwrite 1 1 02\nfreeze\nthaw\nread 0 2\n";
+const WRITTEN_THEN_READ: &str = "blkq 1\ndisk 4 hw 4\nwrite 0 1 01\nwrite 1 1 02\nfreeze\nthaw\nread 0 2\n";
+const OF_WRITTEN_THEN_READ: &str =
+    "3 ok 1\n4 ok 1\n5 depth 1\n6 depth 0\n7 ok 2 01*512,02*512\ndisk 01*512,02*512,00*1024\n";
 
-/// Two requests that overlap in nothing.
+/// Two requests that don't overlap.
 const TWO: &str = "blkq 1\ndisk 2 hw 1\nwrite 0 1 61\nwrite 1 1 62\n";
 const OF_TWO: &str = "3 ok 1\n4 ok 1\ndisk 61*512,62*512\n";
 
@@ -27,16 +29,19 @@ const MEETING: u32 = 100_000_000;
 /// The turns for which a request is held before a drain.
 const HELD: u32 = 1_000_000;
 
+/// The turns for which any one request is held at any one point.
+const HELD_ANYWHERE: u32 = 10_000;
+
 /// The last request overlaps the one before it, and waits for a drain.
 const ORDERED: &[u8] = b"blkq 2\ndisk 8 hw 8\nread 0 4\nread 2 4\nwrite 6 1 ff\nread 6 2\n";
 
-// Runs a script on two workers. Whether its text is the one of a single thread.
+// Runs a script on two workers. Returns whether its text is that of a single thread.
 fn agrees(text: &[u8], tags: u32, stall: &impl Stall) -> bool {
     let [out, wanted] = both_texts(text, [2, 2, tags], stall);
     out == wanted
 }
 
-/// Holds each request, once drawn, until the other is, and notes one that met none in all its turns.
+/// Holds each drawn request until the other is drawn, and notes a request that met none in all its turns.
 struct Meets {
     drawn: AtomicU32,
     alone: AtomicBool,
@@ -54,7 +59,7 @@ impl Stall for Meets {
     }
 }
 
-// If one worker alone draws, it is held for all these turns.
+// If only one worker draws, it is held for all these turns.
 #[test]
 fn two_at_once() {
     let meets = Meets { drawn: AtomicU32::new(0), alone: AtomicBool::new(false) };
@@ -64,7 +69,21 @@ fn two_at_once() {
     assert!(!meets.alone.load(SeqCst));
 }
 
-/// Holds a request at a point for so many turns, and notes a drain that comes before.
+// Requests of the greatest size meet too, whatever they do and in either mode.
+#[test]
+fn two_great_ones_at_once() {
+    for mode in ["slots", "atomic"] {
+        for [first, second] in [["read", "read"], ["read", "write"], ["write", "read"], ["write", "write"]] {
+            let line = |word, start| format!("{word} {start} 2048{}\n", if word == "write" { " 61" } else { "" });
+            let text = format!("blkq 1\ndisk 4096 hw 65535\nmode {mode}\n{}{}", line(first, 0), line(second, 2048));
+            let meets = Meets { drawn: AtomicU32::new(0), alone: AtomicBool::new(false) };
+            assert!(agrees(text.as_bytes(), 2, &meets));
+            assert!(!meets.alone.load(SeqCst), "{text}");
+        }
+    }
+}
+
+/// Holds a request at a point for this many turns, and notes a drain that comes before.
 struct Holds {
     number: u32,
     point: Point,
@@ -96,7 +115,7 @@ fn freeze_waits() {
     assert!(drains_after(text.as_bytes(), 0, Point::Drawn));
 }
 
-// Each drain, the end's too, goes through the queue: a completion that is queued isn't enough.
+// Each drain, the last one too, goes through the queue: a queued completion isn't enough.
 #[test]
 fn every_drain_waits_for_the_tag() {
     for (version, last) in [
@@ -121,7 +140,7 @@ fn ordered_requests_wait() {
     }
 }
 
-/// Holds one request at one point for a while.
+/// Holds one request at one point for some turns.
 struct HoldsOne {
     number: u32,
     point: Point,
@@ -130,7 +149,7 @@ struct HoldsOne {
 impl Stall for HoldsOne {
     fn at(&self, number: u32, point: Point) {
         if (number, point) == (self.number, self.point) {
-            hold_for(10_000);
+            is_met_within(HELD_ANYWHERE, || false);
         }
     }
 }
@@ -139,13 +158,14 @@ impl Stall for HoldsOne {
 fn whoever_is_held() {
     for number in 0..3 {
         for point in [Point::Entered, Point::Drawn, Point::Answered] {
-            let holds = HoldsOne { number, point };
-            assert!(agrees(WRITTEN_THEN_READ, 3, &holds), "{number}");
+            let [out, wanted] = both_texts(WRITTEN_THEN_READ.as_bytes(), [2, 2, 3], &HoldsOne { number, point });
+            assert_eq!(String::from_utf8_lossy(&out), OF_WRITTEN_THEN_READ, "request {number} at {point:?}");
+            assert_eq!(out, wanted);
         }
     }
 }
 
-/// Holds each request for a while as it has entered, and notes one that is drawn before that is over.
+/// Holds each request for a while after it entered, and notes a request that is drawn before that is over.
 struct EntersFirst {
     entered: AtomicU32,
     early: AtomicBool,
@@ -173,7 +193,7 @@ fn each_request_is_held_before_it_is_pushed() {
     assert!(!first.early.into_inner());
 }
 
-/// Holds the request that enters after so many, until all before it are answered.
+/// Holds the request that enters after this many, until all before it are answered.
 struct FillsUp {
     before: u32,
     answered: AtomicU32,
@@ -192,7 +212,7 @@ impl Stall for FillsUp {
     }
 }
 
-// One completion more is in its queue than there are tags, while the submitting thread waits for the drain. Without room for it the
+// While the submitting thread waits for the drain, the queue of completions has one more than there are tags. Without room for it the
 // worker would wait for room, and the drain for the worker.
 #[test]
 fn one_completion_more_than_tags() {

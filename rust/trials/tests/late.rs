@@ -1,5 +1,5 @@
-//! A run behind thousands of requests: how many are in flight, if a held one holds up others, and when it passes `Drained`. No
-//! contract says this.
+//! Tests a run after thousands of requests: how many are in flight, whether a held request delays others, and when the run passes `Drained`.
+//! No contract says this.
 
 use blkq::erased::blk_script::{Checked, Script, parse, push_disk, run_alone};
 use blkq::erased::blk_workers::{Config, NoStall, Point, Stall, run, run_checked};
@@ -70,33 +70,48 @@ fn all_tags_serve_behind_thousands_of_requests() {
     assert!(!late.is_drained_early.into_inner(), "Drained is told before a tag left");
 }
 
-/// Holds request 1 at `Drawn` until request 2 is drawn.
+/// Holds each request but the first and the last at `Drawn` until the last is drawn.
 #[derive(Default)]
 struct Beside {
-    is_second_drawn: AtomicBool,
+    last: u32,
+    is_last_drawn: AtomicBool,
     is_alone: AtomicBool,
 }
 
 impl Stall for Beside {
     fn at(&self, number: u32, point: Point) {
-        match (number, point) {
-            (2, Point::Drawn) => self.is_second_drawn.store(true, SeqCst),
-            (1, Point::Drawn) => {
-                let is_alone = !is_met(|| self.is_second_drawn.load(SeqCst));
-                self.is_alone.store(is_alone, SeqCst);
-            }
-            _ => {}
+        if point != Point::Drawn || number == 0 {
+            return;
+        }
+        if number == self.last {
+            self.is_last_drawn.store(true, SeqCst);
+        } else if !is_met(|| self.is_last_drawn.load(SeqCst) || self.is_alone.load(SeqCst)) {
+            self.is_alone.store(true, SeqCst);
         }
     }
 }
 
-/// With two tags the third request is submitted once the first completes, though the second is held.
+/// One request more than there are tags is submitted once the first completes, although all others are held.
 #[test]
 fn a_held_request_holds_no_other_up() {
-    let script = script("blkq 1\ndisk 1 hw 1\nread 0 1\nread 0 1\nread 0 1\n");
-    let beside = Beside::default();
-    run_checked(&Checked::of(&script).unwrap(), Config::new(2, 3, 2).unwrap(), &beside).unwrap();
-    assert!(!beside.is_alone.into_inner());
+    for tags in [2, 3, 8, 32] {
+        let script = script(&format!("blkq 1\ndisk 1 hw 1\n{}", "read 0 1\n".repeat(tags as usize + 1)));
+        let beside = Beside { last: tags, ..Beside::default() };
+        run_checked(&Checked::of(&script).unwrap(), Config::new(tags, 3, tags).unwrap(), &beside).unwrap();
+        assert!(!beside.is_alone.into_inner(), "{tags} tags");
+    }
+}
+
+/// There is memory for the replies behind one that is owed.
+#[test]
+fn very_many_replies_behind_one_that_is_owed() {
+    for behind in ["read 1 1\n", "write 1 1 01\n", "thaw\n", "mode slots\n"] {
+        let script = script(&format!("blkq 1\ndisk 1 hw 1\nread 0 1\n{}", behind.repeat(60_000)));
+        let ran = run(&script, Config::new(2, 2, 2).unwrap(), &NoStall).unwrap();
+        let mut out = ran.replies;
+        push_disk(&mut out, &ran.disk).unwrap();
+        assert!(out == run_alone(&script).unwrap(), "{behind}");
+    }
 }
 
 /// `run` checks the script itself, and replies as one thread does.
@@ -141,11 +156,12 @@ impl Passed {
     }
 }
 
-/// There is memory for the most requests, each is counted and passes each point, and each drain tells how many were accepted before it.
+/// There is memory for the most requests, and for a great one of many pieces behind them. Each is counted and passes each point, and each
+/// drain tells how many were accepted before it.
 #[test]
 fn the_longest_run_of_a_script_replies_as_one_thread() {
     let reads = "read 0 1\n".repeat(116_000);
-    let script = script(&format!("blkq 1\ndisk 1 hw 1\n{reads}stat\nread 0 1\n"));
+    let script = script(&format!("blkq 1\ndisk 4096 hw 1\n{reads}stat\nread 0 4096\n"));
     let passed = Passed::default();
     let ran = run(&script, Config::new(3, 2, 5).unwrap(), &passed).unwrap();
     let mut out = ran.replies;

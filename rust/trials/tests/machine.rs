@@ -1,5 +1,5 @@
-//! The gate's machine from inside: schedules that are cut anywhere, numbers that no text has, the words of slots, and what a world
-//! and a schedule return. tests/rows has the rows of schedules.
+//! Tests the gate's machine from inside: schedules that are split anywhere, numbers that no text can have, the words of slots, and what a
+//! world and a schedule return. tests/rows has the rows of schedules.
 
 use blkq::erased::gate_replay::parse_schedule;
 use blkq::erased::percpu_core::ControlEvent::{AddBias, Close, Collect, OpenNext, StoreWord, TakeBase};
@@ -59,7 +59,7 @@ fn the_greatest_world() {
     refuses(&mut world, &[Pass(1_023, Look(512))], NotEnabled::NoSuchSlot);
 }
 
-/// The last of these events is refused for this, and no other is.
+/// Only the last of these events is refused, for this reason.
 fn refuses(world: &mut World, events: &[Event], why: NotEnabled) {
     let at = events.len() - 1;
     assert_eq!(replay(world, events).unwrap_err(), ReplayFault::Stuck { at, why }, "{events:?}");
@@ -109,7 +109,7 @@ fn a_world_has_its_words() {
     assert_eq!((world.word(0), world.word(1)), (7, 9));
 }
 
-/// More pairs of steps than a schedule's text has room for: each step has its reply, and one behind them isn't enabled.
+/// More pairs of steps than a schedule's text has room for: each step has its reply, and the step after them isn't enabled.
 #[test]
 fn very_many_steps() {
     let mut world = World::new(1, 1, Start::Atomic, &[]).unwrap();

@@ -1,4 +1,4 @@
-//! Very many runs in one process. It measures the process, so it is the only test here.
+//! Makes very many runs in one process. It measures the process, so it is the only test here.
 
 use blkq::erased::blk_workers::{Config, NoStall};
 use blkq::erased::blkq_run::run_bytes;

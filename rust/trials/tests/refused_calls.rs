@@ -1,9 +1,12 @@
-//! Calls that are refused memory: each allocation of a call alone, and all from each on. The call answers Memory then, or what it
-//! answers if memory suffices, and what there was is as before.
-//! (This program's allocator is its own, which refuses and counts on one thread, so it has `unsafe`.)
+//! Refuses memory to calls: each allocation of a call alone, and each with all later ones. The call then returns Memory, or its usual
+//! result, and everything else is as before.
+//! (This program has its own allocator, which refuses and counts on one thread, so it has `unsafe`.)
 #![allow(unsafe_code)]
 
 use blkq::erased::blk_script::{ScriptFault, check, parse, run_alone};
+use blkq::erased::blk_workers::{Config, MOST_SLOTS, Point, Stall};
+use blkq::erased::blkq_run::run_bytes;
+use blkq::erased::counted_io::Counted;
 use blkq::erased::freeze_queue::{BlockQueue, Limits, MOST_TAGS};
 use blkq::erased::percpu_core::ControlEvent::MarkDead;
 use blkq::erased::percpu_core::Event::{Control, Pass};
@@ -11,14 +14,15 @@ use blkq::erased::percpu_core::PassEvent::AddTry;
 use blkq::erased::percpu_core::{Memory, ReplayFault, Reply, Start, World, replay};
 use blkq::erased::percpu_gate::Gate;
 use blkq::erased::ram_disk::{Disk, DiskFault, patterned, runs};
+use std::sync::atomic::{AtomicI64, Ordering::SeqCst};
 
 #[path = "shared/refused_thread.rs"]
 mod refused_thread;
-use refused_thread::{ALLOWED, BLOCKS, IS_ONE};
+use refused_thread::{ALLOWED, BLOCKS, BYTES, IS_ONE};
 
-/// Makes these calls with their first allocation refused, then anew with the second, until no more is asked for; and the same with
-/// all from each on refused. `calls` answers whether all of them had memory, and each time all memory is given back. How many
-/// allocations there are.
+/// Makes these calls with their first allocation refused, then again with the second, until there are no more; and the same with
+/// all later ones refused too. `calls` returns whether all of them had memory. Each time all memory is freed. Returns the number of
+/// allocations.
 fn refuse_each(calls: impl Fn() -> bool) -> u64 {
     let [one, all] = [true, false].map(|is_one| {
         for allowed in 0.. {
@@ -28,7 +32,7 @@ fn refuse_each(calls: impl Fn() -> bool) -> u64 {
             let succeeded = calls();
             let left = ALLOWED.replace(None);
             assert_eq!(BLOCKS.get(), blocks, "a block is left");
-            // The one allocation was refused only if none is counted any more.
+            // The allocation was refused only if none is counted any more.
             if if is_one { left.is_some() } else { succeeded } {
                 assert!(succeeded, "a refusal where there is memory");
                 return allowed;
@@ -42,7 +46,7 @@ fn refuse_each(calls: impl Fn() -> bool) -> u64 {
 
 fn is_for_threads<T: Send + Sync>(_value: &T) {}
 
-/// Whether this number of runs was counted, and not refused for want of memory.
+/// Whether this number of runs was counted, and Memory wasn't returned.
 fn has_runs(counted: Result<Vec<(u8, u64)>, DiskFault>, expected: usize) -> bool {
     match counted {
         Ok(runs) => assert_eq!(runs.len(), expected),
@@ -149,7 +153,7 @@ fn want_of_memory_for_a_queue() {
     assert!(asked > 0);
 }
 
-/// Lines of every kind, and what a run on one thread writes of them.
+/// Lines of every kind, and what a run on one thread writes for them.
 const EVERY_KIND: &[u8] = b"blkq 1\ndisk 4 hw 2\nwrite 0 3 61\nread 3 1\nfreeze\nread 0 1\nthaw\nset max_sectors 1\n\
     set chunk_sectors 65536\nwrite 2 2 00\nmode atomic\nread 4 1\nstat\nremove\nthaw\n";
 
@@ -176,4 +180,31 @@ fn want_of_memory() {
         }
     });
     assert!(asked > 10);
+}
+
+/// Notes the bytes that the submitting thread has in use once its request has entered.
+struct InUse(AtomicI64);
+
+impl Stall for InUse {
+    fn at(&self, _number: u32, point: Point) {
+        if point == Point::Entered {
+            self.0.store(BYTES.get(), SeqCst);
+        }
+    }
+}
+
+/// A run has as many slots as are asked for, which its memory alone shows: a queue takes 128 bytes for each.
+#[test]
+fn a_run_has_its_slots() {
+    let taken = |slots: u32| {
+        let (before, in_use) = (BYTES.get(), InUse(AtomicI64::new(0)));
+        let mut reader = Counted::new(b"blkq 1\ndisk 1 hw 1\nread 0 1\n".as_slice());
+        let config = Config::new(1, slots, 1).unwrap();
+        run_bytes(&mut reader, &mut Counted::new(&mut Vec::new()), config, &in_use).unwrap();
+        in_use.0.into_inner() - before
+    };
+    let least = taken(1);
+    for slots in 1..=MOST_SLOTS {
+        assert_eq!(taken(slots) - least, 128 * i64::from(slots - 1), "{slots} slots");
+    }
 }

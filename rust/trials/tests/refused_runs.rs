@@ -1,10 +1,10 @@
-//! Whole runs with one allocation refused after another. Each run answers `memory` or `thread`, or completes if it didn't need
-//! the memory, frees its blocks, and has drained the queue after the last request that entered. Whatever it is refused, it isn't begun
-//! again: no request is at a point twice, and the input is read to its end once.
+//! Runs whole scripts with each allocation refused in turn. Each run answers `memory` or `thread`, or completes if it didn't need
+//! the memory. It frees its blocks, and has drained the queue after the last request that entered. It isn't begun
+//! again: no request passes a point twice, and the input is read to its end once.
 //!
 //! Each run is a process of its own, since std aborts if memory for a thread is refused. The test counts these aborts, and checks
 //! that each is of a size that std asks for: no allocation of the erased code may abort.
-//! (This program's allocator is its own, which refuses and counts, so it has `unsafe`.)
+//! (This program has its own allocator, which refuses and counts, so it has `unsafe`.)
 #![allow(unsafe_code)]
 
 use blkq::erased::blk_workers::{Config, Point, Stall};
@@ -29,7 +29,7 @@ static LEFT: AtomicI64 = AtomicI64::new(i64::MAX);
 static BLOCKS: AtomicI64 = AtomicI64::new(0);
 /// Threads of a run.
 const WORKERS: u32 = 2;
-/// The most bytes that std asks for at once for a thread: 104 in Rust 1.85.
+/// The largest allocation of std for a thread: 104 bytes in Rust 1.85.
 const MOST_OF_STD: usize = 104;
 
 /// Whether this allocation is the one that is refused.
@@ -38,12 +38,13 @@ fn is_refused() -> bool {
 }
 
 #[global_allocator]
-static ALLOCATOR: Refusing = Refusing { is_refused, count: |more| _ = BLOCKS.fetch_add(more, Ordering::Relaxed) };
+static ALLOCATOR: Refusing =
+    Refusing { is_refused, count: |blocks, _bytes| _ = BLOCKS.fetch_add(blocks, Ordering::Relaxed) };
 
-/// The most requests of an example.
+/// Maximum number of requests of an example.
 const REQUESTS: usize = 200;
 
-/// How a run passes its points. It holds no request, so the submitting thread may do some, if `helps` says so.
+/// How a run passes its points.
 struct Points {
     /// Whether a request entered after the last drain.
     is_open: AtomicBool,
@@ -51,13 +52,12 @@ struct Points {
     is_miscounted: AtomicBool,
     /// How often each request entered, was drawn and was answered.
     passed: [[AtomicU32; REQUESTS]; 3],
-    helps: bool,
 }
 
 impl Points {
-    fn new(helps: bool) -> Points {
+    fn new() -> Points {
         let passed = [(); 3].map(|()| [(); REQUESTS].map(|()| AtomicU32::new(0)));
-        Points { is_open: AtomicBool::new(false), is_miscounted: AtomicBool::new(false), passed, helps }
+        Points { is_open: AtomicBool::new(false), is_miscounted: AtomicBool::new(false), passed }
     }
 
     fn drained(&self, number: u32) {
@@ -94,10 +94,6 @@ impl Stall for Points {
         }
         self.passed[place][number as usize].fetch_add(1, Ordering::SeqCst);
     }
-
-    fn may_hold(&self) -> bool {
-        !self.helps
-    }
 }
 
 /// An input that comes whole, and counts how often it is read.
@@ -114,10 +110,10 @@ impl Read for Feed<'_> {
 }
 
 /// Runs an example into this room: the number of its fault, if it is refused.
-fn answer(example: &Path, input: &[u8], room: &mut [u8], helps: bool) -> Result<(), u8> {
+fn answer(example: &Path, input: &[u8], room: &mut [u8]) -> Result<(), u8> {
     let mut feed = Feed { rest: input, reads: 0 };
     let (mut reader, mut writer) = (Counted::new(&mut feed), Counted::new(room));
-    let points = Points::new(helps);
+    let points = Points::new();
     let answered = match kind_of(example) {
         "gate" => replay_bytes(&mut reader, &mut writer).map(drop).map_err(number),
         _ => {
@@ -152,13 +148,13 @@ fn number(fault: blkq_run::Fault) -> u8 {
 
 /// One run, with the allocation refused that comes after so many. It ends with 0 and the count of allocations, or with the
 /// number of what is refused; with `WRONG` if a block is left or another text is written.
-fn one_run(example: &Path, allowed: i64, helps: bool) -> u8 {
+fn one_run(example: &Path, allowed: i64) -> u8 {
     let input = read(example).unwrap();
     let wanted = read(example.with_extension("answer")).unwrap();
     let mut room = vec![0; wanted.len() + 1];
     let blocks = BLOCKS.load(Ordering::SeqCst);
     LEFT.store(allowed, Ordering::SeqCst);
-    let answered = answer(example, &input, &mut room, helps);
+    let answered = answer(example, &input, &mut room);
     let asked = allowed - LEFT.swap(i64::MAX, Ordering::SeqCst);
     // A thread of a scope that is over may still be about to free what std took for it.
     for _ in 0..60_000 {
@@ -196,10 +192,10 @@ fn fault_of(status: Option<i32>, said: &str) -> (Option<String>, bool) {
 }
 
 /// Runs an example with each of its allocations refused. Returns how often std aborted.
-fn each_refused(example: &Path, helps: bool) -> u32 {
+fn each_refused(example: &Path) -> u32 {
     let run = |allowed: i64| {
         let mut command = Command::new(current_exe().unwrap());
-        command.args(["--one", example.to_str().unwrap(), &allowed.to_string(), &helps.to_string()]).output().unwrap()
+        command.args(["--one", example.to_str().unwrap(), &allowed.to_string()]).output().unwrap()
     };
     let all = run(i64::MAX / 2);
     assert_eq!(all.status.code(), Some(0), "{example:?} with nothing refused");
@@ -218,7 +214,7 @@ fn each_refused(example: &Path, helps: bool) -> u32 {
 fn main() {
     let words: Vec<String> = args().collect();
     if words.get(1).is_some_and(|word| word == "--one") {
-        exit(one_run(Path::new(&words[2]), words[3].parse().unwrap(), words[4].parse().unwrap()).into());
+        exit(one_run(Path::new(&words[2]), words[3].parse().unwrap()).into());
     }
     let here = Path::new(env!("CARGO_MANIFEST_DIR"));
     let folders = [here.join("../../examples"), here.join("tests/refused")];
@@ -228,11 +224,9 @@ fn main() {
     for example in &examples {
         let kind = kind_of(example);
         if matches!(kind, "blkq" | "gate") {
-            for helps in if kind == "blkq" { &[false, true][..] } else { &[false] } {
-                let aborts = each_refused(example, *helps);
-                // For a thread std allocates up to 4 blocks (a handle, a packet, a closure and its box), for all of them a scope.
-                assert!(aborts <= if kind == "blkq" { 4 * WORKERS + 1 } else { 0 }, "{example:?}: {aborts}");
-            }
+            let aborts = each_refused(example);
+            // For a thread std allocates up to 5 blocks (its scope, a handle, a packet, a closure and its box), and a scope for the submitter.
+            assert!(aborts <= if kind == "blkq" { 5 * WORKERS + 1 } else { 0 }, "{example:?}: {aborts}");
         }
     }
 }

@@ -1,22 +1,21 @@
-//! Limits whose max only rises, under threads that enter, read them and leave.
+//! Tests limits whose max only rises, while threads enter, read them and leave.
 
 use blkq::erased::freeze_queue::{BlockQueue, Final, Freezer, Limits, Mode, Tag};
 use std::thread;
 use trials::erased::uses::change_limits;
 
-/// The most sectors that the hardware takes, and the greatest max that is set.
+/// The hardware's maximum, and the greatest max that is set.
 const HARDWARE: u32 = 1_024;
 const GREATEST: u32 = 1_000;
 
-/// The limits of this max. The chunk is as long, and a physical block has 2 sectors if max is even, else 1.
+/// The limits with this max. The chunk is equal to it, and a physical block has 2 sectors if max is even, otherwise 1.
 fn limits_of(max: u32) -> Limits {
     let mut limits = Limits::new(HARDWARE, max, max).expect("limits");
     limits.set_physical(2 - max % 2).expect("a power of two");
     limits
 }
 
-/// Enters, reads the limits twice and leaves, so many times. Both reads are equal and of one setting, and no max is less than the
-/// one before it.
+/// Enters, reads the limits twice and leaves, this many times. Both reads are equal and of one setting, and max never decreases.
 fn read_rounds(queue: &BlockQueue, tag: &mut Tag, slot: u32) {
     let mut last = 0;
     for _ in 0..1_000 {
@@ -30,7 +29,7 @@ fn read_rounds(queue: &BlockQueue, tag: &mut Tag, slot: u32) {
     }
 }
 
-/// Sets max to 2, 3 and so on, and switches the mode before each if it is to. How many were set.
+/// Sets max to 2, 3 and so on, and switches the mode before each if asked. Returns the number of settings.
 fn raise(queue: &BlockQueue, freezer: &mut Freezer, switches: bool) -> u32 {
     let mut done = 0;
     for max in 2..=GREATEST {

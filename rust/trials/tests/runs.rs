@@ -125,22 +125,12 @@ fn whatever_overlaps() {
     }
 }
 
-/// Spins at points for turns that look random, and yields at one of eight. It waits for no other thread, so the submitting thread may
-/// do requests too, if `helps` says so.
-struct Dallies {
-    seed: AtomicU32,
-    helps: bool,
-}
-
-impl Dallies {
-    fn new(helps: bool) -> Dallies {
-        Dallies { seed: AtomicU32::new(1), helps }
-    }
-}
+/// Spins at points for turns that look random, and yields at one of eight.
+struct Dallies(AtomicU32);
 
 impl Stall for Dallies {
     fn at(&self, _number: u32, _point: Point) {
-        let seed = self.seed.fetch_add(2_654_435_769, SeqCst);
+        let seed = self.0.fetch_add(2_654_435_769, SeqCst);
         for _ in 0..(seed >> 16) % 512 {
             hint::spin_loop();
         }
@@ -148,26 +138,19 @@ impl Stall for Dallies {
             pause();
         }
     }
-
-    fn may_hold(&self) -> bool {
-        !self.helps
-    }
 }
 
 #[test]
 fn whatever_the_schedule() {
-    for helps in [false, true] {
-        let dallies = Dallies::new(helps);
-        for _ in 0..2_000 {
-            agrees(MIXED, 4, 3, &dallies);
-        }
+    let dallies = Dallies(AtomicU32::new(1));
+    for _ in 0..4_000 {
+        agrees(MIXED, 4, 3, &dallies);
     }
 }
 
-/// Small requests in a row, which the submitting thread does itself, between large ones, which wake workers: each number of tags, and
-/// of small requests before a large one, a drain or the end.
+/// Small requests in a row between large ones: each number of tags, and of small requests before a large one, a drain or the end.
 #[test]
-fn whoever_does_small_requests() {
+fn small_requests_between_large_ones() {
     for tags in 1..=4 {
         for small in 0..10 {
             let mut text = String::from("blkq 2\ndisk 64 hw 8\n");
@@ -178,7 +161,7 @@ fn whoever_does_small_requests() {
                 text.push_str(["write 20 40 ab\n", "read 20 40\n", "stat\n", "set max_sectors 3\n"][round % 4]);
             }
             for workers in [1, 3] {
-                let dallies = Dallies::new(true);
+                let dallies = Dallies(AtomicU32::new(1));
                 for _ in 0..20 {
                     agrees(&text, workers, tags, &dallies);
                 }

@@ -1,5 +1,5 @@
-//! A thread that waits at a queue is woken, once, by what it waits for. How a freezer is shared, and two queues that are frozen
-//! together.
+//! Tests that a thread which waits at a queue is woken, once, by the event that it waits for. Also tests sharing a freezer, and freezing two
+//! queues together.
 
 use blkq::erased::freeze_queue::{BlockQueue, Enter, FreezeFault, Freezer, Limits, Put, SharedFreezer, Stay, Tag};
 use std::sync::atomic::{AtomicU64, Ordering::SeqCst};
@@ -13,7 +13,7 @@ mod turns;
 use texts::texts_of;
 use turns::{insist, until, wait_for};
 
-/// How long the other thread is given to fall asleep.
+/// The time for the other thread to fall asleep.
 const PAUSE: Duration = Duration::from_millis(20);
 
 /// A queue of one slot for a device of 8 sectors, its freezer and its tag.
@@ -29,7 +29,7 @@ fn with_one_entered() -> (BlockQueue, Freezer, Tag) {
     (queue, freezer, tag)
 }
 
-/// A freezer sleeps until the one tag that is in has left, by a call: what the freeze and that call answer.
+/// A freezer sleeps until the one entered tag has left by this call. Returns the results of the freeze and of the call.
 fn freezes_beside<T>(leaves: impl FnOnce(&BlockQueue, &mut Tag) -> T) -> (Result<u32, FreezeFault>, T) {
     let (queue, mut freezer, mut tag) = with_one_entered();
     assert_eq!(freezer.start_freeze(&queue), Ok(1));
@@ -46,7 +46,7 @@ fn the_last_leaver_wakes_the_freezer() {
     assert_eq!(freezes_beside(|queue, tag| queue.leave(tag, 0)), (Ok(2), Put::Last));
 }
 
-/// A tag that would stay leaves a frozen queue: as the last to leave it wakes the freezer.
+/// A tag that asks to stay leaves a frozen queue. As the last to leave it wakes the freezer.
 #[test]
 fn a_stay_that_is_last_wakes_the_freezer() {
     assert_eq!(freezes_beside(|queue, tag| queue.stay(tag, 0)), (Ok(2), Stay::Left(Put::Last)));
@@ -73,33 +73,45 @@ fn the_last_thaw_wakes_submitters() {
     assert_eq!(shared.into_inner().freezer.depth(), 0);
 }
 
-/// Reads the depth under the lock, until the queue is frozen.
-fn wait_until_frozen(shared: &SharedFreezer<'_>) {
-    until(|| shared.lock().freezer.depth() > 0);
+/// Reads the depth under the lock, until it is more than this.
+fn wait_until_frozen(shared: &SharedFreezer<'_>, depth: u32) {
+    until(|| shared.lock().freezer.depth() > depth);
 }
 
-/// While a shared freezer waits for a drain other threads read its depth, also the one with the tag that it waits for.
+/// While a shared freezer waits for a drain, other threads can read its depth, even the thread with the tag that it waits for, in a first
+/// freeze and in nested ones.
 #[test]
 fn the_depth_is_read_while_a_freeze_waits() {
-    let (queue, freezer, mut tag) = with_one_entered();
-    let shared = SharedFreezer::new(freezer, &queue);
-    let (frozen, put) = thread::scope(|scope| {
-        let freezes = scope.spawn(|| shared.freeze().map(|guard| guard.freezer.depth()));
-        wait_until_frozen(&shared);
-        let put = queue.leave(&mut tag, 0);
-        (freezes.join().expect("a freeze that ends"), put)
-    });
-    assert_eq!((frozen, put), (Ok(1), Put::Last));
+    for before in 0..3 {
+        let (queue, mut freezer, mut tag) = with_one_entered();
+        for depth in 1..=before {
+            assert_eq!(freezer.start_freeze(&queue), Ok(depth));
+        }
+        let shared = SharedFreezer::new(freezer, &queue);
+        let (frozen, put) = thread::scope(|scope| {
+            let freezes = scope.spawn(|| shared.freeze().map(|guard| guard.freezer.depth()));
+            let read = scope.spawn(|| {
+                wait_until_frozen(&shared, before);
+                thread::sleep(PAUSE);
+                shared.lock().freezer.depth()
+            });
+            until(|| read.is_finished());
+            insist(read.join().is_ok_and(|depth| depth == before + 1), "the depth changes in a wait");
+            let put = queue.leave(&mut tag, 0);
+            (freezes.join().expect("a freeze that ends"), put)
+        });
+        assert_eq!((frozen, put), (Ok(before + 1), Put::Last));
+    }
 }
 
-/// A thaw by another thread ends the wait for a drain, which is refused then.
+/// A thaw by another thread ends the wait for a drain, which then returns a refusal.
 #[test]
 fn a_thaw_ends_the_wait_for_a_drain() {
     let (queue, freezer, _tag) = with_one_entered();
     let shared = SharedFreezer::new(freezer, &queue);
     let (frozen, thawed) = thread::scope(|scope| {
         let freezes = scope.spawn(|| shared.freeze().map(|guard| guard.freezer.depth()));
-        wait_until_frozen(&shared);
+        wait_until_frozen(&shared, 0);
         thread::sleep(PAUSE);
         let thawed = thaw(&shared);
         (freezes.join().expect("a freeze that ends"), thawed)
@@ -111,22 +123,29 @@ fn a_thaw_ends_the_wait_for_a_drain() {
 #[test]
 fn a_live_queue_is_not_waited_for() {
     let (queue, mut freezer, _tag) = with_one_tag();
-    assert_eq!(freezer.wait_drained(&queue), Err(FreezeFault::NotFrozen));
+    let refused = thread::scope(|scope| {
+        let waits = scope.spawn(|| freezer.wait_drained(&queue));
+        until(|| waits.is_finished());
+        waits.join().expect("a wait that ends")
+    });
+    assert_eq!(refused, Err(FreezeFault::NotFrozen));
     let shared = SharedFreezer::new(freezer, &queue);
     assert_eq!(shared.wait_drained().err(), Some(FreezeFault::NotFrozen));
 }
 
-/// To share a freezer, to lock it and to take it back changes nothing, and it stays the freezer of its queue.
+/// Sharing a freezer, locking it, waiting for a drain that is over and taking it back change nothing, and it stays the freezer of its queue.
 #[test]
 fn a_shared_freezer_is_as_it_was() {
     let (queue, mut freezer, mut tag) = with_one_tag();
-    let narrow = Limits::new(8, 4, 0).expect("limits");
+    let mut narrow = Limits::new(8, 4, 2).expect("limits");
+    narrow.set_physical(4).expect("a power of two");
     let shown = |freezer: &Freezer| (freezer.depth(), freezer.limits());
     assert_eq!([freezer.start_freeze(&queue), freezer.start_freeze(&queue)], [Ok(1), Ok(2)]);
     assert_eq!(freezer.set(&queue, narrow), Ok(()));
     let shared = SharedFreezer::new(freezer, &queue);
     for _ in 0..2 {
         assert_eq!(shown(&shared.lock().freezer), (2, narrow));
+        assert_eq!(shared.wait_drained().map(|guard| shown(&guard.freezer)), Ok((2, narrow)));
     }
     let mut pair = shared.into_inner();
     assert_eq!(shown(&pair.freezer), (2, narrow));
@@ -135,7 +154,7 @@ fn a_shared_freezer_is_as_it_was() {
     assert_eq!(queue.limits(&mut tag), narrow);
 }
 
-/// Two queues that are frozen together are drained each by its own tag, here the one that was frozen first before the other.
+/// Two queues that are frozen together are each drained by their own tag; here the queue that was frozen first drains first.
 #[test]
 fn the_first_frozen_drains_first() {
     let mut both = [with_one_entered(), with_one_entered()];
@@ -151,7 +170,7 @@ fn the_first_frozen_drains_first() {
     assert!(other_freezer.poll_drained(second));
 }
 
-/// The same if the one that was frozen last drains first, while the freezer waits for the other.
+/// The same if the queue that was frozen last drains first, while the freezer waits for the other.
 #[test]
 fn the_last_frozen_drains_first() {
     let (first, mut freezer, mut tag) = with_one_entered();
@@ -172,8 +191,12 @@ fn the_last_frozen_drains_first() {
 }
 
 #[test]
-fn faults_have_texts() {
+fn faults_have_numbers_and_texts() {
     use FreezeFault::{DepthFull, NotDrained, NotFrozen, TagsOut, WornOut};
-    let texts = texts_of([DepthFull, NotFrozen, NotDrained, TagsOut(2), WornOut]);
-    assert_eq!(texts, ["depth full", "not frozen", "not drained", "2 tags out", "worn out"]);
+    let faults = [DepthFull, NotFrozen, NotDrained, TagsOut(2), WornOut];
+    assert_eq!(faults.map(|it| it.number()), [1, 2, 3, 4, 5]);
+    assert_eq!(texts_of(faults), ["depth full", "not frozen", "not drained", "2 tags out", "worn out"]);
+    let (queue, freezer, _tag) = with_one_tag();
+    let left = freezer.remove(queue, Vec::new()).map_err(|refused| (refused.number(), refused.why));
+    assert_eq!(left, Err((4, TagsOut(1))));
 }

@@ -1,4 +1,4 @@
-//! The stand-ins for hex, itoa and memchr, beside what std does.
+//! Compares the stand-ins for hex, itoa and memchr with std.
 
 mod shared;
 

@@ -1,5 +1,5 @@
-//! The functions that `uses` shows to drivers, on their happy paths. No clause says that there is memory for many commands, that a
-//! request leaves on its own slot, or that a race is one.
+//! Tests the functions that `uses` shows to drivers, on their usual paths. No clause says that there is memory for many commands, that a
+//! request leaves on its own slot, or that a race is really a race.
 
 use blkq::erased::freeze_queue::{BlockQueue, Limits};
 use blkq::erased::percpu_gate::{Control, Gate, Pass, Put, Start, Tried};
@@ -35,7 +35,7 @@ fn a_request_after_the_removal_is_refused() {
     assert_eq!(serve(&gate, &mut passes[0], 0), Served::Gone(Put::NotLast));
 }
 
-/// The device is being removed, and another request is still at it: the gate isn't at zero, and refuses all the same.
+/// While the device is being removed and another request still uses it, the gate isn't at zero, and refuses all the same.
 #[test]
 fn a_request_beside_the_last_one_is_refused() {
     let (gate, mut control, mut passes) = gate(1, 2, Start::Atomic);
@@ -44,7 +44,7 @@ fn a_request_beside_the_last_one_is_refused() {
     assert_eq!(serve(&gate, &mut passes[0], 0), Served::Gone(Put::NotLast));
 }
 
-/// It leaves on the slot that it came by: no slot has counted more in than out.
+/// A request leaves on its own slot: no slot has counted more in than out.
 #[test]
 fn a_request_leaves_on_its_own_slot() {
     let (gate, mut control, mut passes) = gate(2, 1, Start::Slots);
@@ -68,7 +68,7 @@ fn one_of_the_two_frees_the_device() {
     }
 }
 
-/// The removal isn't always first: one of the races ends with a request that was done, mostly the very first.
+/// The removal isn't always first: some race ends with a completed request, mostly the very first race.
 #[test]
 fn a_request_is_done_in_some_race() {
     let begun = Instant::now();

@@ -1,5 +1,6 @@
-//! Threads that wait: they sleep, they outlast wakes, and a shared wait changes nothing.
+//! Tests that waiting threads sleep and go on waiting after needless wakes, and that a shared wait changes nothing.
 
+use blkq::erased::blk_workers::{Point, Stall};
 use blkq::erased::freeze_queue::{BlockQueue, Enter, Freezer, Limits, Put, SharedFreezer, StayOrEnter, Tag};
 use blkq::erased::wait_queue::WaitQueue;
 use std::sync::atomic::{AtomicBool, AtomicU64, Ordering::SeqCst};
@@ -7,7 +8,11 @@ use std::time::Duration;
 use std::{fs, thread};
 use trials::erased::uses::commands;
 
-/// The most turns that a thread takes before it sleeps: some with no wait announced, and one with it.
+#[path = "shared/both_texts.rs"]
+mod both_texts;
+use both_texts::both_texts;
+
+/// The maximum number of turns before a thread sleeps: some before it announces its wait, and one after.
 const MOST_TURNS: u64 = 32;
 
 /// The turns that a thread takes while nobody wakes it. In 50 milliseconds one that spins takes thousands.
@@ -45,6 +50,15 @@ fn a_thread_that_announces_its_wait_sleeps_at_once() {
     assert_eq!(turns_taken(true), 1);
 }
 
+/// A wait goes on after millions of needless wakes.
+#[test]
+fn tries_have_no_end() {
+    const TURNS: usize = 3_000_000;
+    let queue = WaitQueue::new();
+    assert_eq!(queue.tries().inspect(|()| queue.wake_one()).take(TURNS).count(), TURNS);
+    assert_eq!(queue.announced_tries().inspect(|()| queue.wake_all()).take(TURNS).count(), TURNS);
+}
+
 /// The widest limits of 8 sectors, and narrower ones.
 fn limits(max: u32) -> Limits {
     Limits::new(8, max, 0).expect("limits")
@@ -55,13 +69,13 @@ fn with_one_tag(slots: u32) -> (BlockQueue, Freezer, Tag) {
     (queue, freezer, tags.swap_remove(0))
 }
 
-/// How long this thread has had a processor, as Linux counts it.
+/// Returns the processor time of this thread, as Linux counts it.
 fn processor_time() -> Option<Duration> {
     let told = fs::read_to_string("/proc/thread-self/schedstat").ok()?;
     told.split_whitespace().next()?.parse().ok().map(Duration::from_nanos)
 }
 
-/// How long a thread has a processor while it waits, until this ends its wait.
+/// Returns the processor time of a thread while it waits, until this closure ends its wait.
 fn taken_by(wait: impl FnOnce() + Send, end: impl FnOnce()) -> Option<Duration> {
     thread::scope(|scope| {
         let waits = scope.spawn(|| {
@@ -75,8 +89,8 @@ fn taken_by(wait: impl FnOnce() + Send, end: impl FnOnce()) -> Option<Duration> 
     })
 }
 
-/// Each of these waits has a processor for a moment alone: it sleeps. The least of some tries is taken, since a virtual machine may stop
-/// while the thread runs, which Linux counts too.
+/// Each of these waits uses a processor only for a moment, and then sleeps. The minimum of several tries is taken, since Linux also counts
+/// the time for which a virtual machine was stopped.
 fn sleep<const WAITS: usize>(names: [&str; WAITS], tries: impl Fn() -> [Option<Duration>; WAITS]) {
     let mut least = [Duration::MAX; WAITS];
     for _ in 0..10 {
@@ -107,7 +121,7 @@ fn a_freezer_that_waits_for_the_drain_sleeps() {
     sleep(["freeze", "wait_drained", "a shared freeze", "a shared wait"], waits_for_drains);
 }
 
-/// How long the thread of a freezer has a processor in each way to wait for the drain.
+/// Returns the processor time of a freezer's thread for each way to wait for the drain.
 fn waits_for_drains() -> [Option<Duration>; 4] {
     let (queue, mut freezer, mut tag) = with_one_tag(1);
     let leave = |tag: &mut Tag| assert_eq!(queue.leave(tag, 0), Put::Last);
@@ -128,27 +142,56 @@ fn waits_for_drains() -> [Option<Duration>; 4] {
     [freezes, waits, freezes_shared, taken_by(|| assert!(shared.wait_drained().is_ok()), || leave(&mut tag))]
 }
 
-/// A shared freeze nests in another: the depth is one more. It leaves the limits, and a wait leaves both.
+/// Holds each request that is drawn for a while.
+struct Holds;
+
+impl Stall for Holds {
+    fn at(&self, _number: u32, point: Point) {
+        if point == Point::Drawn {
+            thread::sleep(Duration::from_millis(100));
+        }
+    }
+}
+
+/// Returns the processor time of the thread that submits these lines with one tag, while each request is held.
+fn submits(lines: &str) -> Option<Duration> {
+    let run = || {
+        let [out, wanted] = both_texts(format!("blkq 2\ndisk 1 hw 1\n{lines}").as_bytes(), [2, 2, 1], &Holds);
+        assert_eq!(out, wanted);
+    };
+    taken_by(run, || {})
+}
+
+#[test]
+fn a_submitter_that_waits_sleeps() {
+    sleep(["a free tag", "a drain", "an ordered request"], || {
+        ["read 0 1\nread 0 1\n", "read 0 1\nstat\n", "read 0 1\nwrite 0 1 61\n"].map(submits)
+    });
+}
+
+/// A shared freeze nests in another: the depth grows by one and the limits stay. A wait changes neither.
 #[test]
 fn a_shared_freeze_nests() {
     let (queue, mut freezer, _tag) = with_one_tag(1);
+    let mut set = Limits::new(8, 4, 2).expect("limits");
+    set.set_physical(4).expect("a power of two");
     assert_eq!(freezer.start_freeze(&queue), Ok(1));
-    assert_eq!(freezer.set(&queue, limits(4)), Ok(()));
+    assert_eq!(freezer.set(&queue, set), Ok(()));
     let shared = SharedFreezer::new(freezer, &queue);
     let shown = |freezer: &Freezer| (freezer.depth(), freezer.limits());
-    assert_eq!(shared.freeze().map(|guard| shown(&guard.freezer)), Ok((2, limits(4))));
-    assert_eq!(shared.wait_drained().map(|guard| shown(&guard.freezer)), Ok((2, limits(4))));
-    assert_eq!(shown(&shared.lock().freezer), (2, limits(4)));
+    assert_eq!(shared.freeze().map(|guard| shown(&guard.freezer)), Ok((2, set)));
+    assert_eq!(shared.wait_drained().map(|guard| shown(&guard.freezer)), Ok((2, set)));
+    assert_eq!(shown(&shared.lock().freezer), (2, set));
 }
 
-/// Wakes the threads that wait for the drain: a thaw wakes them, and they find the queue frozen again.
+/// Wakes the threads that wait for the drain, by a thaw; they find the queue frozen again.
 fn wake(shared: &SharedFreezer<'_>, queue: &BlockQueue) {
     let mut guard = shared.lock();
     assert_eq!(guard.freezer.thaw(queue), Ok(0));
     assert_eq!(guard.freezer.start_freeze(queue), Ok(1));
 }
 
-/// Waits for the drain of a queue with so many slots, is woken so often meanwhile, and sees the drain.
+/// Waits for the drain of a queue with this many slots, is woken this often meanwhile, and sees the drain.
 fn outlast_wakes(slots: u32, wakes: u32) {
     let (queue, mut freezer, mut tag) = with_one_tag(slots);
     assert_eq!(queue.try_enter(&mut tag, slots - 1), Enter::Entered);
@@ -166,7 +209,7 @@ fn outlast_wakes(slots: u32, wakes: u32) {
     });
 }
 
-/// A wait ends with the drain, and not after so many looks, however many slots the queue has.
+/// A wait ends with the drain, and not after some number of looks, however many slots the queue has.
 #[test]
 fn a_wait_outlasts_many_wakes() {
     for slots in (1..=64).chain([512]) {

@@ -1,4 +1,4 @@
-"""Builds the drivers: the kernel's, from what is taken out of a source, over the shims; and ours, over the libraries for C."""
+"""Builds the drivers: the kernel's, from code taken out of a source and over the shims; and ours, over the libraries for C."""
 
 import os
 import subprocess
@@ -6,7 +6,7 @@ import subprocess
 HERE = os.path.dirname(os.path.realpath(__file__))
 ROOT = os.path.dirname(os.path.dirname(os.path.dirname(HERE)))
 C = os.path.join(HERE, "c")
-# The kernel's own files aren't ours to warn of; a name that the shims lack is a fault.
+# Warnings about the kernel's own files don't concern us; a name that the shims lack is a fault.
 OF_KERNEL = ("-std=gnu11", "-O2", "-g", "-fwrapv", "-fno-strict-aliasing", "-w", "-Werror=implicit-function-declaration")
 OF_OURS = ("-std=gnu11", "-O2", "-g", "-Wall", "-Wextra", "-Werror")
 LIBRARIES = {"gate": "percpu_gate", "queue": "freeze_queue"}
@@ -26,7 +26,7 @@ def run(words):
 
 
 class Builder:
-    """A folder in which things are built from a source."""
+    """A folder in which drivers are built from a source."""
 
     def __init__(self, source, folder, compiler="cc", prefix=None):
         self.source, self.folder, self.compiler, self.prefix = source, folder, compiler, prefix
@@ -48,7 +48,7 @@ class Builder:
         return (f"-I{os.path.join(HERE, 'shims')}", f"-I{self.include}")
 
     def compiled(self, name, source, *flags):
-        """An object file, of the kernel's text or of ours over it."""
+        """Compiles the kernel's text, or ours over it, into an object file."""
         out = self.path(name)
         run([self.compiler, *flags, *self.includes(), "-c", source, "-o", out])
         return out
@@ -96,13 +96,13 @@ class Builder:
         else:
             include, archive = f"{ROOT}/c/include", f"{ROOT}/c/out/proved/lib{library}.a"
         if not os.path.isfile(archive):
-            raise CannotBuild(f"there is no {archive}: make install-c builds it, and --prefix says where it is installed")
+            raise CannotBuild(f"there is no {archive}: run make install-c, and give its PREFIX as --prefix")
         run([self.compiler, *OF_OURS, f"-I{include}", os.path.join(C, f"{kind}_ours.c"), archive, "-o", out])
         return out
 
 
 def queue_text(source):
-    """The kernel's freeze, entering and limits, function by function, in the order in which they need one another."""
+    """The kernel's functions that freeze, enter and limit, in the order in which they need each other."""
     take, maybe = source.function, source.function_if_there
     text = "".join((
         take("block/blk-core.c", "blk_queue_exit"),

@@ -1,4 +1,4 @@
-"""Gives the same lines to the kernel's driver and to ours, and tells the first answer in which they differ, cut down."""
+"""Gives the same lines to the kernel's driver and to ours, and reports the first answer that differs, cut down."""
 
 import collections
 import random
@@ -14,7 +14,7 @@ NOT_COMPARED = "not compared, since outside the kernel's rules or our limits"
 
 
 def judged(line, kernel, ours):
-    """Whether two answers agree: 'same', the name of a difference that is meant, or None."""
+    """Whether two answers agree: 'same', the name of an intended difference, or None."""
     if kernel == ours:
         return "same"
     if kernel == "-" and ours.startswith("refused: "):
@@ -25,7 +25,7 @@ def judged(line, kernel, ours):
 
 
 def judged_split(line, kernel, ours):
-    """The kernel aligns the end of the last piece to the physical block, also where all that is left is within the limits; here
+    """The kernel aligns the end of the last piece to the physical block, even if all that is left is within the limits; here
     it stays whole then."""
     words = kernel.split()
     if len(words) != 3 or words[1] != "reach" or not (words[0] + words[2] + ours).isdigit():
@@ -53,7 +53,7 @@ class Driver:
 
 
 class Difference:
-    """The lines that show one, and both answers to the last of them."""
+    """The lines that show a difference, and both answers to the last of them."""
 
     def __init__(self, lines, kernel, ours):
         self.lines, self.kernel, self.ours = lines, kernel, ours
@@ -64,13 +64,13 @@ class Difference:
 
 
 class Kind:
-    """A kind of lines: how a script of it is made, and its two drivers."""
+    """A kind of script: how one is made, and its two drivers."""
 
     def __init__(self, name, make, kernel, ours):
         self.name, self.make, self.kernel, self.ours = name, make, Driver(kernel), Driver(ours)
 
     def first_difference(self, lines, tally=None):
-        """The first line of a script in which the two differ, if any does, with the lines up to it."""
+        """The lines of a script up to the first in which the two differ, if there is one."""
         kernel, ours = self.kernel.answers(lines), self.ours.answers(lines)
         return self.difference_of(lines, kernel, ours, tally)
 
@@ -85,7 +85,7 @@ class Kind:
         return None
 
     def cut(self, difference, seconds=300):
-        """The fewest lines that show it: some difference, from the same first line's kind on."""
+        """The fewest lines that show a difference, beginning with the same kind of line."""
         def holds(data):
             found = self.first_difference(data.decode().split("\n"))
             return found is not None and "no answer" not in (found.kernel, found.ours)
@@ -104,7 +104,7 @@ MAKERS = {
 
 
 def kinds_of(builder, names, made=None):
-    """The kinds that are asked for; their drivers are built, if they aren't made yet."""
+    """The requested kinds. Their drivers are built if they don't exist yet."""
     made = dict(made or {})
     for name in names:
         driver = "queue" if name == "split" else name
@@ -114,7 +114,7 @@ def kinds_of(builder, names, made=None):
 
 
 def compare(kind, calls, seed, say):
-    """Gives random scripts of a kind, until there were so many calls. The tally, and the first difference, or None."""
+    """Runs random scripts of a kind until this many calls were made. Returns the tally, and the first difference or None."""
     tally, number, spoken = collections.Counter(), 0, time.monotonic()
     while tally.total() < calls:
         scripts, size = [], 0

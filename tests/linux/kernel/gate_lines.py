@@ -4,7 +4,7 @@ MOST_HELD = 65535
 
 
 class Plain:
-    """What the lines so far should have left."""
+    """The state that the lines so far should have left."""
 
     def __init__(self, passes, start):
         self.held, self.is_dead, self.is_pending = [0] * passes, start == "dead", False
@@ -14,7 +14,7 @@ class Plain:
         return self.is_dead and not self.is_pending and not sum(self.held)
 
 
-# Of a weight of 1 each, times what the script's own leaning gives.
+# Each has the weight 1, times the script's own preference.
 PASS = ("try", "live", "get", "put", "dying", "zero")
 CONTROL = ("kill", "kill begin", "confirm", "grace", "mode", "reinit", "resurrect", "atomic", "atomic begin", "slots")
 
@@ -24,7 +24,7 @@ def amount(pick, most):
 
 
 def pass_line(pick, call, slots, plain):
-    """A line of a pass, mostly of one that may make this call."""
+    """A line of a pass, mostly one that may make this call."""
     holding = [it for it, held in enumerate(plain.held) if held] if call in ("get", "put") else []
     at = pick.choice(holding) if holding and pick.random() < 0.97 else pick.randrange(len(plain.held))
     held, slot = plain.held[at], pick.randrange(slots)
@@ -41,7 +41,7 @@ def pass_line(pick, call, slots, plain):
 
 
 def control_line(pick, call, slots, plain):
-    """A line of the control, and what it leaves of the plain counter."""
+    """A line of the control, and the plain counter after it."""
     if call in ("kill", "kill begin", "confirm") and not plain.is_dead:
         plain.is_dead, plain.is_pending = True, call == "kill begin" and plain.is_slots
     elif call in ("reinit", "resurrect") and plain.is_dead and not plain.is_pending and (call == "resurrect" or plain.is_zero()):
@@ -59,7 +59,7 @@ def control_line(pick, call, slots, plain):
 
 
 def is_idle(call, plain):
-    """Whether the call most likely changes nothing: most of these are left out."""
+    """Whether the call most likely changes nothing; most such calls are left out."""
     if call in ("get", "put"):
         return not any(plain.held)
     if call in ("kill", "kill begin", "confirm"):

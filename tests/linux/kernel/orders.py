@@ -1,5 +1,5 @@
-"""The outcomes of races by the kernel's percpu_ref in all orders, beside those of gate_races; and a slice of all races, kept as it
-goes on."""
+"""Compares the outcomes of races on the kernel's percpu_ref, in all orders, with those of gate_races; goes through a slice of all races,
+and keeps its progress."""
 
 import collections
 import json
@@ -10,7 +10,7 @@ import time
 
 from kernel.races import Race, races
 
-# The same words for what both have: of ours a refused try that is last is refused, and a revival says what it found.
+# The same words for both: our refused try that is last counts as refused, and our revival says what it found.
 WORDS = {"refused last": "refused", "at zero": "ok", "held": "ok", "last": "put", "not last": "put"}
 SAME = "the same outcomes"
 MORE = "more of ours, each with a refused try that counts for a moment"
@@ -21,7 +21,7 @@ KEPT_EACH = 5
 
 
 def said(line):
-    """What an actor's line says, in words that both have."""
+    """An actor's line, in words that both have."""
     actor, _, rest = line.partition(" ")
     return (actor, *(WORDS.get(it, it) for it in rest.split(" / ") if it))
 
@@ -62,7 +62,7 @@ def shown(outcome):
 
 
 def held_longer(race):
-    """The race with one pass more for each switch from slots that there may be: Linux's switch holds a reference of its own until
+    """The race with one more pass for each possible switch from slots: Linux's switch holds a reference of its own until
     its grace period ends, and doesn't wait for that."""
     more = min(2, sum(it in ("kill", "atomic") for it in race.control))
     return Race(race.slots, race.start, race.passes + (("live 0", "put 0 1"),) * more, race.control), more
@@ -78,7 +78,7 @@ def without(outcomes, first, more):
 
 
 def is_given_later(race, outcome):
-    """Whether a live try of a pass is given behind one that was refused, though nothing was revived."""
+    """Whether a live try of a pass is given after one that was refused, although nothing was revived."""
     of = {it[0]: it[1:] for it in outcome[:-1]}
     if any(call in ("reinit", "resurrect") and answer == "ok" for call, answer in zip(race.control, of.get("c", ()))):
         return False
@@ -102,7 +102,7 @@ class Orders:
         self.process.wait()
 
     def kernel(self, race):
-        """The outcomes by the kernel, how many moments there were, and what else was said."""
+        """The outcomes by the kernel, the number of moments, and other output."""
         self.process.stdin.write(race.text() + "run\n")
         self.process.stdin.flush()
         lines = []
@@ -118,7 +118,7 @@ class Orders:
         return our_outcomes(run.stdout)
 
     def judged(self, race):
-        """How a race came out, how many moments it had, and the outcomes that only one of the two has."""
+        """The class of a race, its number of moments, and the outcomes that only one of the two has."""
         kernel, moments, what = self.kernel(race)
         if what == "given up":
             return GIVEN_UP, moments, []
@@ -164,7 +164,7 @@ class Part:
 
 
 def run_slice(orders, part, number, of, most_calls, say):
-    """Goes through a slice of the races of up to so many calls, from where it was left, and keeps it every few seconds."""
+    """Goes through a slice of the races of up to this many calls, resuming where it was left, and saves the progress every few seconds."""
     began = spoken = time.monotonic()
     before = part.kept["seconds"]
     try:
@@ -187,7 +187,7 @@ def run_slice(orders, part, number, of, most_calls, say):
 
 
 def summary(folder):
-    """What all parts in a folder have shown."""
+    """The results of all parts in a folder."""
     tally, moments, seconds, examples, versions = collections.Counter(), 0, 0, {}, set()
     for name in sorted(os.listdir(folder)):
         if not re.fullmatch(r"part-\d+-of-\d+\.json", name):

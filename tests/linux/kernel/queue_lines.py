@@ -6,7 +6,7 @@ PLACES = 1 << 33
 
 
 class Plain:
-    """What the lines so far should have left."""
+    """The state that the lines so far should have left."""
 
     def __init__(self):
         self.inside, self.waiting, self.depth = set(), set(), 0

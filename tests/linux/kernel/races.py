@@ -25,7 +25,7 @@ class Race:
 
 
 def pass_calls(slots, count, held=0):
-    """Each list of so many calls of a pass of which every call can be made: it holds a reference where it has to."""
+    """Each list of this many calls of a pass in which every call can be made: the pass holds a reference if it has to."""
     if not count:
         yield ()
         return
@@ -43,7 +43,7 @@ def renamed(calls):
 
 
 def pairs(slots, first, second):
-    """The calls of two passes, of so many calls each, once for each pair that differs by more than its passes' and slots' names."""
+    """The calls of two passes, with this many calls each, one for each pair up to renaming of passes and slots."""
     for one in pass_calls(slots, first):
         for other in pass_calls(slots, second):
             names = [(one, other)] + ([(other, one)] if first == second else [])
@@ -54,7 +54,7 @@ def pairs(slots, first, second):
 
 
 def races(slots):
-    """Every race on so many slots, those of fewer calls first."""
+    """Every race on this many slots, in the order of the number of calls."""
     sizes = [(one, other, third) for one in range(MOST_CALLS + 1) for other in range(one + 1) for third in range(MOST_CALLS + 1)]
     for one, other, third in sorted(sizes, key=lambda it: (sum(it), it)):
         for passes in pairs(slots, one, other):
@@ -63,7 +63,7 @@ def races(slots):
 
 
 def counted(slots):
-    """How many there are of each number of calls."""
+    """The number of races for each number of calls."""
     found = {}
     for one in range(MOST_CALLS + 1):
         for other in range(one + 1):

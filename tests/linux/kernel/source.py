@@ -1,4 +1,4 @@
-"""Where a Linux source is, and what is taken out of it: whole files, and functions by their names."""
+"""Finds a Linux source, and takes whole files, and functions by name, out of it."""
 
 import glob
 import os
@@ -8,7 +8,7 @@ import subprocess
 import tempfile
 from dataclasses import dataclass
 
-# What is read of a source. Of an archive nothing else is unpacked.
+# The parts of a source that are read. Nothing else of an archive is unpacked.
 FILES = (
     "Makefile",
     "lib/percpu-refcount.c",
@@ -29,7 +29,7 @@ class NoSource(Exception):
 
 @dataclass
 class Taken:
-    """What was taken: its text, and its place."""
+    """A part that was taken: its text, and its place."""
 
     file: str
     name: str
@@ -44,7 +44,7 @@ class Source:
         self.root, self.taken = root, []
         missing = [it for it in FILES[1:3] if not os.path.isfile(os.path.join(root, it))]
         if missing:
-            raise NoSource(f"{root} is no Linux source: it has no {missing[0]}")
+            raise NoSource(f"{root} isn't a Linux source: it has no {missing[0]}")
 
     def read(self, file):
         try:
@@ -94,13 +94,13 @@ class Source:
 
 
 def archives():
-    """The sources that Debian's packages put here, the newest version first."""
+    """The sources that Debian's packages install, the newest version first."""
     number = lambda path: [int(it) for it in re.findall(r"\d+", os.path.basename(path))]
     return sorted(glob.glob(ARCHIVES), key=number, reverse=True)
 
 
 def installed(version):
-    """The archive of a version, or of the newest one; where CI=true asks apt for it."""
+    """The archive of a version, or the newest one; with CI=true apt installs it."""
     def found():
         return [it for it in archives() if version is None or f"linux-source-{version}.tar" in it]
 
@@ -134,7 +134,7 @@ def unpacked(archive):
 
 
 def source_of(tree, version=None):
-    """The source in a folder or an archive; without one, an installed package's."""
+    """The source in a folder or an archive; if none is given, that of an installed package."""
     if tree and os.path.isdir(tree):
         return Source(tree)
     return Source(unpacked(tree or installed(version)))

@@ -1,9 +1,10 @@
-/* What the plugin calls of the queue, with the same names and answers, over something else, so that the same source is
- * built over it: a lock that each request holds for reading and a freeze for writing, of the kind that RWLOCK names
- * (PTHREAD_RWLOCK_PREFER_READER_NP, ..), or, where RWLOCK isn't defined, nothing at all. */
+/* The functions of the queue that the plugin calls, with the same names and results, so that the plugin can be built without the queue. If
+ * RWLOCK names a kind of lock (PTHREAD_RWLOCK_PREFER_READER_NP, ..), each request holds that lock for reading and a freeze holds it for
+ * writing. Otherwise the functions do nothing. */
 #ifndef PEER_FREEZE_QUEUE_POOL_H
 #define PEER_FREEZE_QUEUE_POOL_H
 
+#undef FREEZE_QUEUE_INLINE /* nothing of the queue is compiled in */
 #include <freeze_queue.h>
 #include <pthread.h>
 #include <stdatomic.h>
@@ -18,8 +19,13 @@ typedef struct freeze_queue_waits {
     int drained_event;
 } freeze_queue_waits;
 
+typedef struct freeze_queue_pooled {
+    freeze_queue_tag tag;
+} __attribute__((aligned(128))) freeze_queue_pooled;
+
+/* The requests of a slot share a tag, so their counts aren't exact. */
 typedef struct freeze_queue_pool {
-    freeze_queue_tag tag; /* one for all */
+    freeze_queue_pooled tags[FREEZE_QUEUE_MOST_TAGS];
 } freeze_queue_pool;
 
 __attribute__((weak)) freeze_queue_limits peer_limits; /* in force */
@@ -35,21 +41,21 @@ static inline uint32_t peer_new(const freeze_queue_limits *limits)
     return freeze_queue_first_piece(limits, 0, 1, &piece);
 }
 
-static inline int freeze_queue_waits_init(freeze_queue_waits *waits, freeze_queue_freezer *freezer)
+static inline uint32_t freeze_queue_waits_init(freeze_queue_waits *waits, freeze_queue *queue)
 {
-    (void)freezer, (void)waits;
+    (void)queue, (void)waits;
 #ifdef RWLOCK
     pthread_rwlockattr_t kind;
     pthread_rwlockattr_init(&kind);
     pthread_rwlockattr_setkind_np(&kind, RWLOCK);
-    return pthread_rwlock_init(&waits->lock, &kind);
+    return pthread_rwlock_init(&waits->lock, &kind) ? FREEZE_QUEUE_ERR_NO_MEMORY : FREEZE_QUEUE_OK;
 #else
-    return 0;
+    return FREEZE_QUEUE_OK;
 #endif
 }
 
-#define freeze_queue_new(freezer, limits, slots, tags) peer_new(limits)
-#define freeze_queue_pool_fill(pool, freezer, count) FREEZE_QUEUE_OK
+#define freeze_queue_new(queue, limits, slots, tags) peer_new(limits)
+#define freeze_queue_pool_fill(pool, waits, count) FREEZE_QUEUE_OK
 static inline uint32_t freeze_queue_waits_mark_dying(freeze_queue_waits *waits)
 {
     atomic_store(&waits->is_dying, true);
@@ -58,7 +64,7 @@ static inline uint32_t freeze_queue_waits_mark_dying(freeze_queue_waits *waits)
 
 static inline bool freeze_queue_waits_is_dying(freeze_queue_waits *waits) { return atomic_load(&waits->is_dying); }
 
-#define freeze_queue_pool_end(pool, waits, deadline) ((void)(deadline), FREEZE_QUEUE_OK)
+#define freeze_queue_pool_end(pool, deadline) ((void)(deadline), FREEZE_QUEUE_OK)
 #define freeze_queue_pool_destroy(pool) ((void)(pool))
 #define freeze_queue_pool_in_flight(pool, list, room) 0
 #define freeze_queue_waits_end(waits, last, deadline) ((last)->kills = 0, FREEZE_QUEUE_OK)
@@ -104,8 +110,7 @@ static inline uint32_t freeze_queue_waits_leave(freeze_queue_waits *waits, freez
 
 static inline freeze_queue_tag *freeze_queue_pool_take(freeze_queue_pool *pool, uint32_t hint)
 {
-    (void)hint;
-    return &pool->tag;
+    return &pool->tags[hint].tag;
 }
 
 static inline uint32_t peer_limits_of(const freeze_queue_tag *tag, freeze_queue_limits *limits)
@@ -115,7 +120,8 @@ static inline uint32_t peer_limits_of(const freeze_queue_tag *tag, freeze_queue_
     return FREEZE_QUEUE_OK;
 }
 
-#define freeze_queue_pool_take_waiting(pool, hint, deadline) ((void)(deadline), (void)(hint), &(pool)->tag)
+#define freeze_queue_pool_take_waiting(pool, hint, deadline, taken) \
+    ((void)(deadline), *(taken) = &(pool)->tags[hint].tag, FREEZE_QUEUE_OK)
 #define freeze_queue_pool_give(pool, tag) ((void)(tag))
 #define freeze_queue_limits_of peer_limits_of
 
@@ -134,7 +140,8 @@ static inline uint32_t freeze_queue_waits_begin_freeze(freeze_queue_waits *waits
 
 static inline bool freeze_queue_waits_is_drained(const freeze_queue_waits *waits) { return waits->depth > 0; }
 
-static inline int freeze_queue_waits_open_events(freeze_queue_waits *waits)
+static inline int freeze_queue_waits_drained_event(freeze_queue_waits *waits) { return waits->drained_event; }
+static inline uint32_t freeze_queue_waits_open_events(freeze_queue_waits *waits)
 {
     waits->drained_event = -1;
     return 0;

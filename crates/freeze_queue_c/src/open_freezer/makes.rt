@@ -1,24 +1,26 @@
 //! A new queue.
-ghost use Rattle.std.specs.Prelude.{◌≡◌, ◌≤◌, false, All};
+ghost use Rattle.std.specs.Prelude.{◌≡◌, ◌≤◌, [], All, vec_len};
 ghost use Rattle.std.specs.Arc.{arc_value};
 ghost use Rattle.std.specs.Vec.{vec_capacity};
-ghost use Rattle.freeze_queue_c.specs.Ran.{misuse_of};
+ghost use Rattle.biased_queue.specs.Biased.{IsOf, IsBiasedQueue};
+ghost use Rattle.c_answers.specs.Ran.{misuse_of};
 ghost use Rattle.freeze_queue_c.specs.FreezerCalls.{Sought};
 ghost use Rattle.freeze_queue_c.specs.Life.{Makes, NewFreezer, new_refusal, size_misuse};
-ghost use Rattle.freeze_queue_c.specs.Opened.{freezer_with};
+ghost use Rattle.freeze_queue_c.specs.Opened.{freezer_with, Waits};
 ghost use Rattle.freeze_queue_c.specs.PlainLimits.{bounds_of};
 
 use super::OpenFreezer;
-use crate::misuse::Misuse;
+use super::ends::Parts;
 use crate::plain_limits::PlainLimits;
-use crate::queue_number::QueueNumber;
 use crate::refusal::Refusal;
+use biased_queue::BiasedQueue;
+use c_answers::{DrawnNumber, Misuse};
 use percpu_core::SLOT_LIMIT;
-use queue_core::{BlockQueue, Freezer, Limits, MOST_TAGS, Tag};
+use queue_core::{Limits, MOST_TAGS};
 use std::alloc::Global;
 use std::sync::Arc;
 
-/// The misuse of sizes that no queue has.
+/// The misuse of a queue size that no queue has.
 fn refuse_size(slots: u32, tags: u32) -> Result<(), Misuse>
     ensures { misuse_of result ≡ size_misuse slots tags }
 {
@@ -29,7 +31,7 @@ fn refuse_size(slots: u32, tags: u32) -> Result<(), Misuse>
     }
 }
 
-/// Limits that a queue may have, for sizes that it may have. Refuses the limits' faults, then Size.
+/// Returns these limits if a queue may have them and the sizes. Refuses with the limits' faults, then with Size.
 fn checked(limits: &PlainLimits, slots: u32, tags: u32) -> Result<Limits, Refusal>
     ensures { Sought (new_refusal limits.now slots tags) (bounds_of limits.now) result }
 {
@@ -43,33 +45,40 @@ fn checked(limits: &PlainLimits, slots: u32, tags: u32) -> Result<Limits, Refusa
 }
 
 impl OpenFreezer {
-    /// A freezer of its parts.
-    pub(super) fn of(
-        queue: Arc<BlockQueue>,
-        number: QueueNumber,
-        waiting: Vec<Tag>,
-        freezer: Freezer,
-    ) -> OpenFreezer
-        requires own { freezer.queue ≡ arc_value queue }
-        requires places { freezer.tags ≤ vec_capacity waiting }
-        requires tags { All (λ t. t.queue ≡ arc_value queue) waiting.items }
-        requires out { All (λ t. t.entered ≡ false) waiting.items }
-        ensures { result ≡ freezer_with number waiting.items freezer }
+    /// Makes a freezer from its parts.
+    pub(super) fn of(queue: Arc<BiasedQueue>, parts: Parts) -> OpenFreezer
+        requires own { IsOf parts.freezer (arc_value queue) }
+        requires tags { parts.tags ≡ parts.freezer.freezer.tags }
+        requires places { (parts.tags ≤ vec_capacity parts.waiting) × (parts.tags ≤ vec_capacity parts.room) }
+        requires empty { parts.room.items ≡ [] }
+        requires wait { All (Waits (arc_value queue)) parts.waiting.items }
+        requires many { vec_len parts.waiting ≤ parts.tags }
+        requires queue { IsBiasedQueue (arc_value queue) }
+        ensures { result ≡ freezer_with parts.number (arc_value queue) parts.waiting.items parts.freezer }
     {
+        let Parts {
+            number,
+            tags,
+            waiting,
+            room,
+            freezer,
+        } = parts;
         OpenFreezer {
             before: [0; 16],
             queue,
             number,
+            tags,
             waiting,
+            room,
             freezer,
             after: [0; 16],
         }
     }
 
-    /// The freezer of a new queue. Refuses the limits' faults, Size, Memory.
+    /// Makes the freezer of a new queue. Refuses with the limits' faults, Size or Memory.
     pub fn new(
         alloc: Global,
-        number: QueueNumber,
+        number: DrawnNumber,
         limits: &PlainLimits,
         slots: u32,
         tags: u32,
@@ -77,12 +86,26 @@ impl OpenFreezer {
         ensures { Makes (new_refusal limits.now slots tags) (NewFreezer number limits.now slots tags) result }
     {
         let limits = checked(limits, slots, tags)?;
-        let Ok((queue, freezer, waiting)) = BlockQueue::new(alloc, limits, slots, tags) else {
+        let Ok((queue, freezer, waiting)) = BiasedQueue::new(alloc, limits, slots, tags) else {
             return Err(Refusal::OfMisuse(Misuse::Memory));
         };
+        let Ok(room) = Vec::with_capacity(alloc, tags as usize) else {
+            return Err(Refusal::OfMisuse(Misuse::Memory));
+        };
+        // A new queue has each of its tags.
+        if waiting.len() != tags as usize {
+            return Err(Refusal::OfMisuse(Misuse::Memory));
+        }
         let Ok(queue) = Arc::new(alloc, queue) else {
             return Err(Refusal::OfMisuse(Misuse::Memory));
         };
-        Ok(OpenFreezer::of(queue, number, waiting, freezer))
+        let parts = Parts {
+            number,
+            tags,
+            waiting,
+            room,
+            freezer,
+        };
+        Ok(OpenFreezer::of(queue, parts))
     }
 }

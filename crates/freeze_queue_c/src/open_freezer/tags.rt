@@ -1,21 +1,22 @@
-//! The tags that wait: given to handles, and taken back.
-ghost use Rattle.std.specs.Prelude.{◌≡◌, ◌<◌, [], ◌∷◌, ◌++◌, false, length};
-ghost use Rattle.freeze_queue_c.specs.Ran.{misuse_of};
+//! The tags that no handle has: how they are given to handles and taken back.
+ghost use Rattle.std.specs.Prelude.{◌≡◌, ◌<◌, [], ◌∷◌, ◌++◌, length};
+ghost use Rattle.c_answers.specs.Ran.{misuse_of};
 ghost use Rattle.freeze_queue_c.specs.Life.{back_misuse, Next, value_of};
+ghost use Rattle.freeze_queue_c.specs.Opened.{Waits};
 
 use super::OpenFreezer;
-use crate::misuse::Misuse;
 use crate::open_tag::OpenTag;
+use c_answers::Misuse;
 use std::alloc::Global;
 use std::sync::Arc;
 
 impl OpenFreezer {
-    /// The next tag that waits: the one that was given back last. Refuses NoTag, Memory.
+    /// Takes out the next tag that no handle has: the tag that was given back last. Refuses with NoneWaits or Memory.
     pub fn next_tag(&mut self, alloc: Global) -> Result<Box<OpenTag>, Misuse>
         ensures { Next self.old self.new (value_of result) }
     {
         let Some(tag) = self.waiting.pop() else {
-            return Err(Misuse::NoTag);
+            return Err(Misuse::NoneWaits);
         };
         let Ok(queue) = Arc::try_clone(&self.queue) else {
             self.waiting.push_reserved(tag);
@@ -30,17 +31,17 @@ impl OpenFreezer {
         }
     }
 
-    /// Why this tag may not go back. Refuses OtherQueue, also where every tag of the queue waits; Entered.
+    /// Why this tag may not go back. Refuses with Foreign, also if no tag of the queue is out; then with Entered.
     pub fn refuse_back(&self, tag: &OpenTag) -> Result<(), Misuse>
         ensures { misuse_of result ≡ back_misuse self.now tag.now }
     {
         let own = self.number;
         let number = tag.number();
-        if self.waiting.len() >= self.freezer.tags() as usize
+        if self.waiting.len() >= self.tags as usize
             || own.counter != number.counter
             || own.drawn != number.drawn
         {
-            Err(Misuse::OtherQueue)
+            Err(Misuse::Foreign)
         } else if tag.entered() {
             Err(Misuse::Entered)
         } else {
@@ -48,11 +49,10 @@ impl OpenFreezer {
         }
     }
 
-    /// Takes a tag back, into the place that it had.
+    /// Takes back a tag that has no bias. There is room for it.
     pub fn take_back(&mut self, tag: OpenTag)
-        requires own { tag.tag.queue ≡ self.old.freezer.queue }
-        requires out { tag.tag.entered ≡ false }
-        requires place { length self.old.waiting < self.old.freezer.tags }
+        requires waits { Waits self.old.queue tag.tag }
+        requires place { length self.old.waiting < self.old.freezer.freezer.tags }
         ensures { self.new ≡ record self.old { waiting = self.old.waiting ++ tag.tag ∷ [] } }
     {
         self.waiting.push_reserved(tag.into_tag());

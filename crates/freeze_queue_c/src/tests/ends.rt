@@ -1,5 +1,5 @@
-//! Tags that go back, and queues that end. `freeze_queue_give_tag_back` asks that queues of one number are one queue, so the
-//! helpers say that it holds of the two handles still.
+//! Tags that go back, and queues that end. `freeze_queue_give_tag_back` requires that queues of one number are one queue, so
+//! the helpers say that this still holds of the two handles.
 ghost use Rattle.std.specs.Prelude.{◌≡◌, IfSome};
 ghost use Rattle.freeze_queue_c.specs.Life.{NumbersTellOn};
 
@@ -7,18 +7,18 @@ use super::LIMITS;
 use crate::freezer_calls::{freeze_queue_start_freeze, freeze_queue_thaw};
 use crate::freezer_handle::FreezerHandle;
 use crate::life::{
-    Final, freeze_queue_free_freezer, freeze_queue_free_tag, freeze_queue_freezer_number,
-    freeze_queue_give_tag_back, freeze_queue_new_numbered, freeze_queue_next_tag,
-    freeze_queue_remove, freeze_queue_tag_number,
+    Final, freeze_queue_free_freezer, freeze_queue_free_tag, freeze_queue_give_tag_back,
+    freeze_queue_new_numbered, freeze_queue_next_tag, freeze_queue_number, freeze_queue_remove,
+    freeze_queue_tag_number,
 };
-use crate::queue_number::QueueNumber;
-use crate::tag_calls::{freeze_queue_leave, freeze_queue_try_enter};
+use crate::tag_calls::{freeze_queue_leave, freeze_queue_leave_biased, freeze_queue_try_enter};
 use crate::tag_handle::TagHandle;
+use c_answers::DrawnNumber;
 use std::alloc::Global;
 use std::process::Abort;
 use std::test::Fail;
 
-/// What is there before a queue has ended.
+/// The value before a queue has ended.
 const NOT_YET: Final = Final {
     dead: false,
     kills: 9,
@@ -26,7 +26,7 @@ const NOT_YET: Final = Final {
     limits: LIMITS,
 };
 
-/// The handles of a new queue with two slots and one tag.
+/// Returns the handles of a new queue with two slots and one tag.
 fn of_one_queue<R: Abort>(rt: &R, alloc: Global, drawn: u64) -> (FreezerHandle, TagHandle)
     ensures one { NumbersTellOn result.0.held.freezer result.1.held.tag }
     ensures freezer { IfSome result.0.held.freezer (λ f. f.number.drawn ≡ drawn) }
@@ -34,7 +34,7 @@ fn of_one_queue<R: Abort>(rt: &R, alloc: Global, drawn: u64) -> (FreezerHandle, 
 {
     let mut freezer = FreezerHandle::new(alloc);
     let mut tag = TagHandle::new(alloc);
-    let number = QueueNumber { counter: 5, drawn };
+    let number = DrawnNumber { counter: 5, drawn };
     let made = freeze_queue_new_numbered(&mut freezer, &number, &LIMITS, 2, 1);
     assert!(*rt; made == 0);
     let given = freeze_queue_next_tag(&mut freezer, &mut tag);
@@ -54,6 +54,20 @@ fn leave(freezer: &FreezerHandle, tag: &mut TagHandle) -> u32
     ensures { NumbersTellOn freezer.now.held.freezer tag.new.held.tag }
 {
     freeze_queue_leave(tag, 0)
+}
+
+fn leave_biased(freezer: &FreezerHandle, tag: &mut TagHandle) -> u32
+    requires { NumbersTellOn freezer.now.held.freezer tag.old.held.tag }
+    ensures { NumbersTellOn freezer.now.held.freezer tag.new.held.tag }
+{
+    freeze_queue_leave_biased(tag, 0)
+}
+
+fn give_back(freezer: &mut FreezerHandle, tag: &mut TagHandle) -> u32
+    requires { NumbersTellOn freezer.old.held.freezer tag.old.held.tag }
+    ensures { NumbersTellOn freezer.new.held.freezer tag.new.held.tag }
+{
+    freeze_queue_give_tag_back(freezer, tag)
 }
 
 fn freeze(freezer: &mut FreezerHandle, tag: &TagHandle) -> u32
@@ -79,8 +93,8 @@ fn remove(freezer: &mut FreezerHandle, tag: &TagHandle, last: &mut Final) -> u32
     freeze_queue_remove(freezer, last)
 }
 
-/// Three kills: the first is thawed with the tag in, of the second the tag is the last, and the third is that of the end.
-/// Each field of what is left stands in its place.
+/// Three kills: the first is thawed while the tag is in, after the second the tag is the last to leave, and the third ends the queue.
+/// Each field of the final facts has its own value.
 #[test]
 fn a_whole_life(rt: HostRuntime) -> Result<(), Fail> {
     let (mut freezer, mut tag) = of_one_queue(&rt, rt.alloc(), 1);
@@ -104,13 +118,13 @@ fn a_whole_life(rt: HostRuntime) -> Result<(), Fail> {
     Ok(())
 }
 
-/// Tags that nobody asked for end with the queue, but not one that was given out.
+/// Tags that nobody asked for end with the queue. A tag that was given out keeps the queue from ending.
 #[test]
 fn tags_that_nobody_asked_for(rt: HostRuntime) {
     let mut freezer = FreezerHandle::new(rt.alloc());
     let mut tag = TagHandle::new(rt.alloc());
     let mut last = NOT_YET;
-    let number = QueueNumber {
+    let number = DrawnNumber {
         counter: 5,
         drawn: 6,
     };
@@ -121,15 +135,15 @@ fn tags_that_nobody_asked_for(rt: HostRuntime) {
     assert!(rt; freeze_queue_next_tag(&mut freezer, &mut tag) == 0);
     assert!(rt; freeze_queue_remove(&mut freezer, &mut last) == 20);
     assert!(rt; freeze_queue_tag_number(&mut tag) == 6);
-    assert!(rt; freeze_queue_freezer_number(&mut freezer) == 6);
+    assert!(rt; freeze_queue_number(&mut freezer) == 6);
     freeze_queue_free_tag(&mut tag);
     assert!(rt; freeze_queue_remove(&mut freezer, &mut last) == 20);
     freeze_queue_free_freezer(&mut freezer);
     assert!(rt; freeze_queue_tag_number(&mut tag) == 0);
-    assert!(rt; freeze_queue_freezer_number(&mut freezer) == 0);
+    assert!(rt; freeze_queue_number(&mut freezer) == 0);
 }
 
-/// A tag that is in stays with its handle, and leaves.
+/// A tag that is in isn't taken back: its handle keeps it, and it leaves.
 #[test]
 fn a_tag_that_is_in_is_not_taken_back(rt: HostRuntime) {
     let (mut freezer, mut tag) = of_one_queue(&rt, rt.alloc(), 1);
@@ -138,6 +152,45 @@ fn a_tag_that_is_in_is_not_taken_back(rt: HostRuntime) {
     assert!(rt; freeze_queue_leave(&mut tag, 1) == 0);
     freeze_queue_free_tag(&mut tag);
     freeze_queue_free_freezer(&mut freezer);
+}
+
+/// A biased tag goes back without its bias, and the queue can end. A tag that is in by its lane isn't taken back.
+#[test]
+fn a_biased_tag_goes_back(rt: HostRuntime) {
+    let (mut freezer, mut tag) = of_one_queue(&rt, rt.alloc(), 1);
+    let mut last = NOT_YET;
+    assert!(rt; enter(&freezer, &mut tag) == 0);
+    assert!(rt; leave_biased(&freezer, &mut tag) == 0);
+    assert!(rt; enter(&freezer, &mut tag) == 0);
+    assert!(rt; give_back(&mut freezer, &mut tag) == 48);
+    assert!(rt; leave_biased(&freezer, &mut tag) == 0);
+    assert!(rt; remove(&mut freezer, &tag, &mut last) == 20);
+    assert!(rt; give_back(&mut freezer, &mut tag) == 0);
+    assert!(rt; freeze_queue_remove(&mut freezer, &mut last) == 0);
+    assert!(rt; last.kills == 1);
+    assert!(rt; last.releases == 1);
+}
+
+/// A tag that was biased and goes back is given again without a bias, and can be biased again.
+#[test]
+fn a_biased_tag_is_given_again(rt: HostRuntime) {
+    for drawn in 1..4u64 {
+        let (mut freezer, mut tag) = of_one_queue(&rt, rt.alloc(), drawn);
+        let mut depth = 0;
+        let biased = enter(&freezer, &mut tag) == 0 && leave_biased(&freezer, &mut tag) == 0;
+        assert!(rt; biased);
+        let back = give_back(&mut freezer, &mut tag);
+        assert!(rt; back == 0, "{drawn}");
+        let given = freeze_queue_next_tag(&mut freezer, &mut tag);
+        assert!(rt; given == 0, "{drawn}");
+        let again = freeze_queue_try_enter(&mut tag, 1) == 0
+            && freeze_queue_leave_biased(&mut tag, 1) == 0;
+        assert!(rt; again, "{drawn}");
+        let drained = freeze_queue_start_freeze(&mut freezer, &mut depth);
+        assert!(rt; drained == 4, "{drawn}");
+        freeze_queue_free_tag(&mut tag);
+        freeze_queue_free_freezer(&mut freezer);
+    }
 }
 
 #[test]
@@ -153,7 +206,7 @@ fn a_tag_of_another_queue(rt: HostRuntime) {
     freeze_queue_free_freezer(&mut second);
 }
 
-/// A tag that went back is given again, and a queue has no more tags than it was made with.
+/// A tag that went back is given again, and a queue never has more tags than it was made with.
 #[test]
 fn tags_come_and_go(rt: HostRuntime) {
     let (mut freezer, mut tag) = of_one_queue(&rt, rt.alloc(), 1);
@@ -168,12 +221,12 @@ fn tags_come_and_go(rt: HostRuntime) {
     assert!(rt; freeze_queue_next_tag(&mut freezer, &mut tag) == 32);
 }
 
-/// Sizes at both ends, and an open handle.
+/// Sizes at both ends of their ranges, and an open handle.
 #[test]
 fn sizes(rt: HostRuntime) {
     let mut freezer = FreezerHandle::new(rt.alloc());
     let mut tag = TagHandle::new(rt.alloc());
-    let number = QueueNumber {
+    let number = DrawnNumber {
         counter: 5,
         drawn: 6,
     };
@@ -206,10 +259,10 @@ fn queues_in_turn(rt: HostRuntime) {
     }
 }
 
-/// A queue that is frozen ends, however often it was frozen: its gate was killed once.
+/// A frozen queue ends at any depth. Its gate was killed once.
 #[test]
 fn a_frozen_queue_ends(rt: HostRuntime) {
-    let number = QueueNumber {
+    let number = DrawnNumber {
         counter: 5,
         drawn: u64::MAX,
     };

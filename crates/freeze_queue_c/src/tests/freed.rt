@@ -9,12 +9,12 @@ use crate::life::{
     freeze_queue_next_tag,
 };
 use crate::plain_limits::PlainLimits;
-use crate::tag_calls::{freeze_queue_leave, freeze_queue_try_enter, freeze_queue_try_enter_frozen};
+use crate::tag_calls::{freeze_queue_leave, freeze_queue_look_in, freeze_queue_try_enter};
 use crate::tag_handle::TagHandle;
 use std::alloc::Global;
 use std::process::Abort;
 
-/// A freezer and two tags of a new queue with two slots and these limits.
+/// Returns a freezer and two tags of a new queue with two slots and these limits.
 fn of_two_tags(alloc: Global, limits: &PlainLimits) -> (FreezerHandle, TagHandle, TagHandle) {
     let mut freezer = FreezerHandle::new(alloc);
     let mut first = TagHandle::new(alloc);
@@ -25,7 +25,7 @@ fn of_two_tags(alloc: Global, limits: &PlainLimits) -> (FreezerHandle, TagHandle
     (freezer, first, second)
 }
 
-/// A tag that is out when it is freed enters nothing: a freeze finds the queue empty.
+/// Freeing a tag that is out doesn't enter: a freeze finds the queue empty.
 #[test]
 fn a_freed_tag_enters_nothing(rt: HostRuntime) {
     let (mut freezer, mut freed, mut left) = of_two_tags(rt.alloc(), &LIMITS);
@@ -36,7 +36,7 @@ fn a_freed_tag_enters_nothing(rt: HostRuntime) {
     freeze_queue_free_freezer(&mut freezer);
 }
 
-/// A tag that is freed while the queue is frozen doesn't look in: the other tag is the last to leave.
+/// Freeing a tag while the queue is frozen doesn't look in: the other tag is the last to leave.
 #[test]
 fn a_freed_tag_looks_into_nothing(rt: HostRuntime) {
     let (mut freezer, mut freed, mut left) = of_two_tags(rt.alloc(), &LIMITS);
@@ -50,7 +50,7 @@ fn a_freed_tag_looks_into_nothing(rt: HostRuntime) {
     freeze_queue_free_freezer(&mut freezer);
 }
 
-/// A tag that is in when it is freed doesn't leave, on either slot: the other tag isn't the last to leave.
+/// Freeing a tag that is in doesn't leave, on either slot: the other tag isn't the last to leave.
 #[test]
 fn a_freed_tag_leaves_nothing(rt: HostRuntime) {
     for slot in 0..2u32 {
@@ -67,7 +67,7 @@ fn a_freed_tag_leaves_nothing(rt: HostRuntime) {
     }
 }
 
-/// A freezer that is freed while its queue is live doesn't freeze it, whatever its limits are.
+/// Freeing a freezer while its queue is live doesn't freeze the queue, whatever its limits are.
 #[test]
 fn a_freed_freezer_freezes_nothing(rt: HostRuntime) {
     for max in 1..17u32 {
@@ -88,7 +88,7 @@ fn a_freed_freezer_freezes_nothing(rt: HostRuntime) {
     }
 }
 
-/// A freezer that was frozen and thawed before it is freed freezes nothing either.
+/// Freeing a freezer after a freeze and a thaw doesn't freeze the queue either.
 #[test]
 fn a_freed_freezer_stays_thawed(rt: HostRuntime) {
     let (mut freezer, mut first, mut second) = of_two_tags(rt.alloc(), &LIMITS);
@@ -102,7 +102,7 @@ fn a_freed_freezer_stays_thawed(rt: HostRuntime) {
     freeze_queue_free_tag(&mut second);
 }
 
-/// A freezer that is freed while its queue is frozen thaws nothing, at whatever depth.
+/// Freeing a freezer while its queue is frozen doesn't thaw the queue, at any depth.
 #[test]
 fn a_freed_freezer_thaws_nothing(rt: HostRuntime) {
     for freezes in [1u32, 2, 7, 1_000] {
@@ -116,7 +116,7 @@ fn a_freed_freezer_thaws_nothing(rt: HostRuntime) {
         freeze_queue_free_freezer(&mut freezer);
         let entered = freeze_queue_try_enter(&mut first, 0);
         assert!(rt; entered == 2, "{freezes}");
-        let looked_in = freeze_queue_try_enter_frozen(&mut first, 0);
+        let looked_in = freeze_queue_look_in(&mut first, 0);
         assert!(rt; looked_in == 2, "{freezes}");
         freeze_queue_free_tag(&mut first);
         freeze_queue_free_tag(&mut second);

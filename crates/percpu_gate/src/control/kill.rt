@@ -2,7 +2,7 @@
 ghost use Rattle.std.specs.Prelude.{◌≡◌, ◌*◌, ◌+◌, ◌%◌, ◌<◌, IfOk, IfErr, true};
 ghost use Rattle.percpu_core.specs.Phases.{is_live};
 ghost use Rattle.percpu_core.specs.declared.phase.Phase.TheVariants as phases;
-ghost use Rattle.percpu_gate.specs.ControlCalls.{fault_of, to_close, kill_refusal, after_mark_dead, after_gathering, after_confirm, after_drop_base, after_kill};
+ghost use Rattle.percpu_gate.specs.ControlCalls.{fault_of, to_close, to_close_of, kill_refusal, after_moving, after_mark_dead, after_gathering, after_confirm, after_drop_base, after_kill};
 
 use super::Control;
 use crate::control_fault::ControlFault;
@@ -11,7 +11,7 @@ use crate::tried::Put;
 use percpu_core::{KILL_LIMIT, Phase};
 
 impl<const W: usize> Control<W> {
-    /// Why a kill is refused now.
+    /// Why a kill would be refused now.
     fn refuse_unless_live(&self) -> Result<(), ControlFault>
         ensures refused { fault_of result ≡ kill_refusal self.now.view.standing.phase self.now.view.standing.kills }
         ensures live { IfOk result (λ _. (is_live self.now.view.standing.phase ≡ true) × (self.now.view.standing.kills < KILL_LIMIT)) }
@@ -27,9 +27,9 @@ impl<const W: usize> Control<W> {
         }
     }
 
-    /// Begins a kill: sets DEAD, so that tries for a live gate are refused. The number of slots that are now
-    /// to be closed: none in atomic mode. Refuses MidSwitch, AlreadyDead, WornOut. Linux:
-    /// `percpu_ref_kill_and_confirm` (lib/percpu-refcount.c).
+    /// Begins a kill: sets DEAD. `try_get_live` is now refused on the shared word, and on a slot once that slot is
+    /// closed. Returns the number of slots that have to be closed now: 0 in atomic mode. Refuses with MidSwitch,
+    /// AlreadyDead or WornOut. Linux: `percpu_ref_kill_and_confirm` (lib/percpu-refcount.c).
     pub fn mark_dead(&mut self, gate: &Gate<W>) -> Result<u32, ControlFault>
         requires own { self.old.gate ≡ gate.now }
         ensures refused { fault_of result ≡ kill_refusal self.old.view.standing.phase self.old.view.standing.kills }
@@ -49,12 +49,13 @@ impl<const W: usize> Control<W> {
         }
     }
 
-    /// Begins a kill, and closes and collects the open slots: `mark_dead`, each `close_next` and `collect` in one call.
+    /// Begins a kill, and closes and collects the open slots: `mark_dead`, `close_next` for each slot, and `collect` in
+    /// one call.
     fn begin_and_gather(&mut self, gate: &Gate<W>) -> Result<(), ControlFault>
         requires own { self.old.gate ≡ gate.now }
         ensures refused { fault_of result ≡ kill_refusal self.old.view.standing.phase self.old.view.standing.kills }
         ensures unchanged { IfErr result (λ why. self.new ≡ self.old) }
-        ensures begun { IfOk result (λ _. self.new ≡ record self.old { view = after_gathering (after_mark_dead self.old.view) }) }
+        ensures begun { IfOk result (λ _. self.new ≡ after_moving (to_close_of self.old) (after_gathering (after_mark_dead self.old.view)) self.old) }
     {
         self.refuse_unless_live()?;
         self.seat.set_dead(&gate.table);
@@ -66,9 +67,8 @@ impl<const W: usize> Control<W> {
         Ok(())
     }
 
-    /// Stores and gives the odd front of the kill: a pass that has seen it is given no live reference before
-    /// the next life. Linux: the `confirm_kill` callback of `percpu_ref_kill_and_confirm`
-    /// (lib/percpu-refcount.c).
+    /// Stores the odd front of the kill, and returns it. A pass that has seen it gets no live reference before the next
+    /// life. Linux: the `confirm_kill` callback of `percpu_ref_kill_and_confirm` (lib/percpu-refcount.c).
     pub fn confirm(&mut self, gate: &Gate<W>) -> u64
         requires own { self.old.gate ≡ gate.now }
         requires phase { self.old.view.standing.phase ≡ phases.Collected }
@@ -95,22 +95,22 @@ impl<const W: usize> Control<W> {
         answer
     }
 
-    /// Kills the gate: `mark_dead`, `close_next` once for each open slot and `collect`, `confirm` and
-    /// `drop_base`. The put of the initial reference. Refuses MidSwitch, AlreadyDead, WornOut. Linux:
+    /// Kills the gate: `mark_dead`, `close_next` for each open slot and `collect`, `confirm`, and `drop_base`. Returns
+    /// the result of putting the initial reference. Refuses with MidSwitch, AlreadyDead or WornOut. Linux:
     /// `percpu_ref_kill` (include/linux/percpu-refcount.h).
     pub fn kill(&mut self, gate: &Gate<W>) -> Result<Put, ControlFault>
         requires own { self.old.gate ≡ gate.now }
         ensures refused { fault_of result ≡ kill_refusal self.old.view.standing.phase self.old.view.standing.kills }
         ensures unchanged { IfErr result (λ why. self.new ≡ self.old) }
-        ensures killed { IfOk result (λ r. self.new ≡ record self.old { view = after_kill r self.old.view }) }
+        ensures killed { IfOk result (λ r. self.new ≡ after_moving (to_close_of self.old) (after_kill r self.old.view) self.old) }
     {
         self.begin_and_gather(gate)?;
         self.confirm(gate);
         Ok(self.drop_base(gate))
     }
 
-    /// The same, and `confirm` is called once with the odd front, when everything is collected and the
-    /// initial reference is still held; its answer is handed back. Linux: `percpu_ref_kill_and_confirm`
+    /// Kills the gate, and calls `confirm` once with the odd front, when everything is collected and the initial
+    /// reference is still held. Also returns the result of `confirm`. Linux: `percpu_ref_kill_and_confirm`
     /// (lib/percpu-refcount.c).
     pub fn kill_and_confirm<R, F: FnOnce(u64) -> R + Drop>(
         &mut self,
@@ -121,7 +121,7 @@ impl<const W: usize> Control<W> {
         requires callable { F.IsAlwaysCallable confirm }
         ensures refused { fault_of result ≡ kill_refusal self.old.view.standing.phase self.old.view.standing.kills }
         ensures unchanged { IfErr result (λ why. self.new ≡ self.old) }
-        ensures killed { IfOk result (λ r. self.new ≡ record self.old { view = after_kill r.0 self.old.view }) }
+        ensures killed { IfOk result (λ r. self.new ≡ after_moving (to_close_of self.old) (after_kill r.0 self.old.view) self.old) }
         ensures called { IfOk result (λ r. ((self.old.view.front + 1) % 2 ≡ 1) × F.post confirm (self.old.view.front + 1) r.1) }
     {
         self.begin_and_gather(gate)?;

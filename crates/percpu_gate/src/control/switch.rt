@@ -1,11 +1,11 @@
-//! Switching a gate between its two modes, and the steps with which a kill leaves the slots.
+//! Switching a gate between its two modes, and the steps of a kill that close and collect the slots.
 ghost use Rattle.std.specs.Prelude.{◌≡◌, IfOk, IfErr};
 ghost use Rattle.percpu_core.specs.Phases.{next_slot};
 ghost use Rattle.percpu_words.specs.SlotWord.{IsDelta};
 ghost use Rattle.percpu_core.specs.declared.phase.Phase.TheVariants as phases;
 ghost use Rattle.percpu_words.specs.declared.mode.Mode.TheVariants as modes;
 ghost use Rattle.percpu_gate.specs.Seats.{FindsDelta};
-ghost use Rattle.percpu_gate.specs.ControlCalls.{fault_of, switch_refusal, HasSlotToClose, HasClosedAll, after_close, after_collect, after_switch};
+ghost use Rattle.percpu_gate.specs.ControlCalls.{fault_of, switch_refusal, HasSlotToClose, HasClosedAll, after_moving, after_close, after_collect, after_switch};
 
 use super::Control;
 use crate::control_fault::ControlFault;
@@ -14,11 +14,11 @@ use percpu_core::Phase;
 use percpu_words::Mode;
 
 impl<const W: usize> Control<W> {
-    /// Closes the next slot of a kill. Its delta: what was taken on it less what was given back on it.
+    /// Closes the next slot of a kill. Returns its delta: the references taken on it less those given back on it.
     pub fn close_next(&mut self, gate: &Gate<W>) -> i64
         requires own { self.old.gate ≡ gate.now }
         requires closing { HasSlotToClose self.old.view.standing.phase gate.now.slots }
-        ensures view { self.new ≡ record self.old { view = after_close result self.old.view } }
+        ensures view { self.new ≡ after_moving 1 (after_close result self.old.view) self.old }
         ensures found { FindsDelta gate.now (next_slot self.old.view.standing.phase) self.old.view result }
         ensures small { IsDelta result }
     {
@@ -31,7 +31,7 @@ impl<const W: usize> Control<W> {
         delta
     }
 
-    /// Collects a kill: the sum of the closed deltas comes to the shared word and the bias off it, in one step.
+    /// Collects a kill: adds the sum of the closed deltas to the shared word and removes the bias, in one step.
     pub fn collect(&mut self, gate: &Gate<W>)
         requires own { self.old.gate ≡ gate.now }
         requires closed { HasClosedAll self.old.view.standing.phase gate.now.slots }
@@ -43,7 +43,7 @@ impl<const W: usize> Control<W> {
         self.phase = Phase::Collected;
     }
 
-    /// Why a switch is refused now.
+    /// Why a switch would be refused now.
     fn refuse_mid_switch(&self) -> Result<(), ControlFault>
         ensures refused { fault_of result ≡ switch_refusal self.now.view.standing.phase }
     {
@@ -54,7 +54,7 @@ impl<const W: usize> Control<W> {
         }
     }
 
-    /// Counts on the shared word alone from now on; where the gate is dead, once it is revived. Refuses MidSwitch.
+    /// Counts on the shared word alone from now on; if the gate is dead, once it is revived. Refuses with MidSwitch.
     /// Linux: `percpu_ref_switch_to_atomic_sync` (lib/percpu-refcount.c).
     pub fn switch_to_atomic(&mut self, gate: &Gate<W>) -> Result<(), ControlFault>
         requires own { self.old.gate ≡ gate.now }
@@ -71,7 +71,7 @@ impl<const W: usize> Control<W> {
         Ok(())
     }
 
-    /// Counts on slots from now on; where the gate is dead, once it is revived. Refuses MidSwitch. Linux:
+    /// Counts on slots from now on; if the gate is dead, once it is revived. Refuses with MidSwitch. Linux:
     /// `percpu_ref_switch_to_percpu` (lib/percpu-refcount.c).
     pub fn switch_to_slots(&mut self, gate: &Gate<W>) -> Result<(), ControlFault>
         requires own { self.old.gate ≡ gate.now }

@@ -1,4 +1,4 @@
-//! What the control does with a gate at zero: it looks for ZERO, and stores guarded words.
+//! The calls of the control for a gate at zero: looking for ZERO, and storing guarded words.
 ghost use Rattle.std.specs.Prelude.{◌≡◌, ◌<◌, ◌||◌, IfOk, IfErr, true};
 ghost use Rattle.percpu_core.specs.declared.phase.Phase.TheVariants as phases;
 ghost use Rattle.percpu_gate.specs.Seats.{FindsZero};
@@ -11,8 +11,8 @@ use percpu_core::Phase;
 use percpu_words::is_zero;
 
 impl<const W: usize> Control<W> {
-    /// Whether the count has reached zero since the kill, at this load. It stays true until the gate is
-    /// revived. Linux: `percpu_ref_is_zero` (include/linux/percpu-refcount.h).
+    /// Whether the count has reached zero since the kill, at this load. It stays true until the gate is revived. Linux:
+    /// `percpu_ref_is_zero` (lib/percpu-refcount.c).
     pub fn is_zero(&mut self, gate: &Gate<W>) -> bool
         requires own { self.old.gate ≡ gate.now }
         ensures view { self.new ≡ record self.old { view = record self.old.view { knows_zero = self.old.view.knows_zero || result } } }
@@ -24,7 +24,7 @@ impl<const W: usize> Control<W> {
         is_zero(self.seat.look(&gate.table))
     }
 
-    /// Why a call for a dead gate is refused now.
+    /// Why a call for a dead gate would be refused now.
     pub(super) fn refuse_unless_dead(&self) -> Result<(), ControlFault>
         ensures refused { fault_of result ≡ dead_refusal self.now.view.standing.phase }
         ensures dead { IfOk result (λ _. self.now.view.standing.phase ≡ phases.Dead) }
@@ -38,7 +38,7 @@ impl<const W: usize> Control<W> {
         }
     }
 
-    /// Why a call for a gate at zero is refused now, by one load.
+    /// Why a call for a gate at zero would be refused now. It makes one load.
     pub(super) fn refuse_unless_at_zero(&mut self, gate: &Gate<W>) -> Result<(), ControlFault>
         requires own { self.old.gate ≡ gate.now }
         ensures looks { LooksForZero gate.now self.old.view (fault_of result) }
@@ -54,7 +54,7 @@ impl<const W: usize> Control<W> {
         }
     }
 
-    /// Stores the guarded word `k`, while the gate is dead and at zero. Refuses MidSwitch, NotDead, NotZero.
+    /// Stores the guarded word `k`, while the gate is dead and at zero. Refuses with MidSwitch, NotDead or NotZero.
     pub fn store_word(&mut self, gate: &Gate<W>, k: u32, v: u64) -> Result<(), ControlFault>
         requires own { self.old.gate ≡ gate.now }
         requires word { k < W }

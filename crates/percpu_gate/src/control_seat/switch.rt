@@ -1,5 +1,5 @@
 //! The control's steps of a switch: closing slots and collecting, and adding the bias and opening them.
-ghost use Rattle.std.specs.Prelude.{◌≡◌, ◌*◌, ◌<◌, ◌≤◌, pos, ◌-ℤ◌, None, true, false, unwrap_or, unsigned_abs};
+ghost use Rattle.std.specs.Prelude.{◌≡◌, ◌+◌, ◌*◌, ◌<◌, ◌≤◌, pos, ◌-ℤ◌, None, true, false, unwrap_or, unsigned_abs};
 ghost use Rattle.percpu_words.specs.SharedWord.{bias};
 ghost use Rattle.percpu_words.specs.SlotWord.{IsDelta, most_delta};
 ghost use Rattle.percpu_core.specs.declared.limits.TheConstants.{SLOT_LIMIT};
@@ -19,7 +19,7 @@ use crate::table::{GateTable, SHARED, place_of};
 use percpu_words::{BIAS, CLOSED, slot_delta, slot_word};
 
 impl ControlSeat {
-    /// The step `Close`: closes the next slot. Its delta, or none if it was closed, which the laws exclude.
+    /// The step `Close`: closes the next slot. Returns its delta, or `None` if it was closed, which the laws exclude.
     pub(crate) fn close_slot(&mut self, gate: &GateTable, slot: u32) -> Option<i64>
         requires own { self.old.gate ≡ facts_of gate.now }
         requires next { slot ≡ next_slot self.old.view.standing.phase }
@@ -27,6 +27,7 @@ impl ControlSeat {
         requires enabled { IsEnabled (hinders_control (sizes_at gate.now.key) true None self.old.view.standing events.Close) }
         ensures own { self.new.gate ≡ self.old.gate }
         ensures step { ControlStep (facts_of gate.now) events.Close self.old.view self.new.view (Collected (unwrap_or result (pos 0))) }
+        ensures moves { self.new.moves ≡ self.old.moves + 1 }
     {
         let place = place_of(slot);
         let found = gate
@@ -36,14 +37,15 @@ impl ControlSeat {
         slot_delta(found)
     }
 
-    /// Adds the sum of the closed deltas to the shared word, and takes the bias off it, in one step: `less` is the
-    /// bias less the sum.
+    /// Adds the sum of the closed deltas to the shared word, and removes the bias, in one step: `less` is the bias
+    /// less the sum.
     pub(crate) fn collect(&mut self, gate: &GateTable, less: u64)
         requires own { self.old.gate ≡ facts_of gate.now }
         requires less { pos less ≡ pos bias -ℤ self.old.view.standing.uncollected }
         requires enabled { IsEnabled (hinders_control (sizes_at gate.now.key) true None self.old.view.standing events.Collect) }
         ensures own { self.new.gate ≡ self.old.gate }
         ensures step { ControlStep (facts_of gate.now) events.Collect self.old.view self.new.view Done }
+        ensures moves { self.new.moves ≡ self.old.moves }
     {
         let shared = &gate.table.shared;
         shared.fetch_sub::<Collects>(&mut self.seat, SHARED, less);
@@ -55,6 +57,7 @@ impl ControlSeat {
         requires enabled { IsEnabled (hinders_control (sizes_at gate.now.key) true None self.old.view.standing events.AddBias) }
         ensures own { self.new.gate ≡ self.old.gate }
         ensures step { ControlStep (facts_of gate.now) events.AddBias self.old.view self.new.view Done }
+        ensures moves { self.new.moves ≡ self.old.moves }
     {
         let shared = &gate.table.shared;
         shared.fetch_add::<AddsBias>(&mut self.seat, SHARED, BIAS);
@@ -68,6 +71,7 @@ impl ControlSeat {
         requires enabled { IsEnabled (hinders_control (sizes_at gate.now.key) true None self.old.view.standing events.OpenNext) }
         ensures own { self.new.gate ≡ self.old.gate }
         ensures step { ControlStep (facts_of gate.now) events.OpenNext self.old.view self.new.view Done }
+        ensures moves { self.new.moves ≡ self.old.moves + 1 }
     {
         let place = place_of(slot);
         let word = slot_word(0);
@@ -76,28 +80,28 @@ impl ControlSeat {
             .store::<OpensSlot>(&mut self.seat, place, word);
     }
 
-    /// Closes the next slot, which the laws say is open. Its delta.
+    /// Closes the next slot, which the laws say is open. Returns its delta.
     pub(crate) fn close_next(&mut self, gate: &GateTable, slot: u32) -> i64
         requires own { self.old.gate ≡ facts_of gate.now }
         requires next { slot ≡ next_slot self.old.view.standing.phase }
         requires there { slot < gate.now.key.slots }
         requires turn { has_slot_to_close gate.now.key.slots self.old.view.standing.phase ≡ true }
         requires unmarked { self.old.view.standing.to_mark ≡ false }
-        ensures view { self.new ≡ record self.old { view = after_close result self.old.view } }
+        ensures view { self.new ≡ record self.old { view = after_close result self.old.view; moves = self.old.moves + 1 } }
         ensures found { FindsDelta (facts_of gate.now) slot self.old.view result }
         ensures small { IsDelta result }
     {
         self.close_slot(gate, slot).unwrap_or(0)
     }
 
-    /// Closes every slot, from the first on. The sum of their deltas.
+    /// Closes every slot, from the first on. Returns the sum of their deltas.
     pub(crate) fn close_all(&mut self, gate: &GateTable) -> i64
         requires own { self.old.gate ≡ facts_of gate.now }
         requires first { next_slot self.old.view.standing.phase ≡ 0 }
         requires turn { 1 ≤ gate.now.key.slots → has_slot_to_close gate.now.key.slots self.old.view.standing.phase ≡ true }
         requires none { self.old.view.standing.uncollected ≡ pos 0 }
         requires unmarked { self.old.view.standing.to_mark ≡ false }
-        ensures view { self.new ≡ record self.old { view = after_closing gate.now.key.slots result self.old.view } }
+        ensures view { self.new ≡ record self.old { view = after_closing gate.now.key.slots result self.old.view; moves = self.old.moves + gate.now.key.slots } }
         ensures small { unsigned_abs result ≤ most_delta * gate.now.key.slots }
         ensures slots { (1 ≤ gate.now.key.slots) × (gate.now.key.slots ≤ SLOT_LIMIT) }
     {
@@ -108,7 +112,7 @@ impl ControlSeat {
         sum
     }
 
-    /// Collects the slots, all of which are closed, with this sum of their deltas.
+    /// Collects the slots, all of which are closed, given the sum of their deltas.
     pub(crate) fn collect_sum(&mut self, gate: &GateTable, sum: i64)
         requires own { self.old.gate ≡ facts_of gate.now }
         requires closed { has_closed_all gate.now.key.slots self.old.view.standing.phase ≡ true }
@@ -127,7 +131,7 @@ impl ControlSeat {
         requires first { next_slot self.old.view.standing.phase ≡ 0 }
         requires turn { 1 ≤ gate.now.key.slots → has_slot_to_close gate.now.key.slots self.old.view.standing.phase ≡ true }
         requires stands { self.old.view.standing ≡ standing self.old.view.standing.phase self.old.view.standing.kills }
-        ensures view { self.new ≡ record self.old { view = after_gathering self.old.view } }
+        ensures view { self.new ≡ record self.old { view = after_gathering self.old.view; moves = self.old.moves + gate.now.key.slots } }
     {
         let sum = self.close_all(gate);
         self.collect_sum(gate, sum);
@@ -138,7 +142,7 @@ impl ControlSeat {
         requires own { self.old.gate ≡ facts_of gate.now }
         requires live { self.old.view.standing.phase ≡ LiveAtomic }
         requires unmarked { self.old.view.standing.to_mark ≡ false }
-        ensures view { self.new ≡ record self.old { view = in_phase LiveSlots self.old.view } }
+        ensures view { self.new ≡ record self.old { view = in_phase LiveSlots self.old.view; moves = self.old.moves + gate.now.key.slots } }
     {
         self.add_bias(gate);
         for slot in 0..gate.slots() {

@@ -1,4 +1,4 @@
-//! The slots on which C's calls count: each amount, as a kill finds it.
+//! The slots on which C's calls count: each amount, as a kill collects it.
 ghost use Rattle.std.specs.Prelude.{◌≤◌};
 
 use super::{NUMBER, WORDS};
@@ -13,8 +13,8 @@ use crate::pass_handle::PassHandle;
 use percpu_gate::{Put, Revived};
 use std::process::Abort;
 
-/// A gate of so many slots, with a pass that holds a reference on the shared word, so that the slots count nothing yet.
-/// Whether all calls succeed.
+/// Makes a gate with this many slots, and a pass that holds a reference on the shared word, so that the slots count
+/// nothing yet. Returns whether all calls succeed.
 fn held_on_no_slot(control: &mut ControlHandle, pass: &mut PassHandle, slots: u32) -> bool {
     percpu_gate_new_numbered(control, &NUMBER, slots, 1, 1, &WORDS) == 0
         && percpu_gate_next_pass(control, pass) == 0
@@ -22,7 +22,7 @@ fn held_on_no_slot(control: &mut ControlHandle, pass: &mut PassHandle, slots: u3
         && percpu_gate_switch_to_slots(control) == 0
 }
 
-/// Takes an amount on the slots of one half, the odd ones or the others, and puts it on the slot beside each.
+/// Takes an amount on the slots of one half, the odd ones or the even ones, and puts it on the slot beside each.
 fn counts_on_pairs(pass: &mut PassHandle, pairs: u32, n: u32, is_odd: bool) -> bool
     requires few { pairs ≤ 256 }
 {
@@ -39,7 +39,7 @@ fn counts_on_pairs(pass: &mut PassHandle, pairs: u32, n: u32, is_odd: bool) -> b
     true
 }
 
-/// Whether a kill finds this sum on the slots of one half, and as much below zero on the others, before a revival.
+/// Whether a kill finds this sum on the slots of one half, and its negative on the others, before a revival.
 fn finds_on_pairs(control: &mut ControlHandle, pairs: u32, sum: i64, is_odd: bool) -> bool
     requires few { pairs ≤ 256 }
 {

@@ -1,5 +1,5 @@
-//! Passes that are retired, and gates that end. `percpu_gate_retire` asks that gates of one number are one gate, so the
-//! helpers say that it holds of the two handles still.
+//! Passes that are retired, and gates that end. `percpu_gate_retire` requires that gates of one number are one gate, so
+//! the helpers say that this still holds of the two handles.
 ghost use Rattle.std.specs.Prelude.{◌≡◌, IfSome};
 ghost use Rattle.percpu_gate_c.specs.Life.{NumbersTellOn};
 
@@ -8,7 +8,6 @@ use crate::control_calls::{
     percpu_gate_control_is_zero, percpu_gate_kill, percpu_gate_release_count, percpu_gate_resurrect,
 };
 use crate::control_handle::ControlHandle;
-use crate::gate_number::GateNumber;
 use crate::life::{
     Final, percpu_gate_control_number, percpu_gate_exit, percpu_gate_free_control,
     percpu_gate_free_pass, percpu_gate_new_numbered, percpu_gate_next_pass,
@@ -16,11 +15,12 @@ use crate::life::{
 };
 use crate::pass_calls::{percpu_gate_is_dying, percpu_gate_put, percpu_gate_try_get_live};
 use crate::pass_handle::PassHandle;
+use c_answers::DrawnNumber;
 use std::alloc::Global;
 use std::process::Abort;
 use std::test::Fail;
 
-/// What is there before a gate has ended.
+/// The value before a gate has ended.
 const NOT_YET: Final = Final {
     dead: false,
     kills: 9,
@@ -28,7 +28,7 @@ const NOT_YET: Final = Final {
     words: [0; 8],
 };
 
-/// The handles of a new gate with two slots and one pass.
+/// Returns the handles of a new gate with two slots and one pass.
 fn of_one_gate<R: Abort>(rt: &R, alloc: Global, drawn: u64) -> (ControlHandle, PassHandle)
     ensures one { NumbersTellOn result.0.held.control result.1.held.pass }
     ensures control { IfSome result.0.held.control (λ c. c.number.drawn ≡ drawn) }
@@ -36,7 +36,7 @@ fn of_one_gate<R: Abort>(rt: &R, alloc: Global, drawn: u64) -> (ControlHandle, P
 {
     let mut control = ControlHandle::new(alloc);
     let mut pass = PassHandle::new(alloc);
-    let number = GateNumber { counter: 5, drawn };
+    let number = DrawnNumber { counter: 5, drawn };
     let made = percpu_gate_new_numbered(&mut control, &number, 2, 1, 0, &WORDS);
     assert!(*rt; made == 0);
     let given = percpu_gate_next_pass(&mut control, &mut pass);
@@ -99,7 +99,7 @@ fn a_whole_life(rt: HostRuntime) {
     assert!(rt; percpu_gate_exit(&mut control, &mut last) == 32);
 }
 
-/// Three kills of which two reached zero: each field of what is left has a number of its own, and stands in its place.
+/// Three kills, two of which reached zero: each field of the final facts has a number of its own, in its place.
 #[test]
 fn what_is_left(rt: HostRuntime) -> Result<(), Fail> {
     let (mut control, mut pass) = of_one_gate(&rt, rt.alloc(), 1);
@@ -123,13 +123,13 @@ fn what_is_left(rt: HostRuntime) -> Result<(), Fail> {
     Ok(())
 }
 
-/// Three passes of which nobody asked for one end with the gate, but not one that was given out.
+/// Of three passes one was never asked for: it ends with the gate, but a pass that was given out doesn't.
 #[test]
 fn passes_that_nobody_asked_for(rt: HostRuntime) {
     let mut control = ControlHandle::new(rt.alloc());
     let mut pass = PassHandle::new(rt.alloc());
     let mut last = NOT_YET;
-    let number = GateNumber {
+    let number = DrawnNumber {
         counter: 5,
         drawn: 6,
     };
@@ -172,7 +172,7 @@ fn a_pass_of_another_gate(rt: HostRuntime) {
     percpu_gate_free_control(&mut second);
 }
 
-/// What a freed pass held, it holds for ever: nobody is told that the last reference is gone.
+/// What a freed pass held stays held forever: no call returns that the last reference is gone.
 #[test]
 fn a_freed_pass_holds_on(rt: HostRuntime) {
     let (mut control, mut pass) = of_one_gate(&rt, rt.alloc(), 1);
@@ -183,7 +183,7 @@ fn a_freed_pass_holds_on(rt: HostRuntime) {
     percpu_gate_free_control(&mut control);
 }
 
-/// The passes of a freed control count on: nobody has killed their gate.
+/// The passes of a freed control go on counting: nobody has killed their gate.
 #[test]
 fn a_freed_control_leaves_its_gate_live(rt: HostRuntime) {
     let (mut control, mut pass) = of_one_gate(&rt, rt.alloc(), 1);
@@ -194,13 +194,13 @@ fn a_freed_control_leaves_its_gate_live(rt: HostRuntime) {
     percpu_gate_free_pass(&mut pass);
 }
 
-/// The greatest gate is made where there is memory, and gives each of its passes once.
+/// The largest gate is made if there is memory, and gives each of its passes once.
 #[test]
 fn the_greatest_gate(rt: HostRuntime) {
     let mut control = ControlHandle::new(rt.alloc());
     let mut pass = PassHandle::new(rt.alloc());
     let mut last = NOT_YET;
-    let number = GateNumber {
+    let number = DrawnNumber {
         counter: 5,
         drawn: 6,
     };
@@ -214,7 +214,7 @@ fn the_greatest_gate(rt: HostRuntime) {
     percpu_gate_free_control(&mut control);
 }
 
-/// Who asks for a pass where none waits takes no share of the gate, which ends.
+/// Asking for a pass when none is left takes no share of the gate, which ends.
 #[test]
 fn no_pass_takes_no_share(rt: HostRuntime) {
     let (mut control, mut pass) = of_one_gate(&rt, rt.alloc(), 1);

@@ -19,7 +19,7 @@ use crate::pass_handle::PassHandle;
 use std::alloc::Global;
 use std::process::Abort;
 
-/// A control and two passes of a new gate with two slots.
+/// Returns a control and two passes of a new gate with two slots.
 fn of_two_passes(alloc: Global) -> (ControlHandle, PassHandle, PassHandle) {
     let mut control = ControlHandle::new(alloc);
     let mut first = PassHandle::new(alloc);
@@ -30,7 +30,7 @@ fn of_two_passes(alloc: Global) -> (ControlHandle, PassHandle, PassHandle) {
     (control, first, second)
 }
 
-/// A pass takes so many references on a slot. Whether all calls succeed.
+/// A pass takes this many references on a slot. Returns whether all calls succeed.
 fn holds(pass: &mut PassHandle, slot: u32, n: u32) -> bool {
     n == 0
         || (percpu_gate_try_get_live(pass, slot) == 0

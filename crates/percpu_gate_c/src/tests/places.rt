@@ -1,4 +1,5 @@
-//! The places of arguments, which no contract has: each call that takes several numbers, with another in each place.
+//! The places of arguments, which no contract sees: each call that takes several numbers, with another number in each
+//! place.
 use super::{NUMBER, WORDS, opened};
 use crate::control_calls::{percpu_gate_all_words, percpu_gate_kill, percpu_gate_store_word};
 use crate::control_handle::ControlHandle;

@@ -6,7 +6,7 @@ use queue_limits::Limits;
 use std::alloc::Global;
 use std::test::Fail;
 
-/// A new queue of one slot for a device of 8 sectors, its freezer and its tag.
+/// Returns a new queue of one slot for a device of 8 sectors, its freezer and its tag.
 pub(super) fn with_one_tag(alloc: Global) -> Result<(BlockQueue, Freezer, Tag), Fail>
     ensures queue { IfOk result (λ q. (q.0.gate.slots ≡ 1) × (q.0.hardware ≡ 8)) }
     ensures own { IfOk result (λ q. (q.1.queue ≡ q.0) × (q.2.queue ≡ q.0)) }

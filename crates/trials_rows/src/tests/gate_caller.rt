@@ -6,8 +6,8 @@ use percpu_gate::{Gate, Pass, Start, Tried};
 use std::process::Abort;
 use std::test::Fail;
 
-/// A pass that was given a reference is given another by `try_get`, whatever the control does meanwhile. Once
-/// it has put both it holds none. The contracts of the calls say all that this contract needs.
+/// Tries for a reference, and if it is given, takes a second one, which `try_get` always gives to a pass that holds one, whatever the
+/// control does meanwhile. Once both are put, the pass holds none. The contracts of the calls say all that this contract needs.
 fn given_again<const W: usize>(gate: &Gate<W>, pass: &mut Pass<W>) -> bool
     requires own { pass.old.gate ≡ gate.now }
     requires slots { 0 < gate.now.slots }

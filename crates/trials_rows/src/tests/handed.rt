@@ -1,4 +1,4 @@
-//! A completion that is handed over on one thread. rust/trials/tests/handed.rs has more, over the plain Rust.
+//! A completion that is handed over on one thread. rust/trials/tests/handed.rs has more tests, of the plain Rust.
 use run_queues::{CompletionQueue, Numbered};
 use std::test::Fail;
 
@@ -21,11 +21,11 @@ impl Numbered for Valued {
 fn none_is_there_yet(rt: HostRuntime) -> Result<(), Fail> {
     let (queue, mut collector) = CompletionQueue::new(rt.alloc(), 1)?;
     assert!(rt; queue.try_collect(&rt, &mut collector).is_none());
-    let duty = queue.duty(&mut collector, 0);
+    let token = queue.token(&mut collector, 0);
     assert!(rt; queue.try_collect(&rt, &mut collector).is_none());
     queue.tell(
         &rt,
-        duty,
+        token,
         Valued {
             number: 0,
             value: 7,

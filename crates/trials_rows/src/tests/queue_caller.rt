@@ -13,7 +13,7 @@ use std::thread;
 use std::thread::Threads;
 use uses::change_limits;
 
-/// Another thread reads the limits by a tag that entered here.
+/// Reads the limits on another thread, by a tag that entered here.
 fn read_elsewhere(queue: &BlockQueue, mut tag: Tag) -> (Tag, Limits)
     requires own { tag.queue ≡ queue.now }
     requires entered { tag.entered ≡ true }
@@ -23,7 +23,7 @@ fn read_elsewhere(queue: &BlockQueue, mut tag: Tag) -> (Tag, Limits)
     (tag, limits)
 }
 
-/// Two threads read equal limits under one tag, whatever a freezer does meanwhile.
+/// Reads the limits on two threads under one tag. They are equal, whatever a freezer does meanwhile.
 fn two_reads_agree<R: Threads>(rt: &R, queue: &BlockQueue, tag: Tag) -> (Tag, bool)
     requires own { tag.queue ≡ queue.now }
     requires entered { tag.entered ≡ true }
@@ -41,8 +41,8 @@ fn two_reads_agree<R: Threads>(rt: &R, queue: &BlockQueue, tag: Tag) -> (Tag, bo
     (tag, here == there)
 }
 
-/// After a freeze, a set and a thaw, a tag enters and asks for the limits. At the moment at which it reads them
-/// they are the new ones, unless the freezer has gone on by then.
+/// Reads the limits by a tag that enters after a freeze, a set and a thaw. They are the new ones, unless the freezer has gone on by
+/// the moment at which the tag reads them.
 fn reads_what_was_set<R: Wait>(
     rt: &R,
     queue: &BlockQueue,
@@ -66,7 +66,7 @@ fn reads_what_was_set<R: Wait>(
     Ok(queue.limits(tag))
 }
 
-/// The limits that a tag reads after a change, and whether two threads read the same.
+/// Returns the limits that a tag reads after a change, and whether two threads read the same.
 fn read_by_callers<R: Threads + Wait>(
     rt: &R,
     queue: &BlockQueue,

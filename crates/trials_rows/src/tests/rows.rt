@@ -1,4 +1,4 @@
-//! A row of each library. tests/rows has the rows of programs, and rust/trials/tests the others of libraries.
+//! A row for each library. tests/rows has the rows of programs, and rust/trials/tests the other rows of libraries.
 ghost use Rattle.std.specs.Prelude.{◌<◌, ◌^◌, IfOk};
 ghost use Rattle.queue_limits.specs.Pieces.{IsSplit};
 
@@ -12,7 +12,7 @@ use ram_disk::patterned;
 use std::alloc::{AllocError, Global};
 use std::test::Fail;
 
-/// After this call the contract gives the caller the split.
+/// Collects the pieces, with a contract that gives the caller the split.
 fn collected(alloc: Global, limits: &Limits, start: u64, count: u32) -> Result<Vec<u32>, AllocError>
     requires { start < 2 ^ 32 }
     ensures { IfOk result (λ v. IsSplit limits.now start count v.items) }

@@ -1,19 +1,17 @@
 // Erased from crates/blk_script/src/lib.rt by tools/erase: edit that file.
 //! A script of a request queue: what it says, what it means on one thread, and the texts of its replies.
 //!
-//! A script is text. Its first line names the format, its second the disk, and each further line asks the
-//! queue for something: to read or write a range of sectors, to freeze or thaw, to set a limit, to tell its
-//! counts. [`parse`] gives the [`Script`] that a text means, or the first fault of the text. [`check`] refuses one in which two
-//! requests that may be under way together touch one sector, [`drains`] tells the lines before which the queue drains in
-//! version 2, and [`Checked`] keeps the decisions of both, for a run of the script. [`run_alone`] tells what the script writes on one thread. What a
-//! caller needs of `line_text`, `script_meaning` and `script_overlap` stands here too.
+//! A script is text. Its first line names the format, its second the disk, and each further line asks the queue for something: to
+//! read or write a range of sectors, to freeze or thaw, to set a limit, to report its counts. [`parse`] returns the [`Script`] that
+//! a text means, or the first fault of the text. [`check`] refuses a script in which two requests that may be in flight together
+//! overlap. [`drains`] returns the lines before which the queue drains in version 2, and [`Checked`] keeps the decisions of both,
+//! for a run of the script. [`run_alone`] returns what the script writes on one thread. What a caller needs of `line_text`,
+//! `script_meaning` and `script_overlap` is exported here too.
 
-mod grammar;
 mod machine;
 mod parser;
 mod rendering;
 mod run;
-mod sector_runs;
 
 pub use crate::erased::line_text::{Overlap, ParseFault, ScriptFault, Why, Words, number, words};
 pub use crate::erased::script_meaning::{

@@ -1,31 +1,31 @@
 // Erased from crates/queue_core/src/lib.rt by tools/erase: edit that file.
-//! A request queue that can be frozen, without waiting: whoever embeds it sleeps and wakes in a way of his own.
+//! A request queue that can be frozen, without waiting: the caller decides how threads sleep and are woken.
 //!
 //! A [`BlockQueue`] is to its users what a `request_queue` is to a driver in Linux (block/blk-core.c). Nothing here
-//! sleeps, yields, locks, starts a thread or, after [`BlockQueue::new`], allocates: each call is a few atomic steps, and
-//! answers whom its caller has to wake, if he lets anybody sleep. Its life:
+//! sleeps, yields, locks, starts a thread or, after [`BlockQueue::new`], allocates. Each call is a few atomic steps,
+//! and its result says which waiters the caller has to wake. The life of a queue:
+//! - **Live.** A submitter takes a [`Tag`] and enters with it, reads the limits under it, and hands the tag on with its
+//!   request. The thread that ends the request leaves with the tag. `try_enter` and `leave` are one counting call of the gate
+//!   each, without a lock. If each submitter uses a slot of its own, no word is written by all of them (in the other
+//!   [`Mode`] they share one count). A busy thread needn't leave between two requests: `stay` looks once whether a
+//!   freeze has started, and leaves only then.
+//! - **Frozen.** The [`Freezer`] counts freezes. The first freeze kills the gate: no tag enters from then on, except by
+//!   `try_enter_frozen`, to look at what is in flight. When the last tag leaves, its call returns [`Put::Last`]: the
+//!   queue is drained.
+//! - **Set.** While the queue is drained its limits can be set. They are in the gate's guarded words, so they don't
+//!   change while a tag is entered.
+//! - **Thawed.** The last thaw revives the gate, drained or not.
 //!
-//! - **Live.** A submitter takes a [`Tag`] and enters with it, reads the limits under it, and hands the tag on
-//!   with its request. Whoever ends the request leaves with the tag. `try_enter` and `leave` are one counting
-//!   call of the gate each: no lock, and nothing that all submitters write, where each names a slot of its own
-//!   (in the other [`Mode`] they share one count).
-//!   A busy thread needn't leave between two requests: `stay` looks once whether a freeze has begun, and leaves only then.
-//! - **Frozen.** The [`Freezer`] counts freezes. The first kills the gate: no tag enters from then on, but by
-//!   `try_enter_frozen`, to look at what is under way. The last tag to leave is told [`Put::Last`]: the queue is drained.
-//! - **Set.** While it is drained its limits are set: they stand in the gate's guarded words, so they hold still
-//!   for as long as a tag is entered.
-//! - **Thawed.** The last thaw brings the gate back, drained or not.
+//! Which waiters to wake: if `leave`, a refused try or `start_freeze` returns [`Put::Last`], wake the freezer, which
+//! then finds the queue drained. If `thaw` returns that the queue is live, wake the threads that wait to enter. A
+//! thread that announces that it will sleep has to look once more before it does. The crate `freeze_queue` has the same
+//! calls, and others that wait by the kit's means.
 //!
-//! Whom to wake: who is told [`Put::Last`], by `leave`, by a refused try or by `start_freeze` itself, wakes the
-//! freezer, which finds the queue drained then; who is told by `thaw` that the queue is live wakes those who wait to
-//! enter. Whoever sleeps looks once more after he has said that he will. The crate `freeze_queue` has the same calls, and
-//! others that wait by the kit's means.
-//!
-//! `specs/Queue.antt` says in five minutes what a tag and a freezer know and what each call leaves. What it means
-//! at the gate that limits hold still and that a queue is drained is proved by `limits_hold_still` and
-//! `drained_is_empty`; that what tags read is what the freezer set, by `in_force_are_set` and
-//! `tags_read_what_is_set`; that a tag which is in holds the drain off, and a drained queue lets nobody in to look, by
-//! `entered_holds_off` and `drained_refuses`.
+//! `specs/Queue.antt`, which takes five minutes to read, says what a tag and a freezer know and what each call changes.
+//! `limits_hold_still` and `drained_is_empty` prove at the gate that limits don't change under an entered tag and that a
+//! drained queue is empty. `in_force_are_set` and `tags_read_what_is_set` prove that a tag reads the freezer's limits if
+//! the freezer's state is its present one at the read, a premise that no call establishes. `entered_holds_off` and
+//! `drained_refuses` prove that a queue doesn't drain while a tag is in, and that a drained queue refuses a look.
 
 mod fault;
 mod freezer;

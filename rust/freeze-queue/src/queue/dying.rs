@@ -1,14 +1,22 @@
-//! The queue of a device that is gone.
+//! Marking a queue dying.
 use super::Queue;
-use crate::drained::Drain;
-use crate::shared::Share;
-use std::future;
+use crate::tasks;
+use std::sync::Arc;
 use std::time::{Duration, Instant};
 
 impl<T> Queue<T> {
-    /// Marks the queue dying, since its device is gone: no request enters any more, and those that wait to enter, or for a tag, are refused
-    /// ([`EnterError::Dying`](crate::EnterError::Dying)). Requests in flight run to their end. It can't fail, and takes no freeze; freezes and
-    /// updates go on as before. Linux: `blk_mark_disk_dead`, which sets `QUEUE_FLAG_DYING`.
+    /// Marks the queue dying. Call this when its device is gone or is being removed. Calls that wait to enter, or for a tag, return
+    /// [`EnterError::Dying`](crate::EnterError::Dying), and so do later ones, even if no tag is free. Until the queue is
+    /// drained, [`try_enter_frozen`](Queue::try_enter_frozen) and
+    /// [`try_enter_frozen_owned`](Queue::try_enter_frozen_owned) still enter. [`tag`](Queue::tag) still gives out tags.
+    /// Requests in flight go on to their end. Linux: `blk_mark_disk_dead`, which sets `QUEUE_FLAG_DYING`.
+    ///
+    /// This call returns no error, and doesn't count towards [`MAX_DEPTH`](Queue::MAX_DEPTH). Freezes and updates of a dying
+    /// queue still drain it and set limits; when they end, the queue stays closed.
+    ///
+    /// # Panics
+    ///
+    /// Panics in the same case as [`freeze`](Queue::freeze).
     ///
     /// # Examples
     ///
@@ -25,10 +33,16 @@ impl<T> Queue<T> {
     /// # Ok::<(), Box<dyn std::error::Error>>(())
     /// ```
     pub fn mark_dying(&self) {
-        Share::Borrowed(self.shared()).mark_dying(false);
+        Arc::clone(&self.shared).mark_dying(false);
     }
 
     /// Marks the queue dying, and waits until each request has left. Linux: `del_gendisk`.
+    ///
+    /// # Panics
+    ///
+    /// Panics in the same case as [`freeze`](Queue::freeze).
+    ///
+    /// # Examples
     ///
     /// ```
     /// # use freeze_queue::{Limits, Queue};
@@ -39,10 +53,17 @@ impl<T> Queue<T> {
     /// ```
     pub fn shut_down(&self) {
         self.mark_dying();
-        self.shared().waits.until_drained(&self.shared().erased, None);
+        self.shared.until_drained(None);
     }
 
-    /// Marks the queue dying, and waits this long at most until each request has left. Whether all have; the queue is dying either way.
+    /// Marks the queue dying, and waits until each request has left, or until the timeout. Returns whether all have left; the
+    /// queue is dying either way. If a device hangs, you may drop the queue: see [`Queue`].
+    ///
+    /// # Panics
+    ///
+    /// Panics in the same case as [`freeze`](Queue::freeze).
+    ///
+    /// # Examples
     ///
     /// ```
     /// # use freeze_queue::{Limits, Queue};
@@ -55,12 +76,19 @@ impl<T> Queue<T> {
     /// # Ok::<(), Box<dyn std::error::Error>>(())
     /// ```
     #[must_use = "requests may be in flight still"]
-    pub fn shut_down_timeout(&self, patience: Duration) -> bool {
+    pub fn shut_down_timeout(&self, timeout: Duration) -> bool {
         self.mark_dying();
-        self.shared().waits.until_drained(&self.shared().erased, Instant::now().checked_add(patience))
+        self.shared.until_drained(Instant::now().checked_add(timeout))
     }
 
-    /// Marks the queue dying at the first poll, and waits by a future until each request has left. Dropping the future leaves it dying.
+    /// Marks the queue dying at the first poll, and waits as a task until each request has left. Dropping the future after
+    /// its first poll leaves the queue dying.
+    ///
+    /// # Panics
+    ///
+    /// Panics in the same case as [`freeze`](Queue::freeze).
+    ///
+    /// # Examples
     ///
     /// ```
     /// # use freeze_queue::{Limits, Queue};
@@ -76,7 +104,6 @@ impl<T> Queue<T> {
     /// ```
     pub async fn shut_down_async(&self) {
         self.mark_dying();
-        let mut drain = Drain::of(self.shared());
-        future::poll_fn(|context| drain.poll(context)).await;
+        tasks::until_drained(&self.shared).await;
     }
 }

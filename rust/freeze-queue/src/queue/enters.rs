@@ -1,19 +1,21 @@
-//! Requests enter.
+//! Entering with a tag.
 use super::Queue;
-use crate::enter_async::EnterAsync;
+use crate::body::TagState;
 use crate::errors::EnterError;
 use crate::request::Request;
+use crate::shared::Shared;
 use crate::tag::Tag;
-use std::time::Duration;
+use std::time::{Duration, Instant};
 
 impl<T> Queue<T> {
-    /// Enters, and waits while the queue is frozen. A thread that has a [`Frozen`](crate::Frozen) drops it before: it would
-    /// wait for its own thaw for ever. One that has a request in flight calls [`try_enter_frozen`](Queue::try_enter_frozen): a freeze
-    /// waits for that request, and this call for the thaw. Linux: `blk_queue_enter`.
+    /// Enters, and waits while the queue is frozen. A thread that holds a [`Frozen`](crate::Frozen) must drop it first, or it
+    /// waits forever for its own thaw. A thread that holds a request must use
+    /// [`try_enter_frozen`](Queue::try_enter_frozen) instead: otherwise a freeze may wait for that request, and this call
+    /// for the thaw. Linux: `blk_queue_enter`.
     ///
     /// # Errors
     ///
-    /// [`EnterError::OtherQueue`], [`EnterError::StillEntered`] or [`EnterError::Dying`].
+    /// Returns [`EnterError::OtherQueue`], [`EnterError::StillEntered`] or [`EnterError::Dying`].
     ///
     /// # Examples
     ///
@@ -30,16 +32,14 @@ impl<T> Queue<T> {
     /// ```
     #[inline]
     pub fn enter<'e>(&'e self, tag: &'e mut Tag<T>) -> Result<Request<'e, T>, EnterError> {
-        let (queue, tag) = (self.shared(), tag.state_of(self.shared()).ok_or(EnterError::OtherQueue)?);
-        queue.in_or_waits(tag)?;
-        Ok(Request::of(queue, tag))
+        self.enters(tag, |queue, tag| queue.in_by(tag, || None))
     }
 
     /// Enters unless the queue is frozen. Linux: `blk_queue_enter` with `BLK_MQ_REQ_NOWAIT`.
     ///
     /// # Errors
     ///
-    /// Returns [`EnterError`].
+    /// Returns [`EnterError::Frozen`], or an error of [`enter`](Queue::enter).
     ///
     /// # Examples
     ///
@@ -54,17 +54,15 @@ impl<T> Queue<T> {
     /// ```
     #[inline]
     pub fn try_enter<'e>(&'e self, tag: &'e mut Tag<T>) -> Result<Request<'e, T>, EnterError> {
-        let (queue, tag) = (self.shared(), tag.state_of(self.shared()).ok_or(EnterError::OtherQueue)?);
-        queue.in_at_once(tag)?;
-        Ok(Request::of(queue, tag))
+        self.enters(tag, Shared::in_at_once)
     }
 
-    /// Enters, and waits for that so long at most while the queue is frozen. It tries before it looks at the clock, so one
-    /// without patience enters a live queue still. Linux: `blk_queue_enter`.
+    /// Enters, and waits while the queue is frozen, until the timeout. It tries before it reads the clock, so with a timeout
+    /// of 0 it enters a live queue. Linux: `blk_queue_enter`.
     ///
     /// # Errors
     ///
-    /// Returns [`EnterError`].
+    /// Returns [`EnterError::TimedOut`], or an error of [`enter`](Queue::enter).
     ///
     /// # Examples
     ///
@@ -79,18 +77,17 @@ impl<T> Queue<T> {
     /// # Ok::<(), Box<dyn std::error::Error>>(())
     /// ```
     #[inline]
-    pub fn enter_timeout<'e>(&'e self, tag: &'e mut Tag<T>, patience: Duration) -> Result<Request<'e, T>, EnterError> {
-        let (queue, tag) = (self.shared(), tag.state_of(self.shared()).ok_or(EnterError::OtherQueue)?);
-        queue.in_by_then(tag, patience)?;
-        Ok(Request::of(queue, tag))
+    pub fn enter_timeout<'e>(&'e self, tag: &'e mut Tag<T>, timeout: Duration) -> Result<Request<'e, T>, EnterError> {
+        self.enters(tag, |queue, tag| queue.in_by(tag, || Instant::now().checked_add(timeout)))
     }
 
-    /// Enters a queue that may be frozen, to look at what is under way, unless it is drained. Until it leaves it holds the
-    /// drain off. Linux: `percpu_ref_tryget` of `q_usage_counter`.
+    /// Enters a queue that may be frozen or dying, unless it is drained: for example to look at what is in flight. The queue
+    /// doesn't drain before the request leaves. So as long as such requests overlap, each entering before the last one leaves, the
+    /// freeze doesn't drain. Linux: `percpu_ref_tryget` of `q_usage_counter`.
     ///
     /// # Errors
     ///
-    /// Returns [`EnterError`].
+    /// Returns [`EnterError::OtherQueue`], [`EnterError::StillEntered`] or [`EnterError::Drained`].
     ///
     /// # Examples
     ///
@@ -104,15 +101,17 @@ impl<T> Queue<T> {
     /// # Ok::<(), Box<dyn std::error::Error>>(())
     /// ```
     pub fn try_enter_frozen<'e>(&'e self, tag: &'e mut Tag<T>) -> Result<Request<'e, T>, EnterError> {
-        let (queue, tag) = (self.shared(), tag.state_of(self.shared()).ok_or(EnterError::OtherQueue)?);
-        queue.in_to_look(tag)?;
-        Ok(Request::of(queue, tag))
+        self.enters(tag, Shared::in_to_look)
     }
 
-    /// Enters, by a future that waits while the queue is frozen, on any executor: a thaw wakes it. One that is dropped
-    /// before it is done has entered nothing.
+    /// Enters as [`enter`](Queue::enter) does, and waits as a task while the queue is frozen: a thaw wakes it. The future
+    /// doesn't allocate, and dropping it has no effect on the queue.
     ///
-    /// It answers as [`enter`](Queue::enter) does. Nothing is done before it is polled.
+    /// # Errors
+    ///
+    /// Returns the errors of `enter`.
+    ///
+    /// # Examples
     ///
     /// ```
     /// # use freeze_queue::{Limits, Queue, Tag};
@@ -127,7 +126,20 @@ impl<T> Queue<T> {
     /// # assert_eq!(done, std::task::Poll::Ready(64));
     /// # Ok::<(), Box<dyn std::error::Error>>(())
     /// ```
-    pub fn enter_async<'e>(&'e self, tag: &'e mut Tag<T>) -> EnterAsync<'e, T> {
-        EnterAsync::of(self.shared(), tag)
+    pub async fn enter_async<'e>(&'e self, tag: &'e mut Tag<T>) -> Result<Request<'e, T>, EnterError> {
+        let (queue, tag) = (&*self.shared, tag.state_of(&self.shared).ok_or(EnterError::OtherQueue)?);
+        queue.in_as_task(tag).await?;
+        Ok(Request::of(queue, tag))
+    }
+
+    #[inline]
+    fn enters<'e>(
+        &'e self,
+        tag: &'e mut Tag<T>,
+        enter: impl FnOnce(&Shared<T>, &mut TagState) -> Result<(), EnterError>,
+    ) -> Result<Request<'e, T>, EnterError> {
+        let (queue, tag) = (&*self.shared, tag.state_of(&self.shared).ok_or(EnterError::OtherQueue)?);
+        enter(queue, tag)?;
+        Ok(Request::of(queue, tag))
     }
 }

@@ -1,22 +1,22 @@
-//! Requests enter with any tag that is free.
+//! Entering with any free tag.
 use super::Queue;
-use crate::enter_any::{self, EnterAny};
+use crate::enter_any::{self, AnyTag, Share};
 use crate::errors::EnterError;
+use crate::line::{self, Lined};
 use crate::owned::OwnedRequest;
-use crate::shared::{Share, Shared};
-use crate::tag::Tag;
 use std::time::{Duration, Instant};
 
 impl<T> Queue<T> {
-    /// Enters with a tag that is free, which goes along with the request, and back to the queue where the request is dropped, on
-    /// whichever thread. Waits for a tag while none is free, and while the queue is frozen. Those that wait for a tag are handed
-    /// one in order of arrival. Linux: `blk_mq_alloc_request`.
+    /// Enters with a free tag, which the request takes along. Dropping the request, on any thread, gives the tag back to the
+    /// queue. This call waits while no tag is free, and while the queue is frozen. Waiting threads and tasks get tags in
+    /// order of arrival. Linux: `blk_mq_alloc_request`.
     ///
-    /// The request counts on a slot of the calling thread. A thread that has all tags itself waits for ever.
+    /// The request counts on a slot of the calling thread. A thread waits forever if it holds a freeze, or all
+    /// tags that aren't reserved.
     ///
     /// # Errors
     ///
-    /// [`EnterError::Dying`]; or [`EnterError::NoMemory`], if there is no memory to wait in line.
+    /// Returns [`EnterError::Dying`], or [`EnterError::NoMemory`] if there is no memory to wait in line.
     ///
     /// # Examples
     ///
@@ -38,19 +38,15 @@ impl<T> Queue<T> {
     /// ```
     #[inline]
     pub fn enter_any(&self) -> Result<OwnedRequest<T>, EnterError> {
-        let queue = self.shared();
-        let tag = match queue.try_any() {
-            Some(tag) => Tag::of(tag),
-            None => enter_any::wait_for_tag(queue, None)?,
-        };
-        self.enter_owned(tag).map_err(|refused| refused.reason)
+        self.any_by(None)
     }
 
-    /// Enters with any tag as [`enter_any`](Queue::enter_any) does, and waits this long at most.
+    /// Enters with any tag as [`enter_any`](Queue::enter_any) does, or returns at the timeout.
     ///
     /// # Errors
     ///
-    /// Returns [`EnterError`].
+    /// Returns [`EnterError::Dying`], [`EnterError::NoMemory`] if there is no memory to wait in line, or
+    /// [`EnterError::TimedOut`].
     ///
     /// # Examples
     ///
@@ -63,19 +59,17 @@ impl<T> Queue<T> {
     /// assert_eq!(late.unwrap_err(), EnterError::TimedOut);
     /// # Ok::<(), Box<dyn std::error::Error>>(())
     /// ```
-    pub fn enter_any_timeout(&self, patience: Duration) -> Result<OwnedRequest<T>, EnterError> {
-        let queue: &Shared<T> = self.shared();
-        let deadline = Instant::now().checked_add(patience);
-        let mut tag = match queue.try_any() {
-            Some(tag) => Tag::of(tag),
-            None => enter_any::wait_for_tag(queue, deadline)?,
+    pub fn enter_any_timeout(&self, timeout: Duration) -> Result<OwnedRequest<T>, EnterError> {
+        self.any_by(Instant::now().checked_add(timeout))
+    }
+
+    #[inline]
+    fn any_by(&self, deadline: Option<Instant>) -> Result<OwnedRequest<T>, EnterError> {
+        let tag = match self.shared.try_any() {
+            Some(tag) => tag,
+            None => line::wait::<T, AnyTag>(&self.shared, deadline)?,
         };
-        let (_, state) = tag.parts_mut();
-        match queue.in_at_once(state) {
-            Err(EnterError::Frozen) => queue.waits_until(state, deadline)?,
-            done => done?,
-        }
-        Ok(OwnedRequest::of(tag))
+        Ok(self.enters_owned(tag, |queue, tag| queue.in_by(tag, || deadline))?)
     }
 
     /// Enters with any tag as [`enter_any`](Queue::enter_any) does, or refuses at once. Linux: `blk_mq_alloc_request` with
@@ -83,7 +77,8 @@ impl<T> Queue<T> {
     ///
     /// # Errors
     ///
-    /// Returns [`EnterError`].
+    /// Returns [`EnterError::Dying`] if the queue is dying, or else [`EnterError::NoTag`] if no tag was free at some moment
+    /// of the call, or else [`EnterError::Frozen`].
     ///
     /// # Examples
     ///
@@ -98,18 +93,26 @@ impl<T> Queue<T> {
     /// # Ok::<(), Box<dyn std::error::Error>>(())
     /// ```
     pub fn try_enter_any(&self) -> Result<OwnedRequest<T>, EnterError> {
-        let tag = enter_any::tag_at_once(self.shared()).ok_or(EnterError::NoTag)?;
-        self.try_enter_owned(tag).map_err(|refused| refused.reason)
+        let queue = &self.shared;
+        let under_lock = || queue.under_lock(queue.places.any()).map(|tag| AnyTag::got(queue, tag));
+        let Some(tag) = queue.try_any().or_else(under_lock) else {
+            return Err(if queue.waits.lock().is_dying { EnterError::Dying } else { EnterError::NoTag });
+        };
+        Ok(self.try_enter_owned(tag)?)
     }
 
-    /// Enters with any tag by a future: thousands of tasks may wait for the queue's tags, and are handed one in order of arrival.
-    /// The future needs no runtime. Nothing is done before it is polled; one that is dropped leaves the line, and passes a tag on
-    /// that it was handed.
+    /// Enters with any tag as [`enter_any`](Queue::enter_any) does, and waits as a task. Thousands of tasks may wait for the
+    /// queue's tags, and get them in order of arrival. Dropping the future gives up its place in line; if it was handed a
+    /// tag, the next waiter gets that tag.
     ///
-    /// A future that was handed a tag and isn't polled keeps that tag from those behind it. One that is forgotten (`mem::forget`)
-    /// keeps it for ever.
+    /// A future that was handed a tag and isn't polled keeps the tag from the waiters behind it. A leaked future
+    /// (`mem::forget`) keeps it forever.
     ///
-    /// It returns as [`enter_any`](Queue::enter_any) does.
+    /// # Errors
+    ///
+    /// Returns the errors of `enter_any`.
+    ///
+    /// # Examples
     ///
     /// ```
     /// # use freeze_queue::{EnterError, Limits, Queue};
@@ -123,26 +126,33 @@ impl<T> Queue<T> {
     /// # assert_eq!(done, Poll::Ready(Ok(2)));
     /// # Ok::<(), Box<dyn std::error::Error>>(())
     /// ```
-    pub fn enter_any_async(&self) -> EnterAny<'_, T> {
-        EnterAny::of(Share::Borrowed(self.shared()))
+    pub async fn enter_any_async(&self) -> Result<OwnedRequest<T>, EnterError> {
+        enter_any::enter_any(&self.shared).await
     }
 
-    /// Enters with any tag as [`enter_any_async`](Queue::enter_any_async) does, by a future with a share of the queue, which borrows nothing. If
-    /// the queue is dropped meanwhile, it returns [`EnterError::Dying`].
+    /// Enters with any tag as [`enter_any_async`](Queue::enter_any_async) does. The future borrows nothing, so it can be
+    /// spawned or stored. In an `async move` block that owns an `Arc` of the queue, `enter_any_async` is enough. While the
+    /// future exists, the queue can't be removed ([`RemoveError::Shared`](crate::RemoveError::Shared)). If the queue is
+    /// dropped, a future that waits for a tag returns [`EnterError::Dying`].
+    ///
+    /// # Errors
+    ///
+    /// Returns the errors of `enter_any`.
+    ///
+    /// # Examples
     ///
     /// ```
-    /// # use freeze_queue::{EnterAny, Limits, Queue};
+    /// # use freeze_queue::{Limits, Queue};
     /// # use std::{future::Future, pin::pin, task::{Context, Poll, Waker}};
+    /// # fn spawn<F: Future + Send + 'static>(future: F) -> F { future }
     /// # let queue = Queue::new(Limits::of_hardware(64))?;
-    /// let entering: EnterAny<'static> = queue.enter_any_owned_async();
-    /// let entered = pin!(entering).poll(&mut Context::from_waker(Waker::noop()));
-    /// assert!(matches!(entered, Poll::Ready(Ok(_))));
+    /// let entering = spawn(queue.enter_any_owned_async());
+    /// # let entered = pin!(entering).poll(&mut Context::from_waker(Waker::noop()));
+    /// # assert!(matches!(entered, Poll::Ready(Ok(_))));
     /// # Ok::<(), Box<dyn std::error::Error>>(())
     /// ```
-    pub fn enter_any_owned_async(&self) -> EnterAny<'static, T>
-    where
-        T: 'static,
-    {
-        EnterAny::of(self.share())
+    pub fn enter_any_owned_async(&self) -> impl Future<Output = Result<OwnedRequest<T>, EnterError>> + use<T> {
+        let share = Share::of(&self.shared);
+        async move { enter_any::enter_any(&share.0).await }
     }
 }

@@ -1,19 +1,19 @@
-//! Requests enter with a tag that goes along with them.
+//! Entering with a tag that the request takes along.
 use super::Queue;
-use crate::enter_owned_async::EnterOwnedAsync;
+use crate::body::TagState;
+use crate::enter_any;
 use crate::errors::EnterError;
-use crate::handed_back::HandedBack;
-use crate::owned::OwnedRequest;
+use crate::owned::{Entered, OwnedRequest};
+use crate::shared::Shared;
 use crate::tag::Tag;
-use std::time::Duration;
+use std::time::{Duration, Instant};
 
 impl<T> Queue<T> {
-    /// Enters as [`enter`](Queue::enter) does, with a tag that goes along with its request: the request may end on any
-    /// thread.
+    /// Enters as [`enter`](Queue::enter) does, with a tag that the request takes along, so that it may end on any thread.
     ///
     /// # Errors
     ///
-    /// As `enter` returns. They hand the tag back.
+    /// Returns the error of `enter`, and the tag.
     ///
     /// # Examples
     ///
@@ -27,21 +27,15 @@ impl<T> Queue<T> {
     /// # Ok::<(), Box<dyn std::error::Error + Send + Sync>>(())
     /// ```
     #[inline(always)]
-    #[expect(
-        clippy::inline_always,
-        reason = "a call moves the request through memory, which the next exchange waits for"
-    )]
-    pub fn enter_owned(&self, mut tag: Tag<T>) -> Result<OwnedRequest<T>, HandedBack<Tag<T>, EnterError>> {
-        let queue = self.shared();
-        let entered = tag.state_of(queue).ok_or(EnterError::OtherQueue).and_then(|tag| queue.in_or_waits(tag));
-        OwnedRequest::or_handed_back(tag, entered)
+    pub fn enter_owned(&self, tag: Tag<T>) -> Entered<T> {
+        self.enters_owned(tag, |queue, tag| queue.in_by(tag, || None))
     }
 
-    /// Enters as [`try_enter`](Queue::try_enter) does, with a tag that goes along with its request.
+    /// Enters as [`try_enter`](Queue::try_enter) does, with a tag that the request takes along.
     ///
     /// # Errors
     ///
-    /// As `try_enter` returns. They hand the tag back.
+    /// Returns the error of `try_enter`, and the tag.
     ///
     /// # Examples
     ///
@@ -57,18 +51,15 @@ impl<T> Queue<T> {
     /// # Ok::<(), Box<dyn std::error::Error + Send + Sync>>(())
     /// ```
     #[inline(always)]
-    #[expect(clippy::inline_always, reason = "as for enter_owned")]
-    pub fn try_enter_owned(&self, mut tag: Tag<T>) -> Result<OwnedRequest<T>, HandedBack<Tag<T>, EnterError>> {
-        let queue = self.shared();
-        let entered = tag.state_of(queue).ok_or(EnterError::OtherQueue).and_then(|tag| queue.in_at_once(tag));
-        OwnedRequest::or_handed_back(tag, entered)
+    pub fn try_enter_owned(&self, tag: Tag<T>) -> Entered<T> {
+        self.enters_owned(tag, Shared::in_at_once)
     }
 
-    /// Enters as [`enter_timeout`](Queue::enter_timeout) does, with a tag that goes along with its request.
+    /// Enters as [`enter_timeout`](Queue::enter_timeout) does, with a tag that the request takes along.
     ///
     /// # Errors
     ///
-    /// As `enter_timeout` returns. They hand the tag back.
+    /// Returns the error of `enter_timeout`, and the tag.
     ///
     /// # Examples
     ///
@@ -82,22 +73,15 @@ impl<T> Queue<T> {
     /// # Ok::<(), Box<dyn std::error::Error + Send + Sync>>(())
     /// ```
     #[inline]
-    pub fn enter_owned_timeout(
-        &self,
-        mut tag: Tag<T>,
-        patience: Duration,
-    ) -> Result<OwnedRequest<T>, HandedBack<Tag<T>, EnterError>> {
-        let queue = self.shared();
-        let of_queue = tag.state_of(queue).ok_or(EnterError::OtherQueue);
-        let entered = of_queue.and_then(|tag| queue.in_by_then(tag, patience));
-        OwnedRequest::or_handed_back(tag, entered)
+    pub fn enter_owned_timeout(&self, tag: Tag<T>, timeout: Duration) -> Entered<T> {
+        self.enters_owned(tag, |queue, tag| queue.in_by(tag, || Instant::now().checked_add(timeout)))
     }
 
-    /// Enters as [`try_enter_frozen`](Queue::try_enter_frozen) does, with a tag that goes along with its request.
+    /// Enters as [`try_enter_frozen`](Queue::try_enter_frozen) does, with a tag that the request takes along.
     ///
     /// # Errors
     ///
-    /// As `try_enter_frozen` returns. They hand the tag back.
+    /// Returns the error of `try_enter_frozen`, and the tag.
     ///
     /// # Examples
     ///
@@ -109,16 +93,18 @@ impl<T> Queue<T> {
     /// assert_eq!(refused.reason, EnterError::Drained);
     /// # Ok::<(), Box<dyn std::error::Error + Send + Sync>>(())
     /// ```
-    pub fn try_enter_frozen_owned(&self, mut tag: Tag<T>) -> Result<OwnedRequest<T>, HandedBack<Tag<T>, EnterError>> {
-        let queue = self.shared();
-        let entered = tag.state_of(queue).ok_or(EnterError::OtherQueue).and_then(|tag| queue.in_to_look(tag));
-        OwnedRequest::or_handed_back(tag, entered)
+    pub fn try_enter_frozen_owned(&self, tag: Tag<T>) -> Entered<T> {
+        self.enters_owned(tag, Shared::in_to_look)
     }
 
-    /// Enters as [`enter_async`](Queue::enter_async) does, with a tag that goes along with its request. The future borrows
-    /// nothing, so any executor can have it. If it is dropped before it is done its tag is given back.
+    /// Enters as [`enter_async`](Queue::enter_async) does, with a tag that the request takes along. The future borrows
+    /// nothing, so it can be spawned. If the future is dropped before it is done, its tag goes back to the queue.
     ///
-    /// It returns as [`enter_owned`](Queue::enter_owned) does. Nothing is done before it is polled.
+    /// # Errors
+    ///
+    /// Returns the error of `enter`, and the tag.
+    ///
+    /// # Examples
     ///
     /// ```
     /// # use freeze_queue::{Limits, Queue};
@@ -129,8 +115,19 @@ impl<T> Queue<T> {
     /// assert_eq!(request?.limits().max, 64);
     /// # Ok::<(), Box<dyn std::error::Error + Send + Sync>>(())
     /// ```
-    pub fn enter_owned_async(&self, mut tag: Tag<T>) -> EnterOwnedAsync<T> {
-        let is_of_queue = tag.state_of(self.shared()).is_some();
-        EnterOwnedAsync::of(tag, is_of_queue)
+    pub fn enter_owned_async(&self, mut tag: Tag<T>) -> impl Future<Output = Entered<T>> + use<T> {
+        let is_of_queue = tag.state_of(&self.shared).is_some();
+        enter_any::enter_owned(tag, is_of_queue)
+    }
+
+    #[inline(always)]
+    pub(super) fn enters_owned(
+        &self,
+        mut tag: Tag<T>,
+        enter: impl FnOnce(&Shared<T>, &mut TagState) -> Result<(), EnterError>,
+    ) -> Entered<T> {
+        let queue = &self.shared;
+        let entered = tag.state_of(queue).ok_or(EnterError::OtherQueue).and_then(|tag| enter(queue, tag));
+        OwnedRequest::or_handed_back(tag, entered)
     }
 }

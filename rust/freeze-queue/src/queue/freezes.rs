@@ -1,20 +1,23 @@
-//! The queue is frozen.
+//! Freezing a queue.
 use super::Queue;
-use crate::drained::FreezeAsync;
 use crate::errors::FreezeError;
-use crate::freezing::{Freezing, OwnedFreezing};
-use crate::frozen::{Frozen, OwnedFrozen};
-use crate::shared::Share;
+use crate::freezing::Freezing;
+use crate::frozen::Frozen;
 use std::time::Duration;
 
 impl<T> Queue<T> {
-    /// Freezes the queue, and waits until each request that is under way has left. Freezes nest: each is thawed where its
-    /// [`Frozen`] is dropped, and requests enter again when all are. A thread whose own request is under way waits for
-    /// ever: it leaves before. Linux: `blk_mq_freeze_queue`.
+    /// Freezes the queue, and waits until each request in flight has left. Freezes nest: dropping the [`Frozen`] thaws this
+    /// freeze, and requests enter again when the last one is thawed. The caller must drop its own request first, or it waits
+    /// forever. Linux: `blk_mq_freeze_queue`.
     ///
     /// # Errors
     ///
-    /// [`FreezeError::DepthFull`] or [`FreezeError::WornOut`].
+    /// Returns [`FreezeError::DepthFull`] or [`FreezeError::WornOut`].
+    ///
+    /// # Panics
+    ///
+    /// Like every call that begins a freeze, panics if it finds a biased tag and the system refuses `membarrier(2)`, having
+    /// allowed it when the first queue was made. The queue stays frozen then.
     ///
     /// # Examples
     ///
@@ -31,42 +34,17 @@ impl<T> Queue<T> {
         Ok(self.begin_freeze()?.wait())
     }
 
-    /// Freezes the queue as [`freeze`](Queue::freeze) does, by a freeze with a share of it, which borrows nothing.
+    /// Begins a freeze: from then on no request enters, except by [`try_enter_frozen`](Queue::try_enter_frozen) and
+    /// [`try_enter_frozen_owned`](Queue::try_enter_frozen_owned) until the queue is drained. Those in flight drain. To freeze several
+    /// queues, begin each freeze, and then wait for each. Linux: `blk_freeze_queue_start`.
     ///
     /// # Errors
     ///
-    /// As `freeze` returns.
+    /// Returns [`FreezeError::DepthFull`] or [`FreezeError::WornOut`].
     ///
-    /// # Examples
+    /// # Panics
     ///
-    /// ```
-    /// # use freeze_queue::{Limits, OwnedFrozen, Queue};
-    /// /// A service that freezes at one message, and thaws at another.
-    /// struct Service {
-    ///     queue: Queue,
-    ///     frozen: Option<OwnedFrozen>,
-    /// }
-    ///
-    /// let mut service = Service { queue: Queue::builder(Limits::of_hardware(64)).slots(1).tags(1).build()?, frozen: None };
-    /// service.frozen = Some(service.queue.freeze_owned()?);
-    /// assert_eq!(service.queue.depth(), 1);
-    /// service.frozen = None;
-    /// assert_eq!(service.queue.depth(), 0);
-    /// # Ok::<(), Box<dyn std::error::Error>>(())
-    /// ```
-    pub fn freeze_owned(&self) -> Result<OwnedFrozen<T>, FreezeError>
-    where
-        T: 'static,
-    {
-        Ok(self.begin_freeze_owned()?.wait())
-    }
-
-    /// Begins a freeze: no request enters from then on, and those in flight drain. A caller that freezes several queues
-    /// begins each, and then waits for each. Linux: `blk_freeze_queue_start`.
-    ///
-    /// # Errors
-    ///
-    /// [`FreezeError::DepthFull`] or [`FreezeError::WornOut`].
+    /// Panics in the same case as [`freeze`](Queue::freeze).
     ///
     /// # Examples
     ///
@@ -80,37 +58,23 @@ impl<T> Queue<T> {
     /// # Ok::<(), Box<dyn std::error::Error>>(())
     /// ```
     pub fn begin_freeze(&self) -> Result<Freezing<'_, T>, FreezeError> {
-        Freezing::begin(Share::Borrowed(self.shared()))
+        Freezing::begin(&self.shared)
     }
 
-    /// Begins a freeze as [`begin_freeze`](Queue::begin_freeze) does, with a share of the queue: it borrows nothing.
+    /// Freezes the queue as [`freeze`](Queue::freeze) does, and waits as a task: the last request that leaves wakes it.
+    /// Dropping the future thaws its freeze. After its first poll the queue stays frozen as long as the future exists, even
+    /// if nobody polls it again. For a future that borrows nothing use `begin_freeze()?.into_owned().drained()`, whose
+    /// freeze begins at once.
     ///
     /// # Errors
     ///
-    /// As `begin_freeze` returns.
+    /// Returns the errors of `freeze`.
+    ///
+    /// # Panics
+    ///
+    /// Panics in the same case as `freeze`.
     ///
     /// # Examples
-    ///
-    /// ```
-    /// # use freeze_queue::{Limits, Queue};
-    /// # use std::thread;
-    /// # let queue = Queue::builder(Limits::of_hardware(64)).slots(1).tags(1).build()?;
-    /// let freezing = queue.begin_freeze_owned()?;
-    /// thread::spawn(move || drop(freezing.wait())).join().unwrap();
-    /// assert_eq!(queue.depth(), 0);
-    /// # Ok::<(), Box<dyn std::error::Error>>(())
-    /// ```
-    pub fn begin_freeze_owned(&self) -> Result<OwnedFreezing<T>, FreezeError>
-    where
-        T: 'static,
-    {
-        Freezing::begin(self.share())
-    }
-
-    /// Returns a future that freezes the queue. The last request that leaves wakes it. Nothing is done before it is polled; dropping it
-    /// thaws. Once it was polled the queue stays frozen while the future is there, also if nobody polls it again.
-    ///
-    /// Its answer is the one of [`freeze`](Queue::freeze).
     ///
     /// ```
     /// # use freeze_queue::{FreezeError, Limits, Queue};
@@ -126,16 +90,20 @@ impl<T> Queue<T> {
     /// # assert_eq!((done, queue.limits().max, queue.depth()), (Poll::Ready(Ok(())), 32, 0));
     /// # Ok::<(), Box<dyn std::error::Error>>(())
     /// ```
-    pub fn freeze_async(&self) -> FreezeAsync<'_, T> {
-        FreezeAsync::of(self)
+    pub async fn freeze_async(&self) -> Result<Frozen<'_, T>, FreezeError> {
+        Ok(self.begin_freeze()?.drained().await)
     }
 
-    /// Freezes the queue where no request is under way; else it leaves it as it was. Meanwhile requests are refused for a
-    /// moment, or wait. Linux: `blk_freeze_queue_start`, where the queue turns out to be drained.
+    /// Freezes the queue if no request is in flight. Otherwise this freeze is thawed at once; requests may be refused or wait
+    /// for a moment even then. Linux: `blk_freeze_queue_start`, if the queue turns out to be drained.
     ///
     /// # Errors
     ///
-    /// Returns [`FreezeError`].
+    /// Returns [`FreezeError::NotDrained`], or an error of [`freeze`](Queue::freeze).
+    ///
+    /// # Panics
+    ///
+    /// Panics in the same case as `freeze`.
     ///
     /// # Examples
     ///
@@ -154,12 +122,16 @@ impl<T> Queue<T> {
         if freezing.is_drained() { Ok(freezing.wait()) } else { Err(FreezeError::NotDrained) }
     }
 
-    /// Freezes the queue, and waits so long at most until each request that is under way has left. Where they haven't, it
-    /// is thawed again. Linux: `blk_mq_freeze_queue_wait_timeout`.
+    /// Freezes the queue, and waits until each request in flight has left, or until the timeout. If a request is still in
+    /// flight then, this freeze is thawed. Linux: `blk_mq_freeze_queue_wait_timeout`.
     ///
     /// # Errors
     ///
-    /// Returns [`FreezeError`].
+    /// Returns [`FreezeError::TimedOut`], or an error of [`freeze`](Queue::freeze).
+    ///
+    /// # Panics
+    ///
+    /// Panics in the same case as `freeze`.
     ///
     /// # Examples
     ///
@@ -173,7 +145,7 @@ impl<T> Queue<T> {
     /// assert_eq!(late.unwrap_err(), FreezeError::TimedOut);
     /// # Ok::<(), Box<dyn std::error::Error>>(())
     /// ```
-    pub fn freeze_timeout(&self, patience: Duration) -> Result<Frozen<'_, T>, FreezeError> {
-        self.begin_freeze()?.wait_timeout(patience).map_err(|_thawed| FreezeError::TimedOut)
+    pub fn freeze_timeout(&self, timeout: Duration) -> Result<Frozen<'_, T>, FreezeError> {
+        self.begin_freeze()?.wait_timeout(timeout).map_err(|_thawed| FreezeError::TimedOut)
     }
 }

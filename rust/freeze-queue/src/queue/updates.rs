@@ -1,25 +1,32 @@
-//! The limits are updated.
+//! Updating the limits.
 use super::Queue;
-use crate::errors::{FreezeError, UpdateError};
+use crate::erased::queue_core;
+use crate::errors::UpdateError;
 use crate::limits::Limits;
-use crate::turns::Taken;
-use std::task::Poll;
+use crate::line;
+use crate::tasks;
+use crate::turns::{Taken, Turns};
 use std::time::{Duration, Instant};
-use std::{future, mem};
 
 impl<T> Queue<T> {
-    /// Sets the limits that `change` makes of those in force, under a freeze of its own, and returns them.
+    /// Calls `change` with the current limits, then freezes the queue, sets the limits that `change` returned, and returns the
+    /// limits that are now in force: for example, if `change` set `max` to 0, `max` is `hardware`.
     ///
-    /// One update runs at a time, in order of arrival, and none loses the change of another. Before its freeze it lets the threads enter
-    /// that waited at the last thaw, so updates without pause don't keep requests out. `change` runs before the freeze, so a slow one
-    /// holds up no request. If a freeze of another thread sets limits meanwhile ([`Frozen::set`](crate::Frozen::set)), `change` is called again. It
-    /// may freeze and enter this queue, but not update it.
-    ///
-    /// Limits that are refused freeze nothing, and neither does a `change` that panics.
+    /// One update runs at a time, in order of arrival, so no update undoes another's change. Before it freezes, an update
+    /// first lets in the threads that were waiting at the last thaw, so back-to-back updates don't starve threads. It
+    /// doesn't wait for tasks: a task that is polled only after the next freeze began waits again, so let a loop of updates
+    /// pause between updates. `change` runs before the freeze, so a slow closure holds up no request. If another freeze sets limits
+    /// meanwhile ([`OwnedFrozen::set`](crate::OwnedFrozen::set)), `change` is called again. It may freeze and enter this
+    /// queue, but not update it.
     ///
     /// # Errors
     ///
-    /// Returns [`UpdateError`], and sets nothing.
+    /// Returns any [`UpdateError`] except `TimedOut`. The update has set nothing and holds no freeze.
+    ///
+    /// # Panics
+    ///
+    /// Panics in the same case as [`freeze`](Queue::freeze). It also panics if `change` does; then the update has set nothing
+    /// and holds no freeze.
     ///
     /// # Examples
     ///
@@ -36,11 +43,16 @@ impl<T> Queue<T> {
         self.update_by(None, change)
     }
 
-    /// Updates the limits as [`update`](Queue::update) does, and waits this long at most for its turn and for the drain.
+    /// Updates the limits as [`update`](Queue::update) does, or returns at the timeout. The timeout ends the
+    /// waits for other updates and for the drain. It doesn't interrupt `change`.
     ///
     /// # Errors
     ///
-    /// Returns [`UpdateError`], and sets nothing. After [`UpdateError::TimedOut`] the queue is thawed.
+    /// Returns any [`UpdateError`]. The update has set nothing and holds no freeze.
+    ///
+    /// # Panics
+    ///
+    /// Panics in the same cases as `update`.
     ///
     /// # Examples
     ///
@@ -57,10 +69,10 @@ impl<T> Queue<T> {
     /// ```
     pub fn update_timeout(
         &self,
-        patience: Duration,
+        timeout: Duration,
         change: impl FnMut(Limits) -> Limits,
     ) -> Result<Limits, UpdateError> {
-        self.update_by(Instant::now().checked_add(patience), change)
+        self.update_by(Instant::now().checked_add(timeout), change)
     }
 
     fn update_by(
@@ -68,30 +80,31 @@ impl<T> Queue<T> {
         deadline: Option<Instant>,
         mut change: impl FnMut(Limits) -> Limits,
     ) -> Result<Limits, UpdateError> {
-        let waits = &self.shared().waits;
-        let turn = self.shared().turns.take(deadline)?;
+        let turn = line::wait::<T, Turns>(&self.shared, deadline)?;
         loop {
-            let update = self.wanted(&turn, &mut change)?;
-            waits.let_in(deadline);
-            let freezing = self.begin_freeze()?;
-            let frozen = match deadline {
-                None => freezing.wait(),
-                Some(at) => freezing
-                    .wait_timeout(at.saturating_duration_since(Instant::now()))
-                    .map_err(|_thawed| FreezeError::TimedOut)?,
-            };
-            if frozen.replace(update) {
-                return Ok(update.to.into());
+            let (from, to) = self.wanted(&turn, &mut change)?;
+            self.shared.waits.until_let_in(deadline);
+            let _freezing = self.begin_freeze()?;
+            if !self.shared.until_drained(deadline) {
+                return Err(UpdateError::TimedOut);
+            }
+            if self.shared.replace_limits(from, to) {
+                return Ok(to.into());
             }
         }
     }
 
-    /// Updates the limits as [`update`](Queue::update) does, by a future: it waits for its turn and for the drain. Dropping the future sets
-    /// nothing, and thaws.
+    /// Updates the limits as [`update`](Queue::update) does, and waits as a task for its turn and for the drain. Dropping
+    /// the future before it is done sets nothing, and thaws its freeze. While the future has its turn no other update runs,
+    /// even if nobody polls it again.
     ///
     /// # Errors
     ///
-    /// Returns [`UpdateError`], and sets nothing.
+    /// Returns the errors of `update`.
+    ///
+    /// # Panics
+    ///
+    /// Panics in the same cases as `update`.
     ///
     /// # Examples
     ///
@@ -107,42 +120,25 @@ impl<T> Queue<T> {
     /// # Ok::<(), Box<dyn std::error::Error>>(())
     /// ```
     pub async fn update_async(&self, mut change: impl FnMut(Limits) -> Limits) -> Result<Limits, UpdateError> {
-        let turn = self.shared().turns.turn().await?;
+        let turn = line::wait_async::<T, Turns>(&self.shared).await?;
         loop {
-            let update = self.wanted(&turn, &mut change)?;
-            while !self.shared().waits.has_let_in() {
-                looks_again().await;
-            }
-            if self.freeze_async().await?.replace(update) {
-                return Ok(update.to.into());
+            let (from, to) = self.wanted(&turn, &mut change)?;
+            tasks::until(&self.shared, |held| &mut held.let_in, |held| held.has_let_in()).await;
+            let _frozen = self.freeze_async().await?;
+            if self.shared.replace_limits(from, to) {
+                return Ok(to.into());
             }
         }
     }
 
-    /// The limits that are in force, and those that the closure makes of them.
-    fn wanted(&self, turn: &Taken<'_>, change: impl FnOnce(Limits) -> Limits) -> Result<Update, UpdateError> {
+    /// The limits in force, and those that the closure returns for them.
+    fn wanted(
+        &self,
+        turn: &Taken<'_, T>,
+        change: impl FnOnce(Limits) -> Limits,
+    ) -> Result<(Limits, queue_core::Limits), UpdateError> {
         let from = self.limits();
-        let to = turn.runs(|| change(from)).checked().map_err(UpdateError::Limits)?;
-        if to.hw() == from.hardware { Ok(Update { from, to }) } else { Err(UpdateError::OtherHardware) }
+        let to = turn.runs(|| change(from)).checked()?;
+        if to.hw() == from.hardware { Ok((from, to)) } else { Err(UpdateError::OtherHardware) }
     }
-}
-
-/// The limits in force that an update saw, and those that it sets in their place.
-#[derive(Clone, Copy)]
-pub(crate) struct Update {
-    pub(crate) from: Limits,
-    pub(crate) to: crate::erased::queue_core::Limits,
-}
-
-/// Lets the other tasks run once.
-async fn looks_again() {
-    let mut has_yielded = false;
-    future::poll_fn(|context| {
-        if mem::replace(&mut has_yielded, true) {
-            return Poll::Ready(());
-        }
-        context.waker().wake_by_ref();
-        Poll::Pending
-    })
-    .await;
 }

@@ -5,8 +5,8 @@ use super::refusals::{agrees, in_time, look, waiting};
 use super::shared::{Chance, Woken};
 use super::some_limits;
 use freeze_queue::{
-    EnterAny, EnterAsync, EnterError, EnterOwnedAsync, Final, FreezeError, Frozen, HandedBack, Limits, OwnedRequest,
-    Piece, Queue, RemoveError, Request, Tag, UpdateError,
+    EnterError, Final, FreezeError, Frozen, HandedBack, Limits, OwnedRequest, Piece, Queue, RemoveError, Request, Tag,
+    UpdateError,
 };
 use std::collections::VecDeque;
 use std::mem;
@@ -17,14 +17,17 @@ use std::time::Duration;
 
 const SEATS: usize = 16;
 
+/// A future that waits.
+pub type Boxed<'q, T> = Pin<Box<dyn Future<Output = T> + 'q>>;
+
 /// A tag, in the forms that the crate has. One that stays where it is for ever is used by what borrows it.
 pub enum Seated<'q> {
     Free(Tag),
     Owned(OwnedRequest),
     Borrowed(Request<'q>),
-    Enters(EnterAsync<'q>, Arc<Woken>),
-    OwnedEnters(EnterOwnedAsync, Arc<Woken>),
-    Any(EnterAny<'q>, At, Arc<Woken>),
+    Enters(Boxed<'q, Result<Request<'q>, EnterError>>, Arc<Woken>),
+    OwnedEnters(Boxed<'q, Result<OwnedRequest, HandedBack<Tag, EnterError>>>, Arc<Woken>),
+    Any(Boxed<'q, Result<OwnedRequest, EnterError>>, At, Arc<Woken>),
 }
 
 /// A seat: the tag or request that it has, and its queue.
@@ -239,7 +242,7 @@ impl<'q, 'c> Life<'q, 'c> {
         else {
             return;
         };
-        let entering = self.queues[queue].0.enter_async(Box::leak(Box::new(tag)));
+        let entering = Box::pin(self.queues[queue].0.enter_async(Box::leak(Box::new(tag))));
         self.seats[s] = Some(Seat { queue, forgotten: false, seated: Seated::Enters(entering, Arc::default()) });
     }
 
@@ -386,7 +389,7 @@ pub fn is_free(seat: &mut Seat<'_>) -> bool {
     matches!(seat.seated, Seated::Free(_))
 }
 
-/// The queue is removed, as far as its tags are back.
+/// The queue is removed, as far as its tags are back and its freezes are thawed.
 pub fn end(queue: Arc<Queue>, plain: &Plain) {
     let Some(queue) = Arc::into_inner(queue) else { panic!("each request has left") };
     let live = u64::from(!plain.is_closed()); // it is frozen once more, and drained by that
@@ -397,7 +400,9 @@ pub fn end(queue: Arc<Queue>, plain: &Plain) {
             assert_eq!((last, plain.out), (want, 0));
         }
         Err(HandedBack { value, reason }) => {
-            assert!(reason == RemoveError::TagsOut && plain.out > 0);
+            // A freeze that was forgotten has a share of the queue for ever.
+            let want = if plain.depth > 0 { RemoveError::Shared } else { RemoveError::TagsOut };
+            assert!(reason == want && (plain.depth > 0 || plain.out > 0));
             assert_eq!(value.depth(), plain.depth);
         }
     }

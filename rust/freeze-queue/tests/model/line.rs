@@ -1,9 +1,9 @@
 //! Waiting for a tag or for the drain, beside the models.
-use super::life::{Life, Seat, Seated, is_free};
+use super::life::{Boxed, Life, Seat, Seated, is_free};
 use super::plain;
 use super::shared::Woken;
 use super::some_limits;
-use freeze_queue::{Drained, EnterError, Freezing, UpdateError};
+use freeze_queue::{EnterError, Freezing, Frozen, UpdateError};
 use std::pin::Pin;
 use std::sync::Arc;
 use std::task::{Context, Poll, Waker};
@@ -21,7 +21,7 @@ pub enum At {
 /// A freeze that isn't drained yet.
 pub enum Freezes<'q> {
     Begun(Freezing<'q>),
-    Polled(Drained<'q>, Arc<Woken>),
+    Polled(Boxed<'q, Frozen<'q>>, Arc<Woken>),
 }
 
 fn noted(woken: &mut Arc<Woken>) -> Waker {
@@ -60,7 +60,7 @@ impl<'q> Life<'q, '_> {
 
     pub fn enter_any(&mut self, q: usize, s: usize) {
         if self.seats[s].is_none() {
-            let seated = Seated::Any(self.queues[q].0.enter_any_async(), At::Begin, Arc::default());
+            let seated = Seated::Any(Box::pin(self.queues[q].0.enter_any_async()), At::Begin, Arc::default());
             self.seats[s] = Some(Seat { queue: q, forgotten: false, seated });
         }
     }
@@ -72,8 +72,11 @@ impl<'q> Life<'q, '_> {
         let (plain, waits) = (&mut self.plains[q], self.chance.one_in(2));
         let queue = &self.queues[q].0;
         let entered = match (plain.waiting, plain.depth, plain.dying, waits) {
-            (0, _, _, false) => queue.try_enter_any().map_err(|why| assert_eq!(why, EnterError::NoTag)),
-            (0, _, _, true) => queue.enter_any_timeout(Duration::ZERO).map_err(|_| ()),
+            (0, _, false, false) => queue.try_enter_any().map_err(|why| assert_eq!(why, EnterError::NoTag)),
+            (0, _, dying, true) => {
+                let late = if dying { EnterError::Dying } else { EnterError::TimedOut };
+                queue.enter_any_timeout(Duration::ZERO).map_err(|why| assert_eq!(why, late))
+            }
             (_, 0, false, false) => queue.try_enter_any().map_err(|why| panic!("{why}")),
             (_, 0, false, true) => queue.enter_any().map_err(|why| panic!("{why}")),
             (_, _, true, true) => queue.enter_any().map_err(|why| assert_eq!(why, EnterError::Dying)),
@@ -95,7 +98,7 @@ impl<'q> Life<'q, '_> {
         else {
             return;
         };
-        let entering = self.queues[queue].0.enter_owned_async(tag);
+        let entering = Box::pin(self.queues[queue].0.enter_owned_async(tag));
         let seated = Seated::OwnedEnters(entering, Arc::default());
         self.seats[s] = Some(Seat { queue, forgotten: false, seated });
     }
@@ -148,13 +151,13 @@ impl<'q> Life<'q, '_> {
         }
     }
 
-    /// Begins a freeze, in one of two ways, and doesn't wait.
+    /// Begins a freeze, and doesn't wait.
     pub fn begin_freeze(&mut self, q: usize) {
         if self.plains[q].depth > 900 || self.freezing.len() > 20 {
             return;
         }
         let queue = &self.queues[q].0;
-        let freezing = if self.chance.one_in(2) { queue.begin_freeze() } else { queue.begin_freeze_owned() }.unwrap();
+        let freezing = queue.begin_freeze().unwrap();
         let drained = self.plains[q].freezes();
         assert_eq!(freezing.is_drained(), drained);
         self.freezing.push((q, Freezes::Begun(freezing)));
@@ -173,7 +176,7 @@ impl<'q> Life<'q, '_> {
                 Ok(frozen) => (Some(frozen), None),
                 Err(freezing) => (None, Some(Freezes::Begun(freezing))),
             },
-            Freezes::Begun(freezing) => (None, Some(Freezes::Polled(freezing.drained(), Arc::default()))),
+            Freezes::Begun(freezing) => (None, Some(Freezes::Polled(Box::pin(freezing.drained()), Arc::default()))),
             Freezes::Polled(mut future, mut woken) => {
                 let was_noted = Arc::strong_count(&woken) == 2;
                 assert!(!(was_noted && drained), "the drain wakes it, and lets its waker go");

@@ -1,10 +1,10 @@
 // Erased from crates/gate_races/src/main.rt by tools/erase: edit that file.
-//! All that may happen in a race of a gate.
+//! Everything that may happen in a race of a gate.
 //!
-//! The program reads a race from standard input: a gate, and the calls of each of its actors. It writes what these
-//! calls may be answered, in all orders of their atomic steps, and a shortest schedule for each outcome. `races_run` is all of it
-//! over any reader and writers; here it gets the words after the program's name and the standard streams. Where standard error is a
-//! terminal, a line there shows how far the search is.
+//! The program reads a race from standard input: a gate, and the calls of each of its actors. It goes through all orders of their
+//! atomic steps, and writes the answers that the calls may get, and a shortest schedule for each outcome. `races_run`
+//! does all of this over any reader and writers; this crate passes it the arguments and the standard streams. If standard
+//! error is a terminal, a line there shows how far the search is.
 
 use gate_races::erased::counted_io::Counted;
 use gate_races::erased::env;
@@ -14,7 +14,7 @@ use gate_races::erased::streams::{self, IsTerminal};
 use std::io;
 use std::process::ExitCode;
 
-/// The words after the program's name.
+/// The program's arguments.
 fn words() -> io::Result<Vec<String>> {
     Ok(env::args()?.skip(1).try_collected()?)
 }

@@ -1,11 +1,12 @@
 // Erased from crates/race_outcomes/src/lib.rt by tools/erase: edit that file.
-//! The outcomes of a course: all that may happen, and a shortest schedule for each.
+//! The outcomes of a course: everything that may happen, and a shortest schedule for each outcome.
 //!
-//! The moments of a course have accounts, if it is [`Telling`]: the answers to the calls of each actor so far, and the figures of
-//! each gate. A race is such a course, of one gate. [`outcomes`] goes over the ends of a course, which `race_search` finds, and gathers
-//! their accounts. Ends with equal accounts are one outcome. The search keeps one of the ends that differ by exchanges, as of passes
-//! with equal calls, so `outcomes` makes each such exchange. Its contract says that each run which comes to an end has its outcome
-//! in the list, that each outcome stands there once, and that no schedule which leads to it is shorter than the one beside it.
+//! If a course is [`Telling`], its moments have accounts: the answers to the calls of each actor so far, and the
+//! figures of each gate. A race is such a course, with one gate. [`outcomes`] goes over the ends of a course, which
+//! `race_search` finds, and gathers their accounts. Ends with equal accounts are one outcome. The search keeps one of
+//! the ends that differ by exchanges, for example of passes with equal calls, so `outcomes` makes each such exchange.
+//! Its contract says that the outcome of each run that comes to an end is in the list, that each outcome is in it once,
+//! and that no schedule that leads to an outcome is shorter than the schedule in the list.
 
 mod account;
 mod claim;

@@ -1,13 +1,14 @@
 // Erased from crates/race_search/src/lib.rt by tools/erase: edit that file.
 //! All moments of a course.
 //!
-//! A [`Course`] says at which moment it begins, which events may come next at a moment, and which moment each of them leads to.
-//! [`all_moments`] goes from one moment to those that may come next, and from these on, until it meets no moment that it hasn't
-//! seen. Moments are compared whole. Exchanges may lead from one moment to another, as where two actors do the same: then the
-//! search keeps one moment that represents both. Its contract says that each moment in the list is reached by a schedule,
-//! that each moment that a schedule reaches is represented in it, and none is there twice. A course with more moments than the
-//! search may keep is refused. A [`Watch`] learns how far a search is. [`ends`] tells which of them nothing comes after, and
-//! [`schedule_to`] a schedule to each: a shortest one, and of these one with the fewest switches from one actor to another.
+//! A [`Course`] defines the moment at which it begins, which events may come next at a moment, and the moment that each
+//! of them leads to. [`all_moments`] goes from one moment to those that may come next, and so on, until it meets no
+//! moment that it hasn't seen. Moments are compared whole. Exchanges may lead from one moment to another, for example
+//! if two actors do the same: then the search keeps one moment that represents both. Its contract says that each moment
+//! in the list is reached by a schedule, that each moment that a schedule reaches is represented in it, and that no moment
+//! is in it twice. A course with more moments than the search may keep is refused. A [`Watch`] gets reports of how far
+//! a search is. [`ends`] returns the moments after which nothing comes, and [`schedule_to`] returns a schedule to a moment:
+//! a shortest schedule, and among these one with the fewest switches from one actor to another.
 
 mod course;
 mod ending;

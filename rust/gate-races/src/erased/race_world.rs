@@ -1,16 +1,16 @@
 // Erased from crates/race_world/src/lib.rt by tools/erase: edit that file.
 //! A race: a gate, and for each actor the calls that it makes, one after another.
 //!
-//! A [`Race`] says how the gate starts and which calls each pass and the control make. Between two atomic steps it is at a
-//! [`Moment`]: the gate as it is, and where each actor is in its calls. `next_events` are the steps that may come next, one
-//! for each actor at most, and `after` is the moment that a step leads to. A call begins as soon as the one before it has its
-//! answer; what can't be made where it stands takes no step, and is passed over. A call that waits takes its step once its
-//! condition holds. So a schedule of a race is a list of the
-//! gate's events, and `races_are_runs` says that it is a run of the gate's machine.
+//! A [`Race`] defines how the gate starts and which calls each pass and the control make. Between two atomic steps it
+//! is at a [`Moment`]: the state of the gate, and the place of each actor in its calls. `next_events` are the steps
+//! that may come next, at most one for each actor, and `after` is the moment that a step leads to. A call begins as
+//! soon as the previous call has its answer. A call that can't be made takes no step, and is passed over. A call that
+//! waits takes its step once its condition holds. So a schedule of a race is a list of the gate's events, and
+//! `races_are_runs` says that it is a run of the gate's machine.
 //!
-//! Passes that make equal calls may change places, by an [`Exchange`]: each schedule is one then too, as `exchanges_keep_races`
-//! says. `settled` leads the moments that differ by such exchanges to one of them, and so a search over a race, which is a
-//! `Course` of `race_search`, keeps one where it else kept many.
+//! Passes that make equal calls may be exchanged, by an [`Exchange`]: each schedule is still a schedule then, as
+//! `exchanges_keep_races` says. `settled` maps the moments that differ by such exchanges to one of them, so that a
+//! search over a race, which is a `Course` of `race_search`, keeps one moment instead of many.
 
 mod actor;
 mod control_place;

@@ -1,56 +1,14 @@
-//! The actor that goes on: the state of all actors, and the choices of an order.
+//! The steps of actors, of which one at a time has its turn.
 
-use std::collections::HashSet;
+use super::buffers::{Buffer, Store, Word, address};
+use super::meetings::{buffer_of, token_of};
+use super::state::{End, Place, State};
 use std::panic::Location;
+use std::sync::atomic::Ordering::SeqCst;
 use std::sync::{Condvar, Mutex, MutexGuard, PoisonError};
 
 /// More steps than any order has that ends.
 const MOST_STEPS: usize = 20_000;
-
-/// Where an actor is.
-#[derive(Clone, Copy, Debug, PartialEq, Eq)]
-enum Place {
-    Ready,
-    /// Waits for a lock, by its address.
-    Locks(usize),
-    /// Sleeps on a condition until it is notified, or until a deadline if it has one.
-    Sleeps {
-        on: usize,
-        lock: usize,
-        is_timed: bool,
-    },
-    Parked,
-    Ended,
-}
-
-/// How an order ended.
-#[derive(Debug)]
-pub(crate) enum End {
-    Ended,
-    Stuck,
-    Endless,
-    Panicked(String),
-}
-
-/// A choice: which of how many.
-type Choice = (usize, usize);
-
-struct State {
-    /// The actor whose turn it is; the director's number is behind all.
-    turn: usize,
-    places: Vec<Place>,
-    /// Whether an actor was unparked, and hasn't parked since.
-    tokens: Vec<bool>,
-    /// Whether an actor has taken no step yet: it was chosen for its first one when it began.
-    fresh: Vec<bool>,
-    locked: HashSet<usize>,
-    plan: Vec<Choice>,
-    made: usize,
-    switches: usize,
-    steps: Vec<(usize, &'static str, &'static Location<'static>)>,
-    end: Option<End>,
-    is_closed: bool,
-}
 
 pub(crate) struct Board {
     actors: usize,
@@ -59,64 +17,9 @@ pub(crate) struct Board {
     turns: Vec<Condvar>,
 }
 
-impl State {
-    fn is_free(&self, lock: usize) -> bool {
-        !self.locked.contains(&lock)
-    }
-
-    fn may_go_on(&self, actor: usize) -> bool {
-        match self.places[actor] {
-            Place::Ready => true,
-            Place::Locks(lock) => self.is_free(lock),
-            Place::Sleeps { lock, is_timed, .. } => is_timed && self.is_free(lock),
-            Place::Parked => self.tokens[actor],
-            Place::Ended => false,
-        }
-    }
-
-    /// The next choice of so many: as planned, or the first.
-    fn choose(&mut self, options: usize) -> usize {
-        if options < 2 {
-            return 0;
-        }
-        if self.made == self.plan.len() {
-            self.plan.push((0, options));
-        }
-        let (chosen, of) = self.plan[self.made];
-        assert_eq!(of, options, "a play isn't the same in each run of an order");
-        self.made += 1;
-        chosen
-    }
-
-    /// The actor that goes on, after this one; none if no actor may.
-    fn next(&mut self, actor: Option<usize>) -> Option<usize> {
-        let goes_on = actor.filter(|it| self.may_go_on(*it));
-        if goes_on.is_some() && self.switches == 0 {
-            return goes_on;
-        }
-        let others = (0..self.places.len()).filter(|it| Some(*it) != goes_on && self.may_go_on(*it));
-        let options: Vec<usize> = goes_on.into_iter().chain(others).collect();
-        let chosen = self.choose(options.len());
-        self.switches -= usize::from(goes_on.is_some() && chosen > 0);
-        options.get(chosen).copied()
-    }
-}
-
 impl Board {
-    pub(crate) fn new(actors: usize, switches: usize) -> Board {
-        let state = State {
-            turn: actors,
-            places: vec![Place::Ready; actors],
-            tokens: vec![false; actors],
-            fresh: vec![true; actors],
-            locked: HashSet::new(),
-            plan: Vec::new(),
-            made: 0,
-            switches,
-            steps: Vec::new(),
-            end: None,
-            is_closed: false,
-        };
+    pub(crate) fn new(actors: usize, switches: usize, skips_equal: bool) -> Board {
+        let state = State::new(actors, switches, skips_equal);
         let turns = (0..=actors).map(|_| Condvar::new()).collect();
         Board { actors, switches, state: Mutex::new(state), turns }
     }
@@ -168,6 +71,7 @@ impl Board {
             state = self.turn(state, actor);
         }
         state.places[actor] = Place::Ready;
+        state.meetings.begin(actor);
         state.steps.push((actor, name, at));
         if state.steps.len() > MOST_STEPS {
             state.end = Some(End::Endless);
@@ -177,17 +81,81 @@ impl Board {
         state
     }
 
+    /// A step that no store of the actor stays behind.
+    fn before_full_step(
+        &self,
+        actor: usize,
+        place: Place,
+        name: &'static str,
+        at: &'static Location<'static>,
+    ) -> MutexGuard<'_, State> {
+        let mut state = self.before_step(actor, place, name, at);
+        state.empty_buffer(actor);
+        state
+    }
+
+    /// What a word has, to this actor.
+    pub(crate) fn loads(&self, actor: usize, word: &Word, at: &'static Location<'static>) -> u64 {
+        let mut state = self.before_step(actor, Place::Ready, "load", at);
+        state.meetings.touch(address(word), false);
+        state.buffers[actor].newest(word).unwrap_or_else(|| {
+            state.let_stores_reach(word);
+            word.load(SeqCst)
+        })
+    }
+
+    /// Changes a word, and returns what was there.
+    pub(crate) fn changes(
+        &self,
+        actor: usize,
+        word: &Word,
+        (name, at): (&'static str, &'static Location<'static>),
+        by: impl FnOnce(u64) -> u64,
+    ) -> u64 {
+        let mut state = self.before_full_step(actor, Place::Ready, name, at);
+        state.let_stores_reach(word);
+        state.meetings.touch(address(word), true);
+        let found = word.load(SeqCst);
+        word.store(by(found), SeqCst);
+        found
+    }
+
+    /// A store that waits in the actor's buffer.
+    pub(crate) fn stores_later(&self, actor: usize, store: Store) {
+        let name = if store.is_release { "release store" } else { "relaxed store" };
+        let mut state = self.before_step(actor, Place::Ready, name, store.at);
+        state.meetings.touch(address(&store.word), true);
+        state.meetings.touch(buffer_of(actor), true);
+        Buffer::push(&mut state.buffers, actor, store);
+    }
+
+    /// All stores before reach memory: those of the actors one after another, and each has a moment of its own.
+    pub(crate) fn fences(&self, actor: usize, at: &'static Location<'static>) {
+        for other in (0..self.actors).filter(|it| *it != actor) {
+            let mut state = self.before_full_step(actor, Place::Ready, "heavy_fence", at);
+            state.meetings.touch(buffer_of(other), true);
+            state.empty_buffer(other);
+        }
+    }
+
     pub(crate) fn locks(&self, actor: usize, lock: usize, at: &'static Location<'static>) {
-        self.before_step(actor, Place::Locks(lock), "lock", at).locked.insert(lock);
+        let mut state = self.before_full_step(actor, Place::Locks(lock), "lock", at);
+        state.meetings.touch(lock, true);
+        state.locked.insert(lock);
     }
 
     /// Whether it has the lock.
     pub(crate) fn tries_lock(&self, actor: usize, lock: usize, at: &'static Location<'static>) -> bool {
-        self.before_step(actor, Place::Ready, "try_lock", at).locked.insert(lock)
+        let mut state = self.before_full_step(actor, Place::Ready, "try_lock", at);
+        state.meetings.touch(lock, true);
+        state.locked.insert(lock)
     }
 
-    pub(crate) fn unlocks(&self, lock: usize) {
-        self.state().locked.remove(&lock);
+    pub(crate) fn unlocks(&self, actor: usize, lock: usize) {
+        let mut state = self.state();
+        state.empty_buffer(actor);
+        state.meetings.touch(lock, true);
+        state.locked.remove(&lock);
     }
 
     /// Lets a lock go, sleeps and takes it again. Whether the deadline passed.
@@ -198,19 +166,25 @@ impl Board {
         is_timed: bool,
         at: &'static Location<'static>,
     ) -> bool {
-        let mut state = self.before_step(actor, Place::Ready, "wait", at);
+        let mut state = self.before_full_step(actor, Place::Ready, "wait", at);
+        state.meetings.touch(lock, true);
+        state.meetings.touch(on, true);
         state.locked.remove(&lock);
         state.places[actor] = Place::Sleeps { on, lock, is_timed };
         state = self.turn(state, actor);
         let is_late = state.places[actor] != Place::Locks(lock);
         state.places[actor] = Place::Ready;
+        state.meetings.begin(actor);
+        state.meetings.touch(lock, true);
+        state.meetings.touch(on, true);
         state.locked.insert(lock);
         is_late
     }
 
     pub(crate) fn notifies(&self, actor: usize, on: usize, all: bool, at: &'static Location<'static>) {
         let name = if all { "notify_all" } else { "notify_one" };
-        let mut state = self.before_step(actor, Place::Ready, name, at);
+        let mut state = self.before_full_step(actor, Place::Ready, name, at);
+        state.meetings.touch(on, true);
         let sleeps = |place: &Place| matches!(place, Place::Sleeps { on: is, .. } if *is == on);
         let mut sleepers: Vec<usize> = (0..self.actors).filter(|it| sleeps(&state.places[*it])).collect();
         if !all && !sleepers.is_empty() {
@@ -225,11 +199,15 @@ impl Board {
     }
 
     pub(crate) fn parks(&self, actor: usize, at: &'static Location<'static>) {
-        self.before_step(actor, Place::Parked, "park", at).tokens[actor] = false;
+        let mut state = self.before_full_step(actor, Place::Parked, "park", at);
+        state.meetings.touch(token_of(actor), true);
+        state.tokens[actor] = false;
     }
 
     pub(crate) fn unparks(&self, actor: usize, other: usize, at: &'static Location<'static>) {
-        self.before_step(actor, Place::Ready, "unpark", at).tokens[other] = true;
+        let mut state = self.before_full_step(actor, Place::Ready, "unpark", at);
+        state.meetings.touch(token_of(other), true);
+        state.tokens[other] = true;
     }
 
     /// Waits for an actor's first turn of an order; false if there is none any more.
@@ -257,15 +235,17 @@ impl Board {
     /// Has the actors go through an order.
     pub(crate) fn direct(&self) -> End {
         let mut state = self.state();
-        state.places.fill(Place::Ready);
-        state.tokens.fill(false);
-        state.fresh.fill(true);
-        (state.made, state.switches) = (0, self.switches);
-        state.steps.clear();
+        state.restart(self.switches);
         let first = state.next(None).expect("an actor");
         self.give(&mut state, first);
         state = self.waits(state, self.actors);
+        (0..self.actors).for_each(|actor| state.empty_buffer(actor));
         state.end.take().expect("the end of an order")
+    }
+
+    /// What is shared by no step is touched by the actor's last one.
+    pub(crate) fn touches(&self, place: usize, changes: bool) {
+        self.state().meetings.touch(place, changes);
     }
 
     pub(crate) fn steps(&self) -> u64 {
@@ -274,14 +254,7 @@ impl Board {
 
     /// Plans the next order; false if there is none.
     pub(crate) fn next_order(&self) -> bool {
-        let mut state = self.state();
-        while let Some((chosen, options)) = state.plan.pop() {
-            if chosen + 1 < options {
-                state.plan.push((chosen + 1, options));
-                return true;
-            }
-        }
-        false
+        self.state().next_order()
     }
 
     pub(crate) fn close(&self) {

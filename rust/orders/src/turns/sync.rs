@@ -91,7 +91,7 @@ impl<T> DerefMut for MutexGuard<'_, T> {
 impl<T> Drop for MutexGuard<'_, T> {
     fn drop(&mut self) {
         if self.guard.take().is_some() {
-            of_actor(|board, _| board.unlocks(self.lock.address()));
+            of_actor(|board, actor| board.unlocks(actor, self.lock.address()));
         }
     }
 }

@@ -25,17 +25,18 @@ pub(crate) fn of_actor<T>(call: impl FnOnce(&Board, usize) -> T) -> Option<T> {
     ACTOR.with_borrow(|actor| actor.as_ref().map(|(board, actor)| call(board, *actor)))
 }
 
-/// A step of an atomic number.
+/// Stores of all actors before this call reach memory before it returns: what `membarrier` does for the threads of a process.
 #[track_caller]
-pub(crate) fn step(name: &'static str) {
+pub fn heavy_fence() {
     let at = Location::caller();
-    of_actor(|board, actor| board.step(actor, name, at));
+    of_actor(|board, actor| board.fences(actor, at));
 }
 
 /// Another actor may go on here.
 #[track_caller]
 pub fn pause() {
-    step("pause");
+    let at = Location::caller();
+    of_actor(|board, actor| board.step(actor, "pause", at));
 }
 
 /// The thread of an actor. One on which no actor is has the number behind all.

@@ -5,6 +5,7 @@
 #![allow(
     dead_code,
     unused_imports,
+    unsafe_code,
     unfulfilled_lint_expectations,
     missing_docs,
     missing_debug_implementations,
@@ -14,21 +15,8 @@
 
 extern crate alloc;
 
+#[path = "../shared/erased.rs"]
 mod erased;
-
-/// The erased files of both crates, over a table whose steps are turns.
-#[path = "../../../percpu-gate/src/erased"]
-mod erased_gate {
-    pub mod fallible;
-    pub mod percpu_core;
-    pub mod percpu_gate;
-    pub mod percpu_words;
-}
-#[path = "../../../freeze-queue/src/erased"]
-mod erased_queue {
-    pub mod queue_core;
-    pub mod queue_limits;
-}
 
 /// The files of freeze-queue, where they are.
 #[path = "../../../freeze-queue/src"]
@@ -36,11 +24,7 @@ mod files {
     pub(crate) mod body;
     pub(crate) mod builder;
     pub(crate) mod counts;
-    pub(crate) mod drained;
-    pub(crate) mod drains;
     pub(crate) mod enter_any;
-    pub(crate) mod enter_async;
-    pub(crate) mod enter_owned_async;
     pub(crate) mod errors;
     pub(crate) mod excluded;
     pub(crate) mod freezing;
@@ -60,16 +44,18 @@ mod files {
     pub(crate) mod request;
     pub(crate) mod seats;
     pub(crate) mod shared;
+    pub(crate) mod shows;
     pub(crate) mod tag;
+    pub(crate) mod tasks;
     pub(crate) mod turns;
     pub(crate) mod value;
     pub(crate) mod waits;
 }
 
 use files::{
-    body, builder, counts, drained, drains, enter_any, enter_async, enter_owned_async, errors, excluded, freezing,
-    frozen, handed_back, in_flight, lent, limits, line, locked, outcomes, owned, patience, pieces, places, queue,
-    request, seats, shared, tag, turns, value, waits,
+    body, builder, counts, enter_any, errors, excluded, freezing, frozen, handed_back, in_flight, lent, limits, line,
+    locked, outcomes, owned, patience, pieces, places, queue, request, seats, shared, shows, tag, tasks, turns, value,
+    waits,
 };
 
 mod sync {
@@ -96,14 +82,34 @@ mod threads {
     pub(crate) fn note(_thread: u32, _from: usize) {}
 }
 
+/// How long tags stay unbiased after a change: no time, since a clock would tell each run of an order otherwise.
+mod pause {
+    pub(crate) struct Pause;
+
+    #[derive(Default)]
+    pub(crate) struct Pauses;
+
+    impl Pause {
+        pub(crate) fn new() -> Pause {
+            Pause
+        }
+
+        pub(crate) fn now(&self) -> u64 {
+            0
+        }
+
+        pub(crate) fn is_over(&self) -> bool {
+            true
+        }
+
+        pub(crate) fn begins(&self, _pauses: &mut Pauses, _from: u64) {}
+    }
+}
+
 #[path = "../shared/value.rs"]
 mod plain_value;
 mod races;
 
-use drained::{Drained, FreezeAsync};
-use enter_any::EnterAny;
-use enter_async::EnterAsync;
-use enter_owned_async::EnterOwnedAsync;
 use errors::*;
 use freezing::{Freezing, OwnedFreezing};
 use frozen::{Frozen, OwnedFrozen};

@@ -1,8 +1,9 @@
 //! The races.
+mod biased;
 mod drains;
 mod line;
 mod pool;
-mod stays;
+mod updates;
 mod values;
 mod waits;
 

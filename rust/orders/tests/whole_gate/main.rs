@@ -12,21 +12,12 @@
 
 extern crate alloc;
 
+#[path = "../shared/erased.rs"]
 mod erased;
-
-/// The erased files of the gate, over a table whose steps are turns.
-#[path = "../../../percpu-gate/src/erased"]
-mod erased_gate {
-    pub mod fallible;
-    pub mod percpu_core;
-    pub mod percpu_gate;
-    pub mod percpu_words;
-}
 
 /// The files of percpu-gate, where they are.
 #[path = "../../../percpu-gate/src"]
 mod files {
-    pub(crate) mod control;
     pub(crate) mod errors;
     pub(crate) mod gate;
     pub(crate) mod guarded;
@@ -37,25 +28,26 @@ mod files {
     pub(crate) mod reference;
     pub(crate) mod references;
     pub(crate) mod shared;
+    pub(crate) mod start;
     pub(crate) mod word;
 }
 
-use files::{control, errors, gate, guarded, handed_back, outcomes, owned, pass, reference, references, shared, word};
+use files::{errors, gate, guarded, handed_back, outcomes, owned, pass, reference, references, shared, start, word};
 
 mod races;
 #[path = "../shared/value.rs"]
 mod value;
 
 use alloc::sync::Arc;
-use control::Control;
 use errors::*;
-use gate::{Gate, Start};
+use gate::Gate;
 use handed_back::HandedBack;
 use outcomes::{Final, Killed, Phase, Revived};
 use owned::OwnedReference;
 use pass::Pass;
 use reference::Reference;
 use shared::WORD_COUNT;
+use start::Start;
 use word::Word;
 
 type OnLast = Arc<dyn Fn() + Send + Sync>;

@@ -63,9 +63,9 @@ impl Play for Race {
         for pass in parts.passes {
             gate.retire(pass.into_inner().unwrap().unwrap()).unwrap();
         }
-        assert_eq!(gate.control().releases(), released);
-        assert!(released <= gate.control().kills());
-        if gate.control().phase() == crate::Phase::Dead {
+        assert_eq!(gate.as_gate().releases(), released);
+        assert!(released <= gate.as_gate().kills());
+        if gate.as_gate().phase() == crate::Phase::Dead {
             assert!(gate.is_zero());
             gate.get_mut().unwrap().is_changed();
         }

@@ -1,11 +1,11 @@
-//! The refusals of a gate that guards a value.
+//! Errors of a gate that guards a value.
 use super::{Gate, Pass};
 use crate::{HandedBack, NewError, RetireError, TryGetError};
 use alloc::boxed::Box;
 use core::error::Error;
 use core::fmt;
 
-/// Why a gate lends no `&mut T`, and doesn't give T back.
+/// Why a gate doesn't lend `&mut T` or return T.
 ///
 /// ```
 /// # use percpu_gate::{Start, guarded::{ChangeError, Gate}};
@@ -34,7 +34,7 @@ impl fmt::Display for ChangeError {
 
 impl Error for ChangeError {}
 
-/// That `?` in a function with these errors, or with boxed ones, drops what was handed back.
+/// Lets `?` drop the value in functions that return these errors, or boxed ones.
 macro_rules! reasons {
     ($($value:ty, $error:ident;)+) => {$(
         impl<T> From<HandedBack<$value, $error>> for $error {

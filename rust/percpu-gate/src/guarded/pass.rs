@@ -5,7 +5,7 @@ use crate::{HandedBack, TryGetError};
 use alloc::sync::Arc;
 use core::fmt;
 
-/// A pass, with which one thread at a time takes references of its gate: each lends `&T`.
+/// A pass, with which one thread at a time takes references of its gate. Each reference lends `&T`.
 ///
 /// ```
 /// use percpu_gate::{Start, guarded::Gate};
@@ -19,7 +19,7 @@ use core::fmt;
 /// ```
 pub struct Pass<T> {
     pass: crate::Pass,
-    /// The value of the gate of this pass.
+    /// The value of this pass's gate.
     value: Arc<Value<T>>,
 }
 
@@ -36,7 +36,7 @@ impl<T> Pass<T> {
     ///
     /// # Errors
     ///
-    /// [`TryGetError::NotGiven`] or [`TryGetError::HeldFull`].
+    /// Returns [`TryGetError::NotGiven`] or [`TryGetError::HeldFull`].
     #[inline]
     pub fn try_get(&self) -> Result<Reference<'_, T>, TryGetError> {
         Ok(Reference::of(self.pass.try_get()?, &self.value))
@@ -46,18 +46,18 @@ impl<T> Pass<T> {
     ///
     /// # Errors
     ///
-    /// [`TryGetError::NotGiven`] or [`TryGetError::HeldFull`].
+    /// Returns [`TryGetError::NotGiven`] or [`TryGetError::HeldFull`].
     #[inline]
     pub fn try_get_live(&self) -> Result<Reference<'_, T>, TryGetError> {
         Ok(Reference::of(self.pass.try_get_live()?, &self.value))
     }
 
-    /// Takes a reference that has this pass, unless the gate was killed, as
-    /// [`Pass::into_reference_live`](crate::Pass::into_reference_live) does: it may end on another thread.
+    /// Takes a reference unless the gate was killed, and moves the pass into it, as
+    /// [`Pass::into_reference_live`](crate::Pass::into_reference_live) does. It can end on another thread.
     ///
     /// # Errors
     ///
-    /// [`TryGetError::NotGiven`] or [`TryGetError::HeldFull`]. They hand the pass back.
+    /// Returns [`TryGetError::NotGiven`] or [`TryGetError::HeldFull`], with the pass.
     ///
     /// # Examples
     ///
@@ -82,7 +82,7 @@ impl<T> Pass<T> {
         }
     }
 
-    /// The pass of the plain gate, to be asked, or to change its slot. A reference that it takes lends no value.
+    /// Returns the pass of the plain gate, for queries and to change its slot. References taken with it don't lend the value.
     ///
     /// ```
     /// # use percpu_gate::{Start, guarded::Gate};

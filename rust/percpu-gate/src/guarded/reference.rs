@@ -6,7 +6,7 @@ use alloc::sync::Arc;
 use core::fmt;
 use core::ops::Deref;
 
-/// A reference: while it is there, the value holds still. Dropping it puts it.
+/// A reference. While it exists, the value doesn't change. Dropping it puts it.
 ///
 /// ```
 /// use percpu_gate::{Start, guarded::Gate};
@@ -19,10 +19,10 @@ use core::ops::Deref;
 /// assert_eq!(request.len(), 4);
 /// # Ok::<(), Box<dyn std::error::Error>>(())
 /// ```
-#[must_use = "a reference is put where it is dropped"]
+#[must_use = "an unused reference is put at once"]
 pub struct Reference<'p, T> {
     reference: crate::Reference<'p>,
-    /// The value of the gate of this reference. (A `&T` would still exist while the drop puts the reference.)
+    /// The value of this reference's gate. Not a `&T`, which would still exist while the drop puts the reference.
     value: &'p Value<T>,
 }
 
@@ -32,11 +32,11 @@ impl<'p, T> Reference<'p, T> {
         Reference { reference, value }
     }
 
-    /// Takes one reference more, as [`Reference::try_clone`](crate::Reference::try_clone) does.
+    /// Takes another reference, as [`Reference::try_clone`](crate::Reference::try_clone) does.
     ///
     /// # Errors
     ///
-    /// [`GetError::HeldFull`].
+    /// Returns [`GetError::HeldFull`].
     pub fn try_clone(&self) -> Result<Reference<'p, T>, GetError> {
         Ok(Reference::of(self.reference.try_clone()?, self.value))
     }
@@ -57,8 +57,8 @@ impl<T: fmt::Debug> fmt::Debug for Reference<'_, T> {
     }
 }
 
-/// A reference that has its pass: it may end on another thread. Dropping it puts it and drops the pass; [`put`](OwnedReference::put) gives
-/// the pass back.
+/// A reference together with its pass, so that it can end on another thread. Dropping it puts it and drops the pass;
+/// [`put`](OwnedReference::put) returns the pass.
 ///
 /// ```
 /// use percpu_gate::{Start, guarded::Gate};
@@ -70,10 +70,10 @@ impl<T: fmt::Debug> fmt::Debug for Reference<'_, T> {
 /// let pass = request.put();
 /// # Ok::<(), Box<dyn std::error::Error>>(())
 /// ```
-#[must_use = "a reference is put where it is dropped"]
+#[must_use = "an unused reference is put at once"]
 pub struct OwnedReference<T> {
     reference: crate::OwnedReference,
-    /// The value of the gate of this reference.
+    /// The value of this reference's gate.
     value: Arc<Value<T>>,
 }
 
@@ -82,7 +82,7 @@ impl<T> OwnedReference<T> {
         OwnedReference { reference, value }
     }
 
-    /// Puts the reference, and gives the pass back.
+    /// Puts the reference and returns the pass.
     pub fn put(self) -> Pass<T> {
         Pass::of(self.reference.put(), self.value)
     }

@@ -1,4 +1,4 @@
-//! The calls of a control, beside the model.
+//! The calls of a control, compared with the model.
 use super::{Made, Run};
 use percpu_gate::{KillError, Killed, ReinitError, ResurrectError, Revived, StoreError, Word};
 
@@ -77,6 +77,6 @@ impl Run {
         let Made { counter, number, .. } = &self.made[*gate];
         assert_eq!((control.phase(), control.is_zero()), (counter.phase(), counter.released));
         assert_eq!((control.kills(), control.releases()), (counter.kills, counter.known));
-        assert_eq!((control.words(), control.gate_number()), (counter.words, *number));
+        assert_eq!((control.words(), control.id()), (counter.words, *number));
     }
 }

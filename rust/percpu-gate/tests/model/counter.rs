@@ -5,7 +5,7 @@ use percpu_gate::{Phase, Start};
 #[derive(Clone, Debug, Default)]
 pub struct Counter {
     pub slots: u32,
-    /// Passes that aren't out, new or retired, and those that are.
+    /// The numbers of passes that aren't out, new or retired, and of those that are out.
     pub waiting: u32,
     pub out: u32,
     pub held: u64,
@@ -14,7 +14,7 @@ pub struct Counter {
     pub on_slots: bool,
     pub front: u64,
     pub kills: u64,
-    /// Releases: all of them, and the ones that the control knows of.
+    /// The numbers of all releases, and of those that the control knows of.
     pub releases: u64,
     pub known: u64,
     pub words: [u64; 8],
@@ -35,7 +35,7 @@ impl Counter {
         }
     }
 
-    /// Whether a call is the release now.
+    /// Whether the current call is the release.
     pub fn tells(&mut self) -> bool {
         let last = self.killed && self.held == 0 && !self.released;
         self.released |= last;

@@ -1,12 +1,12 @@
 // Erased from crates/uses/src/lib.rt by tools/erase: edit that file.
-//! How a driver uses these crates: short functions, each proved from the public contracts of what it calls.
-//! Copy the one that is closest to yours.
+//! How a driver uses these crates: short functions, each proved from the public contracts of what it calls. Copy the
+//! closest one.
 //!
-//! [`commands`] cuts a request into the commands that a device takes. [`serve`] runs a request on a device that
-//! may be removed at any moment, [`remove`] removes it, and [`race`] has the two race, on two threads. [`submit`]
-//! cuts a request in a queue whose limits another thread may change meanwhile, as [`change_limits`] does; [`submit_next`] cuts
-//! the next one of a thread that stays entered between its requests; [`enter_under`] is
-//! for a request that needs certain limits: it compares what it is told, and leaves and enters again where that differs.
+//! [`commands`] cuts a request into the commands that a device takes. [`serve`] runs a request on a device that may be removed at
+//! any moment, [`remove`] removes it, and [`race`] runs the two against each other, on two threads. [`submit`] cuts a request in a
+//! queue whose limits another thread may change meanwhile, as [`change_limits`] does. [`submit_next`] cuts the next request of a
+//! thread that stays entered between its requests. [`enter_under`] is for a request that needs certain limits: it compares the
+//! limits that it reads with these, and leaves and enters again if they differ.
 
 mod cutting;
 mod racing;

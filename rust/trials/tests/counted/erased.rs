@@ -1,4 +1,4 @@
-//! The queue's erased files, over the other erased modules of blkq.
+//! The queue's erased files and a caller's, over the other erased modules of blkq.
 #[path = "../../../freeze-queue/src/erased"]
 mod queue {
     pub mod queue_core;
@@ -9,6 +9,14 @@ mod waits {
     pub mod freeze_queue;
 }
 
-pub use blkq::erased::{fallible, percpu_core, percpu_gate, percpu_words, queue_limits, sync, wait_queue};
+#[path = "../../src/erased"]
+mod callers {
+    pub mod uses;
+}
+
+pub use blkq::erased::{
+    crossbeam_utils, fallible, percpu_core, percpu_gate, percpu_words, queue_limits, sync, thread, wait_queue,
+};
+pub use callers::uses;
 pub use queue::queue_core;
 pub use waits::freeze_queue;

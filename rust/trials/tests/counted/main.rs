@@ -1,5 +1,5 @@
-//! On which slot a tag of the queue that waits counts: no clause names it, and no caller can see it. A kill by hand shows it,
-//! which closes one slot after the other and returns the count of each.
+//! Tests on which slot a tag of the waiting queue counts. No clause names the slot, and no caller can see it. A kill by hand shows it: it
+//! closes one slot after the other and returns the count of each.
 //!
 //! The erased files of the queue are compiled again here, for the fields that only they see.
 
@@ -9,17 +9,24 @@ extern crate alloc;
 mod erased;
 
 use crate::erased::freeze_queue::{
-    BlockQueue, Enter, FreezeFault, Freezer, Limits, MOST_DEPTH, Mode, SharedFreezer, Tag,
+    BlockQueue, Enter, FreezeFault, Freezer, Limits, MOST_DEPTH, Mode, Put, SharedFreezer, Stay, Tag,
 };
+use crate::erased::uses::submit_next;
 
-/// The counts of the slots of a live queue.
-fn counted(queue: BlockQueue, freezer: Freezer) -> Vec<i64> {
-    let (gate, mut control) = (queue.core.gate, freezer.core.into_control());
-    let slots = control.mark_dead(&gate).expect("a live gate");
-    (0..slots).map(|_| control.close_next(&gate)).collect()
+/// Returns the counts of the slots of a live queue, after a kill has begun and this closure was called.
+fn counted_after(queue: &BlockQueue, freezer: Freezer, done: impl FnOnce()) -> Vec<i64> {
+    let (gate, mut control) = (&queue.core.gate, freezer.core.into_control());
+    let slots = control.mark_dead(gate).expect("a live gate");
+    done();
+    (0..slots).map(|_| control.close_next(gate)).collect()
 }
 
-/// A queue of so many slots, and its tag.
+/// Returns the counts of the slots of a live queue.
+fn counted(queue: BlockQueue, freezer: Freezer) -> Vec<i64> {
+    counted_after(&queue, freezer, || ())
+}
+
+/// A queue with this many slots, and its tag.
 fn with_one_tag(slots: u32) -> (BlockQueue, Freezer, Tag) {
     let limits = Limits::start(8).expect("limits");
     let (queue, freezer, mut tags) = BlockQueue::new(limits, slots, 1).expect("memory");
@@ -61,7 +68,7 @@ const WAYS: [Way; 3] = [
     ("enter", |queue, tag, slot| queue.enter(tag, slot)),
 ];
 
-/// The same on each slot, of 1 to 64 slots and of the most.
+/// The same on each slot, with 1 to 64 slots and with the maximum.
 #[test]
 fn each_call_counts_on_each_slot() {
     for slots in (1..=64).chain([512]) {
@@ -80,8 +87,66 @@ fn each_call_counts_on_each_slot() {
     }
 }
 
-/// A shared freezer freezes up to the most depth, one more each time, and is as it was once that is thawed: its queue counts on slots.
-/// To share it, and to take it back, changes nothing at any depth.
+/// Queues of three slots, for devices of several sizes with and without chunks, which were frozen up to four times; and their tags.
+fn queues() -> impl Iterator<Item = (BlockQueue, Freezer, Tag)> {
+    let devices =
+        [1, 8, 255, 4_000, 4_001, 32_768, 65_535].into_iter().flat_map(|size| [(size, 0), (size, 1), (size, 65_535)]);
+    devices.flat_map(|device| (0..5).map(move |freezes| (device, freezes))).map(|((size, chunk), freezes)| {
+        let limits = Limits::new(size, 0, chunk).expect("limits");
+        let (queue, mut freezer, mut tags) = BlockQueue::new(limits, 3, 1).expect("memory");
+        for _ in 0..freezes {
+            assert_eq!((freezer.freeze(&queue), freezer.thaw(&queue)), (Ok(1), Ok(0)));
+        }
+        (queue, freezer, tags.swap_remove(0))
+    })
+}
+
+/// Each call counts on its slot, whatever the device and however often the queue was frozen; a switch to the same mode moves no count,
+/// nor does a freezer that is shared, locked and taken back.
+#[test]
+fn each_queue_counts_on_its_slots() {
+    for (name, enters) in WAYS {
+        for (queue, mut freezer, mut tag) in queues() {
+            enters(&queue, &mut tag, 1);
+            let _put = queue.leave(&mut tag, 2);
+            freezer.mode(&queue, Mode::Slots);
+            let shared = SharedFreezer::new(freezer, &queue);
+            assert_eq!(shared.lock().freezer.depth(), 0);
+            let freezer = shared.into_inner().freezer;
+            assert_eq!(counted(queue, freezer), [0, 1, -1], "{name}");
+        }
+    }
+}
+
+/// A tag that asks to stay leaves on its slot, if a freeze has begun and hasn't closed the slot yet.
+#[test]
+fn a_stay_leaves_on_its_slot() {
+    for (queue, freezer, mut tag) in queues() {
+        queue.enter(&mut tag, 1);
+        let left = || assert_eq!(queue.stay(&mut tag, 2), Stay::Left(Put::NotLast));
+        assert_eq!(counted_after(&queue, freezer, left), [0, 1, -1]);
+    }
+}
+
+/// A thread that submits its next request stays in a live queue, and counts nothing. On a slot that can't count further down, a leave and an
+/// enter would show as one more.
+#[test]
+fn the_next_request_counts_nothing() {
+    let floor = 1 << 20;
+    let (queue, freezer, mut tag) = with_one_tag(3);
+    for _ in 0..floor {
+        queue.enter(&mut tag, 1);
+        let _put = queue.leave(&mut tag, 2);
+    }
+    queue.enter(&mut tag, 0);
+    for start in 0..5 {
+        assert_eq!(submit_next(&queue, &mut tag, 2, start, 8).map(|commands| commands.len()), Ok(1));
+    }
+    assert_eq!(counted(queue, freezer), [1, floor, -floor]);
+}
+
+/// A shared freezer freezes up to the maximum depth, one more each time. After the thaws it is as before: its queue counts on slots.
+/// Sharing it and taking it back changes nothing at any depth.
 #[test]
 fn shared_freezes_nest_to_the_most_depth() {
     let (queue, freezer, mut tag) = with_one_tag(2);

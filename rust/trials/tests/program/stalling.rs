@@ -6,7 +6,8 @@ use crate::meeting::{hold_for, is_met};
 use blkq::erased::blk_workers::{Config, Point, Stall};
 use blkq::erased::blkq_run::run_bytes;
 use blkq::erased::counted_io::Counted;
-use std::sync::atomic::{AtomicU32, Ordering};
+use std::sync::Mutex;
+use std::sync::atomic::{AtomicBool, AtomicU8, AtomicU32, Ordering};
 
 /// The row ordered_twice: four requests, of which the second and the fourth are ordered.
 const SCRIPT: &[u8] = b"blkq 2\ndisk 4 hw 4\nwrite 0 2 01\nwrite 1 2 02\nwrite 0 1 03\nread 1 1\n";
@@ -55,14 +56,16 @@ impl Counts {
 // Each accepted request is entered, drawn and answered once. Drained comes before each ordered request, and at the end.
 #[test]
 fn each_point_is_passed() {
-    let counts = Counts::new();
-    let config = Config::new(2, 2, 2).unwrap();
-    let mut reader = Counted::new(Feed::new(SCRIPT));
-    let mut writer = Counted::new(Sink::new());
-    let found = run_bytes(&mut reader, &mut writer, config, &counts);
-    assert!(found.is_ok(), "{found:?}");
-    assert_eq!(counts.of_requests(), [0x1111; 3]);
-    assert_eq!(counts.drained.load(Ordering::SeqCst), 134);
+    for (workers, slots, tags) in [(2, 2, 2), (1, 1, 1), (1, 2, 1), (1, 1, 2), (2, 1, 1), (3, 8, 1), (32, 64, 63)] {
+        let counts = Counts::new();
+        let config = Config::new(workers, slots, tags).unwrap();
+        let mut reader = Counted::new(Feed::new(SCRIPT));
+        let mut writer = Counted::new(Sink::new());
+        let found = run_bytes(&mut reader, &mut writer, config, &counts);
+        assert!(found.is_ok(), "{found:?}");
+        assert_eq!(counts.of_requests(), [0x1111; 3]);
+        assert_eq!(counts.drained.load(Ordering::SeqCst), 134);
+    }
 }
 
 /// Holds each request from this number on that is drawn until so many of these are entered and so many drawn, and then for a while
@@ -142,4 +145,47 @@ fn as_many_as_the_words_say() {
 #[test]
 fn as_many_behind_thousands_of_requests() {
     gather("run 3 2 7", 116_000, 3, 7);
+}
+
+/// How many points each request has passed, whether one was passed out of order, and after how many requests each drain came.
+struct InOrder {
+    passed: Vec<AtomicU8>,
+    out_of_order: AtomicBool,
+    drains: Mutex<Vec<u32>>,
+}
+
+impl Stall for InOrder {
+    fn at(&self, number: u32, point: Point) {
+        let before = match point {
+            Point::Entered => 0,
+            Point::Drawn => 1,
+            Point::Answered => 2,
+            Point::Drained => return self.drains.lock().unwrap().push(number),
+        };
+        let passed = &self.passed[number as usize];
+        if passed.compare_exchange(before, before + 1, Ordering::SeqCst, Ordering::SeqCst).is_err() {
+            self.out_of_order.store(true, Ordering::SeqCst);
+        }
+    }
+}
+
+// Each write waits for a drain: the first overlaps the reads, and each other the one before it.
+#[test]
+fn each_point_in_order_behind_thousands_of_requests() {
+    const READS: u32 = 60_000;
+    const WRITES: u32 = 3_000;
+    let [reads, writes] =
+        [("read 0 1\n", READS), ("write 0 1 01\n", WRITES)].map(|(line, count)| line.repeat(count as usize));
+    let script = format!("blkq 2\ndisk 1 hw 1\n{reads}{writes}");
+    for (workers, slots, tags) in [(1, 1, 1), (4, 8, 16), (32, 64, 63), (3, 2, 1), (1, 64, 63)] {
+        let passed = (0..READS + WRITES).map(|_| AtomicU8::new(0)).collect();
+        let points = InOrder { passed, out_of_order: AtomicBool::new(false), drains: Mutex::default() };
+        let config = Config::new(workers, slots, tags).unwrap();
+        let mut answer = Vec::new();
+        let found = run_bytes(&mut Counted::new(script.as_bytes()), &mut Counted::new(&mut answer), config, &points);
+        assert!(found.is_ok(), "{found:?}");
+        assert!(!points.out_of_order.into_inner(), "{workers} workers");
+        assert!(points.passed.into_iter().all(|it| it.into_inner() == 3), "{workers} workers");
+        assert_eq!(points.drains.into_inner().unwrap(), Vec::from_iter(READS..=READS + WRITES));
+    }
 }

@@ -1,4 +1,4 @@
-//! Threads that are held at a point of a run, and runs that may hang.
+//! Holds threads at a point of a run, and bounds runs that may hang.
 #![allow(dead_code, reason = "each file uses a part")]
 
 use std::hint::spin_loop;
@@ -13,14 +13,14 @@ mod pausing;
 use patience::PATIENCE;
 use pausing::pause;
 
-/// Runs this on a thread of its own. Returns `None` if it hangs, or panics.
+/// Runs a closure on its own thread. Returns `None` if it hangs or panics.
 pub fn ended<T: Send + 'static>(run: impl FnOnce() -> T + Send + 'static) -> Option<T> {
     let (done, ended) = channel();
     thread::spawn(move || done.send(run()));
     ended.recv_timeout(PATIENCE).ok()
 }
 
-/// Holds this thread until it is so. Returns `false` if it isn't in all that time.
+/// Holds this thread until the condition holds. Returns `false` if it doesn't in all that time.
 pub fn is_met(mut is_so: impl FnMut() -> bool) -> bool {
     let begun = Instant::now();
     for turn in 0_u32.. {
@@ -35,8 +35,8 @@ pub fn is_met(mut is_so: impl FnMut() -> bool) -> bool {
     false
 }
 
-/// Holds this thread for so many turns, in which others go on. Where other programs have the processors a turn takes long, and fewer will
-/// do.
+/// Holds this thread for this many turns, in which others go on. On a busy machine a turn takes long, and fewer turns are
+/// enough.
 pub fn hold_for(turns: u32) {
     let begun = Instant::now();
     for _ in 0..turns {
@@ -47,7 +47,7 @@ pub fn hold_for(turns: u32) {
     }
 }
 
-/// Holds this thread until it is so, for at most so many turns of a bare loop. Returns `false` if it isn't in all of them.
+/// Holds this thread until the condition holds, for at most this many turns of a bare loop. Returns `false` if it never holds.
 pub fn is_met_within(turns: u32, mut is_so: impl FnMut() -> bool) -> bool {
     (0..turns).any(|_| {
         spin_loop();

@@ -1,6 +1,6 @@
 //! Shared by the tests of the stand-ins.
 
-/// Numbers that look random, the same in each run. Marsaglia's xorshift.
+/// Pseudorandom numbers, the same in each run: Marsaglia's xorshift.
 pub struct Numbers(u64);
 
 impl Numbers {

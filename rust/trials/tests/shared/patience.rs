@@ -2,5 +2,5 @@
 
 use std::time::Duration;
 
-/// Other threads need microseconds, and minutes on a machine that has much else to do. It ends a test that hangs.
+/// Other threads need microseconds, or minutes on a busy machine. The bound ends a test that hangs.
 pub const PATIENCE: Duration = Duration::from_secs(600);

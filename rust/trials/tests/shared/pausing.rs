@@ -1,11 +1,11 @@
-//! How a thread of a test lets others run.
+//! Lets other threads run.
 
 use std::sync::atomic::{AtomicU32, Ordering::Relaxed};
 use std::thread;
 use std::time::{Duration, Instant};
 
-/// Lets other threads run for a moment. Where other programs want the processor as well, a yield gives it away for milliseconds, so a
-/// thousand short sleeps come after each that does.
+/// Lets other threads run for a moment. If other programs want the processor too, a yield gives it away for milliseconds; after each
+/// such yield come a thousand short sleeps instead.
 pub fn pause() {
     static SLEEPS: AtomicU32 = AtomicU32::new(0);
     if SLEEPS.load(Relaxed) > 0 {

@@ -1,4 +1,5 @@
-//! The allocator of a test whose calls are all on one thread: it refuses what that thread says, and counts that thread's blocks.
+//! The allocator of a test whose calls are all on one thread. It refuses allocations of that thread on request, and counts its blocks
+//! and their bytes.
 
 use std::cell::Cell;
 
@@ -7,12 +8,14 @@ mod refusing;
 use refusing::Refusing;
 
 thread_local! {
-    /// How many allocations succeed before those that are refused. `None`: none is refused.
+    /// The number of allocations that succeed before a refused one. `None`: none is refused.
     pub static ALLOWED: Cell<Option<u64>> = const { Cell::new(None) };
-    /// Whether one allocation alone is refused, and not all from that one on.
+    /// Whether only one allocation is refused, and not all later ones too.
     pub static IS_ONE: Cell<bool> = const { Cell::new(false) };
-    /// Blocks that were allocated, less those that were freed.
+    /// Number of blocks in use.
     pub static BLOCKS: Cell<i64> = const { Cell::new(0) };
+    /// Number of their bytes.
+    pub static BYTES: Cell<i64> = const { Cell::new(0) };
 }
 
 fn is_refused() -> bool {
@@ -32,4 +35,10 @@ fn is_refused() -> bool {
 }
 
 #[global_allocator]
-static ALLOCATOR: Refusing = Refusing { is_refused, count: |more| BLOCKS.set(BLOCKS.get() + more) };
+static ALLOCATOR: Refusing = Refusing {
+    is_refused,
+    count: |blocks, bytes| {
+        BLOCKS.set(BLOCKS.get() + blocks);
+        BYTES.set(BYTES.get() + bytes);
+    },
+};

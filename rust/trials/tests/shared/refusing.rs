@@ -1,11 +1,16 @@
-//! The system's allocator, which refuses when a test says so and counts its blocks for it.
+//! The system's allocator, which refuses and counts blocks and their bytes as a test asks.
 
 use std::alloc::{GlobalAlloc, Layout, System};
 
-/// What a test says: whether the next allocation is refused, and what counts a block that is had (1) or given back (-1).
+/// What a test asks for: whether the next allocation is refused, and a function that counts an allocated (1) or freed (-1) block, and by how
+/// many bytes what is in use grows.
 pub struct Refusing {
     pub is_refused: fn() -> bool,
-    pub count: fn(i64),
+    pub count: fn(i64, i64),
+}
+
+fn bytes(size: usize) -> i64 {
+    i64::try_from(size).unwrap_or(i64::MAX)
 }
 
 // SAFETY: each block is the system's, of the same layout; a refusal is null, as the trait has it.
@@ -14,13 +19,13 @@ unsafe impl GlobalAlloc for Refusing {
         if (self.is_refused)() {
             return std::ptr::null_mut();
         }
-        (self.count)(1);
+        (self.count)(1, bytes(layout.size()));
         // SAFETY: the caller meets the precondition, which is the same.
         unsafe { System.alloc(layout) }
     }
 
     unsafe fn dealloc(&self, at: *mut u8, layout: Layout) {
-        (self.count)(-1);
+        (self.count)(-1, -bytes(layout.size()));
         // SAFETY: the block is the system's, of this layout.
         unsafe { System.dealloc(at, layout) }
     }
@@ -29,6 +34,7 @@ unsafe impl GlobalAlloc for Refusing {
         if (self.is_refused)() {
             return std::ptr::null_mut();
         }
+        (self.count)(0, bytes(size) - bytes(layout.size()));
         // SAFETY: the block is the system's, of this layout.
         unsafe { System.realloc(at, layout, size) }
     }

@@ -1,5 +1,5 @@
-//! Threads that wait for one another in a test, for so many minutes that a thread which is never woken ends the test with a
-//! failure. Such a failure aborts the program, since a panic would wait for the thread that sleeps.
+//! Waits between the threads of a test, with a bound of some minutes, so that a thread which is never woken fails the
+//! test. Such a failure aborts the program, since a panic would wait for the sleeping thread.
 
 use std::io::Write;
 use std::sync::atomic::{AtomicU64, Ordering::SeqCst};
@@ -13,10 +13,10 @@ mod pausing;
 use patience::PATIENCE;
 pub use pausing::pause;
 
-/// How many turns a thread spins, before it lets other threads run at each.
+/// The number of turns for which a thread spins before it lets other threads run at each turn.
 const SPINS: u64 = 200;
 
-/// Waits until this is so; fails where it isn't in all that time.
+/// Waits until this condition holds; fails if it doesn't in all that time.
 pub fn until(mut is_so: impl FnMut() -> bool) {
     let begun = Instant::now();
     for turn in 0.. {
@@ -28,12 +28,12 @@ pub fn until(mut is_so: impl FnMut() -> bool) {
     }
 }
 
-/// Waits until this count is as high.
+/// Waits until this count is reached.
 pub fn wait_for(count: &AtomicU64, high: u64) {
     until(|| count.load(SeqCst) >= high);
 }
 
-/// Ends the program if this isn't so, while other threads may sleep.
+/// Ends the program if this condition doesn't hold, while other threads may sleep.
 pub fn insist(is_so: bool, why: &str) {
     if !is_so {
         let _ = writeln!(io::stderr(), "FAILED: {why}");

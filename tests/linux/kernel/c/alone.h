@@ -1,4 +1,4 @@
-/* The shims on one thread: a callback of RCU waits until the driver ends the grace period. */
+/* The shims on one thread. A callback of RCU waits until the driver ends the grace period. */
 #ifndef ALONE_H
 #define ALONE_H
 #include "../shims/shim.h"

@@ -1,5 +1,5 @@
-/* Answers the gate's lines by the kernel's percpu_ref. The answer is `-` if the kernel's rules don't allow a call, or
- * if it is beyond a limit of the other library. Passes, and the references that they hold, are this driver's own. */
+/* Answers the gate's lines with the kernel's percpu_ref. The answer is `-` if the kernel's rules don't allow a call, or
+ * if the call exceeds a limit of the other library. This driver keeps the passes and the references that they hold. */
 #include "alone.h"
 #include "lines.h"
 #include <linux/gfp.h>

@@ -1,5 +1,5 @@
-/* Answers the gate's lines by the library percpu_gate: all uses of it are in this file. If the kernel has no word for a
- * refusal, the answer has its text. */
+/* Answers the gate's lines with the library percpu_gate, which only this file uses. If the kernel has no word for a
+ * refusal, the answer is its text. */
 #include "lines.h"
 #include <percpu_gate.h>
 

@@ -1,4 +1,4 @@
-/* Reads a script line by line, as words. All drivers use it. */
+/* Reads a script line by line, split into words, for all drivers. */
 #ifndef LINES_H
 #define LINES_H
 #include <inttypes.h>

@@ -1,8 +1,8 @@
-/* All orders of races on the kernel's own percpu_ref. Reads races (docs/races/FORMATS.md, with the calls that Linux has), each with a
- * line `run` behind it, and prints the outcomes of each once, and how many moments it has. A moment is left by each actor that
- * may go, one step at a time, and is gone on from once: memory and stacks are copied to come back to it.
+/* Explores all orders of races on the kernel's own percpu_ref. Reads races (docs/races/FORMATS.md, with the calls that Linux has), each
+ * followed by a line `run`, and prints the outcomes of each once, and the number of its moments. From each moment the search goes on once
+ * with a step of each actor that may go; memory and stacks are copied so that it can come back.
  *
- * usage: orders [MOST]    MOST: gives a race up after so many moments (10,000,000) */
+ * usage: orders [MOST]    gives up a race of more than MOST moments (10,000,000) */
 #include "orders.h"
 #include "lines.h"
 

@@ -1,4 +1,4 @@
-/* All orders of a race on the kernel's own code: shared by the explorer (orders.c), the actors (orders_actors.c) and the shims
+/* Shared by the explorer of all orders of a race on the kernel's own code (orders.c), its actors (orders_actors.c) and its shims
  * (orders_shims.c). */
 #ifndef ORDERS_H
 #define ORDERS_H

@@ -1,4 +1,4 @@
-/* The actors of a race: passes and the control make their calls on the kernel's percpu_ref, and a callback of RCU runs when its
+/* The actors of a race. Passes and the control make their calls on the kernel's percpu_ref; a callback of RCU runs when its
  * grace period may end. */
 #include "orders.h"
 #include "ref_calls.h"

@@ -1,5 +1,5 @@
-/* The shims for all orders: each access to shared memory is a step, before which another actor may go. The compiler calls a
- * function for each access of the kernel's code (-fsanitize=thread), which isn't the sanitizer's here but this file's. */
+/* The shims for all orders. Each access to shared memory is a step, before which another actor may go. The compiler calls a
+ * function at each access of the kernel's code (-fsanitize=thread); here that function is this file's, not the sanitizer's. */
 #include "orders.h"
 #include <string.h>
 

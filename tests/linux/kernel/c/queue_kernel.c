@@ -1,5 +1,5 @@
-/* Answers the queue's lines by the kernel's freeze, entering and limits. The answer is `-` if the kernel's rules don't
- * allow a call, or if it is beyond a limit of the other library. Each call that may sleep runs on a stack of its own. */
+/* Answers the queue's lines with the kernel's freeze, entering and limits. The answer is `-` if the kernel's rules don't
+ * allow a call, or if the call exceeds a limit of the other library. Each call that may sleep runs on its own stack. */
 #include "alone.h"
 #include "lines.h"
 #include "queue_taken.h"

@@ -1,11 +1,11 @@
-/* Answers the queue's lines by the library freeze_queue: all uses of it are in this file. Tags and freezers that
- * have to wait are kept in lists, and tried again when an answer of the library asks to wake them. */
+/* Answers the queue's lines with the library freeze_queue, which only this file uses. Tags and freezers that
+ * have to wait are kept in lists, and tried again when a result of the library asks to wake them. */
 #include "lines.h"
 #include <freeze_queue.h>
 
 enum { TAGS = 63, FREEZERS = 4 };
 
-static freeze_queue_freezer freezer;
+static freeze_queue freezer;
 static freeze_queue_tag handles[TAGS];
 static uint32_t slots, tags, hardware, slot_of[TAGS];
 static bool is_there, is_in[TAGS], is_waiting[TAGS], has_waiter[FREEZERS];
@@ -24,7 +24,7 @@ static bool begin(void)
 {
     for (uint32_t it = 0; it < tags; it++)
         freeze_queue_free_tag(&handles[it]);
-    freeze_queue_free_freezer(&freezer);
+    freeze_queue_free(&freezer);
     slots = number(1);
     tags = number(2);
     hardware = number(3);

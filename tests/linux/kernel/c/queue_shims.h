@@ -1,4 +1,4 @@
-/* The names of the block layer that the functions use which are taken out of it, and no more of its structs than these
+/* The names that the functions taken out of the block layer use, and of its structs only the fields that these
  * functions touch. Power management, lockdep and the hardware queues are left out. */
 #ifndef QUEUE_SHIMS_H
 #define QUEUE_SHIMS_H

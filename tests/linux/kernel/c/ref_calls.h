@@ -1,4 +1,4 @@
-/* The kernel's percpu_ref behind functions, which are compiled as its own files are: in orders each access there is a step. */
+/* Functions around the kernel's percpu_ref. They are compiled like the kernel's files, so in orders each access in them is a step. */
 #ifndef REF_CALLS_H
 #define REF_CALLS_H
 #include <stdbool.h>

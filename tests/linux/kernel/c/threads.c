@@ -1,7 +1,7 @@
-/* The kernel's percpu_ref on threads: some get and put, and read plain memory meanwhile, while one kills and revives, and writes
- * it after the release. Each thread is a processor. The shims are atomics, a lock, and RCU by a counter of each thread.
+/* Runs the kernel's percpu_ref on threads. Some threads get and put, and read plain memory meanwhile; one kills, writes that memory after the
+ * release, and revives. Each thread is a processor. The shims are atomics, a lock, and RCU with a counter for each thread.
  *
- * usage: threads THREADS ROUNDS    prints kills and releases, and how many references were given and refused */
+ * usage: threads THREADS ROUNDS    prints the numbers of kills and releases, and of references given and refused */
 #include "../shims/shim.h"
 #include "ref_calls.h"
 #include <pthread.h>

@@ -1,6 +1,6 @@
 use Rattle.std.proofs.Common.{◌≡◌, ◌∙◌, sym, ap, subst, arith, ◌+◌, List, [], ◌∷◌, ◌++◌, take}
 use Rattle.std.proofs.lemmas.List.{take_more}
-use Rattle.script_meaning.specs.declared.line.Line.{Line}
+use Rattle.script_meaning.specs.declared.script.Line.{Line}
 use Rattle.blk_script.specs.Machine.{state_of}
 use Rattle.script_meaning.specs.Meaning.{start_of}
 use Rattle.blk_script.proofs.Replies.{Told, told_more}

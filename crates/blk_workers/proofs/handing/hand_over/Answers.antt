@@ -2,23 +2,23 @@ use Rattle.std.proofs.Common.{◌≡◌, ◌∙◌, ◌+◌, ◌++◌, ◌∷◌
 use Rattle.std.proofs.lemmas.List.{length-append}
 use Rattle.script_meaning.specs.Script.{Meant}
 use Rattle.script_meaning.specs.Requests.{accepted_at, accepted_before}
-use Rattle.run_queues.specs.Parts.{CollectorFacts, DutyFacts, SourceFacts}
-use Rattle.run_desk.specs.Desk.{MayTakeRequest, Stands}
-use Rattle.run_desk.specs.Requests.{IsDue, found_at}
-use Rattle.run_desk.proofs.NextLines.{due_at}
-use Rattle.run_desk.proofs.Numbering.{counts_request}
+use Rattle.run_queues.specs.Parts.{CollectorFacts, TokenFacts, SourceFacts}
+use Rattle.in_flight.specs.Table.{MayTakeRequest, Stands}
+use Rattle.in_flight.specs.Requests.{IsDue, found_at}
+use Rattle.in_flight.proofs.NextLines.{due_at}
+use Rattle.in_flight.proofs.Numbering.{counts_request}
 use Rattle.blk_workers.specs.Progress.{AreAwaited}
 use Rattle.blk_workers.proofs.Awaited.{awaited_submitted}
 use Rattle.blk_workers.proofs.handing.hand_over.Goals as goal
 
 pub submit-requires-clause-may_take : goal.submit-requires-clause-may_take
 submit-requires-clause-may_take g c =
-    subst (λ (s : Meant). MayTakeRequest s c.args.desk.now.replies c.args.accepted.request) (sym (c.script.ensures ∙ c.hall.invariant.0.its_script)) c.requires.ready.may_take
+    subst (λ (s : Meant). MayTakeRequest s c.args.table.now.replies c.args.accepted.request) (sym (c.script.ensures ∙ c.context.invariant.0.its_script)) c.requires.ready.may_take
 
-pub new-job-requires : goal.new-job-requires
-new-job-requires g c =
+pub new-job-requires-clause-job : goal.new-job-requires-clause-job
+new-job-requires-clause-job g c =
     let script = g.J.Run.script in
-    let here = length c.args.desk.now.replies in
+    let here = length c.args.table.now.replies in
     let found = c.in_ok-found.found.items in
     let ready = c.requires.ready in
     record {
@@ -26,40 +26,40 @@ new-job-requires g c =
       entered = c.entered-tag.ensures.entered;
       limits = c.args.accepted.limits;
       told = c.entered-tag.ensures.told;
-      may_tell = ap (λ (d : DutyFacts). d.queue) c.duty-duty.ensures.duty ∙ c.hall.invariant.1.its_completions;
+      may_tell = ap (λ (d : TokenFacts). d.queue) c.token-token.ensures.token ∙ c.context.invariant.1.its_completions;
       numbered = record {
         accepted = subst (λ p. is_some (accepted_at script p) ≡ true) (sym c.len-position.ensures) (ap is_some ready.may_take.accepted);
-        count = ap (accepted_before script) c.len-position.ensures ∙ sym ready.number ∙ sym (ap (λ (d : DutyFacts). d.number) c.duty-duty.ensures.duty);
+        count = ap (accepted_before script) c.len-position.ensures ∙ sym ready.number ∙ sym (ap (λ (d : TokenFacts). d.number) c.token-token.ensures.token);
       };
       due = subst (λ p. IsDue script p c.args.accepted.limits found) (sym c.len-position.ensures)
           (due_at script here c.args.accepted.request c.args.accepted.limits found ready.may_take.accepted ready.limits
-          (subst (λ (s : Meant). found ≡ found_at s here c.args.accepted.request) (c.script.ensures ∙ c.hall.invariant.0.its_script) c.in_ok-found.ensures.found));
+          (subst (λ (s : Meant). found ≡ found_at s here c.args.accepted.request) (c.script.ensures ∙ c.context.invariant.0.its_script) c.in_ok-found.ensures.found));
     }
 
 pub returns-clause-handed_over : goal.returns-clause-handed_over
 returns-clause-handed_over g c =
-    let old = c.args.desk.now.replies in
+    let old = c.args.table.now.replies in
     let script = g.J.Run.script in
     let request = c.args.accepted.request in
     let there = c.requires.ready.may_take.accepted in
     let more = counts_request script (length old) request there in
     let handed = c.requires.handed_over in
     let mine : CollectorFacts = c.args.ends.now.collector in
-    let given = c.duty-duty.ensures.collector in
+    let given = c.token-token.ensures.collector in
     let replies : length c.submit.new.self.replies ≡ length old + 1 = ap length c.in_ok-found.ensures.owed ∙ length-append old (None ∷ []) in
     record {
-      stands = subst (λ (s : Meant). Stands s c.submit.new.self.replies c.submit.new.self.disk) (c.script.ensures ∙ c.hall.invariant.0.its_script) c.in_ok-found.ensures.stands;
+      stands = subst (λ (s : Meant). Stands s c.submit.new.self.replies c.submit.new.self.disk) (c.script.ensures ∙ c.context.invariant.0.its_script) c.in_ok-found.ensures.stands;
       lines = replies;
       all = record {
         pushes = ap (λ (s : SourceFacts). s.queue) c.push.ensures ∙ handed.pushes;
         collects = ap (λ (k : CollectorFacts). k.queue) given ∙ handed.collects;
         pushed = ap (λ (s : SourceFacts). s.pushed) c.push.ensures ∙ ap (λ n. n + 1) handed.pushed ∙ sym more;
         not_ended = ap (λ (s : SourceFacts). s.marks) c.push.ensures ∙ handed.not_ended;
-        duties = ap (λ (k : CollectorFacts). k.given) given ∙ ap (λ n. n + 1) handed.duties ∙ sym more;
+        tokens = ap (λ (k : CollectorFacts). k.given) given ∙ ap (λ n. n + 1) handed.tokens ∙ sym more;
         awaited =
-            subst (λ replies. AreAwaited script replies c.duty-duty.new.collector.given c.duty-duty.new.collector.collected) (sym c.in_ok-found.ensures.owed)
+            subst (λ replies. AreAwaited script replies c.token-token.new.collector.given c.token-token.new.collector.collected) (sym c.in_ok-found.ensures.owed)
             (subst (λ (k : CollectorFacts). AreAwaited script (old ++ None ∷ []) k.given k.collected) (sym given)
-            (awaited_submitted script old mine.given mine.collected request handed.duties there handed.awaited));
+            (awaited_submitted script old mine.given mine.collected request handed.tokens there handed.awaited));
       };
     }
 
@@ -69,5 +69,5 @@ returns-in_err-found-clause-room g c = omega (arith, c.requires.handed_over.awai
 
 pub returns-clause-room : goal.returns-clause-room
 returns-clause-room g c =
-    let given = c.duty-duty.ensures.collector in
+    let given = c.token-token.ensures.collector in
     omega (arith, ap (λ (k : CollectorFacts). k.given) given, ap (λ (k : CollectorFacts). length k.collected) given, c.requires.handed_over.awaited.no_more, c.requires.few)

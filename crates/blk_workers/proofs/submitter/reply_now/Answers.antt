@@ -8,10 +8,10 @@ pub returns : goal.returns
 returns c = record {
   replied = record {
     stands = c.in_ok-reply.ensures.stands;
-    lines = ap length c.in_ok-reply.ensures.told ∙ length-append c.args.desk.now.replies (Some c.in_ok-text.text.items ∷ []);
+    lines = ap length c.in_ok-reply.ensures.told ∙ length-append c.args.table.now.replies (Some c.in_ok-text.text.items ∷ []);
     awaited = λ given collected is awaited.
         subst (λ replies. AreAwaited c.args.script.now replies given collected) (sym c.in_ok-reply.ensures.told)
-        (awaited_replied c.args.script.now c.args.desk.now.replies given collected c.in_ok-text.text.items is awaited);
+        (awaited_replied c.args.script.now c.args.table.now.replies given collected c.in_ok-text.text.items is awaited);
   };
   memory = tt;
 }

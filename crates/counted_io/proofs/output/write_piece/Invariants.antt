@@ -1,4 +1,4 @@
--- So far each try was interrupted: nothing was taken, the count grew with each, and nothing broke.
+-- So far each try was interrupted: nothing was taken, the counts grew with each, and nothing broke.
 use Rattle.std.proofs.Common.{◌≡◌, ◌<◌, ◌≤◌}
 use Rattle.std.specs.Io.KnownBytes.{Keeps}
 use Rattle.counted_io.specs.Failures.{FailedTimes, HasFailed}
@@ -11,3 +11,4 @@ invariant-loop g l =
     × (0 < l.counter → HasFailed l.initial.writer l.writer)
     × FailedTimes l.counter l.initial.writer l.writer
     × (l.writer.breaks ≡ l.initial.writer.breaks)
+    × (l.counter ≤ l.writer.in_row)

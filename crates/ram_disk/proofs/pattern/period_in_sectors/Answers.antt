@@ -5,7 +5,7 @@ use Rattle.std.proofs.Math.Nat.{mul-mod_right}
 use Rattle.ram_disk.specs.declared.sector.TheConstants.{SECTOR_BYTES}
 use Rattle.ram_disk.proofs.pattern.period_in_sectors.Goals as goal
 
--- a place found, or else the whole length
+-- a place found, or the whole length
 found_or_length : (length : ℕ) (found : Option ℕ) → IfSome found (λ sectors. sectors * SECTOR_BYTES % length ≡ 0) → unwrap_or found length * SECTOR_BYTES % length ≡ 0
 found_or_length length None whole = mul-mod_right length SECTOR_BYTES
 found_or_length length (Some sectors) whole = whole

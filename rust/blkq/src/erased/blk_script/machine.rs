@@ -9,13 +9,13 @@ use crate::erased::script_meaning::{
     ByteRuns, Outcome, Pattern, PieceLengths, QueueState, Reply, Request, Script, What,
 };
 
-/// The queue and its disk, as one thread has them that takes a script line by line.
+/// The queue and its disk, as one thread keeps them while it takes a script line by line.
 pub(crate) struct Machine {
     pub(crate) queue: QueueState,
     pub(crate) disk: Disk,
 }
 
-// The pieces of a request under the limits in force.
+// Returns the pieces of a request under the limits in force.
 fn pieces(limits: &Limits, request: Request) -> Result<PieceLengths, ScriptFault> {
     let lengths = limits.pieces(u64::from(request.start), request.count).try_collected()?;
     Ok(PieceLengths::new(lengths))
@@ -37,7 +37,7 @@ impl Machine {
         Ok(Reply::Data { pieces, runs: ByteRuns::new(runs) })
     }
 
-    // Makes the sectors first and installs them last, so that a refusal of memory leaves the disk as it was.
+    // Makes the sectors first and installs them last, so that the disk is unchanged if memory is refused.
     //
     // # Preconditions
     //
@@ -49,7 +49,7 @@ impl Machine {
         Ok(Reply::Written { pieces })
     }
 
-    /// Replies to a line. On `Memory`, the only fault, the queue and its disk are as before.
+    /// Replies to a line. `Memory` is the only fault; then the queue and its disk are unchanged.
     ///
     /// # Preconditions
     ///

@@ -1,25 +1,157 @@
 // Erased from crates/blk_script/src/parser.rt by tools/erase: edit that file.
-//! From bytes to a script.
+//! From bytes to a script: what the words of each line say, and what the lines of a text mean.
 
-use crate::erased::blk_script::grammar::{self, DiskLine};
 use crate::erased::fallible::TryVec;
-use crate::erased::line_text::{LineFault, ParseFault, ScriptFault, Statements, Why, Words, at_line};
-use crate::erased::script_meaning::{Line, Script, Version, What};
+use crate::erased::line_text::{
+    LineFault, ParseFault, ScriptFault, Statements, Why, Words, at_line, hex_bytes, is_word, no_words, one_word,
+    short_number, three_words, two_words,
+};
+use crate::erased::queue_limits::HARDWARE_LIMIT;
+use crate::erased::ram_disk::{MAX_PATTERN, MAX_SECTORS};
+use crate::erased::script_meaning::{Line, Mode, Pattern, Script, Version, What};
 
-fn version(text: &mut Statements<'_>) -> Result<Version, ParseFault> {
+/// Maximum number of sectors that a line asks for in one request.
+const COUNT_LIMIT: u32 = 65_535;
+
+/// The content of the second line.
+#[derive(Clone, Copy, Debug)]
+pub(crate) struct DiskLine {
+    /// Number of sectors of the disk.
+    pub(crate) sectors: u32,
+    /// How many sectors the hardware takes in one request.
+    pub(crate) hardware: u32,
+}
+
+// Returns the bytes that a write repeats.
+fn pattern(word: &[u8]) -> Result<Pattern, LineFault> {
+    Ok(Pattern::new(hex_bytes(word, MAX_PATTERN)?))
+}
+
+/// Returns the version that the first line names.
+fn version(mut words: Words<'_>) -> Result<Version, Why> {
+    let name = words.next().ok_or(Why::NoVersion)?;
+    let number = words.next().ok_or(Why::NoVersion)?;
+    if !is_word(name, "blkq") || words.next().is_some() {
+        return Err(Why::NoVersion);
+    }
+    if is_word(number, "1") {
+        Ok(Version::One)
+    } else if is_word(number, "2") {
+        Ok(Version::Two)
+    } else {
+        Err(Why::NoVersion)
+    }
+}
+
+fn sizes(words: Words<'_>) -> Result<DiskLine, Why> {
+    let (sectors, name, hardware) = three_words(words)?;
+    let sectors = short_number(sectors, 1, MAX_SECTORS)?;
+    if !is_word(name, "hw") {
+        return Err(Why::UnknownWord);
+    }
+    let hardware = short_number(hardware, 1, HARDWARE_LIMIT)?;
+    Ok(DiskLine { sectors, hardware })
+}
+
+/// Returns the number of sectors of the disk, and how many the hardware takes in one request.
+fn disk(mut words: Words<'_>) -> Result<DiskLine, Why> {
+    let first = words.next().ok_or(Why::NoDisk)?;
+    if !is_word(first, "disk") {
+        return Err(Why::NoDisk);
+    }
+    sizes(words)
+}
+
+fn read(words: Words<'_>) -> Result<What, Why> {
+    let (start, count) = two_words(words)?;
+    let start = short_number(start, 0, u32::MAX)?;
+    let count = short_number(count, 1, COUNT_LIMIT)?;
+    Ok(What::Read { start, count })
+}
+
+fn write(words: Words<'_>) -> Result<What, LineFault> {
+    let (start, count, digits) = three_words(words)?;
+    let start = short_number(start, 0, u32::MAX)?;
+    let count = short_number(count, 1, COUNT_LIMIT)?;
+    let pattern = pattern(digits)?;
+    Ok(What::Write { start, count, pattern })
+}
+
+// Returns the setting of a physical block's size, which version 1 doesn't have.
+fn physical(version: Version, value: &[u8]) -> Result<What, Why> {
+    match version {
+        Version::One => Err(Why::UnknownWord),
+        Version::Two => Ok(What::SetPhysical(short_number(value, 0, u32::MAX)?)),
+    }
+}
+
+fn setting(version: Version, words: Words<'_>) -> Result<What, Why> {
+    let (name, value) = two_words(words)?;
+    if is_word(name, "max_sectors") {
+        Ok(What::SetMax(short_number(value, 0, u32::MAX)?))
+    } else if is_word(name, "chunk_sectors") {
+        Ok(What::SetChunk(short_number(value, 0, u32::MAX)?))
+    } else if is_word(name, "physical_sectors") {
+        physical(version, value)
+    } else {
+        Err(Why::UnknownWord)
+    }
+}
+
+fn mode(words: Words<'_>) -> Result<What, Why> {
+    let name = one_word(words)?;
+    if is_word(name, "atomic") {
+        Ok(What::SetMode(Mode::Atomic))
+    } else if is_word(name, "slots") {
+        Ok(What::SetMode(Mode::Slots))
+    } else {
+        Err(Why::UnknownWord)
+    }
+}
+
+fn alone(what: What, words: Words<'_>) -> Result<What, Why> {
+    no_words(words)?;
+    Ok(what)
+}
+
+/// Returns what a line asks of the queue, in a script of this version.
+fn what(version: Version, mut words: Words<'_>) -> Result<What, LineFault> {
+    let first = words.next().ok_or(Why::UnknownWord)?;
+    if is_word(first, "read") {
+        Ok(read(words)?)
+    } else if is_word(first, "write") {
+        write(words)
+    } else if is_word(first, "freeze") {
+        Ok(alone(What::Freeze, words)?)
+    } else if is_word(first, "thaw") {
+        Ok(alone(What::Thaw, words)?)
+    } else if is_word(first, "set") {
+        Ok(setting(version, words)?)
+    } else if is_word(first, "mode") {
+        Ok(mode(words)?)
+    } else if is_word(first, "stat") {
+        Ok(alone(What::Stat, words)?)
+    } else if is_word(first, "remove") {
+        Ok(alone(What::Remove, words)?)
+    } else {
+        Err(LineFault::Refused(Why::UnknownWord))
+    }
+}
+
+fn version_in(text: &mut Statements<'_>) -> Result<Version, ParseFault> {
     let (line, words) = text.next_or(Why::NoVersion)?;
-    at_line(line, grammar::version(words))
+    at_line(line, version(words))
 }
 
-fn disk(text: &mut Statements<'_>) -> Result<DiskLine, ParseFault> {
+fn disk_in(text: &mut Statements<'_>) -> Result<DiskLine, ParseFault> {
     let (line, words) = text.next_or(Why::NoDisk)?;
-    at_line(line, grammar::disk(words))
+    at_line(line, disk(words))
 }
 
-// What the words of a line ask, told with the line.
-fn what(version: Version, line: u32, said: Result<Words<'_>, Why>) -> Result<What, ScriptFault> {
+// Returns what the words of a line ask, with the line's number in any fault.
+fn said_by(version: Version, line: u32, said: Result<Words<'_>, Why>) -> Result<What, ScriptFault> {
     let words = at_line(line, said)?;
-    grammar::what(version, words).map_err(|fault| match fault {
+    what(version, words).map_err(|fault| match fault {
         LineFault::Memory => ScriptFault::Memory,
         LineFault::Refused(why) => ScriptFault::Parse(ParseFault { line, why }),
     })
@@ -28,21 +160,20 @@ fn what(version: Version, line: u32, said: Result<Words<'_>, Why>) -> Result<Wha
 fn further_lines(version: Version, mut text: Statements<'_>) -> Result<Vec<Line>, ScriptFault> {
     let mut lines = Vec::new();
     while let Some((number, said)) = text.next() {
-        let what = what(version, number, said)?;
+        let what = said_by(version, number, said)?;
         lines.try_push(Line { number, what })?;
     }
     Ok(lines)
 }
 
-/// The script that a text means.
+/// Returns the script that a text means.
 ///
-/// Refused with `Parse` exactly where the text means none: the fault is the first of the text, in the
-/// order that docs/FORMATS.md gives, with its line from 1. Refused with `Memory` only where a growth of
-/// memory was refused.
+/// Returns `Parse` exactly if the text means no script, with the first fault of the text, in the order that docs/FORMATS.md gives,
+/// and its line, counted from 1. Returns `Memory` only if memory is refused.
 pub fn parse(bytes: &[u8]) -> Result<Script, ScriptFault> {
     let mut text = Statements::new(bytes)?;
-    let version = version(&mut text)?;
-    let disk = disk(&mut text)?;
+    let version = version_in(&mut text)?;
+    let disk = disk_in(&mut text)?;
     let lines = further_lines(version, text)?;
     Ok(Script::new(version, disk.sectors, disk.hardware, lines))
 }

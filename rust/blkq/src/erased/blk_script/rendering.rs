@@ -1,21 +1,20 @@
 // Erased from crates/blk_script/src/rendering.rt by tools/erase: edit that file.
 //! The texts of replies and of the disk.
 
-use crate::erased::blk_script::sector_runs::push_sectors;
 use crate::erased::fallible::{AllocError, TryVec};
 use crate::erased::hex;
 use crate::erased::line_text::{ScriptFault, push_hex, push_named, push_number, push_text};
-use crate::erased::ram_disk::{Disk, Sector};
+use crate::erased::ram_disk::{Disk, SECTOR_BYTES, Sector, add_sector};
 use crate::erased::script_meaning::{Mode, Reply, Stat};
 
-// The two digits of a byte.
+// Returns the two digits of a byte.
 fn hex_digits(byte: u8) -> [u8; 2] {
     let mut digits = [0; 2];
     let _ = hex::encode_to_slice([byte].as_slice(), &mut digits);
     digits
 }
 
-// Appends a run that is shorter than ten bytes, as most are where there are many, in one step.
+// Appends a run of fewer than ten bytes in one step. If there are many runs, most are that short.
 //
 // # Preconditions
 //
@@ -27,7 +26,7 @@ fn push_short_run(out: &mut Vec<u8>, byte: u8, count: u8) -> Result<(), AllocErr
 }
 
 /// Appends a run.
-pub(crate) fn push_run(out: &mut Vec<u8>, run: (u8, u64)) -> Result<(), AllocError> {
+fn push_run(out: &mut Vec<u8>, run: (u8, u64)) -> Result<(), AllocError> {
     let (byte, count) = run;
     if count < 10 {
         return push_short_run(out, byte, count as u8);
@@ -48,7 +47,7 @@ fn push_pieces(out: &mut Vec<u8>, pieces: &[u32]) -> Result<(), AllocError> {
 }
 
 /// Appends runs.
-pub(crate) fn push_runs(out: &mut Vec<u8>, runs: &[(u8, u64)]) -> Result<(), AllocError> {
+fn push_runs(out: &mut Vec<u8>, runs: &[(u8, u64)]) -> Result<(), AllocError> {
     for (index, run) in runs.iter().enumerate() {
         if index > 0 {
             push_text(out, ",")?;
@@ -118,19 +117,18 @@ pub(crate) fn push_line(out: &mut Vec<u8>, number: u32, reply: &Reply) -> Result
     push_text(out, "\n")
 }
 
-/// Room for the line of most replies, in bytes: it is taken once, and the line doesn't grow out of smaller rooms.
+/// Room for the line of most replies, in bytes. It is taken once, so that the line doesn't grow out of smaller rooms.
 const USUAL_LINE: usize = 24;
 
-/// The line of a reply to the script's line of this number, its line feed included. `Memory` is the only
-/// refusal.
+/// Returns the line of a reply to the script's line of this number, with its line feed. `Memory` is the only fault.
 pub fn render(number: u32, reply: &Reply) -> Result<Vec<u8>, ScriptFault> {
     let mut line = Vec::try_with_room(USUAL_LINE)?;
     push_line(&mut line, number, reply)?;
     Ok(line)
 }
 
-/// The line of a read's reply to the script's line of this number, its line feed included: the lengths of its pieces, and the
-/// runs of the sectors that it found. `Memory` is the only refusal.
+/// Returns the line of a read's reply to the script's line of this number, with its line feed: the lengths of its pieces, and the
+/// runs of the sectors that it found. `Memory` is the only fault.
 pub fn render_read(number: u32, pieces: &[u32], found: &[Sector]) -> Result<Vec<u8>, ScriptFault> {
     let mut line = Vec::try_with_room(USUAL_LINE)?;
     push_number(&mut line, u64::from(number))?;
@@ -143,7 +141,7 @@ pub fn render_read(number: u32, pieces: &[u32], found: &[Sector]) -> Result<Vec<
     Ok(line)
 }
 
-// Appends the line of a disk, or a part of it where memory is refused.
+// Appends the line of a disk, or a part of the line if memory is refused.
 fn push_disk_line(out: &mut Vec<u8>, disk: &Disk) -> Result<(), ScriptFault> {
     push_text(out, "disk ")?;
     push_sectors(out, disk.sectors())?;
@@ -151,7 +149,7 @@ fn push_disk_line(out: &mut Vec<u8>, disk: &Disk) -> Result<(), ScriptFault> {
     Ok(())
 }
 
-/// Appends the line of a disk, its line feed included. `Memory` is the only refusal, and leaves the text as it was.
+/// Appends the line of a disk, with its line feed. `Memory` is the only fault; then the text is unchanged.
 pub fn push_disk(out: &mut Vec<u8>, disk: &Disk) -> Result<(), ScriptFault> {
     let before = out.len();
     let pushed = push_disk_line(out, disk);
@@ -161,9 +159,48 @@ pub fn push_disk(out: &mut Vec<u8>, disk: &Disk) -> Result<(), ScriptFault> {
     pushed
 }
 
-/// The line of a disk, its line feed included. `Memory` is the only refusal.
+/// Returns the line of a disk, with its line feed. `Memory` is the only fault.
 pub fn render_disk(disk: &Disk) -> Result<Vec<u8>, ScriptFault> {
     let mut line = Vec::new();
     push_disk(&mut line, disk)?;
     Ok(line)
+}
+
+// This many sectors have fewer than 2^64 bytes. No memory holds as many owners of sectors.
+const MOST_SECTORS: usize = usize::MAX / SECTOR_BYTES;
+
+// Appends runs, each followed by a comma.
+fn push_closed(out: &mut Vec<u8>, runs: &[(u8, u64)]) -> Result<(), AllocError> {
+    for run in runs {
+        push_run(out, *run)?;
+        push_text(out, ",")?;
+    }
+    Ok(())
+}
+
+// Appends all runs except the last, which stays, since what follows may make it longer.
+fn close(out: &mut Vec<u8>, runs: &mut Vec<(u8, u64)>) -> Result<(), AllocError> {
+    let Some(last) = runs.pop() else {
+        return Ok(());
+    };
+    push_closed(out, runs)?;
+    runs.clear();
+    runs.push(last);
+    Ok(())
+}
+
+/// Appends the maximal runs of these sectors' bytes, or a part of their text if memory is refused. `Memory` is the only fault.
+fn push_sectors(out: &mut Vec<u8>, sectors: &[Sector]) -> Result<(), ScriptFault> {
+    if sectors.len() > MOST_SECTORS {
+        return Err(ScriptFault::Memory);
+    }
+    let mut runs = Vec::new();
+    for sector in sectors {
+        let Ok(()) = add_sector(&mut runs, sector) else {
+            return Err(ScriptFault::Memory);
+        };
+        close(out, &mut runs)?;
+    }
+    push_runs(out, &runs)?;
+    Ok(())
 }

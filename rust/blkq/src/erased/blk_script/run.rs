@@ -6,8 +6,8 @@ use crate::erased::blk_script::rendering::{push_disk, push_line};
 use crate::erased::line_text::ScriptFault;
 use crate::erased::script_meaning::Script;
 
-/// What a script's run on one thread writes: a line for each line that asks something, and then the disk's.
-/// Requests that overlap are done in the order of their lines. `Memory` is the only refusal.
+/// Returns what a script's run on one thread writes: a line for each line that asks something, and then the line of the disk.
+/// Requests that overlap are done in the order of their lines. `Memory` is the only fault.
 pub fn run_alone(script: &Script) -> Result<Vec<u8>, ScriptFault> {
     let mut machine = Machine::new(script)?;
     let mut out = Vec::new();

@@ -1,18 +1,18 @@
 // Erased from crates/blk_workers/src/config.rt by tools/erase: edit that file.
-//! How a run is shaped.
+//! The shape of a run: its threads, slots and tags.
 
-/// The most workers of a run: a choice, that `AreDrawers`, `team`, `sizes_in_numbers` (blkq_run/src/laws.rt), docs/FORMATS.md
-/// and docs/blkq.1 write out too.
+/// Maximum number of workers of a run. The number is a choice, and is repeated in `with_workers`, `sizes_in_numbers`
+/// (blkq_run/src/laws.rt), docs/FORMATS.md and docs/blkq.1.
 pub const MOST_WORKERS: u32 = 32;
 
-/// The most slots of a run's gate: a choice of the program `blkq`, fewer than a gate takes (`percpu_core::SLOT_LIMIT`).
+/// Maximum number of slots of a run's gate. A choice of the program `blkq`; a gate takes more (`percpu_core::SLOT_LIMIT`).
 pub const MOST_SLOTS: u32 = 64;
 
-/// The most tags of a run: a choice too, fewer than a queue takes (`freeze_queue::MOST_TAGS`).
+/// Maximum number of tags of a run. Also a choice; a queue takes more (`freeze_queue::MOST_TAGS`).
 pub const MOST_TAGS: u32 = 63;
 
-/// How a run is shaped: how many threads work on requests, over how many slots the gate spreads its count,
-/// and how many requests can be in the queue at the same time. None of this changes the replies or the disk.
+/// The shape of a run: how many threads work on requests, over how many slots the gate spreads its count, and how many requests can
+/// be in the queue at a time. None of these affects the replies or the disk.
 #[derive(Clone, Copy, Debug, PartialEq, Eq)]
 pub struct Config {
     workers: u32,
@@ -21,7 +21,7 @@ pub struct Config {
 }
 
 impl Config {
-    /// A run of 1 to 32 workers, 1 to 64 slots and 1 to 63 tags. `None` outside of these.
+    /// Returns a config of 1 to 32 workers, 1 to 64 slots and 1 to 63 tags, or `None` if a number is out of range.
     pub fn new(workers: u32, slots: u32, tags: u32) -> Option<Self> {
         let is_within = (1..=MOST_WORKERS).contains(&workers)
             && (1..=MOST_SLOTS).contains(&slots)
@@ -29,25 +29,25 @@ impl Config {
         if is_within { Some(Config { workers, slots, tags }) } else { None }
     }
 
-    /// The threads that work on requests: 1 to 32.
+    /// Returns the number of threads that work on requests, 1 to 32.
     pub fn workers(&self) -> u32 {
         self.workers
     }
 
-    /// The slots that the gate's count is spread over: 1 to 64.
+    /// Returns the number of slots over which the gate's count is spread, 1 to 64.
     pub fn slots(&self) -> u32 {
         self.slots
     }
 
-    /// The requests that can be in the queue at the same time: 1 to 63.
+    /// Returns how many requests can be in the queue at a time, 1 to 63.
     pub fn tags(&self) -> u32 {
         self.tags
     }
 }
 
 impl Default for Config {
-    /// 4 workers, 8 slots and 16 tags, as `blkq run` has where no numbers are given: `usual` (blkq_run/specs/Requests.antt),
-    /// docs/FORMATS.md and docs/blkq.1 say the same.
+    /// Returns 4 workers, 8 slots and 16 tags, the defaults of `blkq run`. `usual` (blkq_run/specs/Requests.antt), docs/FORMATS.md
+    /// and docs/blkq.1 repeat them.
     fn default() -> Self {
         Config { workers: 4, slots: 8, tags: 16 }
     }

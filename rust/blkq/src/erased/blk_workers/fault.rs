@@ -1,17 +1,17 @@
 // Erased from crates/blk_workers/src/fault.rt by tools/erase: edit that file.
-//! Why a run answers nothing.
+//! Why a run fails.
 
 use crate::erased::fallible::AllocError;
 use crate::erased::freeze_queue::Memory;
 use std::error::Error;
 use std::fmt;
 
-/// Why a run answers nothing. The threads that it started have ended, and nothing else is handed out.
+/// Why a run fails. The threads that it started have ended, and nothing else is returned.
 #[derive(Clone, Copy, Debug, PartialEq, Eq)]
 pub enum RunFault {
     /// Memory was refused, or the script has 2^32 lines or more.
     Memory,
-    /// The start of a thread was refused.
+    /// A thread couldn't be started.
     Thread,
 }
 
@@ -27,8 +27,8 @@ impl fmt::Display for RunFault {
 impl Error for RunFault {}
 
 impl RunFault {
-    /// The fault's number, from 1 in the order of declaration. No crate here asks for it: it is for callers who tell faults by
-    /// numbers.
+    /// Returns the fault's number, counted from 1 in order of declaration. No crate here calls this; it is for callers that
+    /// identify faults by number.
     pub fn number(&self) -> u8 {
         match self {
             RunFault::Memory => 1,

@@ -1,12 +1,13 @@
 // Erased from crates/blk_workers/src/following.rt by tools/erase: edit that file.
 //! How the queue's freezer follows a script.
 
-use crate::erased::freeze_queue::{BlockQueue, Freezer};
+use crate::erased::freeze_queue::{BlockQueue, Freezer, Mode};
 use crate::erased::queue_limits::Limits;
-use crate::erased::script_meaning::QueueState;
+use crate::erased::script_meaning::{Mode as ScriptMode, QueueState};
 
-/// Freezes the queue and waits until it is drained, where it isn't frozen, and so drained, already. A gate is killed 2^40 times at
-/// most (`percpu_core`, `KILL_LIMIT`).
+/// Freezes the queue and waits until it is drained. Does nothing if the queue is frozen already, because it is drained then.
+///
+/// A gate can be killed 2^40 times at most (`percpu_core`, `KILL_LIMIT`).
 ///
 /// # Preconditions
 ///
@@ -21,7 +22,7 @@ pub(crate) fn freeze(freezer: &mut Freezer, queue: &BlockQueue) {
     debug_assert!(frozen.is_ok());
 }
 
-// Sets the limits of a frozen queue, which is drained, where they differ: to set looks at the gate and stores each limit.
+// Sets the limits of a frozen, drained queue if they differ. `set` would look at the gate and store each limit anyway.
 //
 // # Preconditions
 //
@@ -37,8 +38,8 @@ fn set_limits(freezer: &mut Freezer, queue: &BlockQueue, limits: Limits) {
     }
 }
 
-// Brings the depth of a frozen queue one step nearer to this one. One is enough: where the depth is 0 a drain adds one, a line
-// changes the script's by one at most, and each line that isn't an accepted request is followed, as is each drain before an
+// Brings the depth of a frozen queue one step closer to `depth`. One step is enough: a drain adds one if the depth is 0, and a line
+// changes the script's depth by one at most. Each line that isn't an accepted request is followed, and so is each drain before an
 // ordered request. 1,000 is the script's `DEPTH_LIMIT` and the freezer's `MOST_DEPTH`.
 //
 // # Preconditions
@@ -59,7 +60,15 @@ fn step_to(freezer: &mut Freezer, queue: &BlockQueue, depth: u32) {
     }
 }
 
-/// Brings the queue into step with the script's: to its mode, and a frozen one to its limits and its depth, so that each freeze
+// Returns the queue's mode for a script's mode.
+fn queue_mode(mode: ScriptMode) -> Mode {
+    match mode {
+        ScriptMode::Atomic => Mode::Atomic,
+        ScriptMode::Slots => Mode::Slots,
+    }
+}
+
+/// Brings the queue into step with the script's queue: sets its mode and, if it is frozen, its limits and its depth. So each freeze
 /// and thaw of the script is one of the queue. A queue that the script removed stays frozen.
 ///
 /// # Preconditions
@@ -67,12 +76,12 @@ fn step_to(freezer: &mut Freezer, queue: &BlockQueue, depth: u32) {
 /// - `freezer` belongs to `queue`.
 /// - If `freezer.depth()` is at least 1, then `freezer.drained` is `true`.
 /// - `state.limits.hardware` is `queue.hardware`.
-/// - `IsNear(state, freezer)`: the freezer comes into step with a script's queue by one freeze or thaw at most: a
-///   live queue is in step but for its mode.
+/// - `IsNear(state, freezer)`: one freeze or thaw at most brings the freezer into step with a script's queue: a
+///   live queue is in step except for its mode.
 pub(crate) fn follow(freezer: &mut Freezer, queue: &BlockQueue, state: &QueueState) {
-    freezer.mode(queue, state.mode());
-    // A live queue has the script's limits and its depth, 0, already: a line that changes either drains first, or comes under a
-    // freeze, and so finds the queue frozen here.
+    freezer.mode(queue, queue_mode(state.mode()));
+    // A live queue already has the script's limits and its depth, 0. A line that changes either drains first or comes under a
+    // freeze, so the queue is frozen by then.
     if freezer.depth() == 0 {
         return;
     }

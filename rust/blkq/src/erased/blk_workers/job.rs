@@ -1,61 +1,74 @@
 // Erased from crates/blk_workers/src/job.rt by tools/erase: edit that file.
-//! What a worker is handed for a request, and what it hands back.
+//! What a worker receives for a request, and what it hands back.
 
+use crate::erased::blk_workers::points::Passed;
 use crate::erased::fallible::AllocError;
 use crate::erased::freeze_queue::{BlockQueue, Tag};
+use crate::erased::in_flight::{Answer, UniformSectors, answer_to};
 use crate::erased::ram_disk::Sector;
-use crate::erased::run_desk::{Answer, UniformSectors, answer_to};
-use crate::erased::run_queues::{CompletionQueue, Duty, Numbered, Receipt};
+use crate::erased::run_queues::{Acknowledgement, CompletionQueue, CompletionToken, Numbered};
 use crate::erased::script_meaning::Script;
 
-/// A request on its way to a worker: the duty to tell its completion, the position of its line, and the tag that
-/// entered the queue for it, with the sectors that a read finds.
+/// A request on its way to a worker: the token to report its completion, the position of its line, the tag that entered the queue
+/// for it, and the sectors that a read finds.
 ///
-/// The type keeps that the duty is one of the run's completions, that the line is the accepted request of its
-/// number, that the tag is entered in the run's queue and was told the limits in force at the line, and that the
-/// sectors are those that a single thread finds there. It carries no limits: the worker reads them under the tag.
+/// Invariant: the token is one of the run's completions, the line is the accepted request of the token's number, the tag is entered
+/// in the run's queue and has read the limits in force at the line, and the sectors are those that a single thread finds there. The
+/// job carries no limits: the worker reads them under the tag.
 pub(crate) struct Job {
-    duty: Duty<Completion>,
+    token: CompletionToken<Completion>,
     position: usize,
     tag: Box<Tag>,
     found: Vec<Sector>,
 }
 
 impl Job {
+    /// Makes the job of a request that has passed [`Point::Entered`](crate::erased::blk_workers::Point).
+    ///
     /// # Preconditions
     ///
-    /// - `IsJob J.script J.queue C.id (record { duty = duty; position = position; tag = tag.value; found = found })`.
-    pub(crate) fn new(duty: Duty<Completion>, position: usize, tag: Box<Tag>, found: Vec<Sector>) -> Job {
-        Job { duty, position, tag, found }
+    /// - `IsJob J.script J.queue C.id (record { token = token; position = position; tag = tag.value; found = found })`.
+    /// - `entered` is `at_point(token.number(), Entered)`.
+    pub(crate) fn new(
+        _entered: Passed,
+        token: CompletionToken<Completion>,
+        position: usize,
+        tag: Box<Tag>,
+        found: Vec<Sector>,
+    ) -> Job {
+        Job { token, position, tag, found }
     }
 
-    /// Does the request: reads the limits under its tag, cuts the pieces, and makes the line of its reply and the sectors
-    /// that a write leaves.
+    /// Does the request: reads the limits under its tag, cuts the pieces, and makes the line of its reply and the sectors that a
+    /// write leaves.
+    ///
+    /// The contract repeats that the request is an accepted one of the script, so a worker's list has room for its number.
     ///
     /// # Preconditions
     ///
     /// - `queue` is `run.queue`.
     /// - `script` is `run.script`.
-    pub(crate) fn done(self, uniform: &UniformSectors, queue: &BlockQueue, script: &Script) -> DoneJob {
-        let Job { duty, position, mut tag, found } = self;
+    /// - `drawn` is `at_point(self.token.number, Drawn)`.
+    pub(crate) fn done(self, _drawn: Passed, uniform: &UniformSectors, queue: &BlockQueue, script: &Script) -> DoneJob {
+        let Job { token, position, mut tag, found } = self;
         let limits = queue.limits(&mut tag);
         let answer = answer_to(uniform, script, position, limits, &found);
-        let completion = Completion::new(duty.number(), position, answer);
-        DoneJob { tag, duty, completion }
+        let completion = Completion::new(token.number(), position, answer);
+        DoneJob { tag, token, completion }
     }
 }
 
 impl Numbered for Job {
-    /// The request's number among the accepted ones.
+    /// Returns the request's number among the accepted ones.
     fn number(&self) -> u32 {
-        self.duty.number()
+        self.token.number()
     }
 }
 
-/// What comes back of a request: its number, the position of its line, and its answer.
+/// What comes back for a request: its number, the position of its line, and its answer.
 ///
-/// The type keeps that the line at the position is the accepted request of this number, and that the answer is that
-/// of a single thread to it, unless the worker was refused memory.
+/// Invariant: the line at the position is the accepted request of this number, and the answer is a single thread's answer to it,
+/// unless the worker was refused memory.
 pub(crate) struct Completion {
     number: u32,
     position: usize,
@@ -63,7 +76,7 @@ pub(crate) struct Completion {
 }
 
 impl Numbered for Completion {
-    /// The request's number among the accepted ones.
+    /// Returns the request's number among the accepted ones.
     fn number(&self) -> u32 {
         self.number
     }
@@ -79,20 +92,21 @@ impl Completion {
         Completion { number, position, answer }
     }
 
-    /// The position of the request's line, and its answer, unless the worker was refused memory.
+    /// Returns the position of the request's line, and its answer unless the worker was refused memory.
     pub(crate) fn into_parts(self) -> (usize, Result<Answer, AllocError>) {
         (self.position, self.answer)
     }
 }
 
-/// A tag that isn't entered, free for the next request. The type keeps that, and that it is of the run's queue.
+/// A tag that isn't entered, free for the next request. Invariant: it isn't entered, and it is a tag of the run's queue.
 pub(crate) struct FreeTag {
-    // Boxed: a tag has 128 unused bytes about its gate's pass, which by value would be copied through two queues.
+    // Boxed: a tag has 128 unused bytes around its gate's pass, which would be copied through two queues if it were passed by
+    // value.
     tag: Box<Tag>,
 }
 
 impl FreeTag {
-    /// A free tag, of a tag of the run's queue that isn't entered.
+    /// Makes a free tag from a tag of the run's queue that isn't entered.
     ///
     /// # Preconditions
     ///
@@ -107,44 +121,51 @@ impl FreeTag {
     }
 }
 
-/// A request that is done: its tag is still entered, and its completion still to be told. It is told first, since what it
-/// becomes by that is the one way to its tag: so once the queue is drained each completion is in its queue, and whoever
-/// collects them all then waits for no worker.
+/// A request that is done: its tag is still entered, and its completion is still to be reported.
+///
+/// The completion is reported first, since only the `CompletedJob` that this returns gives the tag. So once the queue is drained,
+/// each completion is in its queue, and the thread that collects them all waits for no worker.
 pub(crate) struct DoneJob {
     tag: Box<Tag>,
-    duty: Duty<Completion>,
+    token: CompletionToken<Completion>,
     completion: Completion,
 }
 
 impl DoneJob {
-    /// Tells the completion.
+    /// Reports the completion.
     ///
     /// # Preconditions
     ///
     /// - `completions.id` is `completions.id`.
     pub(crate) fn tell(self, completions: &CompletionQueue<Completion>) -> CompletedJob {
-        let DoneJob { tag, duty, completion } = self;
-        let receipt = completions.tell(duty, completion);
-        CompletedJob { tag, receipt }
+        let DoneJob { tag, token, completion } = self;
+        let acknowledgement = completions.tell(token, completion);
+        CompletedJob { tag, acknowledgement }
     }
 }
 
-/// A request whose completion is told, and whose tag is still entered.
+/// A request whose completion is reported, and whose tag is still entered.
 pub(crate) struct CompletedJob {
     tag: Box<Tag>,
-    receipt: Receipt<Completion>,
+    acknowledgement: Acknowledgement<Completion>,
 }
 
 impl CompletedJob {
-    /// Leaves the queue on a slot, once, and shows that the completion was told.
+    /// Leaves the queue once, on this slot. Returns the tag, and the acknowledgement, which shows that the completion was reported.
     ///
     /// # Preconditions
     ///
     /// - `queue` is `run.queue`.
     /// - `slot` is less than `run.queue.gate.slots`.
-    pub(crate) fn leave(self, queue: &BlockQueue, slot: u32) -> (FreeTag, Receipt<Completion>) {
-        let CompletedJob { mut tag, receipt } = self;
+    /// - `answered` is `at_point(self.acknowledgement.number, Answered)`.
+    pub(crate) fn leave(
+        self,
+        _answered: Passed,
+        queue: &BlockQueue,
+        slot: u32,
+    ) -> (FreeTag, Acknowledgement<Completion>) {
+        let CompletedJob { mut tag, acknowledgement } = self;
         let _last = queue.leave(&mut tag, slot);
-        (FreeTag::new(tag), receipt)
+        (FreeTag::new(tag), acknowledgement)
     }
 }

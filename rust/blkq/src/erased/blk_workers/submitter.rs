@@ -2,202 +2,225 @@
 //! The thread that submits and collects.
 
 use crate::erased::blk_script::render;
-use crate::erased::blk_workers::collecting::{collect_some, collect_until};
+use crate::erased::blk_workers::context::RunContext;
 use crate::erased::blk_workers::fault::RunFault;
 use crate::erased::blk_workers::following::{follow, freeze};
-use crate::erased::blk_workers::hall::Hall;
-use crate::erased::blk_workers::handing::{Accepted, Ends, hand_over};
+use crate::erased::blk_workers::handing::{Accepted, Ends, collect_some, collect_until, hand_over};
 use crate::erased::blk_workers::job::Completion;
-use crate::erased::blk_workers::ran::Ran;
-use crate::erased::blk_workers::stall::{Point, Stall};
-use crate::erased::blk_workers::worker::help;
+use crate::erased::blk_workers::points::{DrainPoints, Stall};
+use crate::erased::blk_workers::running::Ran;
 use crate::erased::freeze_queue::Freezer;
+use crate::erased::in_flight::{InFlightTable, Replies};
 use crate::erased::ram_disk::Disk;
-use crate::erased::run_desk::{Desk, Replies};
 use crate::erased::run_queues::Collector;
 use crate::erased::script_meaning::{Outcome, QueueState, Reply, Request, Script};
 
-/// What the thread that submits and collects has beside its ends, and no other has: the disk and the replies, the script's
-/// queue without its disk, and the freezer of the queue that requests enter.
+/// What only the thread that submits and collects has, beside its ends: the disk and the replies, the script's queue without its
+/// disk, and the freezer of the queue that requests enter.
 pub(crate) struct Submitter {
-    pub(crate) desk: Desk,
+    pub(crate) table: InFlightTable,
     pub(crate) state: QueueState,
     pub(crate) freezer: Freezer,
-    /// The requests that were accepted so far.
+    /// The number of requests accepted so far.
     pub(crate) accepted: u32,
+    /// The drains whose points were passed so far.
+    pub(crate) points: DrainPoints,
 }
 
 // Makes the line of a reply, and takes the script's next line with it.
 //
 // # Preconditions
 //
-// - `Stands(script, desk.replies, desk.disk)`: as many lines of the script are taken as there are replies.
-// - `MayTakeReply script desk.replies (reply_line (line_number, reply))`.
-fn reply_now(script: &Script, desk: &mut Desk, line_number: u32, reply: &Reply) -> Result<(), RunFault> {
-    // `Memory` is the only refusal of `render`.
+// - `Stands(script, table.replies, table.disk)`: as many lines of the script are taken as there are replies.
+// - `MayTakeReply script table.replies (reply_line (line_number, reply))`.
+fn reply_now(script: &Script, table: &mut InFlightTable, line_number: u32, reply: &Reply) -> Result<(), RunFault> {
+    // `render` fails only if memory is refused.
     let text = render(line_number, reply).map_err(|_| RunFault::Memory)?;
-    desk.reply(script, text)?;
+    table.reply(script, text)?;
     Ok(())
 }
 
 impl Submitter {
-    /// A run's submitter, before the first line.
+    /// Makes a run's submitter, before the first line. It isn't given the run, so the contract holds for whichever queue this
+    /// freezer follows.
     pub(crate) fn new(script: &Script, freezer: Freezer) -> Result<Submitter, RunFault> {
-        // Only memory can be refused (`only_memory` of `Disk::new`).
+        // `Disk::new` fails only if memory is refused (`only_memory`).
         let disk = Disk::new(script.disk()).map_err(|_| RunFault::Memory)?;
         let replies = Replies::new(script.lines().len())?;
-        Ok(Submitter { desk: Desk { disk, replies }, state: QueueState::new(script), freezer, accepted: 0 })
+        Ok(Submitter {
+            table: InFlightTable { disk, replies },
+            state: QueueState::new(script),
+            freezer,
+            accepted: 0,
+            points: DrainPoints::new(),
+        })
     }
 
-    /// What the run answers, once every line is taken and nothing is owed, where the workers drew these.
+    /// Returns the result of the run, once every line is taken and nothing is owed. `drawn` is what the workers drew.
     pub(crate) fn into_ran(self, drawn: Vec<Vec<u32>>) -> Result<Ran, RunFault> {
-        let Desk { disk, replies } = self.desk;
+        let InFlightTable { disk, replies } = self.table;
         let replies = replies.into_text()?;
         Ok(Ran { replies, disk, drawn })
     }
 
-    // Collects what is there, once as many are owed as there are tags; before an ordered request it drains the queue, and opens
-    // it again.
+    // Collects the completions that have arrived, if at least as many replies are owed as there are tags. Before an ordered request
+    // it drains the queue, and thaws it again.
     //
     // # Preconditions
     //
-    // - `IsAt(run.script, run.queue, self.desk.replies.len(), self)`: the lines before a position are taken, and the
-    //   freezer is in step with the script's queue: live exactly where the script's depth is 0, and with its limits.
-    // - `IsCollecting(run.script, completions.id, self.desk, collector)`: the desk is right, and the replies are owed
-    //   to the requests whose completions this right to collect may still bring.
+    // - `IsAt(run.script, run.queue, self.table.replies.len(), self)`: the lines before a position are taken, and the
+    //   freezer is in step with the script's queue.
+    // - `IsCollecting(run.script, completions.id, self.table, collector)`: the table is right, and a reply is owed to
+    //   each request whose completion this right to collect may still bring.
     fn make_way<S: Stall>(
         &mut self,
-        hall: &Hall<'_, S>,
+        context: &RunContext<'_, S>,
         collector: &mut Collector<Completion>,
     ) -> Result<(), RunFault> {
-        collect_some(hall, collector, &mut self.desk)?;
-        if !hall.checked.is_ordered(self.desk.replies.len()) {
+        collect_some(context, collector, &mut self.table)?;
+        if !context.checked.is_ordered(self.table.replies.len()) {
             return Ok(());
         }
-        self.drain(hall, collector)?;
-        follow(&mut self.freezer, hall.queue, &self.state);
+        self.drain(context, collector)?;
+        follow(&mut self.freezer, context.queue, &self.state);
         Ok(())
     }
 
-    // Hands over the accepted request of the next line. Also where it fails, nothing of the right to push changes but how much
-    // was pushed (`source`), so `lead` can still put end marks. For each request that is accepted one tag is taken (`tags`).
+    // Hands over the accepted request of the next line, and takes one tag for it (`tags`). Even if this fails, the right to push
+    // changes only in how many requests were pushed (`source`), so `lead` can still push end marks.
     //
     // # Preconditions
     //
-    // - `HasTaken(run.script, run.queue, requests.requests, completions.id, self.desk.replies.len(), self,
-    //   ends.source, ends.collector)`: the lines before a position are taken, and what was accepted of them is handed
-    //   over.
-    // - `IsRequestNext(run.script, self.desk.replies.len(), request)`: the next line is this accepted request, and few
-    //   lines stand before it.
-    // - `HasCounted(requests.free_tags, self.accepted, ends.taker)`: as many spares of this queue were taken, or put
+    // - `HasTaken(run.script, run.queue, requests.requests, completions.id, self.table.replies.len(), self,
+    //   ends.source, ends.collector)`: the lines before a position are taken, and the accepted requests among them are
+    //   handed over.
+    // - `IsRequestNext(run.script, self.table.replies.len(), request)`: the next line is this accepted request, and
+    //   few lines come before it.
+    // - `HasCounted(requests.free_tags, self.accepted, ends.taker)`: this many spares of this queue were taken, or put
     //   back.
-    fn submit<S: Stall>(&mut self, hall: &Hall<'_, S>, ends: &mut Ends, request: Request) -> Result<(), RunFault> {
+    fn submit<S: Stall>(
+        &mut self,
+        context: &RunContext<'_, S>,
+        ends: &mut Ends,
+        request: Request,
+    ) -> Result<(), RunFault> {
         let accepted = Accepted { request, number: self.accepted, limits: self.state.limits() };
-        self.make_way(hall, &mut ends.collector)?;
-        hand_over(hall, &mut self.desk, ends, accepted)?;
+        self.make_way(context, &mut ends.collector)?;
+        hand_over(context, &mut self.table, ends, accepted)?;
         self.accepted += 1;
         self.state.count(&request);
         Ok(())
     }
 
-    // Drains the queue, which it freezes where it isn't frozen, and collects all completions. Where it is refused memory, the
-    // queue is frozen too.
+    // Drains the queue, which it freezes if it isn't frozen, and collects all completions. The queue is frozen even if memory is
+    // refused.
     //
     // # Preconditions
     //
-    // - `IsAt(run.script, run.queue, self.desk.replies.len(), self)`: the lines before a position are taken, and the
-    //   freezer is in step with the script's queue: live exactly where the script's depth is 0, and with its limits.
-    // - `IsCollecting(run.script, completions.id, self.desk, collector)`: the desk is right, and the replies are owed
-    //   to the requests whose completions this right to collect may still bring.
-    fn drain<S: Stall>(&mut self, hall: &Hall<'_, S>, collector: &mut Collector<Completion>) -> Result<(), RunFault> {
-        help(hall);
-        freeze(&mut self.freezer, hall.queue);
-        hall.stall.at(self.accepted, Point::Drained);
-        collect_until(hall, collector, &mut self.desk, 0)
+    // - `IsAt(run.script, run.queue, self.table.replies.len(), self)`: the lines before a position are taken, and the
+    //   freezer is in step with the script's queue.
+    // - `IsCollecting(run.script, completions.id, self.table, collector)`: the table is right, and a reply is owed to
+    //   each request whose completion this right to collect may still bring.
+    fn drain<S: Stall>(
+        &mut self,
+        context: &RunContext<'_, S>,
+        collector: &mut Collector<Completion>,
+    ) -> Result<(), RunFault> {
+        let accepted = self.accepted;
+        freeze(&mut self.freezer, context.queue);
+        self.points.pass(context.stall, &self.freezer, accepted);
+        collect_until(context, collector, &mut self.table, 0)
     }
 
-    // Takes the next line, whose reply is there and after which the script's queue is `next`.
+    // Takes the next line, which has this reply and leaves the script's queue as `next`.
     //
     // # Preconditions
     //
-    // - `IsBeforeLine(run.script, run.queue, self, next)`: the lines before the next are taken, but the freezer may
-    //   have killed its gate once more, and comes into step with the queue that the next line leaves by one step.
-    // - `MayPass(run.script, self.desk.replies)`: the next line may be taken: it doesn't drain, or nothing is owed.
-    // - `IsReplyNext(run.script, self.desk.replies, line_number, reply, next)`: the next line is no accepted request;
-    //   it has this reply, and leaves the script's queue as it says.
+    // - `IsBeforeLine(run.script, run.queue, self, next)`: the lines before the next are taken, except that the
+    //   freezer may have killed its gate once more; one step at most brings it into step with the queue that the next
+    //   line leaves.
+    // - `MayPass(run.script, self.table.replies)`: the next line may be taken: it doesn't drain, or nothing is owed.
+    // - `IsReplyNext(run.script, self.table.replies, line_number, reply, next)`: the next line isn't an accepted
+    //   request; it has this reply, and leaves the script's queue as `next`.
     fn reply_and_follow<S>(
         &mut self,
-        hall: &Hall<'_, S>,
+        context: &RunContext<'_, S>,
         next: QueueState,
         line_number: u32,
         reply: &Reply,
     ) -> Result<(), RunFault> {
-        reply_now(hall.checked.script(), &mut self.desk, line_number, reply)?;
-        follow(&mut self.freezer, hall.queue, &next);
+        reply_now(context.checked.script(), &mut self.table, line_number, reply)?;
+        follow(&mut self.freezer, context.queue, &next);
         self.state = next;
         Ok(())
     }
 
-    // Takes the next line, which is no request that the queue accepts.
+    // Takes the next line, which isn't a request that the queue accepts.
     //
     // # Preconditions
     //
-    // - `HasTaken(run.script, run.queue, requests.requests, completions.id, self.desk.replies.len(), self,
-    //   ends.source, ends.collector)`: the lines before a position are taken, and what was accepted of them is handed
-    //   over.
-    // - `self.desk.replies.len()` is less than `run.script.lines.len()`.
-    // - `accepted_at(run.script, self.desk.replies.len())` is `None`.
-    // - `HasCounted(requests.free_tags, self.accepted, ends.taker)`: as many spares of this queue were taken, or put
+    // - `HasTaken(run.script, run.queue, requests.requests, completions.id, self.table.replies.len(), self,
+    //   ends.source, ends.collector)`: the lines before a position are taken, and the accepted requests among them are
+    //   handed over.
+    // - `self.table.replies.len()` is less than `run.script.lines.len()`.
+    // - `accepted_at(run.script, self.table.replies.len())` is `None`.
+    // - `HasCounted(requests.free_tags, self.accepted, ends.taker)`: this many spares of this queue were taken, or put
     //   back.
-    fn reply_to<S: Stall>(&mut self, hall: &Hall<'_, S>, ends: &mut Ends) -> Result<(), RunFault> {
-        let line = &hall.checked.script().lines()[self.desk.replies.len()];
+    fn reply_to<S: Stall>(&mut self, context: &RunContext<'_, S>, ends: &mut Ends) -> Result<(), RunFault> {
+        let line = &context.checked.script().lines()[self.table.replies.len()];
         let mut next = self.state;
         match next.take(&line.what) {
             Outcome::Drained(reply) => {
-                self.drain(hall, &mut ends.collector)?;
-                self.reply_and_follow(hall, next, line.number, &reply)
+                self.drain(context, &mut ends.collector)?;
+                self.reply_and_follow(context, next, line.number, &reply)
             }
-            Outcome::Replied(reply) => self.reply_and_follow(hall, next, line.number, &reply),
+            Outcome::Replied(reply) => self.reply_and_follow(context, next, line.number, &reply),
             // The check found that the queue accepts no request here.
             Outcome::Accepted(_) => unreachable!(),
         }
     }
 
-    // Takes the next line.
+    // Takes the next line. By `source`, the right to push changes only in how many requests were pushed. So `lead` can push end
+    // marks even if this fails, and if it doesn't, `gather` finds the parts, the lists and their room unchanged.
     //
     // # Preconditions
     //
-    // - `HasTaken(run.script, run.queue, requests.requests, completions.id, self.desk.replies.len(), self,
-    //   ends.source, ends.collector)`: the lines before a position are taken, and what was accepted of them is handed
-    //   over.
-    // - `self.desk.replies.len()` is less than `run.script.lines.len()`.
-    // - `HasCounted(requests.free_tags, self.accepted, ends.taker)`: as many spares of this queue were taken, or put
+    // - `HasTaken(run.script, run.queue, requests.requests, completions.id, self.table.replies.len(), self,
+    //   ends.source, ends.collector)`: the lines before a position are taken, and the accepted requests among them are
+    //   handed over.
+    // - `self.table.replies.len()` is less than `run.script.lines.len()`.
+    // - `HasCounted(requests.free_tags, self.accepted, ends.taker)`: this many spares of this queue were taken, or put
     //   back.
-    fn take_next<S: Stall>(&mut self, hall: &Hall<'_, S>, ends: &mut Ends) -> Result<(), RunFault> {
-        match hall.checked.request(self.desk.replies.len()) {
-            Some(request) => self.submit(hall, ends, request),
-            None => self.reply_to(hall, ends),
+    fn take_next<S: Stall>(&mut self, context: &RunContext<'_, S>, ends: &mut Ends) -> Result<(), RunFault> {
+        match context.checked.request(self.table.replies.len()) {
+            Some(request) => self.submit(context, ends, request),
+            None => self.reply_to(context, ends),
         }
     }
 
-    /// Takes all lines, and drains the queue at the end; where a line fails, it takes no more and drains the queue too.
+    /// Takes all lines, and drains the queue at the end. If a line fails, it takes no more lines and drains the queue too. `source`
+    /// is as at `submit`.
     ///
     /// # Preconditions
     ///
     /// - `HasTaken(run.script, run.queue, requests.requests, completions.id, 0, self, ends.source, ends.collector)`:
-    ///   the lines before a position are taken, and what was accepted of them is handed over.
-    /// - `HasCounted(requests.free_tags, self.accepted, ends.taker)`: as many spares of this queue were taken, or put
+    ///   the lines before a position are taken, and the accepted requests among them are handed over.
+    /// - `HasCounted(requests.free_tags, self.accepted, ends.taker)`: this many spares of this queue were taken, or put
     ///   back.
-    pub(crate) fn submit_all<S: Stall>(&mut self, hall: &Hall<'_, S>, ends: &mut Ends) -> Result<(), RunFault> {
-        for _position in 0..hall.checked.script().lines().len() {
-            if let Err(why) = self.take_next(hall, ends) {
-                // What is under way ends, or is done by this thread: every tag leaves. Completions aren't waited for, since one brought no answer.
-                help(hall);
-                freeze(&mut self.freezer, hall.queue);
-                hall.stall.at(self.accepted, Point::Drained);
+    pub(crate) fn submit_all<S: Stall>(
+        &mut self,
+        context: &RunContext<'_, S>,
+        ends: &mut Ends,
+    ) -> Result<(), RunFault> {
+        for _position in 0..context.checked.script().lines().len() {
+            if let Err(why) = self.take_next(context, ends) {
+                // Requests in flight end: every tag leaves. Completions aren't awaited, since a reply stays owed if its completion
+                // brings no answer.
+                freeze(&mut self.freezer, context.queue);
+                self.points.pass(context.stall, &self.freezer, self.accepted);
                 return Err(why);
             }
         }
-        self.drain(hall, &mut ends.collector)
+        self.drain(context, &mut ends.collector)
     }
 }

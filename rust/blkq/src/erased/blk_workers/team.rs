@@ -1,186 +1,221 @@
 // Erased from crates/blk_workers/src/team.rt by tools/erase: edit that file.
-//! The workers of a run: how they are started, led, ended and waited for.
+//! The workers of a run: what each does, and how they are started, led, ended and joined.
 
+use crate::erased::blk_workers::context::RunContext;
 use crate::erased::blk_workers::fault::RunFault;
-use crate::erased::blk_workers::hall::Hall;
 use crate::erased::blk_workers::handing::Ends;
-use crate::erased::blk_workers::job::Job;
-use crate::erased::blk_workers::stall::Stall;
+use crate::erased::blk_workers::job::{Completion, FreeTag, Job};
+use crate::erased::blk_workers::points::{Stall, pass_answered, pass_drawn};
 use crate::erased::blk_workers::submitter::Submitter;
-use crate::erased::blk_workers::worker::{FinishedWorker, work};
 use crate::erased::fallible::{AllocError, TryVec};
-use crate::erased::run_queues::{Drawer, Source};
-use crate::erased::thread::{self, JoinHandle, Scope, TrySpawn};
+use crate::erased::run_queues::{Acknowledgement, Consumer, Numbered, PutCount, Source};
+use crate::erased::thread::{self, JoinHandle, TrySpawn};
 
-/// The right to draw for each worker, with room for so many numbers in the list of what it draws. Each takes one part of the
-/// source's.
+/// The number of acknowledgements that a worker has, all of completions of this run. Only the number is kept, and contracts see it.
+/// An acknowledgement is taken by value and can't be copied, so none counts twice. `FinishedWorker::new` requires as many as the
+/// worker drew, so `work` leaves no completion unreported. Nothing else reads the number.
+struct AcknowledgementCount {
+    count: usize,
+}
+
+impl AcknowledgementCount {
+    /// No acknowledgements yet.
+    fn new() -> AcknowledgementCount {
+        AcknowledgementCount { count: 0 }
+    }
+
+    /// Takes one more acknowledgement.
+    ///
+    /// # Preconditions
+    ///
+    /// - `acknowledgement` belongs to `completions.id`.
+    /// - `self + 1` is less than `2^64`.
+    fn add(&mut self, acknowledgement: Acknowledgement<Completion>) {
+        drop(acknowledgement);
+        self.count += 1;
+    }
+}
+
+/// What a worker hands back: the right to draw, once it has taken an end mark, reported as many completions as it drew requests,
+/// and put back as many tags.
+struct FinishedWorker {
+    consumer: Consumer<Job>,
+    #[allow(dead_code)] // only proofs read it
+    acknowledgements: AcknowledgementCount,
+    #[allow(dead_code)] // only proofs read it
+    tags: PutCount<FreeTag>,
+}
+
+impl FinishedWorker {
+    /// # Preconditions
+    ///
+    /// - `consumer` belongs to `requests.requests`.
+    /// - `consumer.drained` is `true`.
+    /// - `acknowledgements` is `consumer.drawn.len()`.
+    /// - `HasCounted(requests.free_tags, consumer.drawn.len(), tags)`: this many spares of this queue were taken, or
+    ///   put back.
+    fn new(consumer: Consumer<Job>, acknowledgements: AcknowledgementCount, tags: PutCount<FreeTag>) -> FinishedWorker {
+        FinishedWorker { consumer, acknowledgements, tags }
+    }
+
+    /// Returns the right to draw, with the list of what was drawn.
+    fn into_consumer(self) -> Consumer<Job> {
+        self.consumer
+    }
+}
+
+// Does a request. Once its completion is reported, the tag leaves on this worker's slot and goes back to the submitter, which is
+// counted. The contract repeats that the request is an accepted one, so `work` knows that the list has room for its number.
+//
+// # Preconditions
+//
+// - `slot` is less than `run.queue.gate.slots`.
+// - `tags` belongs to `requests.free_tags`.
+// - `tags.count + 1` is less than `2^64`.
+fn serve<S: Stall>(
+    context: &RunContext<'_, S>,
+    slot: u32,
+    tags: &mut PutCount<FreeTag>,
+    job: Job,
+) -> Acknowledgement<Completion> {
+    let number = job.number();
+    let drawn = pass_drawn(context.stall, number, &job);
+    let done = job.done(drawn, context.uniform, context.queue, context.checked.script());
+    let completed = done.tell(context.completions);
+    let answered = pass_answered(context.stall, number, &completed);
+    let (tag, acknowledgement) = completed.leave(answered, context.queue, slot);
+    context.free_tags.put(tags, tag);
+    acknowledgement
+}
+
+/// Does requests until it takes an end mark. The list has room for the number of each accepted request and one place more, since
+/// the draw of the end mark reserves one too. So no draw asks for memory.
+///
+/// # Preconditions
+///
+/// - `slot` is less than `run.queue.gate.slots`.
+/// - `IsNewConsumer(requests.requests, accepted_in_all(run.script) + 1, consumer)`: the right to draw, before the
+///   first request, with room for at least `room` numbers.
+fn work<S: Stall>(context: &RunContext<'_, S>, slot: u32, mut consumer: Consumer<Job>) -> FinishedWorker {
+    let mut acknowledgements = AcknowledgementCount::new();
+    let mut tags = context.free_tags.put_count();
+    loop {
+        let Ok(drawn) = context.requests.draw(&mut consumer) else { unreachable!() };
+        let Some(job) = drawn else {
+            return FinishedWorker::new(consumer, acknowledgements, tags);
+        };
+        acknowledgements.add(serve(context, slot, &mut tags, job));
+    }
+}
+
+/// Returns the right to draw for each worker, with room for `numbers_each` numbers in the list of what it draws. Each takes one
+/// part of the source's.
 ///
 /// # Preconditions
 ///
 /// - `source` belongs to `requests.requests`.
 /// - `source.parts` is `all_parts`.
-pub(crate) fn drawers<S>(
-    hall: &Hall<'_, S>,
+pub(crate) fn consumers<S>(
+    context: &RunContext<'_, S>,
     source: &mut Source<Job>,
     workers: u32,
     numbers_each: usize,
-) -> Result<Vec<Drawer<Job>>, AllocError> {
-    let mut drawers = Vec::try_with_room(workers as usize)?;
+) -> Result<Vec<Consumer<Job>>, AllocError> {
+    let mut consumers = Vec::try_with_room(workers as usize)?;
     for _worker in 0..workers {
-        drawers.try_push(hall.requests.drawer(source, numbers_each)?)?;
+        consumers.try_push(context.requests.consumer(source, numbers_each)?)?;
     }
-    Ok(drawers)
+    Ok(consumers)
 }
 
-// Puts an end mark for each worker that was started.
+// Pushes an end mark for each worker that was started.
 //
 // # Preconditions
 //
 // - `source` belongs to `requests.requests`.
-fn push_end_marks<S>(hall: &Hall<'_, S>, source: &mut Source<Job>, started: usize) {
+fn push_end_marks<S>(context: &RunContext<'_, S>, source: &mut Source<Job>, started: usize) {
     for _worker in 0..started {
-        hall.requests.end(source);
+        context.requests.end(source);
     }
 }
 
-// Waits for workers that were ended. `_source` is for the contract alone: an end mark was pushed by it for each of them. What a
-// thread hands back is let go only where it is joined: the scope would wait too, but leak it, which `tests/sweeps/refusals` would see.
-//
-// # Preconditions
-//
-// - `_source.marks` is `started.len()`.
-fn dismiss(_source: &Source<Job>, started: &mut Vec<JoinHandle<FinishedWorker>>) {
-    while let Some(worker) = started.pop() {
-        drop(worker.join());
-    }
-}
-
-// Submits and collects while so many workers work, and ends them. Where that fails, it waits for them too, by the handles in
-// `started`, which it empties only then.
+// Submits and collects while `workers` workers run, and pushes an end mark for each, even if submitting fails.
 //
 // # Preconditions
 //
 // - `AreNewEnds(requests.requests, completions.id, workers, ends.source, ends.collector)`: the ends of both queues
 //   before the first request.
 // - `IsAt(run.script, run.queue, 0, submitter)`: the lines before a position are taken, and the freezer is in step
-//   with the script's queue: live exactly where the script's depth is 0, and with its limits.
+//   with the script's queue.
 // - `ends.taker` is `none_counted(requests.free_tags)`.
-// - `started.len()` is `workers`.
 fn lead<S: Stall>(
-    hall: &Hall<'_, S>,
+    context: &RunContext<'_, S>,
     mut submitter: Submitter,
     ends: &mut Ends,
-    started: &mut Vec<JoinHandle<FinishedWorker>>,
     workers: usize,
 ) -> Result<Submitter, RunFault> {
-    debug_assert!(started.len() == workers);
-    let submitted = submitter.submit_all(hall, ends);
-    push_end_marks(hall, &mut ends.source, workers);
-    match submitted {
-        Ok(()) => Ok(submitter),
-        Err(why) => {
-            dismiss(&ends.source, started);
-            Err(why)
-        }
-    }
-}
-
-// Waits for the workers, which were ended, and takes back their right to draw with what they drew. There is a place for each
-// list (`AreOut`), so none is refused and no worker is left unjoined.
-//
-// # Preconditions
-//
-// - `AreOut(requests.requests, started.len(), source)`: so many workers are to come back, each of which has a part
-//   of the right to push and an end mark to take, and there is room for their lists.
-fn gather<S>(hall: &Hall<'_, S>, source: &mut Source<Job>, started: &mut Vec<JoinHandle<FinishedWorker>>) {
-    while let Some(worker) = started.pop() {
-        let back = worker.join();
-        let taken_back = hall.requests.gather(source, back.into_drawer());
-        debug_assert!(taken_back.is_ok());
-    }
-}
-
-// Starts a worker for each of these rights to draw, on one slot after the other. They are fewer where the start of a
-// thread is refused. The list comes in empty, with room for all: once a thread runs, no memory is asked for its handle.
-//
-// # Preconditions
-//
-// - `All(IsNewDrawer(requests.requests, accepted_in_all(run.script) + 1), drawers)`.
-// - `started.len()` is 0.
-// - `drawers.len()` is at most `vec_capacity(started)`.
-fn start<'scope, 'env, S: Stall>(
-    scope: &'scope Scope<'scope, 'env>,
-    hall: &'env Hall<'env, S>,
-    mut drawers: Vec<Drawer<Job>>,
-    mut started: Vec<JoinHandle<FinishedWorker>>,
-) -> Vec<JoinHandle<FinishedWorker>> {
-    debug_assert!(started.len() == 0);
-    let slots = hall.queue.slots();
-    let mut slot = 0;
-    while let Some(drawer) = drawers.pop() {
-        let Ok(worker) = scope.try_spawn(move || -> FinishedWorker { work(hall, slot, drawer) }) else {
-            break;
-        };
-        started.push(worker);
-        slot = (slot + 1) % slots;
-    }
-    started
-}
-
-// Submits and collects while the workers work that were started, ends each of them, also where the run fails, and takes back what
-// they drew. `Thread` where fewer were started than there are to be: then they are ended at once. 32 is `MOST_WORKERS`
-// (`AreDrawers` has the same number). Any number below `all_parts`, which is 2^32, would do: the source has to keep a part
-// (`AreOut`).
-//
-// # Preconditions
-//
-// - `IsAt(run.script, run.queue, 0, submitter)`: the lines before a position are taken, and the freezer is in step
-//   with the script's queue: live exactly where the script's depth is 0, and with its limits.
-// - `AreNewEnds(requests.requests, completions.id, workers, ends.source, ends.collector)`: the ends of both queues
-//   before the first request.
-// - `ends.taker` is `none_counted(requests.free_tags)`.
-// - `workers` is at least 1.
-// - `workers` is at most 32.
-// - `started.len()` is at most `workers`.
-fn lead_and_gather<S: Stall>(
-    hall: &Hall<'_, S>,
-    submitter: Submitter,
-    ends: &mut Ends,
-    started: &mut Vec<JoinHandle<FinishedWorker>>,
-    workers: usize,
-) -> Result<Submitter, RunFault> {
-    debug_assert!(0 < workers);
-    debug_assert!(workers <= 32);
-    debug_assert!(started.len() <= workers);
-    if started.len() < workers {
-        push_end_marks(hall, &mut ends.source, started.len());
-        dismiss(&ends.source, started);
-        return Err(RunFault::Thread);
-    }
-    let submitter = lead(hall, submitter, ends, started, workers)?;
-    gather(hall, &mut ends.source, started);
+    let submitted = submitter.submit_all(context, ends);
+    push_end_marks(context, &mut ends.source, workers);
+    submitted?;
     Ok(submitter)
 }
 
-/// Starts the workers, submits and collects, ends them, and takes back what they drew.
+// Joins a worker, for which there is an end mark, and takes back its right to draw with what it drew. There is a place for its
+// list.
+//
+// # Preconditions
+//
+// - `source` belongs to `requests.requests`.
+// - `source.parts` is at least 1.
+// - `source.lists.len()` is less than `source.room`.
+fn join<S>(context: &RunContext<'_, S>, source: &mut Source<Job>, worker: JoinHandle<FinishedWorker>) {
+    let finished = worker.join();
+    let taken_back = context.requests.gather(source, finished.into_consumer());
+    debug_assert!(taken_back.is_ok());
+}
+
+// How a run ended, and the right to push, with the lists of the workers that are back.
+type Led = (Result<Submitter, RunFault>, Source<Job>);
+
+/// Starts a worker for each of these rights to draw, one per level of recursion. The levels above have started the rest of the
+/// `workers`. The innermost level submits and collects, and ends the workers. Each level joins its worker and takes back what it
+/// drew, even if the run fails. Returns `Thread` if a worker couldn't be started; then those that were started are ended at once.
+///
+/// 32 is `MOST_WORKERS`. Any number below `all_parts`, which is 2^32, would do: the source has to keep a part.
 ///
 /// # Preconditions
 ///
-/// - `AreAtStart(run.script, run.queue, requests.requests, completions.id, drawers.len(), submitter, ends.source,
-///   ends.collector, drawers)`: before the first line: this submitter with its ends, and a right to draw for each
-///   of some workers.
+/// - `IsAt(run.script, run.queue, 0, submitter)`: the lines before a position are taken, and the freezer is in step
+///   with the script's queue.
+/// - `AreNewEnds(requests.requests, completions.id, workers, ends.source, ends.collector)`: the ends of both queues
+///   before the first request.
 /// - `ends.taker` is `none_counted(requests.free_tags)`.
+/// - `All(IsNewConsumer(requests.requests, accepted_in_all(run.script) + 1), consumers)`.
+/// - `consumers.len()` is at most `workers`.
+/// - `workers` is at most 32.
 pub(crate) fn with_workers<S: Stall>(
-    hall: &Hall<'_, S>,
+    context: &RunContext<'_, S>,
     submitter: Submitter,
     mut ends: Ends,
-    drawers: Vec<Drawer<Job>>,
-) -> Result<(Submitter, Source<Job>), RunFault> {
-    let workers = drawers.len();
-    let no_handles: Vec<JoinHandle<FinishedWorker>> = Vec::try_with_room(workers)?;
-    thread::scope(move |scope| -> Result<(Submitter, Source<Job>), RunFault> {
-        let mut started = start(scope, hall, drawers, no_handles);
-        let submitter = lead_and_gather(hall, submitter, &mut ends, &mut started, workers)?;
-        Ok((submitter, ends.source))
+    mut consumers: Vec<Consumer<Job>>,
+    workers: usize,
+) -> Led {
+    debug_assert!(consumers.len() <= workers);
+    debug_assert!(workers <= 32);
+    thread::scope(move |scope| -> Led {
+        let started = workers - consumers.len();
+        let Some(consumer) = consumers.pop() else {
+            let led = lead(context, submitter, &mut ends, workers);
+            return (led, ends.source);
+        };
+        // The submitter's slot is 0. No worker has it if there are more slots than workers.
+        let slot = (started as u32 + 1) % context.queue.slots();
+        let Ok(worker) = scope.try_spawn(move || -> FinishedWorker { work(context, slot, consumer) }) else {
+            push_end_marks(context, &mut ends.source, started);
+            return (Err(RunFault::Thread), ends.source);
+        };
+        let (led, mut source) = with_workers(context, submitter, ends, consumers, workers);
+        join(context, &mut source, worker);
+        (led, source)
     })
 }

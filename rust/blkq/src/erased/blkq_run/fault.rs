@@ -1,5 +1,5 @@
 // Erased from crates/blkq_run/src/fault.rt by tools/erase: edit that file.
-//! Why a run answers nothing, or not all.
+//! Why a run has no output, or only a part of it.
 
 use crate::erased::blk_workers::RunFault;
 use crate::erased::counted_io::{InputFault, WriteFault};
@@ -7,21 +7,21 @@ use crate::erased::line_text::{Overlap, ParseFault, ScriptFault};
 use std::error::Error;
 use std::fmt;
 
-/// Why a run answers nothing, or not all of its answer.
+/// Why a run has no output, or only a part of it.
 #[derive(Clone, Copy, Debug, PartialEq, Eq)]
 pub enum Fault {
     /// Memory was refused.
     Memory,
-    /// The start of a thread was refused.
+    /// A thread couldn't be started.
     Thread,
     /// The reader failed.
     Read,
     /// The writer failed.
     Write {
-        /// How many bytes of the answer went out before, from its first on.
+        /// How many bytes of the output were written before the failure.
         written: u64,
     },
-    /// The input is no script.
+    /// The input isn't a script.
     Parse(ParseFault),
     /// Two requests of the script overlap.
     Overlap(Overlap),
@@ -43,7 +43,7 @@ impl fmt::Display for Fault {
 impl Error for Fault {}
 
 impl Fault {
-    /// The fault's number, from 1 in the order of declaration.
+    /// Returns the fault's number, counted from 1 in order of declaration.
     pub fn number(&self) -> u8 {
         match self {
             Fault::Memory => 1,
@@ -55,8 +55,7 @@ impl Fault {
         }
     }
 
-    /// The status that the program ends with: 2 where the input is no script, 3 where requests overlap, and
-    /// else 4.
+    /// Returns the exit status of the program: 2 if the input isn't a script, 3 if requests overlap, otherwise 4.
     pub fn status(&self) -> u8 {
         match self {
             Fault::Parse(_) => 2,

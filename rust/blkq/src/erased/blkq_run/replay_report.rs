@@ -1,5 +1,5 @@
 // Erased from crates/blkq_run/src/replay_report.rt by tools/erase: edit that file.
-//! A replay, told as a status.
+//! The exit status of a replay.
 
 use crate::erased::blkq_run::replay_run::replay_bytes;
 use crate::erased::counted_io::Counted;
@@ -7,11 +7,11 @@ use crate::erased::gate_replay::Replayed;
 use crate::erased::streams::WriteLine;
 use std::io::{Read, Write};
 
-/// The status where a step of the schedule wasn't enabled.
+/// Exit status if a step of the schedule wasn't enabled.
 const STUCK: u8 = 3;
 
-/// Replays the schedule that `reader` has, and tells the program's status, with a line to `errors` where there
-/// was a fault. A replay that ends at a step that isn't enabled is no fault: its last line says so.
+/// Replays the schedule that `reader` has and returns the exit status; writes a line to `errors` if there was a fault. If a replay
+/// ends at a step that isn't enabled, its last line says so; that isn't a fault.
 pub(crate) fn replay_reported<R: Read, W: Write, E: Write>(
     reader: &mut Counted<R>,
     writer: &mut Counted<W>,

@@ -7,16 +7,17 @@ use crate::erased::counted_io::{Counted, read_whole, write_whole};
 use crate::erased::gate_replay::{Replayed, replay_text};
 use std::io::{Read, Write};
 
-/// Reads all that `reader` has, and writes what the replay of that schedule shows and nothing else: a line for
-/// each step that was taken, and then the line of the end, or of the step that isn't enabled. The answer tells
-/// which of the two it was.
+/// Replays the schedule that `reader` has, and writes what it shows and nothing else: a line for each step that was taken, and
+/// then the line of the end, or of the step that isn't enabled. Returns which of the two it was.
 ///
-/// The faults, in the order in which they are looked for: `Read` where the reader fails, `Parse` where the
-/// input is no schedule, `Write` where the writer fails; then the first `written` bytes of the text went out.
-/// `Memory` comes where memory is refused; `Thread` and `Overlap` don't come. Nothing is written on any but
-/// `Write`.
+/// The faults, in this order:
 ///
-/// At most 1,048,577 bytes are read, which shows that an input is longer than any schedule.
+/// - `Read`: the reader failed.
+/// - `Parse`: the input isn't a schedule.
+/// - `Write`: the writer failed, after the first `written` bytes of the text. With any other fault nothing was written.
+/// - `Memory`: memory was refused.
+///
+/// Never returns `Thread` or `Overlap`. Reads at most 1,048,577 bytes, one more than the longest schedule has.
 pub fn replay_bytes<R: Read, W: Write>(reader: &mut Counted<R>, writer: &mut Counted<W>) -> Result<Replayed, Fault> {
     let input = read_whole(reader, MOST_READ)?;
     let replay = replay_text(&input)?;

@@ -1,5 +1,5 @@
 // Erased from crates/counted_io/src/input.rt by tools/erase: edit that file.
-//! An input, read to its end or as far as its limit.
+//! An input, read to its end or to a limit.
 
 use crate::erased::counted_io::TRIES;
 use crate::erased::counted_io::counted::{Counted, lasts};
@@ -8,10 +8,10 @@ use std::error::Error;
 use std::fmt;
 use std::io::Read;
 
-/// The bytes asked for in one read.
+/// Number of bytes asked for in one read.
 const PIECE: usize = 65_536;
 
-/// Why an input isn't there.
+/// Why an input couldn't be read.
 #[derive(Clone, Copy, Debug, PartialEq, Eq)]
 pub enum InputFault {
     /// Memory was refused.
@@ -32,7 +32,7 @@ impl fmt::Display for InputFault {
 impl Error for InputFault {}
 
 impl InputFault {
-    /// The fault's number, from 1 in the order of declaration.
+    /// Returns the fault's number, counted from 1 in order of declaration.
     pub fn number(&self) -> u8 {
         match self {
             InputFault::Memory => 1,
@@ -41,8 +41,8 @@ impl InputFault {
     }
 }
 
-/// One read, tried again where a signal interrupts it. `Err` where the reader fails, or is interrupted
-/// `TRIES` times in a row.
+/// Reads once, and tries again if a signal interrupts it. Returns `Err` if the reader fails, or is interrupted `TRIES`
+/// times in a row.
 fn read_piece<R: Read>(reader: &mut Counted<R>, room: &mut [u8]) -> Result<usize, InputFault> {
     for _ in 0..TRIES {
         match reader.read(room) {
@@ -57,14 +57,14 @@ fn read_piece<R: Read>(reader: &mut Counted<R>, room: &mut [u8]) -> Result<usize
     Err(InputFault::Read)
 }
 
-/// Appends to `input` what one read into `room` gives, and tells how many bytes these are: 0 at the end.
+/// Appends to `input` what one read into `room` returns. Returns the number of these bytes, which is 0 at the end.
 fn read_more<R: Read>(reader: &mut Counted<R>, room: &mut [u8], input: &mut Vec<u8>) -> Result<usize, InputFault> {
     let count = read_piece(reader, room)?;
     input.try_extend_from_slice(&room[..count])?;
     Ok(count)
 }
 
-/// Appends to `input`, which is empty, all bytes that `reader` has, or the first `most` of them.
+/// Appends to `input`, which is empty, all bytes of `reader`, or the first `most`.
 ///
 /// # Preconditions
 ///
@@ -86,17 +86,16 @@ fn read_all<R: Read>(
     Ok(())
 }
 
-// Its own function, so that a proof sees a number of bytes and not a list of so many.
+// Separate, so that a proof sees the number of bytes and not a list of that length.
 fn room_for(size: usize) -> Result<Vec<u8>, AllocError> {
     Vec::try_from_elem(0, size)
 }
 
-/// All bytes that `reader` has, or the first `most` of them, and no more is read than these.
+/// Returns all bytes of `reader`, or the first `most`, and reads no more than these.
 ///
-/// `Read` where the reader fails, which comes before all else: a reader that fails by more than an interruption isn't read
-/// again. A read that a signal interrupts is no reason to give up: it is tried
-/// again, up to [`TRIES`] times in a row, so that this call returns. `Memory` where memory is refused. What
-/// was read by then is gone.
+/// Returns `Read` if the reader fails, which takes precedence: a reader that failed other than by an interruption isn't
+/// read again. A read that a signal interrupts is tried again, up to [`TRIES`] times in a row, so that this call
+/// returns. Returns `Memory` if memory is refused. What was read by then is lost.
 pub fn read_whole<R: Read>(reader: &mut Counted<R>, most: usize) -> Result<Vec<u8>, InputFault> {
     let mut room = room_for(PIECE)?;
     let mut input = Vec::new();

@@ -1,7 +1,11 @@
 // A stand-in for the kit's crossbeam_utils, written by hand: tools/erase leaves it alone.
-//! Threads that sleep until an event.
+//! Threads that sleep until an event, or until they are given a token.
 
+use crate::erased::fallible::AllocError;
+use crate::erased::pointers::Arc;
 use crate::erased::sync::{AtomicUsize, Condvar, Mutex, MutexGuard};
+use std::cell::Cell;
+use std::marker::PhantomData;
 use std::sync::atomic::Ordering::SeqCst;
 
 /// The threads that wait, in one round. A call that wakes all ends the round.
@@ -123,5 +127,55 @@ impl Drop for Key<'_> {
             }
         }
         self.events.announced.fetch_sub(1, SeqCst);
+    }
+}
+
+#[derive(Debug)]
+struct Token {
+    is_there: Mutex<bool>,
+    given: Condvar,
+}
+
+/// Sleeps until another thread gives it a token. It isn't `Sync`, so one thread at a time parks.
+#[derive(Debug)]
+pub struct Parker {
+    unparker: Unparker,
+    of_one_thread: PhantomData<Cell<()>>,
+}
+
+impl Parker {
+    /// The token is missing.
+    pub fn try_new() -> Result<Parker, AllocError> {
+        let token = Arc::try_new(Token { is_there: Mutex::new(false), given: Condvar::new() })?;
+        Ok(Parker { unparker: Unparker { token }, of_one_thread: PhantomData })
+    }
+
+    /// What gives this parker its token.
+    pub fn unparker(&self) -> &Unparker {
+        &self.unparker
+    }
+
+    /// Sleeps until the token is there, and takes it.
+    pub fn park(&self) {
+        let Token { is_there, given } = &*self.unparker.token;
+        let mut is_there = is_there.lock();
+        while !*is_there {
+            is_there = given.wait(is_there);
+        }
+        *is_there = false;
+    }
+}
+
+/// Gives a parker its token.
+#[derive(Clone, Debug)]
+pub struct Unparker {
+    token: Arc<Token>,
+}
+
+impl Unparker {
+    /// Gives the token, unless it is there already, and wakes the thread that sleeps.
+    pub fn unpark(&self) {
+        *self.token.is_there.lock() = true;
+        self.token.given.notify_one();
     }
 }

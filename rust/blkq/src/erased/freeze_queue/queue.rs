@@ -1,6 +1,8 @@
 // Erased from crates/freeze_queue/src/queue.rt by tools/erase: edit that file.
-//! The queue: what tags enter and leave, and where threads wait for it.
+//! The queue that tags enter and leave, and where threads wait for it.
 
+use crate::erased::crossbeam_utils::sync::{Parker, Unparker};
+use crate::erased::fallible::TryClone;
 use crate::erased::freeze_queue::enter::{Enter, StayOrEnter};
 use crate::erased::freeze_queue::freezer::Freezer;
 use crate::erased::percpu_core::SLOT_LIMIT;
@@ -10,19 +12,23 @@ use crate::erased::wait_queue::WaitQueue;
 /// A queue, its freezer and its tags.
 pub type NewQueue = (BlockQueue, Freezer, Vec<Tag>);
 
-/// A queue that requests enter and leave, and that can be frozen. Threads share it by reference. Linux:
-/// `struct request_queue` (include/linux/blkdev.h).
+/// A queue that requests enter and leave and that can be frozen. Threads share it by reference. Linux: `struct
+/// request_queue` (include/linux/blkdev.h).
 pub struct BlockQueue {
     pub(crate) core: queue_core::BlockQueue,
-    /// Those who wait until the queue is drained. Linux: `mq_freeze_wq`, on which both wait.
+    /// Wakes the freezer, which parks until the queue is drained.
+    pub(crate) freezer: Unparker,
+    /// The threads that wait for the drain by a shared freezer. Linux: `mq_freeze_wq`, on which all threads wait.
     pub(crate) drained: WaitQueue,
-    /// Those who wait to enter.
+    /// The threads that wait to enter.
     pub(crate) thawed: WaitQueue,
 }
 
 impl BlockQueue {
-    /// A live queue of these limits that counts on its slots (1 to 512), with so many tags (1 to 1,023), none of them
-    /// entered, and its freezer. Memory where a growth was refused. Linux: `blk_mq_alloc_queue` (block/blk-mq.c).
+    /// Returns a live queue with these limits that counts on its slots (1 to 512), its freezer, and this many tags (1 to 1,023),
+    /// none of which is entered. Returns Memory if memory is refused.
+    ///
+    /// Linux: `blk_mq_init_queue`, from 6.9 on `blk_mq_alloc_queue` (block/blk-mq.c).
     ///
     /// # Preconditions
     ///
@@ -33,28 +39,42 @@ impl BlockQueue {
         debug_assert!(slots <= SLOT_LIMIT);
         debug_assert!(1 <= tags);
         debug_assert!(tags <= MOST_TAGS);
+        let parker = Parker::try_new()?;
+        let unparker = parker.unparker().try_clone()?;
         let (core, freezer, made) = queue_core::BlockQueue::new(limits, slots, tags)?;
-        let queue = BlockQueue { core, drained: WaitQueue::new(), thawed: WaitQueue::new() };
-        Ok((queue, Freezer { core: freezer }, made))
+        let queue = BlockQueue { core, freezer: unparker, drained: WaitQueue::new(), thawed: WaitQueue::new() };
+        let freezer = Freezer { core: freezer, parker };
+        Ok((queue, freezer, made))
     }
 
-    /// The slots of the queue: 1 to 512.
+    /// Returns the number of slots, 1 to 512.
     #[inline]
     pub fn slots(&self) -> u32 {
         self.core.slots()
     }
 
-    /// Wakes those who wait for the drain where this drop was the last: they find the queue drained then.
+    /// Wakes the threads that wait for the drain, if this put was the last: they then find the queue drained.
     #[inline]
     pub(crate) fn tell(&self, put: Put) -> Put {
         if put == Put::Last {
-            self.drained.wake_all();
+            self.wake_drained(put);
         }
         put
     }
 
-    /// Wakes all who wait, once the freezer has brought the gate back: who is woken to enter before that tries in vain, and
-    /// may sleep again when it lives. Who waits for the drain of the freeze that is over finds none under way.
+    /// Wakes the threads that wait for the drain, after the last put. Any other put wakes nobody.
+    ///
+    /// # Preconditions
+    ///
+    /// - `put` is `Last`.
+    #[inline]
+    fn wake_drained(&self, _put: Put) {
+        self.freezer.unpark();
+        self.drained.wake_all();
+    }
+
+    /// Wakes all waiters, after the freezer has revived the gate: a thread woken earlier would be refused, and might be asleep
+    /// again by the time the gate is live. A thread that waits for the drain of a freeze that has ended sees no freeze in progress.
     ///
     /// # Preconditions
     ///
@@ -67,8 +87,8 @@ impl BlockQueue {
 
     /// Enters unless the queue is frozen. Linux: `blk_queue_enter` with BLK_MQ_REQ_NOWAIT (block/blk-core.c).
     ///
-    /// A refused try is counted for a moment, and so puts the drain off; in Linux `percpu_ref_tryget_live` looks at its
-    /// mark first and counts nothing then. `enter` tries ever less often.
+    /// A refused try holds a reference briefly, and so delays the drain; for that reason `enter` backs off. In Linux
+    /// `percpu_ref_tryget_live` looks at its mark first, and counts nothing if it is set.
     ///
     /// # Preconditions
     ///
@@ -88,9 +108,11 @@ impl BlockQueue {
         }
     }
 
-    /// Enters a queue that may be frozen, to look at what is under way, unless it is drained. Until the tag leaves it
-    /// holds the drain off, and may read the limits. Linux: `percpu_ref_tryget` of `q_usage_counter`, as for timeouts and
-    /// for going over tags (block/blk-mq.c, block/blk-mq-tag.c).
+    /// Enters a queue that may be frozen, to look at the requests in flight, unless it is drained. Until the tag leaves, it holds
+    /// off the drain and may read the limits.
+    ///
+    /// Linux: `percpu_ref_tryget` of `q_usage_counter`, as for timeouts and iterating over tags (block/blk-mq.c,
+    /// block/blk-mq-tag.c).
     ///
     /// # Preconditions
     ///
@@ -127,7 +149,7 @@ impl BlockQueue {
         }
     }
 
-    // Waits between its tries. It is no part of `enter`, so that a call of `enter` on a live queue is one try and no more.
+    // Waits between its tries. Separate from `enter`, so that `enter` on a live queue is one try and nothing else.
     //
     // # Preconditions
     //
@@ -145,7 +167,7 @@ impl BlockQueue {
         unreachable!()
     }
 
-    /// Leaves. `Last` where that was the last drop of a freeze: the queue is drained. Linux: `blk_queue_exit`
+    /// Leaves. Returns `Last` if this was the last put of a freeze: then the queue is drained. Linux: `blk_queue_exit`
     /// (block/blk-core.c).
     ///
     /// # Preconditions
@@ -160,11 +182,12 @@ impl BlockQueue {
         self.tell(self.core.leave(tag, slot))
     }
 
-    /// Stays entered between two requests, for the price of one load, unless the queue is frozen: then it leaves, and the
-    /// last to leave wakes those who wait for the drain. Where it stays, its limits are those that it has. Linux: the
-    /// requests that a plug keeps, each with its reference of `q_usage_counter` (block/blk-mq.c).
+    /// Stays entered between two requests, at the price of one load. If the queue is frozen, it leaves instead, and the last put
+    /// wakes the threads that wait for the drain. A tag that stays keeps its limits.
     ///
-    /// A thread that stays and then sleeps holds up every freeze, so it leaves before it waits.
+    /// Linux: the requests that a plug keeps, each with its reference on `q_usage_counter` (block/blk-mq.c).
+    ///
+    /// A thread that stays and then sleeps holds up every freeze, so leave before waiting.
     ///
     /// # Preconditions
     ///
@@ -181,10 +204,10 @@ impl BlockQueue {
         }
     }
 
-    /// Stays entered between two requests, for the price of one load, unless the queue is frozen: then it leaves, waits until
-    /// the queue thaws, and enters again. The answer says whether the limits may differ from those before.
+    /// Stays entered between two requests, at the price of one load. If the queue is frozen, it leaves, waits until the queue
+    /// thaws, and enters again. Returns whether the limits may differ from those before.
     ///
-    /// A thread that stays and then sleeps holds up every freeze, so it leaves before it waits.
+    /// A thread that stays and then sleeps holds up every freeze, so leave before waiting.
     ///
     /// # Preconditions
     ///
@@ -204,8 +227,8 @@ impl BlockQueue {
         }
     }
 
-    /// The limits in force, for an entered tag: the same at each call until it leaves, in whichever threads the
-    /// calls are made.
+    /// Returns the limits in force, for an entered tag. They are the same at each call until it leaves, whichever threads make the
+    /// calls.
     ///
     /// # Preconditions
     ///

@@ -5,7 +5,7 @@ use crate::erased::freeze_queue::freezer::Freezer;
 use crate::erased::freeze_queue::queue::BlockQueue;
 use crate::erased::queue_core::{Final, FreezeFault, LIMIT_WORDS, Tag};
 
-/// A queue that may not end comes back with its freezer and tags, all as they were.
+/// A queue that can't be ended, with its freezer and tags, all unchanged.
 pub struct RemoveFault {
     pub why: FreezeFault,
     pub freezer: Freezer,
@@ -13,10 +13,18 @@ pub struct RemoveFault {
     pub tags: Vec<Tag>,
 }
 
+impl RemoveFault {
+    /// Returns the fault's number: 4 or 5.
+    pub fn number(&self) -> u8 {
+        self.why.number()
+    }
+}
+
 impl Freezer {
-    /// Ends a queue that no tag has entered, with all its tags: kills a live gate, takes the tags back and ends
-    /// the gate. Refuses TagsOut where tags are missing, WornOut. Linux: `blk_mq_destroy_queue`
-    /// (block/blk-mq.c).
+    /// Ends a queue in which no tag is entered, with all its tags: kills a live gate, takes the tags back and ends the gate. Fails
+    /// with TagsOut if tags are missing, or with WornOut.
+    ///
+    /// Linux: `blk_mq_destroy_queue` (block/blk-mq.c).
     ///
     /// # Preconditions
     ///
@@ -28,8 +36,13 @@ impl Freezer {
             Ok(left) => Ok(left),
             Err(fault) => Err(RemoveFault {
                 why: fault.why,
-                freezer: Freezer { core: fault.freezer },
-                queue: BlockQueue { core: fault.queue, drained: queue.drained, thawed: queue.thawed },
+                freezer: Freezer { core: fault.freezer, parker: self.parker },
+                queue: BlockQueue {
+                    core: fault.queue,
+                    freezer: queue.freezer,
+                    drained: queue.drained,
+                    thawed: queue.thawed,
+                },
                 tags: fault.tags,
             }),
         }

@@ -1,15 +1,15 @@
 // Erased from crates/gate_replay/src/event_line.rt by tools/erase: edit that file.
-//! What a line of a schedule says that tells a step.
+//! The step that a line of a schedule describes.
 
 use crate::erased::line_text::{
     Why, Words, is_word, long_number, no_words, number, one_word, short_number, three_words, two_words,
 };
 use crate::erased::percpu_core::{ControlEvent, Event, HELD_LIMIT, PassEvent};
 
-/// The greatest number that a line gives for what was seen in a slot, and less 0 the smallest.
+/// The greatest number that a line gives for what was seen in a slot. Its negative is the smallest.
 const MOST_SEEN: i128 = 4_294_967_295;
 
-/// Whether a word is of digits alone, as one is that names a pass.
+/// Returns whether a word is of digits alone, as is a word that names a pass.
 pub fn is_all_digits(word: &[u8]) -> bool {
     word.iter().all(|byte| b'0' <= *byte && *byte <= b'9')
 }
@@ -27,7 +27,7 @@ struct OneNumber {
     number: u32,
 }
 
-// The pass, and the one number that is left, from 0 to `most`.
+// Reads the pass, and the one number that is left, from 0 to `most`.
 fn one_number(most: u32, pass: &[u8], words: Words<'_>) -> Result<OneNumber, Why> {
     let word = one_word(words)?;
     let pass = short_number(pass, 0, u32::MAX)?;
@@ -48,7 +48,7 @@ struct SlotExchange {
     n: u32,
 }
 
-// What a slot is said to hold.
+// Reads what a slot is said to hold.
 fn delta(word: &[u8]) -> Result<i64, Why> {
     let delta = number(word, -MOST_SEEN, MOST_SEEN, true)?;
     Ok(delta as i64)
@@ -88,7 +88,7 @@ fn load_word(pass: &[u8], words: Words<'_>) -> Result<Event, Why> {
     Ok(Event::Pass(pass, PassEvent::LoadWord(number)))
 }
 
-// What follows `add`.
+// Reads what follows `add`.
 fn addition(pass: &[u8], mut words: Words<'_>) -> Result<Event, Why> {
     let name = words.next().ok_or(Why::MissingWord)?;
     if is_word(name, "try") {
@@ -102,7 +102,7 @@ fn addition(pass: &[u8], mut words: Words<'_>) -> Result<Event, Why> {
     }
 }
 
-// What follows the number of a pass.
+// Reads what follows the number of a pass.
 fn pass_step(pass: &[u8], mut words: Words<'_>) -> Result<Event, Why> {
     let name = words.next().ok_or(Why::MissingWord)?;
     if is_word(name, "add") {
@@ -148,7 +148,7 @@ fn join(words: Words<'_>) -> Result<Event, Why> {
     Ok(Event::Control(ControlEvent::Join(pass)))
 }
 
-// What follows the `c` of the control.
+// Reads what follows the `c` of the control.
 fn control_step(mut words: Words<'_>) -> Result<Event, Why> {
     let name = words.next().ok_or(Why::MissingWord)?;
     if is_word(name, "dead") {
@@ -184,8 +184,8 @@ fn control_step(mut words: Words<'_>) -> Result<Event, Why> {
     }
 }
 
-/// The step that the words of a line tell. A first word of digits alone is the number of a pass, however
-/// long it is, and `c` is the control.
+/// Returns the step that the words of a line describe. A first word of digits alone is the number of a pass, however long it is,
+/// and `c` is the control.
 pub(crate) fn event(mut words: Words<'_>) -> Result<Event, Why> {
     let first = words.next().ok_or(Why::UnknownWord)?;
     if is_all_digits(first) {

@@ -24,24 +24,24 @@ pub struct Replay {
 }
 
 impl Replay {
-    /// A replay with this text, which ends so; no memory is taken.
+    /// Makes a replay with this text and this end; no memory is taken.
     pub fn new(text: Vec<u8>, ended: Replayed) -> Replay {
         Replay { text, ended }
     }
 
-    /// A line for each step that was taken, and then the line of the end, or of the step that isn't enabled.
+    /// Returns a line for each step that was taken, and then the line of the end, or of the step that isn't enabled.
     pub fn text(&self) -> &[u8] {
         self.text.as_slice()
     }
 
-    /// Which of the two lines ends it.
+    /// Returns which of the two lines ends it.
     pub fn ended(&self) -> Replayed {
         self.ended
     }
 }
 
-/// The steps of a schedule, taken one after another: a line for each reply, and then one for the world that
-/// they leave, or for the first step that isn't enabled.
+/// Takes the steps of a schedule one after another. Returns a line for each reply, and then a line for the world that they leave,
+/// or for the first step that isn't enabled.
 ///
 /// # Preconditions
 ///
@@ -63,10 +63,9 @@ fn played(schedule: &Schedule) -> Result<Replay, Memory> {
     Ok(Replay { text, ended: Replayed::Whole })
 }
 
-/// What the replay of the schedule that a text means shows.
+/// Returns what the replay of the schedule that a text means shows.
 ///
-/// Refused with `Parse` exactly where the text means no schedule, for its first fault. Refused with `Memory`
-/// only where a growth of memory was refused.
+/// Returns `Parse` exactly if the text means no schedule, with its first fault. Returns `Memory` only if memory is refused.
 pub fn replay_text(text: &[u8]) -> Result<Replay, ScriptFault> {
     let schedule = parse_schedule(text)?;
     played(&schedule).map_err(|_: Memory| ScriptFault::Memory)

@@ -28,7 +28,7 @@ fn push_signed(out: &mut Vec<u8>, number: i64) -> Result<(), AllocError> {
     push_number(out, number.unsigned_abs())
 }
 
-/// Appends a delta behind this text. Where memory is refused, some of it may be there.
+/// Appends this text and then a delta. If memory is refused, a part of it may have been appended.
 pub fn push_delta(out: &mut Vec<u8>, text: &str, delta: i64) -> Result<(), AllocError> {
     push_text(out, text)?;
     push_signed(out, delta)
@@ -52,7 +52,7 @@ fn push_reply_text(out: &mut Vec<u8>, reply: Reply) -> Result<(), AllocError> {
     }
 }
 
-/// Appends the line of a step that was taken. Where memory is refused, some of it may be there.
+/// Appends the line of a step that was taken. If memory is refused, a part of it may have been appended.
 pub fn push_reply(out: &mut Vec<u8>, reply: Reply) -> Result<(), AllocError> {
     push_reply_text(out, reply)?;
     push_text(out, "\n")
@@ -73,7 +73,7 @@ fn push_why(out: &mut Vec<u8>, why: NotEnabled) -> Result<(), AllocError> {
     }
 }
 
-/// Appends the line of a step that isn't enabled, and that stands on this line of the schedule.
+/// Appends the line of a step that isn't enabled, which is on this line of the schedule.
 pub(crate) fn push_stuck(out: &mut Vec<u8>, line: u32, why: NotEnabled) -> Result<(), AllocError> {
     push_text(out, "stuck ")?;
     push_number(out, u64::from(line))?;
@@ -82,7 +82,7 @@ pub(crate) fn push_stuck(out: &mut Vec<u8>, line: u32, why: NotEnabled) -> Resul
     push_text(out, "\n")
 }
 
-/// Appends the line of a world in which all steps were taken. Where memory is refused, some of it may be there.
+/// Appends the line of a world in which all steps were taken. If memory is refused, a part of it may have been appended.
 pub fn push_end(out: &mut Vec<u8>, world: &World) -> Result<(), AllocError> {
     push_text(out, "end ")?;
     push_shared(out, world.shared())?;

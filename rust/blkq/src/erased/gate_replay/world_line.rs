@@ -6,27 +6,27 @@ use crate::erased::gate_replay::schedule::GuardedWords;
 use crate::erased::line_text::{ScriptFault, Why, Words, at_line, is_word, long_number, no_words, short_number};
 use crate::erased::percpu_core::{KILL_LIMIT, Start, WORD_LIMIT};
 
-/// The most slots that a `world` has: of the format `gate 1`, whatever a gate takes.
+/// Maximum number of slots of a `world`. It belongs to the format `gate 1`; a gate may take more.
 const MOST_SLOTS: u32 = 64;
 
-/// The most passes that a `world` has.
+/// Maximum number of passes of a `world`.
 const MOST_PASSES: u32 = 64;
 
-/// The world that a line tells.
+/// The world that a line describes.
 #[derive(Debug)]
 pub struct WorldLine {
-    /// The slots of the gate: 1 to 64.
+    /// Number of slots of the gate, 1 to 64.
     pub slots: u32,
-    /// The passes of the gate: 1 to 64.
+    /// Number of passes of the gate, 1 to 64.
     pub passes: u32,
     pub start: Start,
-    /// The kills that the gate starts with: 0 to 2^40.
+    /// Number of kills that the gate starts with, 0 to 2^40.
     pub kills: u64,
     pub words: GuardedWords,
 }
 
 impl WorldLine {
-    // The world of these sizes and these guarded words.
+    // Makes a world of these sizes and these guarded words.
     fn new(sizes: WorldSizes, values: Vec<u64>) -> WorldLine {
         WorldLine {
             slots: sizes.slots,
@@ -38,22 +38,22 @@ impl WorldLine {
     }
 }
 
-/// The world of a line in which a mark, a word of the caller's, may replace the guarded words.
+/// The world of a line in which a mark, a word that the caller chooses, may replace the guarded words.
 #[derive(Debug)]
 pub struct MarkedWorld {
     pub world: WorldLine,
-    /// Whether the mark is there: the world has no guarded words then.
+    /// Whether the mark is there. Then the world has no guarded words.
     pub is_marked: bool,
 }
 
-/// Whether the line is that of the version.
+/// Checks that the line names the version.
 pub(crate) fn gate(mut words: Words<'_>) -> Result<(), Why> {
     let name = words.next().ok_or(Why::NoVersion)?;
     let number = words.next().ok_or(Why::NoVersion)?;
     if is_word(name, "gate") && is_word(number, "1") && words.next().is_none() { Ok(()) } else { Err(Why::NoVersion) }
 }
 
-// How the world starts.
+// Returns how the world starts.
 fn start_said(word: &[u8]) -> Result<Start, Why> {
     if is_word(word, "slots") {
         Ok(Start::Slots)
@@ -84,7 +84,7 @@ fn size_words<'a>(words: &mut Words<'a>) -> Result<SizeWords<'a>, Why> {
     Ok(SizeWords { slots, passes, start, kills })
 }
 
-/// What is said before the guarded words.
+/// What comes before the guarded words.
 #[derive(Clone, Copy)]
 struct WorldSizes {
     slots: u32,
@@ -93,7 +93,7 @@ struct WorldSizes {
     kills: u64,
 }
 
-// The slots, the passes, the start and the kills. The words behind them are left, few enough of them.
+// Takes the slots, the passes, the start and the kills. Leaves the words after them, and checks that there aren't too many.
 fn sizes(words: &mut Words<'_>) -> Result<WorldSizes, Why> {
     let said = size_words(words)?;
     if words.count_left() > WORD_LIMIT {
@@ -112,7 +112,7 @@ fn named(words: &mut Words<'_>) -> Result<(), Why> {
     if is_word(first, "world") { Ok(()) } else { Err(Why::NoWorld) }
 }
 
-// The guarded words.
+// Reads the guarded words.
 fn values(line: u32, mut words: Words<'_>) -> Result<Vec<u64>, ScriptFault> {
     let mut values = Vec::new();
     while let Some(word) = words.next() {
@@ -121,7 +121,7 @@ fn values(line: u32, mut words: Words<'_>) -> Result<Vec<u64>, ScriptFault> {
     Ok(values)
 }
 
-// The guarded words, the first of which was taken.
+// Reads the guarded words, of which the first was taken.
 fn values_behind(line: u32, first: &[u8], words: Words<'_>) -> Result<Vec<u64>, ScriptFault> {
     let first = at_line(line, long_number(first, 0, u64::MAX))?;
     let others = values(line, words)?;
@@ -131,19 +131,19 @@ fn values_behind(line: u32, first: &[u8], words: Words<'_>) -> Result<Vec<u64>, 
     Ok(values)
 }
 
-// The mark, where no word is behind it: there are no guarded words.
+// Checks that no word follows the mark: then there are no guarded words.
 fn mark_alone(line: u32, words: Words<'_>) -> Result<(bool, Vec<u64>), ScriptFault> {
     at_line(line, no_words(words))?;
     Ok((true, Vec::new()))
 }
 
-// The guarded words, the first of which was taken, where there is no mark.
+// Reads the guarded words, of which the first was taken, if there is no mark.
 fn values_alone(line: u32, first: &[u8], words: Words<'_>) -> Result<(bool, Vec<u64>), ScriptFault> {
     let values = values_behind(line, first, words)?;
     Ok((false, values))
 }
 
-// Whether the mark replaces the guarded words, and these words: none where it does.
+// Returns whether the mark replaces the guarded words, and these words, of which there are none if it does.
 fn mark_or_values(line: u32, mut words: Words<'_>, mark: &str) -> Result<(bool, Vec<u64>), ScriptFault> {
     let Some(first) = words.next() else {
         return Ok((false, Vec::new()));
@@ -151,30 +151,30 @@ fn mark_or_values(line: u32, mut words: Words<'_>, mark: &str) -> Result<(bool, 
     if is_word(first, mark) { mark_alone(line, words) } else { values_alone(line, first, words) }
 }
 
-/// The world of the words of a line.
+/// Returns the world that the words of a line describe.
 pub(crate) fn world(line: u32, mut words: Words<'_>) -> Result<WorldLine, ScriptFault> {
     at_line(line, named(&mut words))?;
     world_said(line, words)
 }
 
-/// The world of the words of a line, in which this mark may replace the guarded words.
+/// Returns the world that the words of a line describe, in which this mark may replace the guarded words.
 ///
-/// Refused with `Parse` for the first fault among them, with that line; with `Memory` only where a growth of memory was refused.
+/// Returns `Parse` with the first fault among them and this line. Returns `Memory` only if memory is refused.
 pub fn marked_world(line: u32, mut words: Words<'_>, mark: &str) -> Result<MarkedWorld, ScriptFault> {
     at_line(line, named(&mut words))?;
     marked_world_said(line, words, mark)
 }
 
-/// The world of the words behind `world`.
+/// Returns the world that the words after `world` describe.
 ///
-/// Refused with `Parse` for the first fault among them, with that line; with `Memory` only where a growth of memory was refused.
+/// Returns `Parse` with the first fault among them and this line. Returns `Memory` only if memory is refused.
 pub fn world_said(line: u32, mut words: Words<'_>) -> Result<WorldLine, ScriptFault> {
     let sizes = at_line(line, sizes(&mut words))?;
     let values = values(line, words)?;
     Ok(WorldLine::new(sizes, values))
 }
 
-// The world of the words behind `world`, in which the mark may replace the guarded ones.
+// Returns the world that the words after `world` describe, in which the mark may replace the guarded words.
 fn marked_world_said(line: u32, mut words: Words<'_>, mark: &str) -> Result<MarkedWorld, ScriptFault> {
     let sizes = at_line(line, sizes(&mut words))?;
     let (is_marked, values) = mark_or_values(line, words, mark)?;

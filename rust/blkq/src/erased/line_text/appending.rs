@@ -1,5 +1,5 @@
 // Erased from crates/line_text/src/appending.rt by tools/erase: edit that file.
-//! What appends to a text. Where memory is refused, the text is as before.
+//! Appending to a text. If memory is refused, the text is unchanged.
 
 use crate::erased::fallible::{AllocError, TryVec};
 use crate::erased::hex;
@@ -16,7 +16,7 @@ pub fn push_text(out: &mut Vec<u8>, text: &str) -> Result<(), AllocError> {
     out.try_extend_from_slice(text.as_bytes())
 }
 
-/// Appends a name, and a number after it in decimal.
+/// Appends a name, and then a number in decimal.
 pub fn push_named(out: &mut Vec<u8>, name: &str, number: u64) -> Result<(), AllocError> {
     let before = out.len();
     push_text(out, name)?;

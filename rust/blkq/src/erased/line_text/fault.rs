@@ -5,16 +5,16 @@ use crate::erased::fallible::{AllocError, AllocFailed};
 use std::error::Error;
 use std::fmt;
 
-/// Why a line is refused. In a line the faults are tested in the order of the format: docs/FORMATS.md.
+/// Why a line is refused. The faults of a line are tested in the order of docs/FORMATS.md.
 #[derive(Clone, Copy, Debug, PartialEq, Eq)]
 pub enum Why {
     /// The line isn't UTF-8.
     NotUtf8,
-    /// The first line that says something isn't that of a known version.
+    /// The first statement doesn't name a known version.
     NoVersion,
-    /// The second line that says something doesn't begin with `disk`.
+    /// The second statement doesn't begin with `disk`.
     NoDisk,
-    /// A first word, or a word that is one of a few, is none of these.
+    /// A first word, or a word that has to be one of a few, is unknown.
     UnknownWord,
     /// The line has too few words.
     MissingWord,
@@ -24,11 +24,11 @@ pub enum Why {
     BadNumber,
     /// A number isn't in its range.
     OutOfRange,
-    /// A pattern isn't an even number of hexadecimal digits, 2 to 128 of them.
+    /// A pattern isn't an even number of hexadecimal digits, 2 to 128.
     BadHex,
     /// The text has more than 1,048,576 bytes.
     TooLong,
-    /// The second line of a schedule that says something doesn't begin with `world`.
+    /// The second statement of a schedule doesn't begin with `world`.
     NoWorld,
 }
 
@@ -53,7 +53,7 @@ impl fmt::Display for Why {
 impl Error for Why {}
 
 impl Why {
-    /// The reason's number, from 1 in the order of declaration.
+    /// Returns the reason's number, counted from 1 in order of declaration.
     pub fn number(&self) -> u8 {
         match self {
             Why::NotUtf8 => 1,
@@ -71,7 +71,7 @@ impl Why {
     }
 }
 
-/// The first fault of a text: its line, from 1, and why that line is refused.
+/// The first fault of a text: its line, counted from 1, and why that line is refused.
 #[derive(Clone, Copy, Debug, PartialEq, Eq)]
 pub struct ParseFault {
     pub line: u32,
@@ -87,7 +87,7 @@ impl fmt::Display for ParseFault {
 
 impl Error for ParseFault {}
 
-/// Two requests of a script that overlap, by the numbers of their lines, from 1.
+/// Two requests of a script that overlap, by their line numbers, counted from 1.
 #[derive(Clone, Copy, Debug, PartialEq, Eq)]
 pub struct Overlap {
     /// The later of the two lines.
@@ -104,12 +104,12 @@ impl fmt::Display for Overlap {
 
 impl Error for Overlap {}
 
-/// Why a call on a script or a schedule has no answer. Of a schedule it is never `Overlap`.
+/// Why a script or a schedule has no answer. A schedule never has `Overlap`.
 #[derive(Clone, Copy, Debug, PartialEq, Eq)]
 pub enum ScriptFault {
-    /// A growth of memory was refused.
+    /// An allocation was refused.
     Memory,
-    /// The text means none.
+    /// The text is refused.
     Parse(ParseFault),
     /// Two requests of the script overlap.
     Overlap(Overlap),
@@ -145,10 +145,10 @@ impl From<ParseFault> for ScriptFault {
     }
 }
 
-/// Why a call on the words of one line has no answer.
+/// Why a call on the words of one line failed.
 #[derive(Clone, Copy, Debug, PartialEq, Eq)]
 pub enum LineFault {
-    /// A growth of memory was refused.
+    /// An allocation was refused.
     Memory,
     /// The line is refused.
     Refused(Why),
@@ -171,7 +171,7 @@ impl From<Why> for LineFault {
     }
 }
 
-/// An outcome on the words of a line; its fault is told with the number of that line.
+/// Returns the result of a call on the words of a line, with the number of that line in its fault.
 pub fn at_line<T>(line: u32, outcome: Result<T, Why>) -> Result<T, ParseFault> {
     outcome.map_err(|why| ParseFault { line, why })
 }

@@ -3,8 +3,8 @@
 
 use crate::erased::line_text::word_list::Words;
 
-/// The words of a line, one after another, as their bytes: what stands between spaces and tabs. A line of
-/// these alone, or of nothing, has none. No memory is taken.
+/// Returns the words of a line, one after another, as bytes: what is between spaces and tabs. A line of spaces and tabs alone has
+/// no words. Allocates nothing.
 pub fn words(line: &str) -> Words<'_> {
     Words::new(line.as_bytes())
 }

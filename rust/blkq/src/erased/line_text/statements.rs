@@ -1,15 +1,58 @@
 // Erased from crates/line_text/src/statements.rt by tools/erase: edit that file.
-//! The lines of a text that say something.
+//! The statements of a text: its lines that aren't empty or comments.
 
 use crate::erased::line_text::fault::{ParseFault, Why, at_line};
-use crate::erased::line_text::lines::Lines;
 use crate::erased::line_text::word_list::Words;
+use crate::erased::memchr::memchr;
 
-/// The most bytes of a text: 1,048,576.
+/// The lines of a text that are left. In contracts it is the list of them.
+#[derive(Debug)]
+struct Lines<'a> {
+    rest: &'a [u8],
+}
+
+impl<'a> Lines<'a> {
+    fn new(text: &'a [u8]) -> Self {
+        Lines { rest: text }
+    }
+}
+
+fn without_return(line: &[u8]) -> &[u8] {
+    if !line.is_empty() && line[line.len() - 1] == b'\r' { &line[..line.len() - 1] } else { line }
+}
+
+// Returns the first line of a text that has one, and what follows its line feed.
+//
+// # Preconditions
+//
+// - `text.len()` is at least 1.
+fn first_line(text: &[u8]) -> (&[u8], &[u8]) {
+    debug_assert!(0 < text.len());
+    match memchr(b'\n', text) {
+        Some(end) => (&text[..end], &text[end + 1..]),
+        None => (text, &[]),
+    }
+}
+
+impl<'a> Iterator for Lines<'a> {
+    type Item = &'a [u8];
+
+    fn next(&mut self) -> Option<&'a [u8]> {
+        if self.rest.is_empty() {
+            return None;
+        }
+        let (line, rest) = first_line(self.rest);
+        self.rest = rest;
+        Some(without_return(line))
+    }
+}
+
+/// Maximum number of bytes of a text: 1,048,576.
 pub const LONGEST_TEXT: usize = 1_048_576;
 
-/// The lines of a text that say something and are left. What says nothing is a line without words, and one whose first
-/// word begins with `#`; both are skipped.
+/// The statements of a text that are left. A line without words, and a line whose first word begins with `#`, are
+/// skipped. In contracts it is the list of the statements, each with its line number and its words, and the number of
+/// the line after the last.
 pub struct Statements<'a> {
     lines: Lines<'a>,
     before: u32,
@@ -19,7 +62,7 @@ fn is_text(line: &[u8]) -> bool {
     std::str::from_utf8(line).is_ok()
 }
 
-// Whether the line has no words or is a comment.
+// Returns whether the line has no words or is a comment.
 fn says_nothing(line: &[u8]) -> bool {
     match Words::new(line).next() {
         Some(word) => !word.is_empty() && word[0] == b'#',
@@ -27,7 +70,7 @@ fn says_nothing(line: &[u8]) -> bool {
     }
 }
 
-// Takes lines up to the first that says something.
+// Takes lines up to the first statement.
 //
 // # Preconditions
 //
@@ -46,8 +89,7 @@ fn next_said<'a>(lines: &mut Lines<'a>, before: &mut u32) -> Option<(u32, Result
 }
 
 impl<'a> Statements<'a> {
-    /// The lines of `text`, none of them taken yet. Refused with `TooLong` at line 1 where the text has more
-    /// than [`LONGEST_TEXT`] bytes.
+    /// Returns the statements of `text`, or `TooLong` at line 1 if the text has more than [`LONGEST_TEXT`] bytes.
     pub fn new(text: &'a [u8]) -> Result<Self, ParseFault> {
         if text.len() > LONGEST_TEXT {
             return Err(ParseFault { line: 1, why: Why::TooLong });
@@ -55,15 +97,14 @@ impl<'a> Statements<'a> {
         Ok(Statements { lines: Lines::new(text), before: 0 })
     }
 
-    /// The next line that says something: its number, from 1, and its words; `NotUtf8` in place of these
-    /// where the line is no text, and such a line isn't skipped, whatever stands on it. `None` at the end.
+    /// Returns the next statement: its line number, counted from 1, and its words, or `NotUtf8` instead of the words if the line
+    /// isn't UTF-8. Such a line isn't skipped, whatever is on it. Returns `None` at the end.
     pub fn next(&mut self) -> Option<(u32, Result<Words<'a>, Why>)> {
         next_said(&mut self.lines, &mut self.before)
     }
 
-    /// The number and the words of the next line that says something. Where there is none, `missing` is the
-    /// fault of the line after the last; a line that is no text is refused with `NotUtf8`. After a refusal
-    /// that line is taken as well.
+    /// Returns the line number and the words of the next statement. If there is none, `missing` is the fault, at the line after the
+    /// last. Returns `NotUtf8` if the line isn't UTF-8; that line is taken too.
     pub fn next_or(&mut self, missing: Why) -> Result<(u32, Words<'a>), ParseFault> {
         match next_said(&mut self.lines, &mut self.before) {
             Some((line, said)) => Ok((line, at_line(line, said)?)),

@@ -1,7 +1,9 @@
 // Erased from crates/line_text/src/word_list.rt by tools/erase: edit that file.
-//! The words of a line.
+//! The words of a line, and checks of how many are left.
 
-/// The words of a line that are left: what stands between spaces and tabs.
+use crate::erased::line_text::fault::Why;
+
+/// The words of a line that are left: what is between spaces and tabs. In contracts it is the list of them.
 #[derive(Debug)]
 pub struct Words<'a> {
     rest: &'a [u8],
@@ -12,7 +14,7 @@ impl<'a> Words<'a> {
         Words { rest: line }
     }
 
-    /// How many words are left. None of them is taken.
+    /// Returns the number of words that are left, and takes none of them.
     pub fn count_left(&self) -> usize {
         Words::new(self.rest).count()
     }
@@ -33,7 +35,7 @@ fn without_blanks(line: &[u8]) -> &[u8] {
     rest
 }
 
-// Where the word ends that the line begins with.
+// Returns the length of the word at the beginning of the line.
 fn word_len(line: &[u8]) -> usize {
     for (index, byte) in line.iter().enumerate() {
         if is_blank(*byte) {
@@ -56,4 +58,43 @@ impl<'a> Iterator for Words<'a> {
         self.rest = rest;
         Some(word)
     }
+}
+
+/// Returns whether a word is this text.
+pub fn is_word(word: &[u8], text: &str) -> bool {
+    word == text.as_bytes()
+}
+
+/// Checks that no words are left, and returns `ExtraWord` otherwise.
+pub fn no_words(mut words: Words<'_>) -> Result<(), Why> {
+    match words.next() {
+        Some(_) => Err(Why::ExtraWord),
+        None => Ok(()),
+    }
+}
+
+/// Returns the one word that is left, or `MissingWord` if there is none and `ExtraWord` if there are more.
+pub fn one_word<'a>(mut words: Words<'a>) -> Result<&'a [u8], Why> {
+    let word = words.next().ok_or(Why::MissingWord)?;
+    no_words(words)?;
+    Ok(word)
+}
+
+/// Returns the two words that are left, or `MissingWord` if there are fewer and `ExtraWord` if there are more.
+pub fn two_words<'a>(mut words: Words<'a>) -> Result<(&'a [u8], &'a [u8]), Why> {
+    let first = words.next().ok_or(Why::MissingWord)?;
+    let second = words.next().ok_or(Why::MissingWord)?;
+    no_words(words)?;
+    Ok((first, second))
+}
+
+type ThreeWords<'a> = (&'a [u8], &'a [u8], &'a [u8]);
+
+/// Returns the three words that are left, or `MissingWord` if there are fewer and `ExtraWord` if there are more.
+pub fn three_words<'a>(mut words: Words<'a>) -> Result<ThreeWords<'a>, Why> {
+    let first = words.next().ok_or(Why::MissingWord)?;
+    let second = words.next().ok_or(Why::MissingWord)?;
+    let third = words.next().ok_or(Why::MissingWord)?;
+    no_words(words)?;
+    Ok((first, second, third))
 }

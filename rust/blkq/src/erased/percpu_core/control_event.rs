@@ -11,7 +11,7 @@ use crate::erased::percpu_words::{BIAS, DEAD};
 pub enum ControlEvent {
     /// Sets DEAD, which begins a kill. Linux: `percpu_ref_kill_and_confirm`.
     MarkDead,
-    /// Closes the next slot by an exchange that tells its delta. Linux: the reading of every processor's count in
+    /// Closes the next slot by an exchange that returns its delta. Linux: the reading of every processor's count in
     /// `percpu_ref_switch_to_atomic_rcu`.
     Close,
     /// Adds the sum of the closed deltas less the bias to the shared word. Linux: `percpu_ref_switch_to_atomic_rcu`.
@@ -30,23 +30,24 @@ pub enum ControlEvent {
     ClearDead,
     /// Adds the bias to the shared word. Linux: `__percpu_ref_switch_to_percpu`.
     AddBias,
-    /// Opens the next slot with the delta 0. Linux: the same, which clears every processor's count.
+    /// Opens the next slot with the delta 0. Linux: `__percpu_ref_switch_to_percpu`, which clears every processor's
+    /// count.
     OpenNext,
     /// Stores `v` in the guarded word `k`.
     StoreWord { k: u32, v: u64 },
-    /// Takes in the pass of that number, which is gone from then on.
+    /// Takes in the pass of this number, which no longer exists afterwards.
     Join(u32),
     /// Loads the shared word.
     LookShared,
 }
 
 impl ControlEvent {
-    /// Whether it stores a guarded word that isn't among so many.
+    /// Whether the step stores a guarded word that the gate, with this many words, doesn't have.
     pub(crate) fn stores_no_word(self, words: usize) -> bool {
         matches!(self, ControlEvent::StoreWord { k, .. } if k as usize >= words)
     }
 
-    /// The shared word after the step of a control that stands so.
+    /// The shared word after the step of a control in this state.
     ///
     /// # Preconditions
     ///
@@ -77,7 +78,7 @@ impl ControlEvent {
         }
     }
 
-    /// The phase after the step, at a gate with so many slots and DEAD set or not.
+    /// The phase after the step, at a gate with this many slots and DEAD set or clear.
     ///
     /// # Preconditions
     ///

@@ -4,7 +4,7 @@
 use crate::erased::percpu_core::control_event::ControlEvent;
 use crate::erased::percpu_core::pass_event::PassEvent;
 
-/// One atomic step, by the pass of that number or by the control.
+/// One atomic step, by the pass of this number or by the control.
 #[derive(Clone, Copy, Debug, PartialEq, Eq)]
 pub enum Event {
     Pass(u32, PassEvent),

@@ -4,7 +4,7 @@
 use std::error::Error;
 use std::fmt;
 
-/// Why a step can't be taken now, the first reason in the order in which they are tested.
+/// Why a step isn't enabled now: the first reason, in the order in which they are tested.
 #[derive(Clone, Copy, Debug, PartialEq, Eq)]
 pub enum NotEnabled {
     NoSuchActor,

@@ -7,19 +7,19 @@ use crate::erased::percpu_words::DELTA_MAX;
 /// A step of a pass.
 #[derive(Clone, Copy, Debug, PartialEq, Eq)]
 pub enum PassEvent {
-    /// Adds 1 to the shared word; given unless ZERO was set. Linux: `percpu_ref_tryget`.
+    /// Adds 1 to the shared word; refused if ZERO was set. Linux: `percpu_ref_tryget`.
     AddTry,
-    /// Adds 1 to the shared word; given unless DEAD was set. Linux: `percpu_ref_tryget_live`.
+    /// Adds 1 to the shared word; refused if DEAD was set. Linux: `percpu_ref_tryget_live`.
     AddLive,
-    /// Adds so many to the shared word. Linux: `percpu_ref_get_many`.
+    /// Adds this many to the shared word. Linux: `percpu_ref_get_many`.
     AddGet(u32),
-    /// Subtracts so many from the shared word. Linux: `percpu_ref_put_many`.
+    /// Subtracts this many from the shared word. Linux: `percpu_ref_put_many`.
     Sub(u32),
     /// Subtracts the 1 that a refused try had added.
     Undo,
     /// Exchanges DEAD alone for DEAD and ZERO.
     Mark,
-    /// Loads the slot of that number. Linux: the test of `__ref_is_percpu` (include/linux/percpu-refcount.h).
+    /// Loads the slot of this number. Linux: the test of `__ref_is_percpu` (include/linux/percpu-refcount.h).
     Look(u32),
     /// Exchanges the slot's delta `seen` for `seen + n`. Linux: `this_cpu_add` in `percpu_ref_tryget_many`.
     Take { slot: u32, seen: i64, n: u32 },
@@ -29,12 +29,12 @@ pub enum PassEvent {
     LookShared,
     /// Loads the front.
     LoadFront,
-    /// Loads the guarded word of that number.
+    /// Loads the guarded word of this number.
     LoadWord(u32),
 }
 
 impl PassEvent {
-    /// Whether it names a slot that isn't among so many.
+    /// Whether the step names a slot that the gate, with this many slots, doesn't have.
     pub(crate) fn names_no_slot(self, slots: usize) -> bool {
         match self {
             PassEvent::Look(slot) | PassEvent::Take { slot, .. } | PassEvent::Give { slot, .. } => {
@@ -44,12 +44,12 @@ impl PassEvent {
         }
     }
 
-    /// Whether it loads a guarded word that isn't among so many.
+    /// Whether the step loads a guarded word that the gate, with this many words, doesn't have.
     pub(crate) fn names_no_word(self, words: usize) -> bool {
         matches!(self, PassEvent::LoadWord(k) if k as usize >= words)
     }
 
-    /// How many references it needs to be held.
+    /// The number of references that the pass has to hold before the step.
     pub(crate) fn needed(self) -> u32 {
         match self {
             PassEvent::AddGet(_) | PassEvent::LoadWord(_) => 1,
@@ -60,7 +60,7 @@ impl PassEvent {
         }
     }
 
-    /// Whether it counts by nothing, or would go beyond a delta's limit.
+    /// Whether the step counts by nothing, or would leave a delta beyond its limit.
     pub(crate) fn has_bad_amount(self) -> bool {
         match self {
             PassEvent::AddGet(n) | PassEvent::Sub(n) => n == 0,

@@ -1,23 +1,23 @@
 // Erased from crates/percpu_core/src/pass_standing.rt by tools/erase: edit that file.
-//! Where a pass stands between two of its steps.
+//! The state of a pass between two of its steps.
 
 use crate::erased::percpu_core::not_enabled::NotEnabled;
 use crate::erased::percpu_core::pass_event::PassEvent;
 use crate::erased::percpu_core::sizes::Sizes;
 use crate::erased::percpu_core::{HELD_LIMIT, Reply};
 
-/// What a pass still owes before it may take another step.
+/// The step that a pass has to take before any other.
 #[derive(Clone, Copy, Debug, PartialEq, Eq)]
 pub enum Pending {
     Nothing,
-    /// A refused try has added 1.
+    /// The pass has to undo the 1 that a refused try added.
     OneToUndo,
-    /// Its subtraction left DEAD alone.
+    /// The pass has to mark zero, because its subtraction left DEAD alone.
     ZeroToMark,
 }
 
 impl Pending {
-    /// Whether something else is owed first.
+    /// Whether another step has to be taken before this step.
     fn is_mid_call(self, event: PassEvent) -> bool {
         match (self, event) {
             (Pending::Nothing, _) | (Pending::OneToUndo, PassEvent::Undo) | (Pending::ZeroToMark, PassEvent::Mark) => {
@@ -32,7 +32,7 @@ impl Pending {
         self == Pending::Nothing && matches!(event, PassEvent::Undo | PassEvent::Mark)
     }
 
-    /// What is owed once a step is answered.
+    /// The pending step after the reply to a step.
     fn after(reply: Reply) -> Pending {
         match reply {
             Reply::Refused => Pending::OneToUndo,
@@ -42,7 +42,7 @@ impl Pending {
     }
 }
 
-/// The references that a pass holds, and what it owes.
+/// The number of references that a pass holds, and its pending step.
 #[derive(Clone, Copy, Debug, PartialEq, Eq)]
 pub struct PassStanding {
     pub held: u32,
@@ -50,8 +50,7 @@ pub struct PassStanding {
 }
 
 impl PassStanding {
-    /// Why the step may not be taken, at a gate of these sizes. The order of the tests is part of the
-    /// answer.
+    /// Why the step isn't enabled, at a gate of these sizes. The order of the tests is part of the result.
     pub(crate) fn refusal(self, sizes: Sizes, event: PassEvent) -> Option<NotEnabled> {
         if event.names_no_slot(sizes.slots) {
             Some(NotEnabled::NoSuchSlot)
@@ -72,7 +71,7 @@ impl PassStanding {
         }
     }
 
-    /// Whether there is no room for what the step gives.
+    /// Whether the pass has no room for the references that the step takes.
     fn overfills(self, event: PassEvent) -> bool {
         let (held, limit) = (u64::from(self.held), u64::from(HELD_LIMIT));
         match event {
@@ -82,7 +81,7 @@ impl PassStanding {
         }
     }
 
-    /// Where the pass stands once its step is answered.
+    /// The state of the pass after the reply to a step.
     ///
     /// # Preconditions
     ///
@@ -99,12 +98,12 @@ impl PassStanding {
     }
 }
 
-/// Whether each pass stands as the one of that number in the other list, and there are as many.
+/// Whether the two lists are equally long, and each pass is in the same state in both.
 pub(crate) fn same_passes(passes: &[Option<PassStanding>], others: &[Option<PassStanding>]) -> bool {
     passes == others
 }
 
-/// What a pass holds; a joined one holds nothing.
+/// The number of references that a pass holds; 0 for a joined one.
 pub(crate) fn held_of(pass: Option<PassStanding>) -> u32 {
     match pass {
         Some(standing) => standing.held,

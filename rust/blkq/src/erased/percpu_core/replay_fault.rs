@@ -10,7 +10,7 @@ use std::fmt;
 pub enum ReplayFault {
     /// There was no room for all replies.
     Memory,
-    /// The event at this place, from 0, wasn't enabled.
+    /// The event at this index, from 0, wasn't enabled.
     Stuck { at: usize, why: NotEnabled },
 }
 

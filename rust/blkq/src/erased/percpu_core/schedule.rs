@@ -7,10 +7,10 @@ use crate::erased::percpu_core::event::Event;
 use crate::erased::percpu_core::replay_fault::ReplayFault;
 use crate::erased::percpu_core::world::World;
 
-/// Takes the events one after another, and gives their replies.
+/// Takes the events one after another, and returns their replies.
 ///
-/// Room for all replies is taken first, so `Memory` changes nothing. After `Stuck` the world stands
-/// before the event that was refused.
+/// Memory for all replies is allocated first, so `Memory` changes nothing. After `Stuck` the world is as it was before
+/// the event that wasn't enabled.
 pub fn replay(world: &mut World, events: &[Event]) -> Result<Vec<Reply>, ReplayFault> {
     let mut replies = Vec::try_with_room(events.len()).map_err(|_refused: AllocError| ReplayFault::Memory)?;
     for (at, event) in events.iter().enumerate() {

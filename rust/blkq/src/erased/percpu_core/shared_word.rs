@@ -1,15 +1,15 @@
 // Erased from crates/percpu_core/src/shared_word.rt by tools/erase: edit that file.
-//! What steps find on the shared word, and what they leave there.
+//! The replies to steps on the shared word, and the word after them.
 
 use crate::erased::percpu_core::Reply;
 use crate::erased::percpu_words::{BIAS, DEAD, ZERO};
 
-/// The answer of a subtraction that left this word.
+/// The reply to a subtraction that left this word.
 pub(crate) fn left_reply(word: u64) -> Reply {
     if word == DEAD { Reply::ToMark } else { Reply::NotLast }
 }
 
-/// The answer of the exchange that found this word.
+/// The reply to an exchange that found this word.
 pub(crate) fn mark_reply(word: u64) -> Reply {
     if word == DEAD { Reply::Last } else { Reply::Lost }
 }
@@ -19,7 +19,7 @@ pub(crate) fn marked(word: u64) -> u64 {
     if word == DEAD { DEAD | ZERO } else { word }
 }
 
-/// The word once the sum of the closed deltas has come to it, and the bias was taken off.
+/// The word after the sum of the closed deltas is added and the bias removed.
 ///
 /// # Preconditions
 ///

@@ -12,34 +12,34 @@ pub(crate) struct Slots {
 }
 
 impl Slots {
-    /// So many slots that are all this one.
+    /// This many slots, all equal to this one.
     pub(crate) fn new(slots: u32, slot: Slot) -> Result<Slots, AllocError> {
         let list = Vec::try_from_elem(slot, slots as usize)?;
         Ok(Slots { list })
     }
 
-    /// A copy.
+    /// Returns a copy.
     pub(crate) fn copy(&self) -> Result<Slots, AllocError> {
         let list = Vec::try_from_slice(self.list.as_slice())?;
         Ok(Slots { list })
     }
 
-    /// Whether each slot is the one of that number in the other list, and there are as many.
+    /// Whether the two lists are equally long and have the same slots.
     pub(crate) fn is_same(&self, other: &Slots) -> bool {
         self.list.as_slice() == other.list.as_slice()
     }
 
-    /// How many there are.
+    /// The number of slots.
     pub(crate) fn len(&self) -> usize {
         self.list.len()
     }
 
-    /// The slot of that number.
+    /// The slot of this number.
     pub(crate) fn at(&self, slot: u32) -> Slot {
         self.list.get(slot as usize).copied().unwrap_or(Slot::Closed)
     }
 
-    /// Exchanges the delta of the slot that a pass's step names, where that has the delta that it expects.
+    /// Exchanges the delta of the slot that the step of a pass names, if it has the delta that the step expects.
     ///
     /// # Preconditions
     ///
@@ -57,11 +57,11 @@ impl Slots {
         }
     }
 
-    /// Closes the next slot, or opens it with the delta 0, where that is the control's step.
+    /// Closes the next slot, or opens it with the delta 0, if that is the control's step.
     ///
     /// # Preconditions
     ///
-    /// - `NextIsThere(step, phase, self.len())`: the slot that the step closes or opens is among so many.
+    /// - `NextIsThere(step, phase, self.len())`: the slot that the step closes or opens is among this many.
     pub(crate) fn change_next(&mut self, step: ControlEvent, phase: Phase) {
         match step {
             ControlEvent::Close => self.list[phase.next_slot() as usize] = Slot::Closed,

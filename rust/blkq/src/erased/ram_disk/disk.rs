@@ -4,16 +4,16 @@
 use crate::erased::fallible::{TryToVec, TryVec};
 use crate::erased::ram_disk::{DiskFault, Sector, runs};
 
-/// How many sectors a disk has at most.
+/// Maximum number of sectors of a disk.
 pub const MAX_SECTORS: u32 = 4096;
 
-/// A disk of 1 to 4,096 sectors.
+/// A disk of 1 to 4,096 sectors. In contracts it is the list of its sectors, each a list of 512 bytes.
 pub struct Disk {
     sectors: Vec<Sector>,
 }
 
 impl Disk {
-    /// A disk of this many sectors of zeros. `Memory` is its only refusal.
+    /// Returns a disk of this many sectors of zeros. Returns `Memory` if memory is refused.
     ///
     /// Linux: a new `brd` device reads as zeros, since it has no pages yet (drivers/block/brd.c).
     ///
@@ -28,15 +28,15 @@ impl Disk {
         Ok(Disk { sectors })
     }
 
-    /// How many sectors the disk has, 1 to 4,096.
+    /// Returns the number of sectors, 1 to 4,096.
     pub fn len(&self) -> u32 {
         self.sectors.len() as u32
     }
 
-    /// Reads `count` sectors from the sector numbered `start` on, by sharing them.
+    /// Reads `count` sectors, starting with sector `start`, by sharing them.
     ///
-    /// `PastEnd` where the range reaches past the last sector, which is tested first; `Memory` where
-    /// there is none for the list. No sectors from the end on is no reach past it.
+    /// Returns `PastEnd` if the range reaches past the last sector, which is tested first, and `Memory` if there is none for the
+    /// list. A range of no sectors that starts at the end doesn't reach past it.
     ///
     /// Linux: a request past the end of the device is an I/O error (`bio_check_eod`, block/blk-core.c).
     pub fn share(&self, start: u64, count: u32) -> Result<Vec<Sector>, DiskFault> {
@@ -49,9 +49,9 @@ impl Disk {
         Ok(self.sectors[start..end].try_to_vec()?)
     }
 
-    /// Writes these sectors over those from the sector numbered `start` on. It always succeeds.
+    /// Writes these sectors to the disk, starting with sector `start`. It always succeeds.
     ///
-    /// The sectors are moved in, and the disk's owners of the old ones are dropped.
+    /// The sectors are moved in, and the disk drops its shares of the old ones.
     ///
     /// # Preconditions
     ///
@@ -60,12 +60,12 @@ impl Disk {
         replace(&mut self.sectors, start as usize, sectors);
     }
 
-    /// The disk's sectors, in the order of their numbers.
+    /// Returns the disk's sectors, in the order of their numbers.
     pub fn sectors(&self) -> &[Sector] {
         &self.sectors
     }
 
-    /// The maximal runs of equal bytes of the whole disk, as `runs` gives them. `Memory` is its only refusal.
+    /// Returns the maximal runs of equal bytes of the whole disk, as `runs` does. Returns `Memory` if memory is refused.
     pub fn all_runs(&self) -> Result<Vec<(u8, u64)>, DiskFault> {
         runs(&self.sectors)
     }

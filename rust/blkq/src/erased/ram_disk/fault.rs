@@ -1,16 +1,16 @@
 // Erased from crates/ram_disk/src/fault.rt by tools/erase: edit that file.
-//! Why a call of the disk was refused.
+//! Why a call of the disk fails.
 
 use crate::erased::fallible::{AllocError, AllocFailed};
 use std::error::Error;
 use std::fmt;
 
-/// Why a call of the disk was refused. The disk is then as it was.
+/// Why a call of the disk fails. The disk is unchanged.
 #[derive(Clone, Copy, PartialEq, Eq, Debug)]
 pub enum DiskFault {
     /// The range of sectors reaches past the last one.
     PastEnd,
-    /// There was no memory for what the call makes.
+    /// Memory was refused for what the call makes.
     Memory,
 }
 
@@ -26,7 +26,7 @@ impl fmt::Display for DiskFault {
 impl Error for DiskFault {}
 
 impl DiskFault {
-    /// The refusal's number: 1 for `PastEnd`, 2 for `Memory`.
+    /// Returns the fault's number: 1 for `PastEnd`, 2 for `Memory`.
     pub fn number(&self) -> u8 {
         match self {
             DiskFault::PastEnd => 1,

@@ -5,16 +5,16 @@ use crate::erased::fallible::{TryClone, TryVec};
 use crate::erased::ram_disk::sector::SECTOR_BYTES;
 use crate::erased::ram_disk::{DiskFault, Sector};
 
-/// How many bytes a pattern has at most.
+/// Maximum number of bytes of a pattern.
 pub const MAX_PATTERN: usize = 64;
 
-// Enough of a repeated pattern to cut a sector out of it, wherever in the pattern that begins.
+// Enough of a repeated pattern to copy a sector from it, starting at any byte of the pattern.
 const TILE_BYTES: usize = SECTOR_BYTES + MAX_PATTERN;
 
-/// New sectors, `count` of them, with a pattern of 1 to 64 bytes repeated over the whole range: the byte
-/// at place j is the pattern's byte at j modulo the pattern's length. `Memory` is its only refusal.
+/// Returns `count` new sectors, with a pattern of 1 to 64 bytes repeated over the whole range: byte j is the pattern's
+/// byte at j modulo the pattern's length. Returns `Memory` if memory is refused.
 ///
-/// The pattern goes on over the edges of sectors. Where a sector comes again, it is the same one, shared.
+/// The pattern continues across sectors. Equal sectors are one sector, shared.
 ///
 /// # Preconditions
 ///
@@ -31,7 +31,7 @@ pub fn patterned(pattern: &[u8], count: u32) -> Result<Vec<Sector>, DiskFault> {
     }
 }
 
-// The byte at every place of a pattern that has no other.
+// Returns the only byte value of a pattern, if it has just one.
 //
 // # Preconditions
 //
@@ -42,7 +42,7 @@ fn only_byte(pattern: &[u8]) -> Option<u8> {
     pattern.iter().all(|byte| *byte == first).then_some(first)
 }
 
-// Makes each different sector once and shares it from then on.
+// Makes each different sector once, and shares it afterwards.
 //
 // # Preconditions
 //
@@ -65,7 +65,7 @@ fn tiled(pattern: &[u8], count: usize) -> Result<Vec<Sector>, DiskFault> {
     Ok(sectors)
 }
 
-// The pattern again and again, in one place.
+// Returns the pattern, repeated.
 //
 // # Preconditions
 //
@@ -80,7 +80,7 @@ fn tile_of(pattern: &[u8]) -> [u8; TILE_BYTES] {
     tile
 }
 
-// After how many sectors a pattern of this length begins at the start of a sector again.
+// Returns the number of sectors after which a pattern of this length begins at the start of a sector again.
 //
 // # Preconditions
 //

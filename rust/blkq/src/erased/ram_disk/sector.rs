@@ -5,42 +5,41 @@ use crate::erased::fallible::{AllocError, TryClone};
 use crate::erased::pointers::Arc;
 use crate::erased::ram_disk::DiskFault;
 
-/// How many bytes a sector has.
+/// The number of bytes of a sector.
 pub const SECTOR_BYTES: usize = 512;
 
-// What the owners of a sector share. `only` is the byte that stands at every place, where the sector
-// was made of one.
+// What the owners of a sector share. `only` is the byte at every place, if the sector was made of one byte value.
 struct Block {
     bytes: [u8; SECTOR_BYTES],
     only: Option<u8>,
 }
 
-/// One owner of 512 bytes that never change.
+/// One owner of 512 bytes that never change. In contracts it is the list of the bytes.
 ///
-/// A clone is one more owner: it copies no byte and takes no memory. An owner may move to another
-/// thread, and the bytes live until the last owner is dropped.
+/// A clone is another owner: it copies no byte and takes no memory. An owner may move to another thread, and the bytes
+/// live until the last owner is dropped.
 pub struct Sector {
     block: Arc<Block>,
 }
 
 impl Sector {
-    /// The sector's bytes, 512 of them.
+    /// Returns the sector's 512 bytes.
     pub fn bytes(&self) -> &[u8] {
         &self.block.bytes
     }
 
-    // The byte at every place, where the sector was made of one. This looks at no byte.
+    // Returns the byte at every place, if the sector was made of one byte value. Reads no byte.
     pub(crate) fn only_byte(&self) -> Option<u8> {
         self.block.only
     }
 
-    // A new sector with one byte at every place.
+    // Returns a new sector with this byte at every place.
     pub(crate) fn filled(byte: u8) -> Result<Sector, DiskFault> {
         let block = Block { bytes: repeated(byte), only: Some(byte) };
         Ok(Sector { block: Arc::try_new(block)? })
     }
 
-    // A new sector with these 512 bytes.
+    // Returns a new sector with these 512 bytes.
     //
     // # Preconditions
     //

@@ -1,5 +1,5 @@
 // Erased from crates/run_queues/src/completions.rt by tools/erase: edit that file.
-//! The queue of the completions.
+//! The queue of completions.
 
 use crate::erased::crossbeam_queue::Pass;
 use crate::erased::fallible::AllocError;
@@ -15,27 +15,27 @@ pub struct CompletionQueue<T: Numbered> {
     line: Completions<T>,
 }
 
-/// The right to collect completions, and to let others tell them.
+/// The right to collect completions, and to give tokens that report them.
 pub struct Collector<T: Numbered> {
     seat: Seat<T>,
 }
 
-/// The right to tell one completion, once. It goes with its request to whoever does it.
-pub struct Duty<T: Numbered> {
+/// The right to report one completion, once. It goes with its request to the thread that does it.
+pub struct CompletionToken<T: Numbered> {
     seat: Seat<T>,
     number: u32,
 }
 
-impl<T: Numbered> Duty<T> {
-    /// The number of the completion.
+impl<T: Numbered> CompletionToken<T> {
+    /// Returns the number of the completion.
     pub fn number(&self) -> u32 {
         self.number
     }
 }
 
-/// What is left of a duty once its completion is told. Only [`CompletionQueue::tell`] gives it, so whoever has it
-/// shows that the completion of its number was told.
-pub struct Receipt<T: Numbered> {
+/// What is left of a token once its completion is reported. Only [`CompletionQueue::tell`] makes it, so it shows that the
+/// completion of its number was reported.
+pub struct Acknowledgement<T: Numbered> {
     #[allow(dead_code)] // only proofs read it
     seat: Seat<T>,
     #[allow(dead_code)] // only proofs read it
@@ -43,7 +43,7 @@ pub struct Receipt<T: Numbered> {
 }
 
 impl<T: Numbered> CompletionQueue<T> {
-    /// A queue with room for so many completions, and the right to collect them. All its memory is taken here.
+    /// Returns a queue with room for `room` completions, and the right to collect them. All its memory is taken here.
     ///
     /// # Preconditions
     ///
@@ -54,31 +54,31 @@ impl<T: Numbered> CompletionQueue<T> {
         Ok((CompletionQueue { line }, Collector { seat }))
     }
 
-    /// The right to tell the next completion. Its number is how many such rights were given before.
+    /// Returns the right to report the next completion. Its number is how many tokens were given before.
     ///
     /// # Preconditions
     ///
     /// - `collector` belongs to `self.id`.
     /// - `number` is `collector.given`.
-    pub fn duty(&self, collector: &mut Collector<T>, number: u32) -> Duty<T> {
+    pub fn token(&self, collector: &mut Collector<T>, number: u32) -> CompletionToken<T> {
         let seat = self.line.ring.another(&mut collector.seat);
-        Duty { seat, number }
+        CompletionToken { seat, number }
     }
 
-    /// Tells a completion, which has the number of the duty, and waits while there is no room. The duty is used up.
+    /// Reports a completion, which has the number of the token, and waits while there is no room. Uses up the token.
     ///
     /// # Preconditions
     ///
-    /// - `duty` belongs to `self.id`.
-    /// - `completion.number()` is `duty.number()`.
-    pub fn tell(&self, duty: Duty<T>, completion: T) -> Receipt<T> {
-        let Duty { mut seat, number } = duty;
+    /// - `token` belongs to `self.id`.
+    /// - `completion.number()` is `token.number()`.
+    pub fn tell(&self, token: CompletionToken<T>, completion: T) -> Acknowledgement<T> {
+        let CompletionToken { mut seat, number } = token;
         self.line.push_as(&mut seat, completion);
-        Receipt { seat, number }
+        Acknowledgement { seat, number }
     }
 
-    /// Takes the first completion, and waits while there is none. It is of a number for which the right to tell was
-    /// given, and which wasn't collected before.
+    /// Takes the first completion, and waits while there is none. A token was given for its number, and no completion of that
+    /// number was collected before.
     ///
     /// # Preconditions
     ///
@@ -87,7 +87,7 @@ impl<T: Numbered> CompletionQueue<T> {
         self.line.pop_as(&mut collector.seat)
     }
 
-    /// Takes the first completion where there is one now, and `None` where there is none.
+    /// Takes the first completion if there is one now. Returns `None` if there is none.
     ///
     /// # Preconditions
     ///

@@ -1,30 +1,30 @@
 // Erased from crates/run_queues/src/spares.rt by tools/erase: edit that file.
-//! The queue of what isn't in use.
+//! The queue of items that aren't in use.
 
 use crate::erased::crossbeam_queue::Pass;
 use crate::erased::fallible::AllocError;
 use crate::erased::run_queues::ruled_queue::RuledQueue;
 
-/// A queue of things that threads take and put back. What is known of one is what its type keeps: a type of which
-/// every value is free and belongs to one owner is the rule of a queue of free things of that owner.
+/// A queue of items that threads take and put back. Contracts know of an item what its type's invariant says: if every value of the
+/// type is free and belongs to one owner, the queue holds free items of that owner.
 pub struct SpareQueue<T> {
     line: RuledQueue<T>,
 }
 
-/// The right to take from a queue of spare things, which comes with the queue and which one thread has.
+/// The right to take from a queue of spare items, which comes with the queue and which one thread has.
 pub struct Taker<T> {
     seat: Pass<T>,
     taken: u64,
 }
 
-/// How many a thread put back into a queue, of what can't be had but from a caller that took it.
+/// How many items a thread put back into a queue.
 pub struct PutCount<T> {
     seat: Pass<T>,
     put: u64,
 }
 
 impl<T> SpareQueue<T> {
-    /// A queue with room for so many, which is all its memory, and the right to take from it.
+    /// Returns a queue with room for `room` items, and the right to take from it. All its memory is taken here.
     ///
     /// # Preconditions
     ///
@@ -35,17 +35,17 @@ impl<T> SpareQueue<T> {
         Ok((SpareQueue { line }, Taker { seat, taken: 0 }))
     }
 
-    /// How many it has room for.
+    /// Returns the number of items for which there is room.
     pub fn room(&self) -> usize {
         self.line.ring.capacity()
     }
 
-    /// A count of what a thread puts back here: none so far.
+    /// Returns a count of what a thread puts back here, 0 so far.
     pub fn put_count(&self) -> PutCount<T> {
         PutCount { seat: self.line.ring.pass(), put: 0 }
     }
 
-    /// Puts one back behind those that are there, and waits while there is no room. It is counted.
+    /// Puts an item back after those that are there, and counts it. Waits while there is no room.
     ///
     /// # Preconditions
     ///
@@ -56,19 +56,7 @@ impl<T> SpareQueue<T> {
         count.put += 1;
     }
 
-    /// Takes the first where there is one now. It is counted.
-    ///
-    /// # Preconditions
-    ///
-    /// - `taker` belongs to `self.id`.
-    /// - `taker.count + 1` is less than `2^64`.
-    pub fn try_take(&self, taker: &mut Taker<T>) -> Option<T> {
-        let item = self.line.pop_now_as(&mut taker.seat)?;
-        taker.taken += 1;
-        Some(item)
-    }
-
-    /// Takes the first, and waits while there is none. It is counted.
+    /// Takes the first item, and counts it. Waits while there is none.
     ///
     /// # Preconditions
     ///

@@ -1,21 +1,16 @@
 // Erased from crates/script_meaning/src/queue_state.rt by tools/erase: edit that file.
 //! The queue without its disk.
 
-use crate::erased::percpu_words::Mode;
 use crate::erased::queue_limits::Limits;
-use crate::erased::script_meaning::line::What;
-use crate::erased::script_meaning::outcome::Outcome;
-use crate::erased::script_meaning::reply::{Reply, Stat};
-use crate::erased::script_meaning::request::Request;
-use crate::erased::script_meaning::script::Script;
-use crate::erased::script_meaning::version::Version;
+use crate::erased::script_meaning::reply::{Outcome, Reply, Request, Stat};
+use crate::erased::script_meaning::script::{Mode, Script, Version, What};
 
-/// The greatest depth: a queue is frozen at most so often.
+/// Maximum depth: how many times a queue can be frozen at once.
 pub const DEPTH_LIMIT: u32 = 1_000;
 
-/// A queue without the bytes of its disk: its limits, how often it is frozen, whether it is removed, how it counts, and
-/// what it counted. This decides which requests are accepted, which lines drain, and every reply but that to an accepted
-/// request.
+/// A queue without the bytes of its disk: its limits, how many times it is frozen, whether it is removed, how it counts,
+/// and its counts. This decides which requests are accepted, which lines drain, and every reply except that to an
+/// accepted request.
 #[derive(Clone, Copy, Debug)]
 pub struct QueueState {
     version: Version,
@@ -31,7 +26,7 @@ pub struct QueueState {
 }
 
 impl QueueState {
-    /// The queue of a script at its start: the limits are those of the hardware, and nothing was asked.
+    /// Returns the queue of a script at its start: the limits are those of the hardware, and nothing was asked.
     pub fn new(script: &Script) -> Self {
         QueueState {
             version: script.form(),
@@ -47,32 +42,32 @@ impl QueueState {
         }
     }
 
-    /// The disk's sectors.
+    /// Returns the number of sectors of the disk.
     pub fn sectors(&self) -> u32 {
         self.sectors
     }
 
-    /// The limits in force.
+    /// Returns the limits in force.
     pub fn limits(&self) -> Limits {
         self.limits
     }
 
-    /// How often the queue is frozen: 0 to 1,000.
+    /// Returns how many times the queue is frozen, 0 to 1,000.
     pub fn depth(&self) -> u32 {
         self.depth
     }
 
-    /// Whether the queue was removed.
+    /// Returns whether the queue was removed.
     pub fn is_removed(&self) -> bool {
         self.removed
     }
 
-    /// How the queue counts the requests that are under way.
+    /// Returns how the queue counts the requests in flight.
     pub fn mode(&self) -> Mode {
         self.mode
     }
 
-    // The sectors of a physical block, where the script's version knows of one.
+    // Returns the sectors of a physical block, if the script's version has physical blocks.
     fn told_physical(&self) -> Option<u32> {
         match self.version {
             Version::One => None,
@@ -80,7 +75,7 @@ impl QueueState {
         }
     }
 
-    // What the queue tells of itself.
+    // Returns what the queue reports about itself.
     fn stat(&self) -> Stat {
         Stat {
             reads: self.reads,
@@ -95,8 +90,8 @@ impl QueueState {
         }
     }
 
-    /// Counts an accepted request. Whoever knows already that a line is one takes the line by this alone: it is what
-    /// [`take`](QueueState::take) does of such a line.
+    /// Counts an accepted request. A caller that already knows that a line is accepted takes the line by this alone, since it is
+    /// what [`take`](QueueState::take) does with such a line.
     ///
     /// # Preconditions
     ///
@@ -109,7 +104,7 @@ impl QueueState {
         }
     }
 
-    // Decides whether a request is accepted: the queue isn't frozen, and the request ends within the disk.
+    // Accepts a request if the queue isn't frozen and the request ends within the disk.
     //
     // # Preconditions
     //
@@ -152,7 +147,7 @@ impl QueueState {
         Outcome::Replied(Reply::Depth(self.depth))
     }
 
-    // A setting drains where it is taken and the queue isn't frozen: under a freeze nothing is under way.
+    // Sets the limits. This drains unless the queue is frozen, when nothing is in flight.
     fn set(&mut self, limits: Limits) -> Outcome {
         self.limits = limits;
         if self.depth == 0 { Outcome::Drained(Reply::Done) } else { Outcome::Replied(Reply::Done) }
@@ -194,7 +189,7 @@ impl QueueState {
         }
     }
 
-    /// Takes a line, and tells what it comes to. An accepted request is within the disk. No memory is taken.
+    /// Takes a line, and returns its outcome. An accepted request is within the disk. No memory is taken.
     ///
     /// # Preconditions
     ///
@@ -206,7 +201,7 @@ impl QueueState {
         self.take_there(what)
     }
 
-    // The same of a queue that isn't removed.
+    // Takes a line of a queue that isn't removed.
     //
     // # Preconditions
     //

@@ -1,7 +1,37 @@
 // Erased from crates/script_meaning/src/reply.rt by tools/erase: edit that file.
-//! What the queue replies to a line.
+//! The outcome of a line: an accepted request, or the queue's reply.
 
-use crate::erased::percpu_words::Mode;
+use crate::erased::script_meaning::script::Mode;
+
+/// A read or a write: its first sector, how many sectors it has, and whether it writes them.
+#[derive(Clone, Copy, Debug, PartialEq, Eq)]
+pub struct Request {
+    pub start: u32,
+    pub count: u32,
+    pub writes: bool,
+}
+
+/// The outcome of a line of a script.
+#[derive(Debug)]
+pub enum Outcome {
+    /// The queue accepts the request. Its reply has the pieces under the limits in force, and what a read
+    /// finds.
+    Accepted(Request),
+    /// The queue drains, and this is its reply.
+    Drained(Reply),
+    /// This is the queue's reply, and nothing drains.
+    Replied(Reply),
+}
+
+impl Outcome {
+    /// Returns the request that the queue accepts, if it accepts one.
+    pub fn accepted(&self) -> Option<Request> {
+        match self {
+            Outcome::Accepted(request) => Some(*request),
+            Outcome::Drained(_) | Outcome::Replied(_) => None,
+        }
+    }
+}
 
 /// The lengths of a request's pieces, in sectors, in order.
 #[derive(Debug)]
@@ -10,92 +40,92 @@ pub struct PieceLengths {
 }
 
 impl PieceLengths {
-    /// These lengths; no memory is taken.
+    /// Makes a list of these lengths; no memory is taken.
     pub fn new(lengths: Vec<u32>) -> Self {
         PieceLengths { lengths }
     }
 
-    /// The lengths.
+    /// Returns the lengths.
     pub fn as_slice(&self) -> &[u32] {
         self.lengths.as_slice()
     }
 
-    /// The lengths as a vector; no memory is taken.
+    /// Returns the lengths as a vector; no memory is taken.
     pub fn into_vec(self) -> Vec<u32> {
         self.lengths
     }
 }
 
-/// Runs of equal bytes, in order: the byte, and how often it stands there.
+/// Runs of equal bytes, in order: each byte, and how often it is repeated.
 #[derive(Debug)]
 pub struct ByteRuns {
     runs: Vec<(u8, u64)>,
 }
 
 impl ByteRuns {
-    /// These runs; no memory is taken.
+    /// Makes a list of these runs; no memory is taken.
     pub fn new(runs: Vec<(u8, u64)>) -> Self {
         ByteRuns { runs }
     }
 
-    /// The runs.
+    /// Returns the runs.
     pub fn as_slice(&self) -> &[(u8, u64)] {
         self.runs.as_slice()
     }
 
-    /// The runs as a vector; no memory is taken.
+    /// Returns the runs as a vector; no memory is taken.
     pub fn into_vec(self) -> Vec<(u8, u64)> {
         self.runs
     }
 }
 
-/// What a queue tells of itself: its counts since the start, its depth, limits and mode.
+/// What a queue reports about itself: its counts since the start, its depth, limits and mode.
 #[derive(Clone, Copy, Debug, PartialEq, Eq)]
 pub struct Stat {
-    /// The reads that were done.
+    /// Number of reads that were done.
     pub reads: u64,
-    /// The writes that were done.
+    /// Number of writes that were done.
     pub writes: u64,
-    /// The requests that a frozen queue refused.
+    /// Number of requests that were refused because the queue was frozen.
     pub again: u64,
-    /// The requests past the end of the disk.
+    /// Number of requests past the end of the disk.
     pub eio: u64,
-    /// How often the queue is frozen.
+    /// How many times the queue is frozen.
     pub depth: u32,
-    /// The most sectors of one request.
+    /// Maximum number of sectors of one request.
     pub max: u32,
-    /// The sectors of a chunk, or 0 for none.
+    /// Number of sectors of a chunk, or 0 for none.
     pub chunk: u32,
-    /// The sectors of a physical block; none is told in version 1 of the script.
+    /// Number of sectors of a physical block. Version 1 of the script reports none.
     pub physical: Option<u32>,
     pub mode: Mode,
 }
 
-/// What the queue replies to a line.
+/// The queue's reply to a line.
 #[derive(Debug)]
 pub enum Reply {
-    /// To a read: the pieces that it was cut into, and the maximal runs of equal bytes that it found.
+    /// Reply to a read: the pieces that it was cut into, and the maximal runs of equal bytes that it found.
     Data { pieces: PieceLengths, runs: ByteRuns },
-    /// To a write: the pieces that it was cut into.
+    /// Reply to a write: the pieces that it was cut into.
     Written { pieces: PieceLengths },
-    /// To a setting or a mode that was taken.
+    /// Reply to a setting or a mode that was accepted.
     Done,
-    /// To a freeze or a thaw: how often the queue is frozen now.
+    /// Reply to a freeze or a thaw: how many times the queue is frozen now.
     Depth(u32),
-    /// To a thaw of a queue that isn't frozen.
+    /// Reply to a thaw of a queue that isn't frozen.
     NotFrozen,
-    /// To a freeze of a queue that is frozen 1,000 times.
+    /// Reply to a freeze of a queue that is frozen 1,000 times.
     DepthFull,
-    /// To a request of a frozen queue.
+    /// Reply to a request while the queue is frozen.
     Again,
-    /// To a request that goes past the end of the disk.
+    /// Reply to a request that goes past the end of the disk.
     PastEnd,
-    /// To a setting that isn't allowed.
+    /// Reply to a setting that isn't allowed.
     Invalid,
-    /// To a question for the counts and limits.
+    /// Reply to `stat`: the counts and limits.
     Stat(Stat),
-    /// To the removal of the queue.
+    /// Reply to the removal of the queue.
     Removed,
-    /// To every line after the removal.
+    /// Reply to every line after the removal.
     Gone,
 }

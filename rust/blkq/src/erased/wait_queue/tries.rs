@@ -1,47 +1,48 @@
 // Erased from crates/wait_queue/src/tries.rt by tools/erase: edit that file.
-//! The threads that wait, and the tries of one of them.
+//! The threads that wait, and the tries of each of them.
 
 use crate::erased::crossbeam_utils::Backoff;
 use crate::erased::crossbeam_utils::sync::{EventCount, Key};
 use std::iter::{self, Repeat};
 use std::mem;
 
-/// How many tries come with no wait announced. `Backoff` pauses after each of so many, some 6 microseconds in all; after one
-/// more it would yield, which gives the processor away for a whole slice where other programs want it.
+/// Number of tries without an announced wait. `Backoff` pauses after each of them, some 6 microseconds in all; after one more it
+/// would yield, which gives the processor away for a whole time slice if other programs want it.
 const LOOKS: u32 = 7;
 
-/// Threads that wait for what others bring about. Linux: `struct wait_queue_head` (include/linux/wait.h).
+/// Threads that wait for something that others do. Linux: `struct wait_queue_head` (include/linux/wait.h).
 pub struct WaitQueue {
     events: EventCount,
 }
 
 impl WaitQueue {
-    /// Nobody waits.
+    /// Returns a queue without waiters.
     pub const fn new() -> WaitQueue {
         WaitQueue { events: EventCount::new() }
     }
 
-    /// Wakes one of those who wait, once what they wait for has come about. Linux: `wake_up`.
+    /// Wakes one waiter, after what it waits for has happened. Linux: `wake_up`.
     #[inline]
     pub fn wake_one(&self) {
         self.events.notify_one();
     }
 
-    /// Wakes all who wait, once what they wait for has come about. Linux: `wake_up_all`.
+    /// Wakes all waiters, after what they wait for has happened. Linux: `wake_up_all`.
     #[inline]
     pub fn wake_all(&self) {
         self.events.notify_all();
     }
 
-    /// A turn for each try of a thread that waits. The first tries come one after another, with ever longer pauses and no wait
-    /// announced: so nothing that other threads read is written where one of them succeeds. Then it sleeps; it yields to nobody.
-    /// Linux: `wait_event`.
+    /// Returns an iterator with a turn for each try of a waiting thread. The first tries have ever longer pauses between them and
+    /// no announced wait, so if one of them succeeds, nothing that other threads read is written. After them the thread sleeps
+    /// between tries; it never yields. Linux: `wait_event`.
     #[inline]
     pub fn tries<'w>(&'w self) -> Tries<'w> {
         Tries::new(self, LOOKS)
     }
 
-    /// The same for a thread that has tried often enough: each of these tries has its wait announced, the first too.
+    /// Like [`WaitQueue::tries`], for a thread that has tried often enough: each of these tries, the first included, has an
+    /// announced wait.
     #[inline]
     pub fn announced_tries<'w>(&'w self) -> Tries<'w> {
         Tries::new(self, 0)
@@ -52,21 +53,21 @@ impl WaitQueue {
 enum Stage<'w> {
     /// No try.
     New,
-    /// A try with no wait announced.
+    /// A try without an announced wait.
     Unannounced,
-    /// A try with this wait announced.
+    /// A try with this announced wait.
     Announced(Key<'w>),
 }
 
-/// The turns of a thread that waits, one for each try. A turn that follows a try begins with the sleep, if the wait was
-/// announced before that try, and ends with the announcement for the next. Whoever leaves the loop waits no longer.
+/// The turns of a waiting thread, one for each try. A turn after a try begins with the sleep, if the wait was announced
+/// before that try, and ends with the announcement for the next. A thread that leaves the loop no longer waits.
 pub struct Tries<'w> {
     queue: &'w WaitQueue,
     backoff: Backoff,
-    /// How many tries more come with no wait announced, unless the backoff is completed before.
+    /// The number of further tries without an announced wait, unless the backoff is completed earlier.
     looks: u32,
     stage: Stage<'w>,
-    /// How many turns are left: as many as no run uses up.
+    /// The number of turns that are left: more than any run uses up.
     turns: Repeat<()>,
 }
 
@@ -76,7 +77,7 @@ impl<'w> Tries<'w> {
         Tries { queue, backoff: Backoff::new(), looks, stage: Stage::New, turns: iter::repeat(()) }
     }
 
-    /// Lets time pass before the next try: the thread sleeps where its wait was announced before the last one.
+    /// Lets time pass before the next try: the thread sleeps if its wait was announced before the last try.
     fn pass_time(&self, tried: Stage<'w>) {
         match tried {
             Stage::New => {}

@@ -3,19 +3,19 @@
 
 use alloc::boxed::Box;
 
-/// A box, with its pointer in sight.
+/// A box, with its pointer visible.
 pub struct Loose<T> {
     pub at: *mut T,
 }
 
 impl<T> Loose<T> {
-    /// This box, taken apart.
+    /// Takes a box apart.
     pub fn of(whole: Box<T>) -> Loose<T> {
         let at = Box::into_raw(whole);
         Loose { at }
     }
 
-    /// A box again.
+    /// Puts the box together again.
     pub fn into_box(self) -> Box<T> {
         let Loose { at } = self;
         unsafe { Box::from_raw(at) }

@@ -1,14 +1,14 @@
 // Erased from crates/freeze_queue_c/src/freezer_handle.rt by tools/erase: edit that file.
-//! The freezer, to C.
+//! The freezer's handle for C.
 
+use crate::erased::c_answers::Misuse;
 use crate::erased::freeze_queue_c::freezer_held::FreezerHeld;
-use crate::erased::freeze_queue_c::misuse::Misuse;
 use crate::erased::freeze_queue_c::open_freezer::OpenFreezer;
 use crate::erased::pointers::TryBox;
 use alloc::boxed::Box;
 use core::mem;
 
-/// The freezer handle: to C a `bool` and a pointer, all zero where it is closed.
+/// The freezer's handle: for C a `bool` and a pointer, all zero if it is closed.
 #[repr(C)]
 pub struct FreezerHandle {
     is_open: bool,
@@ -22,7 +22,7 @@ impl FreezerHandle {
         FreezerHandle { is_open: false, held: FreezerHeld::nothing() }
     }
 
-    /// The box of an open handle, which is left closed.
+    /// Takes the box of an open handle, which is closed afterwards.
     pub fn take(&mut self) -> Option<Box<OpenFreezer>> {
         if !self.is_open {
             return None;
@@ -32,12 +32,12 @@ impl FreezerHandle {
         Some(mem::replace(&mut self.held, nothing).into_box())
     }
 
-    /// Its allocator, where it is closed. Refuses Open.
+    /// Returns the allocator of a closed handle. Refuses with Open.
     pub fn closed(&self) -> Result<(), Misuse> {
         if self.is_open { Err(Misuse::Open) } else { Ok(()) }
     }
 
-    /// Opens a closed handle, in a new box. Refuses Memory.
+    /// Opens a closed handle, in a new box. Refuses with Memory.
     ///
     /// # Preconditions
     ///

@@ -1,31 +1,31 @@
 // Erased from crates/freeze_queue_c/src/freezer_held.rt by tools/erase: edit that file.
-//! The box of a handle, under a pointer that C may keep.
+//! The box of a handle, behind a pointer that C may keep.
 
 use crate::erased::freeze_queue_c::open_freezer::OpenFreezer;
 use crate::erased::loose_box::Loose;
 use alloc::boxed::Box;
 use core::ptr;
 
-/// A box of a freezer, or nothing. The pointer's type hides the freezer's, which C may not know. One that is let go
-/// keeps its box.
+/// A box of a freezer, or nothing. The pointer's type hides the freezer's, which C may not know. Dropping it doesn't
+/// free the box.
 #[repr(C)]
 pub struct FreezerHeld {
     at: *mut u8,
 }
 
 impl FreezerHeld {
-    /// Nothing.
+    /// Returns nothing.
     pub(crate) fn nothing() -> FreezerHeld {
         let at = ptr::null_mut();
         FreezerHeld { at }
     }
 
-    /// This box.
+    /// Holds this box.
     pub(crate) fn of(freezer: Box<OpenFreezer>) -> FreezerHeld {
         FreezerHeld::of_loose(Loose::of(freezer))
     }
 
-    /// Its box.
+    /// Returns the box.
     ///
     /// # Preconditions
     ///

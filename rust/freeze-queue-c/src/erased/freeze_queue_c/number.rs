@@ -1,54 +1,39 @@
 // Erased from crates/freeze_queue_c/src/number.rt by tools/erase: edit that file.
-//! The numbers that C is answered, and what is written for it.
+//! The numbers that only the library of the queue returns to C, and the values that it writes with them.
 
+use crate::erased::biased_queue::BiasedEntry;
+use crate::erased::c_answers::{Misuse, put_number};
 use crate::erased::freeze_queue_c::begun::Begun;
-use crate::erased::freeze_queue_c::misuse::Misuse;
-use crate::erased::freeze_queue_c::plain_limits::PlainLimits;
 use crate::erased::freeze_queue_c::refusal::Refusal;
-use crate::erased::queue_core::{Entry, FreezeFault, Put, Stay, Thawed};
+use crate::erased::freeze_queue_c::tried::Tried;
+use crate::erased::queue_core::{FreezeFault, Thawed};
 
-fn put_number(put: Put) -> u32 {
-    match put {
-        Put::NotLast => 0,
-        Put::Last => 1,
-    }
-}
-
-/// What an attempt to enter answers: 0 where it did; where it didn't, 2, or 3 where that was the last drop.
-pub fn of_entry(answer: Result<Entry, Misuse>) -> u32 {
+/// The number of a look: 0 if the tag entered; otherwise 2, or 3 if the look's put was the last, or 6 if the freezer has the tag in
+/// hand.
+pub fn of_look(answer: Result<BiasedEntry, Misuse>) -> u32 {
     match answer {
-        Ok(Entry::Entered) => 0,
-        Ok(Entry::Refused(put)) => 2 + put_number(put),
+        Ok(BiasedEntry::Entered) => 0,
+        Ok(BiasedEntry::Refused(put)) => 2 + put_number(put),
+        Ok(BiasedEntry::InHand) => 6,
         Err(why) => why.number(),
     }
 }
 
-/// What staying answers: 0 where it did; where it left, 2, or 3 where that was the last drop.
-pub fn of_stay(answer: Result<Stay, Misuse>) -> u32 {
-    match answer {
-        Ok(Stay::Stayed) => 0,
-        Ok(Stay::Left(put)) => 2 + put_number(put),
-        Err(why) => why.number(),
+/// The number of a try: 0 if the tag entered; otherwise 2, or 3 if the try's put was the last or the tag had a bias.
+pub fn of_try(answer: Result<Tried, Misuse>) -> u32 {
+    let Tried { entry, had_bias } = match answer {
+        Ok(tried) => tried,
+        Err(why) => return why.number(),
+    };
+    match entry {
+        BiasedEntry::Entered => 0,
+        BiasedEntry::Refused(_) if had_bias => 3,
+        BiasedEntry::Refused(put) => 2 + put_number(put),
+        BiasedEntry::InHand => 3,
     }
 }
 
-/// What leaving answers: 0, or 1 where that was the last drop.
-pub fn of_put(answer: Result<Put, Misuse>) -> u32 {
-    match answer {
-        Ok(put) => put_number(put),
-        Err(why) => why.number(),
-    }
-}
-
-/// 0 where all went well.
-pub fn of_unit(answer: Result<(), Misuse>) -> u32 {
-    match answer {
-        Ok(()) => 0,
-        Err(why) => why.number(),
-    }
-}
-
-/// 0 where it is done.
+/// 0 if the call succeeded.
 pub fn of_done(answer: Result<(), Refusal>) -> u32 {
     match answer {
         Ok(()) => 0,
@@ -56,7 +41,7 @@ pub fn of_done(answer: Result<(), Refusal>) -> u32 {
     }
 }
 
-/// 0 where the limits are set.
+/// 0 if the limits are set.
 pub fn of_set(answer: Result<Result<(), Refusal>, Misuse>) -> u32 {
     match answer {
         Ok(done) => of_done(done),
@@ -64,34 +49,12 @@ pub fn of_set(answer: Result<Result<(), Refusal>, Misuse>) -> u32 {
     }
 }
 
-/// Writes what was read. 0 where all went well.
-pub fn write(answer: Result<u32, Misuse>, here: &mut u32) -> u32 {
-    match answer {
-        Ok(value) => {
-            *here = value;
-            0
-        }
-        Err(why) => why.number(),
-    }
-}
-
-/// Writes limits. 0 where all went well.
-pub fn write_limits(answer: Result<PlainLimits, Misuse>, here: &mut PlainLimits) -> u32 {
-    match answer {
-        Ok(limits) => {
-            *here = limits;
-            0
-        }
-        Err(why) => why.number(),
-    }
-}
-
-/// A refusal of the queue: 16 more than its number.
+/// The number of a refusal by the queue, plus 16.
 fn of_fault(why: FreezeFault) -> u32 {
     16 + u32::from(why.number())
 }
 
-/// Writes the depth of a freeze. 0 where it has begun, 4 where the queue is drained already.
+/// Writes the depth of a freeze. Returns 0 if the freeze has started, or 4 if the queue is already drained as well.
 pub fn write_begun(answer: Result<Result<Begun, FreezeFault>, Misuse>, depth: &mut u32) -> u32 {
     match answer {
         Ok(Ok(begun)) => {
@@ -103,7 +66,7 @@ pub fn write_begun(answer: Result<Result<Begun, FreezeFault>, Misuse>, depth: &m
     }
 }
 
-/// Writes the depth that a thaw leaves. 0 where the queue is frozen still, 5 where it is live again.
+/// Writes the depth that a thaw leaves. Returns 0 if the queue is still frozen, or 5 if it is live again.
 pub fn write_thawed(answer: Result<Result<Thawed, FreezeFault>, Misuse>, depth: &mut u32) -> u32 {
     match answer {
         Ok(Ok(thawed)) => {

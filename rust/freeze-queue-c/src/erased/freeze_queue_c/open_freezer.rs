@@ -1,17 +1,17 @@
 // Erased from crates/freeze_queue_c/src/open_freezer.rt by tools/erase: edit that file.
-//! What an open freezer handle leads to.
+//! The box of an open freezer handle.
 
 mod ends;
 mod makes;
 mod tags;
 
+use crate::erased::biased_queue::{BiasedFreezer, BiasedQueue, BiasedTag};
+use crate::erased::c_answers::{DrawnNumber, Misuse};
 use crate::erased::freeze_queue_c::begun::Begun;
-use crate::erased::freeze_queue_c::misuse::Misuse;
 use crate::erased::freeze_queue_c::plain_limits::PlainLimits;
-use crate::erased::freeze_queue_c::queue_number::QueueNumber;
 use crate::erased::freeze_queue_c::refusal::Refusal;
 use crate::erased::pointers::Arc;
-use crate::erased::queue_core::{BlockQueue, FreezeFault, Freezer, Limits, Mode, Tag, Thawed};
+use crate::erased::queue_core::{FreezeFault, Limits, Mode, Tag, Thawed};
 use alloc::vec::Vec;
 pub use ends::KeptFreezer;
 
@@ -19,20 +19,24 @@ pub use ends::KeptFreezer;
 #[repr(C)]
 pub struct OpenFreezer {
     before: [u64; 16],
-    queue: Arc<BlockQueue>,
-    number: QueueNumber,
-    waiting: Vec<Tag>,
-    freezer: Freezer,
+    queue: Arc<BiasedQueue>,
+    number: DrawnNumber,
+    /// The number of tags of the queue.
+    tags: u32,
+    waiting: Vec<BiasedTag>,
+    /// Room for the plain tags when the queue ends.
+    room: Vec<Tag>,
+    freezer: BiasedFreezer,
     after: [u64; 16],
 }
 
-/// A mode, by its number.
+/// The mode with this number.
 fn mode_of(mode: u32) -> Mode {
     if mode == 0 { Mode::Slots } else { Mode::Atomic }
 }
 
 impl OpenFreezer {
-    /// Begins a freeze, and looks whether the queue is drained.
+    /// Starts a freeze, and looks whether the queue is drained.
     pub fn start_freeze(&mut self) -> Result<Result<Begun, FreezeFault>, Misuse> {
         let depth = match self.freezer.start_freeze(&self.queue) {
             Ok(frozen) => frozen.depth,
@@ -47,7 +51,7 @@ impl OpenFreezer {
         self.freezer.poll_drained(&self.queue)
     }
 
-    /// The limits to be set. Refuses the limits' faults, OtherHardware.
+    /// Returns the limits to be set. Refuses with the limits' faults or OtherHardware.
     fn checked(&self, limits: &PlainLimits) -> Result<Limits, Refusal> {
         match limits.checked() {
             Err(why) => Err(Refusal::OfLimits(why)),
@@ -75,7 +79,7 @@ impl OpenFreezer {
         Ok(self.freezer.thaw(&self.queue))
     }
 
-    /// Counts in this mode from now on. Refuses Mode.
+    /// Counts in this mode from now on. Refuses with Mode.
     pub fn mode(&mut self, mode: u32) -> Result<(), Misuse> {
         if mode > 1 {
             return Err(Misuse::Mode);
@@ -84,7 +88,7 @@ impl OpenFreezer {
         Ok(())
     }
 
-    /// The freezes that aren't thawed yet.
+    /// The number of freezes that aren't thawed yet.
     pub fn depth(&mut self) -> Result<u32, Misuse> {
         Ok(self.freezer.depth())
     }
@@ -95,7 +99,7 @@ impl OpenFreezer {
     }
 
     /// The number of its queue.
-    pub fn number(&self) -> QueueNumber {
+    pub fn number(&self) -> DrawnNumber {
         self.number
     }
 }

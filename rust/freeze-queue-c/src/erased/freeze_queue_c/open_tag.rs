@@ -1,32 +1,33 @@
 // Erased from crates/freeze_queue_c/src/open_tag.rt by tools/erase: edit that file.
-//! What an open tag handle leads to.
+//! The box of an open tag handle.
 
-use crate::erased::freeze_queue_c::misuse::Misuse;
+use crate::erased::biased_queue::{BiasedEntry, BiasedQueue, BiasedTag};
+use crate::erased::c_answers::{DrawnNumber, Misuse};
 use crate::erased::freeze_queue_c::plain_limits::PlainLimits;
-use crate::erased::freeze_queue_c::queue_number::QueueNumber;
+use crate::erased::freeze_queue_c::tried::Tried;
+use crate::erased::percpu_gate::Put;
 use crate::erased::pointers::Arc;
-use crate::erased::queue_core::{BlockQueue, Entry, Put, Stay, Tag};
 
-/// A tag with its queue, and the number that tells the queue from others.
+/// A tag with its queue, and the queue's unique number.
 ///
-/// There are 128 unused bytes before and behind what calls write, so that boxes of different threads share no
-/// 128 bytes, whatever else lies beside them.
+/// 128 unused bytes before and after what calls write keep the boxes of different threads from sharing 128 bytes.
 #[repr(C)]
 pub struct OpenTag {
     before: [u64; 16],
-    queue: Arc<BlockQueue>,
-    number: QueueNumber,
-    tag: Tag,
+    pub(crate) queue: Arc<BiasedQueue>,
+    number: DrawnNumber,
+    pub(crate) tag: BiasedTag,
     after: [u64; 16],
 }
 
 impl OpenTag {
-    /// A tag of this queue.
+    /// Makes the box's contents for a tag of this queue.
     ///
     /// # Preconditions
     ///
-    /// - `tag` belongs to `queue`.
-    pub fn new(queue: Arc<BlockQueue>, number: QueueNumber, tag: Tag) -> OpenTag {
+    /// - `tag.bias.lanes` is `queue.lanes`.
+    /// - `IsBiasedQueue(queue)`: every such queue has lanes that were made for it.
+    pub fn new(queue: Arc<BiasedQueue>, number: DrawnNumber, tag: BiasedTag) -> OpenTag {
         OpenTag { before: [0; 16], queue, number, tag, after: [0; 16] }
     }
 
@@ -46,50 +47,60 @@ impl OpenTag {
         if self.tag.entered() { Ok(()) } else { Err(Misuse::NotEntered) }
     }
 
-    /// Enters unless the queue is frozen. Refuses Slot, Entered.
-    pub fn try_enter(&mut self, slot: u32) -> Result<Entry, Misuse> {
+    /// Enters unless the queue is frozen. Refuses with Slot or Entered.
+    pub fn try_enter(&mut self, slot: u32) -> Result<Tried, Misuse> {
         self.refuse_enter(slot)?;
-        Ok(self.queue.try_enter(&mut self.tag, slot))
+        let had_bias = self.tag.is_biased();
+        let entry = self.tag.try_enter(&self.queue, slot);
+        Ok(Tried { entry, had_bias })
     }
 
-    /// Enters to look at what is under way, unless the queue is drained. Refuses Slot, Entered.
-    pub fn try_enter_frozen(&mut self, slot: u32) -> Result<Entry, Misuse> {
+    /// Enters to look at the requests in flight, unless the queue is drained. Refuses with Slot or Entered.
+    pub fn try_enter_frozen(&mut self, slot: u32) -> Result<BiasedEntry, Misuse> {
         self.refuse_enter(slot)?;
-        Ok(self.queue.try_enter_frozen(&mut self.tag, slot))
+        Ok(self.tag.try_enter_frozen(&self.queue, slot))
     }
 
-    /// Stays, or leaves where the queue is frozen. Refuses Slot, NotEntered.
-    pub fn stay(&mut self, slot: u32) -> Result<Stay, Misuse> {
+    /// Leaves. If `keep` is true and the queue isn't frozen, a tag with no bias parks its reference. Refuses with Slot or NotEntered.
+    pub fn leave(&mut self, slot: u32, keep: bool) -> Result<Put, Misuse> {
         self.refuse_slot(slot)?;
         self.refuse_outside()?;
-        Ok(self.queue.stay(&mut self.tag, slot))
+        Ok(self.tag.leave(&self.queue, slot, keep))
     }
 
-    /// Leaves. Refuses Slot, NotEntered.
-    pub fn leave(&mut self, slot: u32) -> Result<Put, Misuse> {
-        self.refuse_slot(slot)?;
-        self.refuse_outside()?;
-        Ok(self.queue.leave(&mut self.tag, slot))
-    }
-
-    /// The limits in force. Refuses NotEntered.
+    /// The limits in force. Refuses with NotEntered.
     pub fn limits(&mut self) -> Result<PlainLimits, Misuse> {
         self.refuse_outside()?;
-        Ok(PlainLimits::of(self.queue.limits(&mut self.tag)))
+        Ok(PlainLimits::of(self.tag.limits()))
     }
 
-    /// The number of its queue.
-    pub fn number(&self) -> QueueNumber {
+    /// Ends the bias of a tag that isn't in, if it has one. Returns the put, or None if the freezer has the tag in hand.
+    ///
+    /// # Preconditions
+    ///
+    /// - `is_in(self.tag)` is `false`.
+    pub fn end_bias(&mut self) -> Option<Put> {
+        if !self.tag.is_biased() && !self.tag.entered() {
+            return Some(Put::NotLast);
+        }
+        let slot = self.queue.slots() - 1;
+        let put = self.tag.end_bias(&self.queue, slot)?;
+        debug_assert!(!self.tag.entered());
+        Some(put)
+    }
+
+    /// The number of the tag's queue.
+    pub fn number(&self) -> DrawnNumber {
         self.number
     }
 
-    /// Whether it has entered and not left.
+    /// Whether the tag has entered and not left.
     pub fn entered(&self) -> bool {
         self.tag.entered()
     }
 
     /// The tag alone.
-    pub fn into_tag(self) -> Tag {
+    pub fn into_tag(self) -> BiasedTag {
         self.tag
     }
 }

@@ -1,11 +1,10 @@
 // Erased from crates/freeze_queue_c/src/plain_limits.rt by tools/erase: edit that file.
-//! Limits as C has them.
+//! Limits for C.
 
 use crate::erased::queue_core::{LimitFault, Limits};
 
-/// Four numbers of sectors, which may be anything: what the hardware takes in one request, the most of one request (0 asks
-/// for as many as the hardware takes), the chunk (0: none), and the physical block (0: one sector). Linux: `struct
-/// queue_limits` (include/linux/blkdev.h).
+/// Four numbers of sectors, unchecked: the maximum that the hardware takes in one request, the maximum of one request (0: that of the
+/// hardware), the chunk (0: none), and the physical block (0: one sector). Linux: `struct queue_limits` (include/linux/blkdev.h).
 #[derive(Clone, Copy, Debug, PartialEq, Eq)]
 #[repr(C)]
 pub struct PlainLimits {
@@ -21,7 +20,7 @@ impl PlainLimits {
         PlainLimits { hardware: limits.hw(), max: limits.max(), chunk: limits.chunk(), physical: limits.physical() }
     }
 
-    /// The limits that these numbers are. Refuses HardwareRange, AboveHardware, ChunkTooLarge, BadPhysical, in this order.
+    /// Returns the limits with these numbers. Refuses with HardwareRange, AboveHardware, ChunkTooLarge or BadPhysical, in this order.
     pub fn checked(&self) -> Result<Limits, LimitFault> {
         let mut limits = Limits::new(self.hardware, self.max, self.chunk)?;
         limits.set_physical(if self.physical == 0 { 1 } else { self.physical })?;

@@ -1,12 +1,12 @@
 // Erased from crates/freeze_queue_c/src/refusal.rt by tools/erase: edit that file.
-//! Why a call is refused that takes limits, makes a queue or ends one.
+//! Refusals of the calls that take limits, make a queue or end it.
 
-use crate::erased::freeze_queue_c::misuse::Misuse;
+use crate::erased::c_answers::Misuse;
 use crate::erased::queue_core::{FreezeFault, LimitFault};
 use core::error::Error;
 use core::fmt;
 
-/// A refusal, by whom. Everything is as before.
+/// Why a call is refused. The call has changed nothing, unless the end of a queue returned Memory.
 #[derive(Clone, Copy, Debug, PartialEq, Eq)]
 pub enum Refusal {
     /// No queue may have these limits.
@@ -33,7 +33,7 @@ impl fmt::Display for Refusal {
 impl Error for Refusal {}
 
 impl Refusal {
-    /// Its number: 24 more than a fault of limits has, 29, 16 more than the queue's refusal has, or that of the misuse.
+    /// The refusal's number: a fault of limits plus 24, 29 for other hardware, a refusal of the queue plus 16, or the misuse's number.
     pub fn number(&self) -> u32 {
         match self {
             Refusal::OfLimits(why) => 24 + u32::from(why.number()),

@@ -1,13 +1,13 @@
 // Erased from crates/freeze_queue_c/src/tag_handle.rt by tools/erase: edit that file.
-//! A tag, to C.
+//! A tag's handle for C.
 
-use crate::erased::freeze_queue_c::misuse::Misuse;
+use crate::erased::c_answers::Misuse;
 use crate::erased::freeze_queue_c::open_tag::OpenTag;
 use crate::erased::freeze_queue_c::tag_held::TagHeld;
 use alloc::boxed::Box;
 use core::mem;
 
-/// A tag handle: to C a `bool` and a pointer, all zero where it is closed.
+/// A tag's handle: for C a `bool` and a pointer, all zero if it is closed.
 #[repr(C)]
 pub struct TagHandle {
     is_open: bool,
@@ -21,7 +21,7 @@ impl TagHandle {
         TagHandle { is_open: false, held: TagHeld::nothing() }
     }
 
-    /// The box of an open handle, which is left closed.
+    /// Takes the box of an open handle, which is closed afterwards.
     pub fn take(&mut self) -> Option<Box<OpenTag>> {
         if !self.is_open {
             return None;
@@ -31,7 +31,7 @@ impl TagHandle {
         Some(mem::replace(&mut self.held, nothing).into_box())
     }
 
-    /// Its allocator, where it is closed. Refuses Open.
+    /// Returns the allocator of a closed handle. Refuses with Open.
     pub fn closed(&self) -> Result<(), Misuse> {
         if self.is_open { Err(Misuse::Open) } else { Ok(()) }
     }
@@ -42,7 +42,7 @@ impl TagHandle {
     ///
     /// - `self.held.tag` is `None`.
     pub fn put_back(&mut self, tag: Box<OpenTag>) {
-        // One by one, since the bytes between them needn't be stored: what is stored delays the exchange that comes next.
+        // Field by field, since the bytes between them needn't be stored: a store delays the exchange that comes next.
         self.held = TagHeld::of(tag);
         self.is_open = true;
     }

@@ -1,31 +1,31 @@
 // Erased from crates/freeze_queue_c/src/tag_held.rt by tools/erase: edit that file.
-//! The box of a handle, under a pointer that C may keep.
+//! The box of a handle, behind a pointer that C may keep.
 
 use crate::erased::freeze_queue_c::open_tag::OpenTag;
 use crate::erased::loose_box::Loose;
 use alloc::boxed::Box;
 use core::ptr;
 
-/// A box of a tag, or nothing. The pointer's type hides the tag's, which C may not know. One that is let go
-/// keeps its box.
+/// A box of a tag, or nothing. The pointer's type hides the tag's, which C may not know. Dropping it doesn't free the
+/// box.
 #[repr(C)]
 pub struct TagHeld {
     at: *mut u8,
 }
 
 impl TagHeld {
-    /// Nothing.
+    /// Returns nothing.
     pub(crate) fn nothing() -> TagHeld {
         let at = ptr::null_mut();
         TagHeld { at }
     }
 
-    /// This box.
+    /// Holds this box.
     pub(crate) fn of(tag: Box<OpenTag>) -> TagHeld {
         TagHeld::of_loose(Loose::of(tag))
     }
 
-    /// Its box.
+    /// Returns the box.
     ///
     /// # Preconditions
     ///

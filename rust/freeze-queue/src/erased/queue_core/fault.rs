@@ -1,19 +1,19 @@
 // Erased from crates/queue_core/src/fault.rt by tools/erase: edit that file.
-//! What a freezer refuses.
+//! Refusals of a freezer.
 
 use core::error::Error;
 use core::fmt;
 
-/// Why a freezer refuses a call. Everything is as before.
+/// Why a freezer refuses a call. The call has changed nothing.
 #[derive(Clone, Copy, Debug, PartialEq, Eq)]
 pub enum FreezeFault {
     /// 1,000 freezes are under way.
     DepthFull,
     /// No freeze is under way. Linux: a warning of `__blk_mq_unfreeze_queue` (block/blk-mq.c).
     NotFrozen,
-    /// The gate isn't at zero: a tag is entered still, or a refused try has not taken its 1 back.
+    /// The gate isn't at zero: a tag is still entered, or a refused try hasn't taken its 1 back.
     NotDrained,
-    /// So many tags weren't handed back.
+    /// This many tags weren't handed back.
     TagsOut(u32),
     /// The gate was killed 2^40 times.
     WornOut,

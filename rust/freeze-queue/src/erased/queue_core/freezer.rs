@@ -8,25 +8,25 @@ use crate::erased::queue_core::queue::BlockQueue;
 use crate::erased::queue_core::tag::Tag;
 use crate::erased::queue_limits::Limits;
 
-/// The most freezes that may be under way at once.
+/// Maximum number of freezes under way at once.
 pub const MOST_DEPTH: u32 = 1_000;
 
-/// What a freeze that has begun answers.
+/// The result of starting a freeze.
 #[derive(Clone, Copy, Debug, PartialEq, Eq)]
 pub struct Frozen {
-    /// The freezes that aren't thawed yet, this one too.
+    /// The number of freezes that aren't thawed yet, including this freeze.
     pub depth: u32,
-    /// `Last` where this freeze found nobody in the queue: it is drained, and nobody else is told so. Else look by
-    /// `poll_drained`; where that says no, whoever drops last is told.
+    /// `Last` if this freeze found nobody in the queue: it is drained, and no other call returns that. Otherwise call
+    /// `poll_drained`; if it returns false, a later put or refused try returns `Last`, unless the queue is thawed first.
     pub put: Put,
 }
 
-/// What a thaw answers.
+/// The result of a thaw.
 #[derive(Clone, Copy, Debug, PartialEq, Eq)]
 pub struct Thawed {
-    /// The freezes that are left.
+    /// The number of freezes that are left.
     pub depth: u32,
-    /// Whether the queue is live again: those who wait to enter are to be woken.
+    /// Whether the queue is live again: then the threads that wait to enter have to be woken.
     pub live: bool,
 }
 
@@ -40,7 +40,7 @@ pub struct Freezer {
 }
 
 impl Freezer {
-    /// The freezer of a new queue, which counts on its slots.
+    /// The freezer of a new queue that counts on its slots.
     ///
     /// # Preconditions
     ///
@@ -50,14 +50,14 @@ impl Freezer {
         Freezer { control, depth: 0, limits }
     }
 
-    /// The freezes that aren't thawed yet: 0 to 1,000. The queue is live exactly where there is none. Linux:
-    /// `mq_freeze_depth` (include/linux/blkdev.h).
+    /// The number of freezes that aren't thawed yet: 0 to 1,000. The queue is live if it is 0. Linux: `mq_freeze_depth`
+    /// (include/linux/blkdev.h).
     #[inline]
     pub fn depth(&self) -> u32 {
         self.depth
     }
 
-    /// The tags of the queue that it hasn't taken back: all of them, until the queue ends.
+    /// The number of tags that the freezer hasn't taken back: all of the queue's, until the queue ends.
     #[inline]
     pub fn tags(&self) -> u32 {
         self.control.passes()
@@ -69,9 +69,9 @@ impl Freezer {
         self.limits
     }
 
-    /// Begins a freeze: the depth that this gives, and whether the queue is drained by it. The first one kills the gate, so
-    /// that no tag enters from then on but to look. Refuses DepthFull, WornOut. Linux: `blk_freeze_queue_start`
-    /// (block/blk-mq.c).
+    /// Begins a freeze. Returns the depth, and `Last` if this call drained the queue. The first freeze kills the gate,
+    /// so that no tag enters from then on, except to look. Refuses with DepthFull or WornOut. Linux:
+    /// `blk_freeze_queue_start` (block/blk-mq.c).
     ///
     /// # Preconditions
     ///
@@ -89,8 +89,8 @@ impl Freezer {
         Ok(Frozen { depth: self.depth, put })
     }
 
-    /// Whether the queue is frozen and every tag has left, at this look. Once it was true it is true until the
-    /// last thaw. Linux: `percpu_ref_is_zero` in `blk_mq_freeze_queue_wait` (block/blk-mq.c).
+    /// Whether one look finds the queue frozen and drained. Once it has returned true it does so until the last thaw.
+    /// Linux: `percpu_ref_is_zero` in `blk_mq_freeze_queue_wait` (block/blk-mq.c).
     ///
     /// # Preconditions
     ///
@@ -99,8 +99,8 @@ impl Freezer {
         self.control.is_zero(&queue.gate)
     }
 
-    /// Sets the limits of a drained queue. Refuses NotFrozen, NotDrained. Linux: `queue_limits_commit_update`
-    /// (block/blk-settings.c), under a freeze.
+    /// Sets the limits of a drained queue. Refuses with NotFrozen or NotDrained. Linux: from 6.9 on
+    /// `queue_limits_commit_update` (block/blk-settings.c), under a freeze.
     ///
     /// # Preconditions
     ///
@@ -118,7 +118,7 @@ impl Freezer {
         Ok(())
     }
 
-    /// Counts in this mode from now on; a frozen queue does once it is thawed. Depth and limits stay. Linux:
+    /// Counts in this mode from now on; if the queue is frozen, once it is thawed. Depth and limits stay. Linux:
     /// `percpu_ref_switch_to_atomic_sync`, `percpu_ref_switch_to_percpu` (lib/percpu-refcount.c).
     ///
     /// # Preconditions
@@ -132,9 +132,9 @@ impl Freezer {
         debug_assert!(switched.is_ok());
     }
 
-    /// Ends a freeze: the depth that is left, and whether the queue is live again: then those who wait to enter are to be
-    /// woken. The last thaw brings the gate back, drained or not. Refuses NotFrozen. Linux: `blk_mq_unfreeze_queue`
-    /// (block/blk-mq.c).
+    /// Ends a freeze. Returns the depth that is left, and whether the queue is live again: then the threads that wait
+    /// to enter have to be woken. The last thaw revives the gate, drained or not. Refuses with NotFrozen. Linux:
+    /// `blk_mq_unfreeze_queue` (block/blk-mq.c).
     ///
     /// # Preconditions
     ///

@@ -3,7 +3,7 @@
 
 use crate::erased::percpu_gate::{Control, Gate, Pass};
 
-/// How many guarded words hold the limits of a queue.
+/// The number of guarded words that hold the limits.
 pub const LIMIT_WORDS: usize = 3;
 
 /// Loads the words, for a pass that holds a reference.
@@ -22,7 +22,7 @@ pub(crate) fn load_words(pass: &mut Pass<LIMIT_WORDS>, gate: &Gate<LIMIT_WORDS>)
     words
 }
 
-/// Stores the words, where the control knows that nothing is held.
+/// Stores the words, for a control that knows that ZERO is set.
 ///
 /// # Preconditions
 ///

@@ -1,5 +1,5 @@
 // Erased from crates/queue_core/src/queue.rt by tools/erase: edit that file.
-//! The queue: what tags enter and leave.
+//! The queue that tags enter and leave.
 
 use crate::erased::fallible::{AllocError, TryVec};
 use crate::erased::percpu_core::SLOT_LIMIT;
@@ -10,20 +10,20 @@ use crate::erased::queue_core::tag::{Entry, Stay, Tag};
 use crate::erased::queue_limits::Limits;
 use alloc::vec::Vec;
 
-/// The most tags of a queue.
+/// Maximum number of tags of a queue.
 pub const MOST_TAGS: u32 = 1_023;
 
 /// A queue, its freezer and its tags.
 pub type NewQueue = (BlockQueue, Freezer, Vec<Tag>);
 
-/// A queue that requests enter and leave, and that can be frozen. Threads share it by reference. Linux:
-/// `struct request_queue` (include/linux/blkdev.h).
+/// A queue that requests enter and leave and that can be frozen. Threads share it by reference. Linux: `struct
+/// request_queue` (include/linux/blkdev.h).
 pub struct BlockQueue {
     pub(crate) gate: Gate<LIMIT_WORDS>,
     hardware: u32,
 }
 
-/// A tag for each of these passes, which are new.
+/// Makes a tag for each of these new passes.
 ///
 /// # Preconditions
 ///
@@ -37,8 +37,9 @@ fn make_tags(passes: Vec<Pass<LIMIT_WORDS>>, hardware: u32) -> Result<Vec<Tag>, 
 }
 
 impl BlockQueue {
-    /// A live queue of these limits that counts on its slots (1 to 512), with so many tags (1 to 1,023), none of
-    /// them entered, and its freezer. Memory where a growth was refused. Linux: `blk_mq_alloc_queue` (block/blk-mq.c).
+    /// Returns a live queue with these limits that counts on its slots (1 to 512), its freezer, and this many tags (1
+    /// to 1,023), none of which is entered. Returns Memory if an allocation was refused. Linux: `blk_mq_init_queue`,
+    /// from 6.9 on `blk_mq_alloc_queue` (block/blk-mq.c).
     ///
     /// # Preconditions
     ///
@@ -59,17 +60,17 @@ impl BlockQueue {
         Ok((queue, Freezer::new(control, limits), made))
     }
 
-    /// The slots of the queue: 1 to 512.
+    /// The number of slots: 1 to 512.
     #[inline]
     pub fn slots(&self) -> u32 {
         self.gate.slots()
     }
 
-    /// Enters unless the queue is frozen. A refusal tells what its drop was answered: where that was the last, the
-    /// freezer is to be woken. Linux: `blk_queue_enter` with BLK_MQ_REQ_NOWAIT (block/blk-core.c).
+    /// Enters unless the queue is frozen. A refused try has held a reference briefly: if dropping it was the last put,
+    /// wake the freezer. Linux: `blk_queue_enter` with BLK_MQ_REQ_NOWAIT (block/blk-core.c).
     ///
-    /// A refused try is counted for a moment, and so puts the drain off; in Linux `percpu_ref_tryget_live` looks at its
-    /// mark first and counts nothing then. So who tries again and again lets time pass between.
+    /// A refused try is counted briefly, and so delays the drain; in Linux `percpu_ref_tryget_live` looks at its mark
+    /// first, and counts nothing if it is set. So let time pass between tries.
     ///
     /// # Preconditions
     ///
@@ -86,9 +87,9 @@ impl BlockQueue {
         }
     }
 
-    /// Enters a queue that may be frozen, to look at what is under way, unless it is drained. Until the tag leaves it
-    /// holds the drain off, and may read the limits. Linux: `percpu_ref_tryget` of `q_usage_counter`, as for timeouts and
-    /// for going over tags (block/blk-mq.c, block/blk-mq-tag.c).
+    /// Enters a queue that may be frozen, to look at what is in flight, unless it is drained. Until the tag leaves it
+    /// keeps the queue from draining, and may read the limits. Linux: `percpu_ref_tryget` of `q_usage_counter`, as for timeouts
+    /// and iterating over tags (block/blk-mq.c, block/blk-mq-tag.c).
     ///
     /// # Preconditions
     ///
@@ -105,8 +106,8 @@ impl BlockQueue {
         }
     }
 
-    /// Leaves. `Last` where that was the last drop of a freeze: the queue is drained, and the freezer is to be woken. Linux:
-    /// `blk_queue_exit` (block/blk-core.c).
+    /// Leaves. Returns `Last` if this was the last put of a freeze: the queue is drained, and the freezer has to be
+    /// woken. Linux: `blk_queue_exit` (block/blk-core.c).
     ///
     /// # Preconditions
     ///
@@ -120,11 +121,11 @@ impl BlockQueue {
         tag.pass.put(&self.gate, slot, 1)
     }
 
-    /// Stays entered between two requests, for the price of one load, unless the queue is frozen: then it leaves. Where it
-    /// stays, its limits are those that it has. Where its drop was the last, the freezer is to be woken. Linux: the
-    /// requests that a plug keeps, each with its reference of `q_usage_counter` (block/blk-mq.c).
+    /// Stays entered between two requests, for the cost of one load. If the queue is frozen, it leaves instead. A tag
+    /// that stays keeps its limits. If leaving was the last put, wake the freezer. Linux: the requests that a plug
+    /// keeps, each with its reference on `q_usage_counter` (block/blk-mq.c).
     ///
-    /// A thread that stays and then sleeps holds up every freeze, so it leaves before it waits.
+    /// A thread that stays and then sleeps delays every freeze, so leave before waiting.
     ///
     /// # Preconditions
     ///
@@ -141,8 +142,8 @@ impl BlockQueue {
         Stay::Stayed
     }
 
-    /// The limits in force, for an entered tag: the same at each call until it leaves, in whichever threads the
-    /// calls are made.
+    /// The limits in force, for an entered tag: the same at each call until it leaves, whichever threads make the
+    /// calls.
     ///
     /// # Preconditions
     ///

@@ -9,7 +9,7 @@ use crate::erased::queue_core::queue::BlockQueue;
 use crate::erased::queue_core::tag::Tag;
 use alloc::vec::Vec;
 
-/// A queue that may not end comes back with its freezer and tags, all as they were.
+/// A queue that may not end, with its freezer and tags, all unchanged.
 pub struct RemoveFault {
     pub why: FreezeFault,
     pub freezer: Freezer,
@@ -37,7 +37,8 @@ fn end(mut freezer: Freezer, queue: BlockQueue, tags: Vec<Tag>) -> Final<LIMIT_W
 }
 
 impl Freezer {
-    /// Freezes a queue that is to end with so many tags, unless it is frozen already. Refuses TagsOut, WornOut.
+    /// Freezes a queue before its removal, given the number of tags handed back, unless it is frozen already. Refuses
+    /// with TagsOut or WornOut.
     ///
     /// # Preconditions
     ///
@@ -53,9 +54,8 @@ impl Freezer {
         Ok(())
     }
 
-    /// Ends a queue that no tag has entered, with all its tags: kills a live gate, takes the tags back and ends
-    /// the gate. Refuses TagsOut where tags are missing, WornOut. Linux: `blk_mq_destroy_queue`
-    /// (block/blk-mq.c).
+    /// Ends a queue in which no tag is entered, with all its tags: kills a live gate, takes the tags back and ends the
+    /// gate. Refuses with TagsOut if tags are missing, or with WornOut. Linux: `blk_mq_destroy_queue` (block/blk-mq.c).
     ///
     /// # Preconditions
     ///

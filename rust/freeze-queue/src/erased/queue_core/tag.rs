@@ -1,33 +1,32 @@
 // Erased from crates/queue_core/src/tag.rt by tools/erase: edit that file.
-//! A tag: the right to have one request under way.
+//! A tag: the right to have one request in flight.
 
 use crate::erased::percpu_gate::{Gate, Pass, Put};
 use crate::erased::queue_core::limit_words::LIMIT_WORDS;
 
-/// What an attempt to enter answers.
+/// The result of an attempt to enter.
 #[derive(Clone, Copy, Debug, PartialEq, Eq)]
 pub enum Entry {
     /// The tag is entered, until it leaves.
     Entered,
-    /// The tag isn't entered. The try was counted for a moment, and dropping that was answered so: where it was the
-    /// last, the queue is drained, and the freezer is to be woken.
+    /// The tag isn't entered. The failed try held a reference briefly; this is the result of dropping it. If it is
+    /// `Last`, the queue is drained, and the freezer has to be woken.
     Refused(Put),
 }
 
-/// What a tag that wants to stay entered is answered.
+/// The result of `stay`.
 #[derive(Clone, Copy, Debug, PartialEq, Eq)]
 pub enum Stay {
-    /// The queue is live: the tag is entered still, with the limits that it has.
+    /// The queue is live. The tag is still entered, with the same limits.
     Stayed,
-    /// The queue is frozen, so the tag has left, and dropping its reference was answered so: where it was the last, the
-    /// queue is drained, and the freezer is to be woken.
+    /// The queue is frozen, so the tag has left; this is the result of dropping its reference. If it is `Last`, the
+    /// queue is drained, and the freezer has to be woken.
     Left(Put),
 }
 
-/// The right to have one request under way in one queue. Linux: a request's tag (block/blk-mq-tag.c).
+/// The right to have one request in flight in one queue. Linux: a request's tag (block/blk-mq-tag.c).
 ///
-/// It moves between threads with its request. One that is dropped while it is entered keeps the queue from
-/// ever being drained.
+/// It moves between threads with its request. Leaking an entered tag keeps the queue from draining forever.
 pub struct Tag {
     pub(crate) pass: Pass<LIMIT_WORDS>,
     #[allow(dead_code)] // only proofs read it
@@ -44,13 +43,13 @@ impl Tag {
         Tag { pass, hardware }
     }
 
-    /// Whether it has entered its queue and not left.
+    /// Whether the tag has entered its queue and not left.
     #[inline]
     pub fn entered(&self) -> bool {
         self.pass.held() == 1
     }
 
-    /// Whether the gate was killed and isn't revived yet, at one load.
+    /// Whether one load finds the gate killed and not revived yet.
     ///
     /// # Preconditions
     ///

@@ -1,6 +1,6 @@
 // Erased from crates/queue_core/src/tests.rt by tools/erase: edit that file.
-//! On which slot a tag counts: no clause names it, and no caller of a queue can tell. A kill by hand tells it, which closes
-//! one slot after the other and answers what was counted on each.
+//! The slot on which a tag counts, which no caller of a queue can see. A kill by hand shows it: it closes the slots one
+//! by one, and returns each slot's delta.
 
 use crate::erased::fallible::Fail;
 use crate::erased::percpu_gate::{Control, Gate, Phase, Put};
@@ -9,7 +9,7 @@ use crate::erased::queue_core::queue::BlockQueue;
 use crate::erased::queue_core::tag::{Entry, Stay, Tag};
 use crate::erased::queue_limits::Limits;
 
-/// Enters on slot 1, looks in on slot 3, and leaves on slot 2 after each.
+/// Enters on slot 1, looks on slot 3, and leaves on slot 2 after each.
 ///
 /// # Preconditions
 ///
@@ -25,7 +25,7 @@ fn count(queue: &BlockQueue, tag: &mut Tag) {
     let _put = queue.leave(tag, 2);
 }
 
-/// Enters on slot 1, and stays on slot 3 once the gate is marked dead: it leaves there.
+/// Enters on slot 1, and stays on slot 3 after the gate is marked dead: it leaves there.
 ///
 /// # Preconditions
 ///
@@ -41,7 +41,7 @@ fn stay_in_dead(queue: &BlockQueue, control: &mut Control<LIMIT_WORDS>, tag: &mu
     assert_eq!(queue.stay(tag, 3), Stay::Left(Put::NotLast));
 }
 
-/// What was counted on the next slot that a kill closes, if there is one.
+/// Returns the delta of the next slot that a kill closes, if there is one.
 ///
 /// # Preconditions
 ///
@@ -53,7 +53,7 @@ fn next_delta(control: &mut Control<LIMIT_WORDS>, gate: &Gate<LIMIT_WORDS>) -> O
     }
 }
 
-/// An entering and a look count up on their slot, and a leave and a stay count down on their own.
+/// Entering and looking count up on their slot, and leaving and staying count down on theirs.
 #[test]
 fn each_count_is_on_its_slot() -> Result<(), Fail> {
     let (queue, freezer, mut tags) = BlockQueue::new(Limits::start(8)?, 4, 1)?;

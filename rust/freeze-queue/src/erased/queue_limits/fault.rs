@@ -4,17 +4,17 @@
 use core::error::Error;
 use core::fmt;
 
-/// Why limits are refused. Where several apply, [`Limits::new`](crate::erased::queue_limits::Limits::new) answers
-/// `HardwareRange` first, then `AboveHardware`, then `ChunkTooLarge`.
+/// Why limits are refused. If several reasons apply, [`Limits::new`](crate::erased::queue_limits::Limits::new) returns `HardwareRange` first,
+/// then `AboveHardware`, then `ChunkTooLarge`.
 #[derive(Clone, Copy, Debug, PartialEq, Eq)]
 pub enum LimitFault {
-    /// The most sectors of a request are more than the hardware takes.
+    /// The maximum of a request is more than the hardware takes.
     AboveHardware,
     /// The chunk has more than 65,535 sectors.
     ChunkTooLarge,
     /// The hardware limit isn't from 1 to 65,535 sectors.
     HardwareRange,
-    /// The physical block hasn't a power of two of sectors, or more than 32,768.
+    /// The physical block isn't a power of two of sectors, or has more than 32,768.
     BadPhysical,
 }
 
@@ -34,7 +34,7 @@ impl fmt::Display for LimitFault {
 impl Error for LimitFault {}
 
 impl LimitFault {
-    /// The fault's number, from 1 in the order of declaration.
+    /// Returns the fault's number, counted from 1 in order of declaration.
     pub fn number(&self) -> u8 {
         match self {
             LimitFault::AboveHardware => 1,

@@ -4,18 +4,18 @@
 use crate::erased::queue_limits::fault::LimitFault;
 use crate::erased::queue_limits::pieces::Pieces;
 
-/// The greatest hardware limit, in sectors.
+/// Maximum hardware limit, in sectors.
 pub const HARDWARE_LIMIT: u32 = 65_535;
 
-/// The greatest chunk, in sectors.
+/// Maximum chunk, in sectors.
 pub const CHUNK_LIMIT: u32 = 65_535;
 
-/// The greatest physical block, in sectors.
+/// Maximum physical block, in sectors.
 pub const PHYSICAL_LIMIT: u32 = 32_768;
 
-/// The limits of a queue, in sectors of 512 bytes: what the hardware takes in one request, the most that
-/// the queue sends in one, the chunk that no request may cross (0: none), and the physical block, with the end of which a
-/// request that is cut shall end (1: any sector).
+/// The limits of a queue, in sectors of 512 bytes: what the hardware takes in one request; the maximum that the queue sends in one;
+/// the chunk that no request may cross (0 for none); and the physical block, at whose end a request that is cut should end (1 for
+/// any sector).
 ///
 /// Linux: `struct queue_limits` (`max_hw_sectors`, `max_sectors`, `chunk_sectors`, `physical_block_size`).
 #[derive(Clone, Copy, Debug, PartialEq, Eq)]
@@ -27,11 +27,11 @@ pub struct Limits {
 }
 
 impl Limits {
-    /// Limits of `hw` sectors a request by hardware, of `max` by choice (0: as many as the hardware
-    /// takes), and a chunk of `chunk` sectors (0: none; it need not be a power of two). A physical block is one sector.
+    /// Returns limits under which the hardware takes `hw` sectors in a request, the queue sends at most `max` (0: as many as the
+    /// hardware takes), and a chunk has `chunk` sectors (0: none; it need not be a power of two). A physical block is one sector.
     ///
-    /// Refused, in this order: `HardwareRange` where `hw` isn't from 1 to 65,535, `AboveHardware` where
-    /// `max` is above `hw`, `ChunkTooLarge` where `chunk` is above 65,535.
+    /// Returns, tested in this order, `HardwareRange` if `hw` isn't from 1 to 65,535, `AboveHardware` if `max` is above `hw`, and
+    /// `ChunkTooLarge` if `chunk` is above 65,535.
     pub fn new(hw: u32, max: u32, chunk: u32) -> Result<Self, LimitFault> {
         if hw < 1 || hw > HARDWARE_LIMIT {
             Err(LimitFault::HardwareRange)
@@ -45,35 +45,34 @@ impl Limits {
         }
     }
 
-    /// The limits that a queue starts with: as many sectors a request as the hardware takes, no chunk, and a
-    /// physical block of one sector.
-    /// Refused with `HardwareRange` where `hw` isn't from 1 to 65,535.
+    /// Returns the limits that a queue starts with: as many sectors in a request as the hardware takes, no chunk, and a physical
+    /// block of one sector. Returns `HardwareRange` if `hw` isn't from 1 to 65,535.
     pub fn start(hw: u32) -> Result<Self, LimitFault> {
         Limits::new(hw, 0, 0)
     }
 
-    /// What the hardware takes in one request, in sectors: 1 to 65,535.
+    /// Returns how many sectors the hardware takes in one request, 1 to 65,535.
     pub fn hw(&self) -> u32 {
         self.hardware
     }
 
-    /// The most sectors of one request: 1 to `hw()`.
+    /// Returns the maximum number of sectors of a request, 1 to `hw()`.
     pub fn max(&self) -> u32 {
         self.max
     }
 
-    /// The sectors of a chunk, or 0 for none: at most 65,535.
+    /// Returns the number of sectors of a chunk, 1 to 65,535, or 0 for none.
     pub fn chunk(&self) -> u32 {
         self.chunk
     }
 
-    /// The sectors of a physical block: a power of two from 1 to 32,768.
+    /// Returns the number of sectors of a physical block, a power of two from 1 to 32,768.
     pub fn physical(&self) -> u32 {
         self.physical
     }
 
-    /// Sets the most sectors of one request; 0 restores what the hardware takes. Refused with
-    /// `AboveHardware` where `max` is above `hw()`: the old limits stay.
+    /// Sets the maximum number of sectors of a request; 0 restores what the hardware takes. Returns `AboveHardware` if `max` is
+    /// above `hw()`; then the limits are unchanged.
     ///
     /// Linux: `queue_max_sectors_store` (block/blk-sysfs.c), in kilobytes there.
     pub fn set_max(&mut self, max: u32) -> Result<(), LimitFault> {
@@ -84,8 +83,8 @@ impl Limits {
         Ok(())
     }
 
-    /// Sets the sectors of a chunk; 0 is none. Refused with `ChunkTooLarge` where `chunk` is above 65,535:
-    /// the old limits stay.
+    /// Sets the number of sectors of a chunk; 0 means none. Returns `ChunkTooLarge` if `chunk` is above 65,535; then the limits are
+    /// unchanged.
     pub fn set_chunk(&mut self, chunk: u32) -> Result<(), LimitFault> {
         if chunk > CHUNK_LIMIT {
             return Err(LimitFault::ChunkTooLarge);
@@ -94,10 +93,10 @@ impl Limits {
         Ok(())
     }
 
-    /// Sets the sectors of a physical block. Refused with `BadPhysical` where `physical` isn't a power of two from 1 to 32,768:
-    /// the old limits stay.
+    /// Sets the number of sectors of a physical block. Returns `BadPhysical` if `physical` isn't a power of two from 1 to 32,768;
+    /// then the limits are unchanged.
     ///
-    /// Linux: `blk_validate_limits` (block/blk-settings.c), in bytes there, where such a size is the driver's mistake.
+    /// Linux: `blk_validate_limits` (block/blk-settings.c), in bytes there, where any other size is the driver's mistake.
     pub fn set_physical(&mut self, physical: u32) -> Result<(), LimitFault> {
         if !is_block_size(u64::from(physical)) {
             return Err(LimitFault::BadPhysical);
@@ -106,14 +105,14 @@ impl Limits {
         Ok(())
     }
 
-    /// The limits that can change, as three words: `max()`, `chunk()` and `physical()`.
+    /// Returns the limits that can change, as three words: `max()`, `chunk()` and `physical()`.
     pub fn to_words(&self) -> [u64; 3] {
         [u64::from(self.max), u64::from(self.chunk), u64::from(self.physical)]
     }
 
-    /// The limits that three words tell, for a hardware limit of 1 to 65,535 sectors. Any words will do: a
-    /// first word of 0 or above `hw` is read as `hw`, a second above 65,535 as 0, a third that isn't a power of two from 1 to
-    /// 32,768 as 1.
+    /// Returns the limits that three words encode, for a hardware limit of 1 to 65,535 sectors. Any words are accepted: a first
+    /// word of 0 or above `hw` is read as `hw`, a second above 65,535 as 0, and a third that isn't a power of two from 1 to 32,768
+    /// as 1.
     ///
     /// # Preconditions
     ///
@@ -129,7 +128,7 @@ impl Limits {
         }
     }
 
-    /// The length, in sectors, of the first piece of the `left` sectors from `start` on.
+    /// Returns the length, in sectors, of the first piece of the `left` sectors that start at `start`.
     ///
     /// Linux: `get_max_io_size` (block/blk-merge.c).
     ///
@@ -143,7 +142,7 @@ impl Limits {
         self.first_piece(start, left)
     }
 
-    /// The lengths, in sectors, of the pieces of the `count` sectors from `start` on, in order.
+    /// Returns the lengths, in sectors, of the pieces of the `count` sectors that start at `start`, in order.
     ///
     /// Linux: `bio_split_rw` (block/blk-merge.c), called until nothing is left.
     ///
@@ -155,7 +154,8 @@ impl Limits {
         Pieces::new(*self, start, count)
     }
 
-    // A rest within the reach stays whole. Else the piece ends with a physical block, so that the next begins with one.
+    // Returns all that is left if it is within reach. Otherwise the piece ends where a physical block ends, so that the next piece
+    // begins with a block.
     //
     // # Preconditions
     //
@@ -166,12 +166,12 @@ impl Limits {
         if left <= reach {
             return left;
         }
-        // The remainder by a power of two.
+        // The remainder of a division by a power of two.
         let past = (start + u64::from(reach)) & (u64::from(self.physical) - 1);
         if past < u64::from(reach) { reach - past as u32 } else { reach }
     }
 
-    // The sectors of a piece end at the next boundary of a chunk, or before it where `max` comes first.
+    // Returns how many sectors a piece may have: up to the next boundary of a chunk, or `max` if that is less.
     fn reach(&self, start: u64) -> u32 {
         if self.chunk == 0 {
             return self.max;
@@ -180,7 +180,7 @@ impl Limits {
     }
 }
 
-// How far it is from `start` to the next multiple of the chunk.
+// Returns the number of sectors from `start` to the next multiple of the chunk.
 //
 // # Preconditions
 //
@@ -192,7 +192,7 @@ fn sectors_to_boundary(start: u64, chunk: u32) -> u32 {
     to_boundary as u32
 }
 
-// Whether a physical block may have that many sectors.
+// Returns whether a physical block may have this many sectors.
 fn is_block_size(sectors: u64) -> bool {
     sectors <= u64::from(PHYSICAL_LIMIT) && sectors.is_power_of_two()
 }

@@ -3,8 +3,8 @@
 
 use crate::erased::queue_limits::limits::Limits;
 
-/// The lengths of the pieces that are left of a range, in sectors: an iterator that
-/// [`Limits::pieces`](crate::erased::queue_limits::Limits::pieces) makes.
+/// An iterator over the lengths, in sectors, of the pieces that are left of a range, made by
+/// [`Limits::pieces`](crate::erased::queue_limits::Limits::pieces). In contracts it is the list of these lengths.
 #[derive(Debug)]
 pub struct Pieces {
     limits: Limits,
@@ -35,8 +35,8 @@ impl Iterator for Pieces {
         Some(length)
     }
 
-    /// At most as many pieces as are left, and above 0 where any is; and the sectors that are left, since each piece
-    /// has one at least.
+    /// Returns bounds of the number of pieces that are left. The lower bound is at least 1 if any is left; the upper bound is the
+    /// number of sectors that are left, since each piece has at least one.
     fn size_hint(&self) -> (usize, Option<usize>) {
         let least = self.left.div_ceil(self.limits.max());
         (least as usize, Some(self.left as usize))

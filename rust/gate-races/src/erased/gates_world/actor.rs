@@ -4,7 +4,7 @@
 use crate::erased::percpu_core::Event;
 use crate::erased::race_outcomes::Actor;
 
-/// Whose step it is.
+/// The actor of an event.
 pub(crate) fn actor_of(event: Event) -> Actor {
     match event {
         Event::Pass(pass, _) => Actor::Pass(pass),

@@ -1,5 +1,5 @@
 // Erased from crates/gates_world/src/course.rt by tools/erase: edit that file.
-//! A race of several gates as a course that a search goes over.
+//! A race of several gates as a course for a search.
 
 use crate::erased::fallible::AllocError;
 use crate::erased::gates_world::event::GateEvent;

@@ -7,7 +7,7 @@ use crate::erased::race_world::Moment;
 use std::hash::Hasher;
 
 impl GatesMoment {
-    /// A number that is the same for the same moments, and mostly another for others.
+    /// A number that is the same for the same moments, and mostly different for others.
     pub fn fingerprint(&self) -> u64 {
         let mut hasher = FoldHasher::default();
         feed_moments(self.gates(), &mut hasher);
@@ -15,7 +15,7 @@ impl GatesMoment {
     }
 }
 
-/// Feeds it the number of each.
+/// Feeds the number of each moment.
 fn feed_moments(moments: &[Moment], hasher: &mut FoldHasher) {
     for moment in moments {
         hasher.write_u64(moment.fingerprint());

@@ -1,9 +1,9 @@
 // Erased from crates/gates_world/src/gate_start.rt by tools/erase: edit that file.
-//! How a gate of a race starts.
+//! The start of a gate in a race.
 
 use crate::erased::percpu_core::Start;
 
-/// How a gate starts.
+/// The start of a gate. In contracts it is a `Gate`.
 #[derive(Debug)]
 pub struct GateStart {
     slots: u32,
@@ -13,12 +13,12 @@ pub struct GateStart {
 }
 
 impl GateStart {
-    /// A gate of so many slots, in this mode, with so many kills behind it and these guarded words; no memory is taken.
+    /// A gate with this many slots, this start, this many earlier kills and these guarded words. It allocates nothing.
     pub fn new(slots: u32, start: Start, kills: u64, words: Vec<u64>) -> GateStart {
         GateStart { slots, start, kills, words }
     }
 
-    /// The slots of the gate.
+    /// The number of slots of the gate.
     pub fn slots(&self) -> u32 {
         self.slots
     }
@@ -28,7 +28,7 @@ impl GateStart {
         self.start
     }
 
-    /// The kills that the gate starts with.
+    /// The number of kills that the gate starts with.
     pub fn kills(&self) -> u64 {
         self.kills
     }

@@ -1,5 +1,5 @@
 // Erased from crates/linux_world/src/callbacks.rt by tools/erase: edit that file.
-//! The callbacks of a race, those that were given to RCU first before the others.
+//! The callbacks of a race, in the order in which they were given to RCU.
 
 use crate::erased::fallible::{AllocError, TryVec};
 use crate::erased::linux_world::callback::Callback;
@@ -14,7 +14,7 @@ pub(crate) fn is_switching(list: &[Callback]) -> bool {
     false
 }
 
-/// Whether the grace period that is under way waits for a callback.
+/// Whether the current grace period waits for a callback.
 pub(crate) fn awaits_callbacks(list: &[Callback]) -> bool {
     for callback in list {
         if callback.is_awaited {
@@ -24,7 +24,8 @@ pub(crate) fn awaits_callbacks(list: &[Callback]) -> bool {
     false
 }
 
-/// A copy of each when a grace period begins, which waits for the sections that it finds, and its own callback at the end.
+/// Returns copies when a grace period begins, with the grace period's own callback appended. The grace period waits for the sections
+/// that it finds.
 fn with_queued(list: &[Callback]) -> Result<Vec<Callback>, AllocError> {
     let mut copies = Vec::new();
     for callback in list {
@@ -34,17 +35,17 @@ fn with_queued(list: &[Callback]) -> Result<Vec<Callback>, AllocError> {
     Ok(copies)
 }
 
-/// A copy of each after a step of the control that gives a callback to RCU, or doesn't.
+/// Returns copies after a step of the control, which may give a callback to RCU.
 pub(crate) fn callbacks_after(list: &[Callback], queues: bool) -> Result<Vec<Callback>, AllocError> {
     if queues { with_queued(list) } else { Vec::try_from_slice(list) }
 }
 
-/// Whether the others are the same.
+/// Whether the two lists are the same.
 pub(crate) fn same_callbacks(list: &[Callback], others: &[Callback]) -> bool {
     list == others
 }
 
-/// A copy of each, with this one for the callback of that number.
+/// Returns copies, with this callback at this index.
 ///
 /// # Preconditions
 ///

@@ -1,5 +1,5 @@
 // Erased from crates/linux_world/src/course.rt by tools/erase: edit that file.
-//! A race on Linux's counter as a course, for the search.
+//! A race on Linux's counter as a course for a search.
 
 use crate::erased::fallible::AllocError;
 use crate::erased::linux_world::moment::LinuxMoment;
@@ -8,13 +8,13 @@ use crate::erased::percpu_core::Memory;
 use crate::erased::race_search::{Course, NoExchange};
 use crate::erased::race_world::Race;
 
-/// A race whose calls are made on Linux's counter.
+/// A race whose calls are made on Linux's counter. In contracts it is a `Plan`.
 pub struct LinuxRace {
     race: Race,
 }
 
 impl LinuxRace {
-    /// The race on Linux's counter; no memory is taken.
+    /// Puts the race on Linux's counter, without allocating.
     pub fn new(race: Race) -> LinuxRace {
         LinuxRace { race }
     }

@@ -1,12 +1,12 @@
 // Erased from crates/linux_world/src/turn.rt by tools/erase: edit that file.
-//! Whose step comes next.
+//! The actor of the next step.
 
-/// Whose step comes next. Each actor has one next step at most, so its name says which.
+/// The actor of the next step. Each actor has at most one next step, so its name determines the step.
 #[derive(Clone, Copy, Debug, PartialEq, Eq, Hash)]
 pub enum LinuxTurn {
-    /// The pass of that number.
+    /// The pass of this number.
     Pass(usize),
     Control,
-    /// The callback that was given to RCU as the one of that number, counted from 0.
+    /// The callback of this number, from 0 in the order in which callbacks were given to RCU.
     Callback(usize),
 }

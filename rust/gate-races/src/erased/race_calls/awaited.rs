@@ -1,7 +1,7 @@
 // Erased from crates/race_calls/src/awaited.rt by tools/erase: edit that file.
 //! The conditions that calls wait for.
 
-/// A flag of a race, which some calls set and others wait for. Once it is set it stays so.
+/// A flag of a race, which some calls set and others wait for. Once set it stays set.
 #[derive(Clone, Copy, Debug, PartialEq, Eq, Hash)]
 pub struct Flag {
     /// Its name: `a` to `z`.

@@ -7,12 +7,13 @@ use crate::erased::race_outcomes::outcome::Outcomes;
 use crate::erased::race_outcomes::telling::Telling;
 use crate::erased::race_search::{Moments, SearchFault, Watch, all_moments, ends};
 
-/// All outcomes of the course: the accounts that it may have when nothing may come next. Each stands there once, with a shortest
-/// schedule that leads to it, and of these one with the fewest switches of actor. Shorter schedules come first, and of as long
-/// ones those with fewer switches; others stand as the search meets them.
+/// Returns all outcomes of the course: the accounts that it may have when nothing may come next. Each outcome is in the list once,
+/// with a shortest schedule that leads to it, and among these one with the fewest switches of actor. Outcomes are
+/// ordered by the length of their schedules, then by the number of switches, then in the order in which the search meets them.
 ///
-/// `States` is the refusal where the search would keep more moments than `most`, if that is given; the course has more then. The
-/// only other one is `Memory`: a growth was refused, or there are 2^64 moments. `watch` learns how far the search is.
+/// Refuses with `States` if `most` is given and the search would keep more moments; then the course has more.
+/// The only other refusal is `Memory`: an allocation was refused, or there are 2^64 moments. It reports to `watch` how
+/// far the search is.
 pub fn outcomes<C: Telling, W: Watch>(
     course: &C,
     most: Option<u64>,
@@ -23,15 +24,15 @@ pub fn outcomes<C: Telling, W: Watch>(
     Ok(found)
 }
 
-/// The outcomes of a course of which a search kept these moments.
+/// The outcomes of a course, given the moments that a search kept.
 ///
 /// # Preconditions
 ///
-/// - `AreTheMoments(rules(course), moments.points)`: each is reached by a schedule, whichever one is reached is
-///   represented, and none is there twice.
-/// - `AreTheWays(rules(course), moments)`: each point has a way; whatever a schedule leads to is represented by a
-///   point whose way isn't longer, and if it is as long, has no more switches; and a point comes before those whose
-///   ways are longer.
+/// - `AreTheMoments(rules(course), moments.points)`: each point in the list is reached by a schedule, each point
+///   that is reached is represented, and no point is in the list twice.
+/// - `AreTheWays(rules(course), moments)`: each point has a way; each point that a schedule reaches is represented
+///   by a point whose way isn't longer, and if it is as long, has no more switches; and points with shorter ways
+///   come first.
 fn outcomes_of<C: Telling>(course: &C, moments: &Moments<C>) -> Result<Outcomes<C>, Memory> {
     course.is_sound();
     course.tells_soundly();

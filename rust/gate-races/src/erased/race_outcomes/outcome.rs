@@ -6,26 +6,26 @@ use crate::erased::race_outcomes::telling::Telling;
 use crate::erased::race_outcomes::told::{Told, all_told};
 use crate::erased::race_search::Course;
 
-/// An outcome of a course: an end with its account, and a schedule that leads there.
+/// An outcome of a course: an end with its account, and a schedule that leads there. In contracts it is a `Found`.
 pub struct Outcome<C: Course> {
     pub(crate) end: C::Moment,
     pub(crate) schedule: Vec<C::Event>,
 }
 
 impl<C: Course> Outcome<C> {
-    /// The end to which the schedule leads. The answers to the calls stand there.
+    /// The end that the schedule leads to, which has the answers to the calls.
     pub fn end(&self) -> &C::Moment {
         &self.end
     }
 
-    /// A shortest schedule that leads to it, of the fewest switches of actor.
+    /// A shortest schedule that leads to the outcome, with the fewest switches of actor.
     pub fn schedule(&self) -> &[C::Event] {
         self.schedule.as_slice()
     }
 }
 
-/// All outcomes of a course, each of them once, those with shorter schedules first, and of as long ones those with fewer
-/// switches of actor.
+/// All outcomes of a course, each of them once, ordered by the length of their schedules and then by the number of
+/// switches of actor. In contracts they are `Findings`.
 pub struct Outcomes<C: Course> {
     pub(crate) list: Vec<Outcome<C>>,
 }
@@ -38,7 +38,7 @@ impl<C: Course> Outcomes<C> {
 }
 
 impl<C: Telling> Outcomes<C> {
-    /// The account of each, in order. `Memory` where a growth was refused, or for 2^64 calls.
+    /// The account of each outcome, in order. Returns `Memory` if an allocation was refused, or at 2^64 calls.
     pub fn told(&self, course: &C) -> Result<Vec<Told>, Memory> {
         all_told(course, self.list.as_slice())
     }

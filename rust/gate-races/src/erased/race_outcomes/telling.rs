@@ -9,22 +9,22 @@ use crate::erased::race_search::Course;
 /// A course whose moments have accounts: the answers to the calls of each actor so far, and the figures of each gate. Ends with
 /// equal accounts are one outcome.
 ///
-/// An exchange that is made twice changes nothing, and points with equal accounts have equal accounts after it. That is the law
-/// `tells_soundly`.
+/// An exchange that is made twice changes nothing, and points with equal accounts have equal accounts after it. That is
+/// the law `tells_soundly`.
 pub trait Telling: Course {
-    /// The account of the moment. `Memory` where a growth was refused, or for 2^64 calls.
+    /// The account of the moment. Returns `Memory` if an allocation was refused, or at 2^64 calls.
     fn told(&self, moment: &Self::Moment) -> Result<Told, Memory>;
 
-    /// The number of its account.
+    /// The number of the moment's account.
     fn told_number(&self, moment: &Self::Moment) -> u64;
 
     /// Whether both moments have the same account.
     fn tell_alike(&self, moment: &Self::Moment, other: &Self::Moment) -> bool;
 
-    /// A copy of the moment. `Memory` where a growth was refused.
+    /// Returns a copy of the moment. Returns `Memory` if an allocation was refused.
     fn copy(&self, moment: &Self::Moment) -> Result<Self::Moment, Memory>;
 
-    /// The moment with the exchange made.
+    /// The moment after the exchange.
     ///
     /// # Preconditions
     ///
@@ -32,9 +32,9 @@ pub trait Telling: Course {
     /// - `Self.rules(self).is_point(moment)`.
     fn exchanged(&self, exchange: Self::Exchange, moment: Self::Moment) -> Self::Moment;
 
-    /// Exchanges that make all others: each that may be made is, at each point, some of these one after another.
+    /// Exchanges that generate all others: at each point, each exchange that may be made is a sequence of some of these.
     fn exchanges(&self) -> Result<Vec<Self::Exchange>, AllocError>;
 
-    /// The exchanges are undone by themselves, and keep equal accounts equal. The contract is the law; the method does nothing.
+    /// Each exchange undoes itself, and keeps equal accounts equal. The contract is the law; the method does nothing.
     fn tells_soundly(&self);
 }

@@ -1,13 +1,13 @@
 // Erased from crates/race_search/src/fault.rt by tools/erase: edit that file.
-//! Why a search ends without all moments.
+//! Why a search ends before it has all moments.
 
 use crate::erased::fallible::AllocError;
 use crate::erased::percpu_core::Memory;
 
-/// Why a search ends without all moments of a race.
+/// Why a search ends before it has all moments of a race.
 #[derive(Clone, Copy, Debug, PartialEq, Eq)]
 pub enum SearchFault {
-    /// A growth was refused, or there are 2^64 moments.
+    /// An allocation was refused, or there are 2^64 moments.
     Memory,
     /// The race has more moments than the search may keep.
     States,

@@ -3,8 +3,8 @@
 
 use crate::erased::race_search::course::Course;
 
-/// A schedule with exchanges made of each of its events is a schedule, and leads to the moment with the exchanges made. The
-/// contract is the law; the function does nothing.
+/// A schedule whose events are all exchanged is a schedule, and leads to the exchanged moment. The contract is the law;
+/// the function does nothing.
 pub fn schedules_are_carried<C: Course>(course: &C) {
     course.is_sound();
 }

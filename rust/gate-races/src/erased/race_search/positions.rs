@@ -1,10 +1,10 @@
 // Erased from crates/race_search/src/positions.rt by tools/erase: edit that file.
-//! Where numbers stand in a list.
+//! The indices of numbers in a list.
 
 use crate::erased::fallible::{AllocError, TryVec};
 use crate::erased::maps::{HashMap, TryMap};
 
-/// A number of the list, and the place before it at which it stands last.
+/// A number of the list, and the last earlier index with the same number.
 #[derive(Clone, Copy)]
 struct Placed {
     #[allow(dead_code)] // only proofs read it
@@ -12,25 +12,25 @@ struct Placed {
     before: Option<usize>,
 }
 
-/// A list of numbers that tells where each of them stands.
+/// A list of numbers with an index of each. In contracts it is the list.
 pub struct Positions {
     placed: Vec<Placed>,
-    /// The last place of each number.
+    /// The last index of each number.
     last: HashMap<u64, usize>,
 }
 
 impl Positions {
-    /// No number; no memory is taken.
+    /// Returns an empty list. It allocates nothing.
     pub fn new() -> Positions {
         Positions { placed: Vec::new(), last: HashMap::default() }
     }
 
-    /// The last place of the number, if it is there.
+    /// The last index of the number, if it is in the list.
     pub fn last(&self, number: u64) -> Option<usize> {
         self.last.get(&number).copied()
     }
 
-    /// The place before this one at which the same number stands last, if there is one.
+    /// The last index before this one with the same number, if there is one.
     ///
     /// # Preconditions
     ///
@@ -39,7 +39,7 @@ impl Positions {
         self.placed[at].before
     }
 
-    /// With the number at the end.
+    /// Appends the number.
     pub fn with(self, number: u64) -> Result<Positions, AllocError> {
         let Positions { mut placed, mut last } = self;
         let before = last.get(&number).copied();

@@ -1,5 +1,5 @@
 // Erased from crates/race_world/src/actor.rt by tools/erase: edit that file.
-//! Whose step an event is.
+//! The actor of an event.
 
 use crate::erased::percpu_core::Event;
 

@@ -1,10 +1,10 @@
 // Erased from crates/race_world/src/exchange.rt by tools/erase: edit that file.
-//! Passes that change places.
+//! Exchanges of passes.
 
 use crate::erased::percpu_core::Event;
 
-/// Two passes of a race that change places. Where they make equal calls the race is the same but for their numbers: each
-/// schedule is a schedule with the one in the other's place.
+/// Two passes of a race that are exchanged. If they make equal calls the race is the same except for their numbers:
+/// each schedule is a schedule after the exchange.
 #[derive(Clone, Copy, Debug, PartialEq, Eq)]
 pub struct Exchange {
     pub one: u32,
@@ -12,7 +12,7 @@ pub struct Exchange {
 }
 
 impl Exchange {
-    /// The number that a pass has then.
+    /// The number of a pass after the exchange.
     pub fn pass(self, pass: u32) -> u32 {
         if pass == self.one {
             self.other
@@ -23,7 +23,7 @@ impl Exchange {
         }
     }
 
-    /// The event of that pass in place of this one's; a step of the control names no pass.
+    /// The event after the exchange; a step of the control names no pass.
     pub fn event(self, event: Event) -> Event {
         match event {
             Event::Pass(pass, step) => Event::Pass(self.pass(pass), step),

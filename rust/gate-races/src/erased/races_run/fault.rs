@@ -1,5 +1,5 @@
 // Erased from crates/races_run/src/fault.rt by tools/erase: edit that file.
-//! Why a race isn't answered.
+//! The reasons for which a race isn't answered.
 
 use crate::erased::counted_io::{InputFault, WriteFault};
 use crate::erased::line_text::ParseFault;
@@ -8,7 +8,7 @@ use crate::erased::race_outcomes::SearchFault;
 use std::error::Error;
 use std::fmt;
 
-/// Why a race isn't answered, or not by all of its answer.
+/// Why a race isn't answered, or not completely.
 #[derive(Clone, Copy, Debug, PartialEq, Eq)]
 pub enum Fault {
     /// Memory was refused.
@@ -17,7 +17,7 @@ pub enum Fault {
     Read,
     /// The writer failed.
     Write {
-        /// How many bytes of the answer went out before, from its first on.
+        /// The number of bytes of the answer that were written.
         written: u64,
     },
     /// The input is no race.
@@ -52,7 +52,7 @@ impl Fault {
         }
     }
 
-    /// The status that the program ends with: 2 where the input is no race, and else 4.
+    /// The program's exit status: 2 if the input is no race, otherwise 4.
     pub fn status(&self) -> u8 {
         match self {
             Fault::Parse(_) => 2,

@@ -11,13 +11,13 @@ use crate::erased::races_run::run::outcomes_bytes;
 use crate::erased::streams::WriteLine;
 use std::io::{self, ErrorKind, Read, Write};
 
-/// How the program is called.
+/// The usage line.
 const USAGE: &str = "usage: gate_races [--outcomes | --summary | --beside] [--states N], with a race on standard input, or gate_races --replay";
 
-/// The status where the answer didn't go out, for any reason but the input.
+/// The status if the answer wasn't written for any reason other than the input.
 const NOT_ANSWERED: u8 = 4;
 
-/// Answers the race that `reader` has, and tells the program's status, with a line to `errors` where it isn't 0.
+/// Answers the race in `reader`. Returns the program's status, and writes a line to `errors` if it isn't 0.
 fn outcomes_reported<R: Read, W: Write, E: Write, H: Watch>(
     request: Request,
     most: Option<u64>,
@@ -35,12 +35,13 @@ fn outcomes_reported<R: Read, W: Write, E: Write, H: Watch>(
     }
 }
 
-/// Writes to `writer` the answer to the race that `reader` has, and tells the program's status: 0 where it
-/// went out. `args`, the words after the program's name, say what is asked of the race: the answers to its questions, its
-/// outcomes, or those that it has on this gate or on Linux's percpu_ref alone. Any other status comes with a line to `errors`: 2 where the input is no race, and 4 where reading,
-/// writing or memory was refused, or a search would keep more states than `args` have behind `--states`, or they ask for
-/// nothing that there is. They are looked at before anything is read.
-/// Where `errors` fails, the line is lost and the status stays. `watch` learns how far the search is.
+/// Writes to `writer` the answer to the race in `reader`, and returns the program's status: 0 if the answer was written.
+/// `args`, the program's arguments, decide what is written: the answers to the race's questions, its outcomes, or the outcomes
+/// that it has only on this gate or only on Linux's percpu_ref; with `--replay`, the replay of the schedule in `reader`. Status 3
+/// means that this replay was written, and stopped at a step that isn't taken. Status 2 or 4 comes with a line to `errors`: 2 if
+/// the input is no race or schedule; 4 if reading, writing or memory was refused, if a search would keep more states than `args`
+/// allow by `--states`, or if the arguments ask for something unknown. They are checked before anything is read. If `errors`
+/// fails, the line is lost and the status stays. It reports to `watch` how far the search is.
 pub fn command<R: Read, W: Write, E: Write, H: Watch>(
     args: &[String],
     reader: &mut Counted<R>,
@@ -58,8 +59,8 @@ pub fn command<R: Read, W: Write, E: Write, H: Watch>(
     }
 }
 
-/// Tells that the words after the program's name can't be had, and the program's status: for want of memory,
-/// or because one of them is no text, so that they ask for nothing that there is.
+/// Reports that the arguments couldn't be read, and returns the program's status: memory was refused, or one of them
+/// isn't text, so that they ask for something unknown.
 pub fn refuse_words<E: Write>(errors: &mut E, why: &io::Error) -> u8 {
     let _ = if why.kind() == ErrorKind::OutOfMemory { errors.writeln(Fault::Memory) } else { errors.writeln(USAGE) };
     NOT_ANSWERED

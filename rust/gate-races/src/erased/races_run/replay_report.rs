@@ -1,5 +1,5 @@
 // Erased from crates/races_run/src/replay_report.rt by tools/erase: edit that file.
-//! A replay, told as a status.
+//! The status of a replay.
 
 use crate::erased::counted_io::Counted;
 use crate::erased::gate_replay::Replayed;
@@ -7,11 +7,11 @@ use crate::erased::races_run::replay_run::replay_bytes;
 use crate::erased::streams::WriteLine;
 use std::io::{Read, Write};
 
-/// The status where a step of the schedule wasn't taken.
+/// The status if a step of the schedule wasn't taken.
 const STUCK: u8 = 3;
 
-/// Replays the schedule on Linux's percpu_ref that `reader` has, and tells the program's status, with a line to `errors` where there
-/// was a fault. A replay that ends at a step that isn't taken is no fault: its last line says so.
+/// Replays the schedule on Linux's percpu_ref in `reader`. Returns the program's status, and writes a line to
+/// `errors` if there was a fault. A replay that ends at a step that isn't taken is no fault: its last line says so.
 pub(crate) fn replay_reported<R: Read, W: Write, E: Write>(
     reader: &mut Counted<R>,
     writer: &mut Counted<W>,

@@ -9,7 +9,7 @@ use crate::erased::races_run::run::MOST_READ;
 use crate::erased::races_text::replay_on_linux;
 use std::io::{Read, Write};
 
-// The replay of the schedule that an input means. In a schedule there is nothing that overlaps.
+// The replay of the schedule that an input describes. Schedules have no requests that could overlap.
 fn shown(input: &[u8]) -> Result<Replay, Fault> {
     match replay_on_linux(input) {
         Ok(replay) => Ok(replay),
@@ -19,13 +19,13 @@ fn shown(input: &[u8]) -> Result<Replay, Fault> {
     }
 }
 
-/// Reads all that `reader` has, and writes what the replay of that schedule on Linux's percpu_ref shows and nothing else: a line for
-/// each step that was taken, and then the line of the end, or of the step that isn't taken. The answer tells which of the two
-/// it was.
+/// Reads the schedule on Linux's percpu_ref in `reader` to the end, and writes its replay and nothing else: a line
+/// for each step that was taken, and then the line of the end, or of the step that isn't taken. Returns which of the
+/// two it was.
 ///
-/// The faults, in the order in which they are looked for: `Read` where the reader fails, `Parse` where the input is no such
-/// schedule, `Write` where the writer fails; then the first `written` bytes of the text went out. `Memory` comes where memory
-/// is refused; `States` doesn't come. Nothing is written on any but `Write`.
+/// Faults, in the order in which they are looked for: `Read` if the reader fails, `Parse` if the input is no such
+/// schedule, `Write` if the writer fails after the first `written` bytes of the text were written. `Memory` is returned if
+/// memory is refused, and `States` never. Except for `Write`, nothing is written on a fault.
 ///
 /// At most 1,048,577 bytes are read, which shows that an input is longer than any schedule.
 pub fn replay_bytes<R: Read, W: Write>(reader: &mut Counted<R>, writer: &mut Counted<W>) -> Result<Replayed, Fault> {

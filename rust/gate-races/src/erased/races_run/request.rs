@@ -8,6 +8,6 @@ use crate::erased::races_text::Form;
 pub enum Request {
     /// The race in this form.
     Written(Form),
-    /// The outcomes that it has on this gate alone, or on Linux's percpu_ref alone.
+    /// The outcomes that the race has only on this gate, or only on Linux's percpu_ref.
     Beside,
 }

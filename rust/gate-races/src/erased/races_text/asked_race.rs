@@ -6,7 +6,7 @@ use crate::erased::linux_world::LinuxRace;
 use crate::erased::race_outcomes::Question;
 use crate::erased::race_world::Race;
 
-/// The gates that a race can be on.
+/// The kinds of gates that a race can be on.
 #[derive(Clone, Copy)]
 pub(crate) enum GateKind {
     /// This repository's own gate.
@@ -15,22 +15,22 @@ pub(crate) enum GateKind {
     Linux,
 }
 
-/// A race, by the gates that it is on.
+/// A race, by the kind and number of its gates.
 pub enum Raced {
     OneGate(Race),
     SeveralGates(GatesRace),
-    /// On Linux's percpu_ref in the place of a gate.
+    /// On Linux's percpu_ref instead of a gate.
     OnLinux(LinuxRace),
 }
 
-/// A race, and the questions about it in the order of their lines.
+/// A race, and the questions about it in the order of their lines. In contracts it is an `Asking`.
 pub struct AskedRace {
     raced: Raced,
     questions: Vec<Question>,
 }
 
 impl AskedRace {
-    /// This race, with these questions; no memory is taken.
+    /// Takes a race and its questions, without allocating.
     pub(crate) fn new(raced: Raced, questions: Vec<Question>) -> AskedRace {
         AskedRace { raced, questions }
     }

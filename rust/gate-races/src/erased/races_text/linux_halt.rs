@@ -1,5 +1,5 @@
 // Erased from crates/races_text/src/linux_halt.rt by tools/erase: edit that file.
-//! The steps that a schedule on Linux's percpu_ref says, and why one isn't taken.
+//! The steps of a schedule on Linux's percpu_ref, and why a step isn't taken.
 
 use crate::erased::fallible::AllocError;
 use crate::erased::line_text::{push_number, push_text};
@@ -7,10 +7,10 @@ use crate::erased::linux_world::{LinuxMoment, LinuxTurn};
 use crate::erased::race_world::Race;
 use crate::erased::races_text::linux_step::{LinuxStep, next_step, push_step_words};
 
-/// A step of an actor, as a line says it.
+/// A step of an actor, as a line names it.
 #[derive(Clone, Copy, Debug, PartialEq, Eq)]
 pub(crate) struct SaidStep {
-    /// The number of the line, from 1.
+    /// The line number, from 1.
     pub(crate) line: u32,
     pub(crate) turn: LinuxTurn,
     pub(crate) step: LinuxStep,
@@ -19,17 +19,17 @@ pub(crate) struct SaidStep {
 /// Why a step isn't taken.
 #[derive(Clone, Copy, Debug, PartialEq, Eq)]
 pub(crate) enum Halt {
-    /// No pass has that number, or no callback of that number was given to RCU yet.
+    /// No pass has this number, or no callback of this number was given to RCU yet.
     NoSuchActor,
-    /// Each of its calls has its answer, or the callback has returned.
+    /// Each call of the actor has its answer, or the callback has returned.
     NoStepLeft,
-    /// The next step of the actor is another one, this.
+    /// The actor's next step is this one, not the named one.
     NextIs(LinuxStep),
     /// The lock is held, a switch is under way, the condition doesn't hold, or the grace period hasn't ended.
     MustWait,
 }
 
-// Whether the actor is there.
+// Whether the actor exists.
 fn is_there(moment: &LinuxMoment, turn: LinuxTurn) -> bool {
     match turn {
         LinuxTurn::Pass(pass) => pass < moment.passes().len(),
@@ -38,7 +38,7 @@ fn is_there(moment: &LinuxMoment, turn: LinuxTurn) -> bool {
     }
 }
 
-// Why an actor, whose next step is this one and which may go or not, doesn't take the step that is said.
+// Why an actor with this next step, which may be allowed to go or not, doesn't take the named step.
 fn halt_at(next: Option<LinuxStep>, said: LinuxStep, may_go: bool) -> Option<Halt> {
     let Some(step) = next else {
         return Some(Halt::NoStepLeft);
@@ -49,7 +49,7 @@ fn halt_at(next: Option<LinuxStep>, said: LinuxStep, may_go: bool) -> Option<Hal
     if may_go { None } else { Some(Halt::MustWait) }
 }
 
-/// Why the step that is said isn't taken; None where the actor may take it.
+/// Why the named step isn't taken; `None` if the actor may take it.
 pub(crate) fn why_not_taken(race: &Race, moment: &LinuxMoment, said: SaidStep) -> Option<Halt> {
     if !is_there(moment, said.turn) {
         return Some(Halt::NoSuchActor);
@@ -70,7 +70,7 @@ fn push_halt(out: &mut Vec<u8>, why: Halt) -> Result<(), AllocError> {
     }
 }
 
-/// Appends the line of a step that isn't taken, and that stands on this line of the schedule.
+/// Appends the line for a step that isn't taken, given its line number in the schedule.
 pub(crate) fn push_stuck(out: &mut Vec<u8>, line: u32, why: Halt) -> Result<(), AllocError> {
     push_text(out, "stuck ")?;
     push_number(out, u64::from(line))?;

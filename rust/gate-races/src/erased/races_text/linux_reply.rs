@@ -10,22 +10,22 @@ use crate::erased::percpu_core::Memory;
 use crate::erased::race_calls::{Answer, Count};
 use crate::erased::races_text::answers::push_answer;
 
-/// The bias of the count while the counters aren't collected. Linux: `PERCPU_COUNT_BIAS` (lib/percpu-refcount.c).
+/// The bias in the count while the counters aren't collected. Linux: `PERCPU_COUNT_BIAS` (lib/percpu-refcount.c).
 const BIAS: u64 = 1 << 63;
 
-/// Half of it.
+/// Half of the bias.
 const HALF: u64 = 1 << 62;
 
-/// The find of a step.
+/// What a step found.
 #[derive(Clone, Copy, Debug, PartialEq, Eq)]
 pub(crate) enum Found {
-    /// Which flags are set.
+    /// The flags that are set.
     Flags { is_atomic: bool, is_dead: bool },
     /// The sum of the counters, which wraps at 2^64.
     Sum(u64),
     /// The number of the callback that was given to RCU.
     Rcu(usize),
-    /// That the count is zero.
+    /// The count is zero.
     Zero,
 }
 
@@ -33,12 +33,12 @@ pub(crate) enum Found {
 #[derive(Clone, Copy, Debug, PartialEq, Eq)]
 pub(crate) struct LinuxReply {
     pub(crate) found: Option<Found>,
-    /// The answer of the call, where it ends with the step.
+    /// The answer of the call, if it ends with the step.
     pub(crate) answer: Option<Answer>,
 }
 
 impl LinuxReply {
-    // That it found nothing, and its call goes on.
+    // The reply to a step that found nothing, and whose call goes on.
     fn nothing() -> LinuxReply {
         LinuxReply { found: None, answer: None }
     }
@@ -49,7 +49,7 @@ fn flags_of(counter: &PercpuRef) -> Found {
     Found::Flags { is_atomic: counter.is_atomic(), is_dead: counter.is_dead() }
 }
 
-// The find of a pass's step.
+// What a pass's step found.
 fn found_by_pass(counter: &PercpuRef, stage: LinuxPassStage) -> Option<Found> {
     match stage {
         LinuxPassStage::Loads { .. } | LinuxPassStage::LoadsAgain | LinuxPassStage::AsksZero => Some(flags_of(counter)),
@@ -68,7 +68,7 @@ fn pass_reply(counter: &PercpuRef, stage: Option<LinuxPassStage>) -> LinuxReply 
     LinuxReply { found: found_by_pass(counter, stage), answer }
 }
 
-// The find of the control's step.
+// What the control's step found.
 fn found_by_control(moment: &LinuxMoment, stage: LinuxControlStage) -> Option<Found> {
     match stage {
         LinuxControlStage::Queues(_) => Some(Found::Rcu(moment.callbacks().len())),
@@ -99,7 +99,7 @@ fn callback_reply(counter: &PercpuRef, stage: CallbackStage) -> LinuxReply {
     }
 }
 
-/// The reply to the step of this actor, which led from one moment to the next.
+/// The reply to the step of this actor, which leads from one moment to the next.
 pub(crate) fn reply_at(moment: &LinuxMoment, next: &LinuxMoment, turn: LinuxTurn) -> LinuxReply {
     match turn {
         LinuxTurn::Pass(pass) => pass_reply(moment.counter(), moment.stage_of(pass)),
@@ -108,7 +108,7 @@ pub(crate) fn reply_at(moment: &LinuxMoment, next: &LinuxMoment, turn: LinuxTurn
     }
 }
 
-// Appends a number that wraps: from 2^63 on it is below 0.
+// Appends a number that wraps: a number of 2^63 or more is negative.
 fn push_signed(out: &mut Vec<u8>, number: u64) -> Result<(), AllocError> {
     if number >= BIAS {
         push_text(out, "-")?;
@@ -118,7 +118,7 @@ fn push_signed(out: &mut Vec<u8>, number: u64) -> Result<(), AllocError> {
     }
 }
 
-// Appends what is in the count beside the bias.
+// Appends the count without the bias.
 fn push_offset(out: &mut Vec<u8>, number: u64) -> Result<(), AllocError> {
     if number >= BIAS {
         push_text(out, "bias-")?;
@@ -129,7 +129,7 @@ fn push_offset(out: &mut Vec<u8>, number: u64) -> Result<(), AllocError> {
     }
 }
 
-// Appends the count, with the bias where it is in it.
+// Appends the count, and the bias if it has one.
 fn push_count(out: &mut Vec<u8>, count: u64) -> Result<(), AllocError> {
     if HALF <= count && count < BIAS + HALF {
         push_offset(out, count.wrapping_sub(BIAS))
@@ -199,7 +199,7 @@ fn push_counter(out: &mut Vec<u8>, counter: &PercpuRef) -> Result<(), AllocError
     push_named(out, ", releases ", counter.releases())
 }
 
-/// Appends the line of the state at the end. `Memory` also for 2^64 references that passes hold.
+/// Appends the line of the state at the end. Also returns `Memory` if passes hold 2^64 references.
 pub(crate) fn push_end(out: &mut Vec<u8>, moment: &LinuxMoment) -> Result<(), Memory> {
     let held = moment.held_by_all()?;
     push_text(out, "end ")?;

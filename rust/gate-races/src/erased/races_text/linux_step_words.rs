@@ -1,5 +1,5 @@
 // Erased from crates/races_text/src/linux_step_words.rt by tools/erase: edit that file.
-//! The steps of a race on Linux's percpu_ref, as a line says them.
+//! Reading the steps of a race on Linux's percpu_ref.
 
 use crate::erased::gate_replay::is_all_digits;
 use crate::erased::line_text::{Why, Words, is_word, no_words, one_word, short_number, three_words};
@@ -13,7 +13,7 @@ fn alone(step: LinuxStep, words: Words<'_>) -> Result<LinuxStep, Why> {
     Ok(step)
 }
 
-// A step whose second word has to be this.
+// A step whose second word has to be `last`.
 fn ended_by(last: &str, step: LinuxStep, words: Words<'_>) -> Result<LinuxStep, Why> {
     if is_word(one_word(words)?, last) { Ok(step) } else { Err(Why::UnknownWord) }
 }
@@ -26,7 +26,7 @@ fn load(mut words: Words<'_>) -> Result<LinuxStep, Why> {
     if is_word(word, "again") { Ok(LinuxStep::LoadAgain) } else { Err(Why::UnknownWord) }
 }
 
-// The step that is about DEAD, or the one about ATOMIC.
+// The step on DEAD or the step on ATOMIC, as the second word says.
 fn flag_step(on_dead: LinuxStep, on_atomic: LinuxStep, words: Words<'_>) -> Result<LinuxStep, Why> {
     let word = one_word(words)?;
     if is_word(word, "dead") {
@@ -73,7 +73,7 @@ fn is_one(change: Change) -> bool {
     }
 }
 
-// A count on the count of all processors. Unless that is zero, 1 alone is counted.
+// A count on the count that all processors share. `unless zero` is allowed only for 1.
 fn counted_unless(unless: bool, change: Change) -> Result<LinuxStep, Why> {
     if !unless {
         Ok(LinuxStep::OnCount(change))
@@ -124,7 +124,7 @@ fn short_step(name: &[u8], words: Words<'_>) -> Result<LinuxStep, Why> {
     }
 }
 
-// A step, by its first word and those behind it.
+// A step, given its first word and the rest.
 fn step_by(name: &[u8], words: Words<'_>) -> Result<LinuxStep, Why> {
     if is_word(name, "load") {
         load(words)
@@ -168,8 +168,8 @@ fn control_turn(words: Words<'_>) -> Result<(LinuxTurn, LinuxStep), Why> {
     Ok((LinuxTurn::Control, step))
 }
 
-/// The actor and its step that the words of a line say. A first word of digits alone is the number of a pass, however long it is, `c` is
-/// the control, and `rcu` and a number are a callback.
+/// The actor and the step that the words of a line name. A first word of digits alone is the number of a pass, however
+/// long it is, `c` is the control, and `rcu` with a number is a callback.
 pub(crate) fn turn(mut words: Words<'_>) -> Result<(LinuxTurn, LinuxStep), Why> {
     let first = words.next().ok_or(Why::UnknownWord)?;
     if is_all_digits(first) {

@@ -1,5 +1,5 @@
 // Erased from crates/races_text/src/question.rt by tools/erase: edit that file.
-//! Questions, as lines spell them.
+//! Reading questions.
 
 use crate::erased::fallible::TryVec;
 use crate::erased::line_text::{ScriptFault, Why, Words, at_line, is_word};
@@ -30,7 +30,7 @@ fn claims(line: u32, draft: &Draft, mut words: Words<'_>) -> Result<Vec<Claim>, 
     Ok(claims)
 }
 
-/// The question of a line, by the words behind its first: about a race as far as it was read.
+/// The question of a line, given the words after its first word. It is about the race as far as it was read.
 pub(crate) fn question(line: u32, draft: &Draft, mut words: Words<'_>) -> Result<Question, ScriptFault> {
     let first = at_line(line, words.next().ok_or(Why::MissingWord))?;
     let wanted = at_line(line, wanted_in(first))?;

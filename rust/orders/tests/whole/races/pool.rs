@@ -97,7 +97,7 @@ fn the_device_goes_away_under_a_line() {
         assert!(block_on(queue.enter_any_async()).map_or_else(|why| why == EnterError::Dying, |_| true));
     }
     fn goes(queue: &Queue) {
-        queue.freeze_owned().unwrap().mark_dying();
+        queue.freeze().unwrap().into_owned().mark_dying();
     }
     race("a device that goes away under a line", 3, one_tag, &[enters, enters_async, goes], |queue| {
         assert_eq!(queue.try_enter_any().unwrap_err(), EnterError::Dying);
@@ -123,6 +123,27 @@ fn the_handle_is_dropped_beside_a_request() {
         drop(request);
     }
     race("a handle that is dropped beside a request", 8, parts, &[drops_the_handle, drops_the_request], |_| ());
+}
+
+/// The handle is dropped beside a future that keeps the queue: the future enters, or learns that the queue is gone.
+#[test]
+fn the_handle_is_dropped_beside_a_future() {
+    type Entering = std::pin::Pin<Box<dyn Future<Output = Result<crate::OwnedRequest, EnterError>> + Send>>;
+    type Parts = (std::sync::Mutex<Option<Queue>>, std::sync::Mutex<Option<Entering>>);
+    fn parts() -> Parts {
+        let queue = one_tag();
+        let entering: Entering = Box::pin(queue.enter_any_owned_async());
+        (std::sync::Mutex::new(Some(queue)), std::sync::Mutex::new(Some(entering)))
+    }
+    fn drops_the_handle(parts: &Parts) {
+        let queue = parts.0.lock().unwrap().take();
+        drop(queue);
+    }
+    fn enters(parts: &Parts) {
+        let entering = parts.1.lock().unwrap().take().unwrap();
+        assert!(block_on(entering).map_or_else(|why| why == EnterError::Dying, |_| true));
+    }
+    race("a handle that is dropped beside a future", 8, parts, &[drops_the_handle, enters], |_| ());
 }
 
 /// Tries to remove a queue.
@@ -162,10 +183,12 @@ fn a_removal_beside_a_tag_that_comes_home() {
 #[test]
 fn a_removal_beside_a_thaw_that_wakes() {
     type Place<T> = std::sync::Mutex<Option<T>>;
-    type Parts = (Place<Queue>, Place<crate::OwnedFrozen>, Place<crate::EnterOwnedAsync>);
+    type Entering = std::pin::Pin<Box<dyn Future<Output = Result<(), EnterError>> + Send>>;
+    type Parts = (Place<Queue>, Place<crate::OwnedFrozen>, Place<Entering>);
     fn parts() -> Parts {
         let queue = one_tag();
-        let (frozen, entering) = (queue.freeze_owned().unwrap(), queue.enter_owned_async(queue.tag().unwrap()));
+        let (frozen, entering) = (queue.freeze().unwrap().into_owned(), queue.enter_owned_async(queue.tag().unwrap()));
+        let entering: Entering = Box::pin(async { entering.await.map(drop).map_err(|refused| refused.reason) });
         (Place::new(Some(queue)), Place::new(Some(frozen)), Place::new(Some(entering)))
     }
     fn thaws(parts: &Parts) {
@@ -173,8 +196,8 @@ fn a_removal_beside_a_thaw_that_wakes() {
         drop(frozen);
     }
     fn gives_up(parts: &Parts) {
-        let mut entering = pin!(parts.2.lock().unwrap().take().unwrap());
-        drop(entering.as_mut().poll(&mut Context::from_waker(&waker())));
+        let mut entering = parts.2.lock().unwrap().take().unwrap();
+        let _polled = entering.as_mut().poll(&mut Context::from_waker(&waker()));
     }
     let acts: [fn(&Parts); 3] = [|it| removes(&it.0), thaws, gives_up];
     race("a removal beside a thaw that wakes", 5, parts, &acts, |it| is_removed(it.0));

@@ -148,6 +148,32 @@ fn a_future_changes_its_waker() {
     race("a future that changes its waker", 5, parts, &[moves, changes], is_live);
 }
 
+/// The task of an update waits until a thread has entered, whose waker panics: the thread's request has left by then.
+#[test]
+fn a_waker_of_an_update_panics() {
+    struct Panics;
+    impl std::task::Wake for Panics {
+        fn wake(self: std::sync::Arc<Self>) {
+            std::panic::resume_unwind(Box::new("the executor is gone"));
+        }
+    }
+    fn visits_though_a_waker_panics(parts: &Parts) {
+        let _panicked = std::panic::catch_unwind(std::panic::AssertUnwindSafe(|| visits(parts, 0)));
+    }
+    fn updates(parts: &Parts) {
+        changes(parts);
+        let panics = std::task::Waker::from(std::sync::Arc::new(Panics));
+        let mut update = Box::pin(parts.queue.update_async(|limits| limits.with_max(8)));
+        let _polled = std::panic::catch_unwind(std::panic::AssertUnwindSafe(|| {
+            update.as_mut().poll(&mut Context::from_waker(&panics)).is_ready()
+        }));
+        orders::turns::pause(); // the thread may enter meanwhile
+        drop(update);
+    }
+    let acts: [fn(&Parts); 2] = [visits_though_a_waker_panics, updates];
+    race("a waker of an update that panics", 3, parts, &acts, is_live);
+}
+
 /// A waker that panics keeps no other asleep, and thaws nothing twice.
 #[test]
 fn a_waker_panics() {

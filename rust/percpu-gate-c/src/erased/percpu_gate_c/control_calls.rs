@@ -1,9 +1,9 @@
 // Erased from crates/percpu_gate_c/src/control_calls.rt by tools/erase: edit that file.
-//! The calls of the control. A closed handle answers Closed, and a question of it false.
+//! The calls of the control. A closed handle returns Closed, or false from a question.
 
+use crate::erased::c_answers::{Misuse, write};
 use crate::erased::percpu_gate_c::control_handle::ControlHandle;
-use crate::erased::percpu_gate_c::misuse::Misuse;
-use crate::erased::percpu_gate_c::number::{of_done, of_kill, of_revived, write, write_words};
+use crate::erased::percpu_gate_c::number::{of_done, of_kill, of_revived};
 use crate::erased::percpu_gate_c::open_pass::WORDS;
 
 /// Kills the gate. 1 is the release. Linux: `percpu_ref_kill` (include/linux/percpu-refcount.h).
@@ -17,7 +17,7 @@ pub extern "C" fn percpu_gate_kill(control: &mut ControlHandle) -> u32 {
     of_kill(answer)
 }
 
-/// Whether the count has reached zero. Linux: `percpu_ref_is_zero` (include/linux/percpu-refcount.h).
+/// Whether the count has reached zero. Linux: `percpu_ref_is_zero` (lib/percpu-refcount.c).
 #[unsafe(no_mangle)]
 pub extern "C" fn percpu_gate_control_is_zero(control: &mut ControlHandle) -> bool {
     let Some(mut open) = control.take() else {
@@ -39,7 +39,7 @@ pub extern "C" fn percpu_gate_reinit(control: &mut ControlHandle) -> u32 {
     of_done(answer)
 }
 
-/// Revives a dead gate. 4 where it had reached zero. Linux: `percpu_ref_resurrect` (lib/percpu-refcount.c).
+/// Revives a dead gate. Returns 4 if it had reached zero. Linux: `percpu_ref_resurrect` (lib/percpu-refcount.c).
 #[unsafe(no_mangle)]
 pub extern "C" fn percpu_gate_resurrect(control: &mut ControlHandle) -> u32 {
     let Some(mut open) = control.take() else {
@@ -84,7 +84,7 @@ pub extern "C" fn percpu_gate_store_word(control: &mut ControlHandle, k: u32, v:
     of_done(answer)
 }
 
-/// Writes the kills so far.
+/// Writes the number of kills so far.
 #[unsafe(no_mangle)]
 pub extern "C" fn percpu_gate_kill_count(control: &mut ControlHandle, kills: &mut u64) -> u32 {
     let Some(mut open) = control.take() else {
@@ -95,7 +95,7 @@ pub extern "C" fn percpu_gate_kill_count(control: &mut ControlHandle, kills: &mu
     write(answer, kills)
 }
 
-/// Writes the releases of the control and of retired passes.
+/// Writes the number of releases of the control and of retired passes.
 #[unsafe(no_mangle)]
 pub extern "C" fn percpu_gate_release_count(control: &mut ControlHandle, releases: &mut u64) -> u32 {
     let Some(mut open) = control.take() else {
@@ -106,13 +106,13 @@ pub extern "C" fn percpu_gate_release_count(control: &mut ControlHandle, release
     write(answer, releases)
 }
 
-/// Writes the guarded words. (A pass reads them one by one, while it holds a reference.)
+/// Writes the guarded words. (A pass reads them one by one while it holds a reference.)
 #[unsafe(no_mangle)]
 pub extern "C" fn percpu_gate_all_words(control: &mut ControlHandle, words: &mut [u64; WORDS]) -> u32 {
     let Some(mut open) = control.take() else {
-        return write_words(Err(Misuse::Closed), words);
+        return write(Err(Misuse::Closed), words);
     };
     let answer = open.words();
     control.put_back(open);
-    write_words(answer, words)
+    write(answer, words)
 }

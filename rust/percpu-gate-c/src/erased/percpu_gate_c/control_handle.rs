@@ -1,14 +1,14 @@
 // Erased from crates/percpu_gate_c/src/control_handle.rt by tools/erase: edit that file.
-//! The control, to C.
+//! The control's handle for C.
 
+use crate::erased::c_answers::Misuse;
 use crate::erased::percpu_gate_c::control_held::ControlHeld;
-use crate::erased::percpu_gate_c::misuse::Misuse;
 use crate::erased::percpu_gate_c::open_control::OpenControl;
 use crate::erased::pointers::TryBox;
 use alloc::boxed::Box;
 use core::mem;
 
-/// The control handle: to C a `bool` and a pointer, all zero where it is closed.
+/// The control's handle: for C a `bool` and a pointer, all zero if it is closed.
 #[repr(C)]
 pub struct ControlHandle {
     is_open: bool,
@@ -22,7 +22,7 @@ impl ControlHandle {
         ControlHandle { is_open: false, held: ControlHeld::nothing() }
     }
 
-    /// The box of an open handle, which is left closed.
+    /// Takes the box of an open handle, which is closed afterwards.
     pub fn take(&mut self) -> Option<Box<OpenControl>> {
         if !self.is_open {
             return None;
@@ -32,12 +32,12 @@ impl ControlHandle {
         Some(mem::replace(&mut self.held, nothing).into_box())
     }
 
-    /// Its allocator, where it is closed. Refuses Open.
+    /// The allocator of a closed handle. Refuses with Open.
     pub fn closed(&self) -> Result<(), Misuse> {
         if self.is_open { Err(Misuse::Open) } else { Ok(()) }
     }
 
-    /// Opens a closed handle, in a new box. Refuses Memory.
+    /// Opens a closed handle, in a new box. Refuses with Memory.
     ///
     /// # Preconditions
     ///

@@ -1,31 +1,31 @@
 // Erased from crates/percpu_gate_c/src/control_held.rt by tools/erase: edit that file.
-//! The box of a handle, under a pointer that C may keep.
+//! The box of a handle, behind a pointer that C may keep.
 
 use crate::erased::loose_box::Loose;
 use crate::erased::percpu_gate_c::open_control::OpenControl;
 use alloc::boxed::Box;
 use core::ptr;
 
-/// A box of a control, or nothing. The pointer's type hides the control's, which C may not know. One that is let go
-/// keeps its box.
+/// A box of a control, or nothing. The pointer's type hides the control's, which C may not know. Dropping it doesn't
+/// free the box.
 #[repr(C)]
 pub struct ControlHeld {
     at: *mut u8,
 }
 
 impl ControlHeld {
-    /// Nothing.
+    /// Returns nothing.
     pub(crate) fn nothing() -> ControlHeld {
         let at = ptr::null_mut();
         ControlHeld { at }
     }
 
-    /// This box.
+    /// Holds this box.
     pub(crate) fn of(control: Box<OpenControl>) -> ControlHeld {
         ControlHeld::of_loose(Loose::of(control))
     }
 
-    /// Its box.
+    /// Returns the box.
     ///
     /// # Preconditions
     ///

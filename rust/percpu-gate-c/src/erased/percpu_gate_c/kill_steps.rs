@@ -1,12 +1,12 @@
 // Erased from crates/percpu_gate_c/src/kill_steps.rt by tools/erase: edit that file.
-//! The steps of a kill one by one, for C that acts at its confirmation. A closed handle answers Closed, and a step out
-//! of its turn Step.
+//! The steps of a kill one by one, for C that acts at its confirmation. A closed handle returns Closed, and a step out
+//! of its turn returns Step.
 
+use crate::erased::c_answers::{Misuse, of_put, of_unit, write};
 use crate::erased::percpu_gate_c::control_handle::ControlHandle;
-use crate::erased::percpu_gate_c::misuse::Misuse;
-use crate::erased::percpu_gate_c::number::{of_closed, of_phase, of_put, of_unit, write, write_slots};
+use crate::erased::percpu_gate_c::number::{of_closed, of_phase, write_slots};
 
-/// Begins a kill, and writes how many slots are now to be closed: none where counts are on the shared word. Linux:
+/// Begins a kill, and writes how many slots have to be closed now: 0 if all counts are on the shared word. Linux:
 /// `percpu_ref_kill_and_confirm` (lib/percpu-refcount.c), which sets `__PERCPU_REF_DEAD`.
 #[unsafe(no_mangle)]
 pub extern "C" fn percpu_gate_mark_dead(control: &mut ControlHandle, slots: &mut u32) -> u32 {
@@ -30,7 +30,7 @@ pub extern "C" fn percpu_gate_close_next(control: &mut ControlHandle) -> u32 {
     of_closed(answer)
 }
 
-/// Brings what was counted on the closed slots to the shared word. Linux: `percpu_ref_switch_to_atomic_rcu`
+/// Adds what was counted on the closed slots to the shared word. Linux: `percpu_ref_switch_to_atomic_rcu`
 /// (lib/percpu-refcount.c).
 #[unsafe(no_mangle)]
 pub extern "C" fn percpu_gate_collect(control: &mut ControlHandle) -> u32 {

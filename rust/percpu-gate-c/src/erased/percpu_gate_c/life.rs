@@ -1,16 +1,14 @@
 // Erased from crates/percpu_gate_c/src/life.rt by tools/erase: edit that file.
-//! How gates and their handles come and go.
+//! The beginning and the end of gates and their handles.
 
+use crate::erased::c_answers::{DrawnNumber, Misuse, of_unit};
 use crate::erased::percpu_gate::Start;
 use crate::erased::percpu_gate_c::control_handle::ControlHandle;
-use crate::erased::percpu_gate_c::gate_number::GateNumber;
-use crate::erased::percpu_gate_c::misuse::Misuse;
-use crate::erased::percpu_gate_c::number::of_unit;
 use crate::erased::percpu_gate_c::open_control::OpenControl;
 use crate::erased::percpu_gate_c::open_pass::WORDS;
 use crate::erased::percpu_gate_c::pass_handle::PassHandle;
 
-/// What is left of a gate that has ended.
+/// The last facts of a gate that has ended.
 #[derive(Debug)]
 #[repr(C)]
 pub struct Final {
@@ -20,7 +18,7 @@ pub struct Final {
     pub words: [u64; WORDS],
 }
 
-/// How a gate starts, by its number.
+/// The start with this number.
 fn start_of(start: u32) -> Start {
     match start {
         0 => Start::Slots,
@@ -29,10 +27,10 @@ fn start_of(start: u32) -> Start {
     }
 }
 
-/// The control of a new gate, for a closed handle. Refuses Open, Size, Memory.
+/// The control of a new gate, for a closed handle. Refuses with Open, Size or Memory.
 fn make(
     control: &mut ControlHandle,
-    number: &GateNumber,
+    number: &DrawnNumber,
     slots: u32,
     passes: u32,
     start: u32,
@@ -46,13 +44,13 @@ fn make(
     control.open(open)
 }
 
-/// A gate of so many slots (1 to 512) and passes (1 to 1,024) with eight guarded words, for a closed control handle.
-/// It starts with its slots open (0), with them closed (1), or dead and at zero (2). Refuses Open, Size, Memory.
-/// Linux: `percpu_ref_init` (lib/percpu-refcount.c).
+/// Makes a gate with this many slots (1 to 512) and passes (1 to 1,024) and with eight guarded words, for a closed
+/// control handle. It starts with its slots open (0), with them closed (1), or dead and at zero (2). Refuses with Open,
+/// Size or Memory. Linux: `percpu_ref_init` (lib/percpu-refcount.c).
 #[unsafe(no_mangle)]
 pub extern "C" fn percpu_gate_new_numbered(
     control: &mut ControlHandle,
-    number: &GateNumber,
+    number: &DrawnNumber,
     slots: u32,
     passes: u32,
     start: u32,
@@ -61,7 +59,7 @@ pub extern "C" fn percpu_gate_new_numbered(
     of_unit(make(control, number, slots, passes, start, words))
 }
 
-/// The next pass of this control, for a closed handle.
+/// Gives the next pass of this control to a closed handle.
 fn give(chosen: &mut OpenControl, pass: &mut PassHandle) -> Result<(), Misuse> {
     pass.closed()?;
     let given = chosen.next_pass()?;
@@ -69,7 +67,7 @@ fn give(chosen: &mut OpenControl, pass: &mut PassHandle) -> Result<(), Misuse> {
     Ok(())
 }
 
-/// The next pass of the gate, for a closed pass handle. Refuses Closed, Open, NoPass, Memory.
+/// Gives the next pass of the gate to a closed pass handle. Refuses with Closed, Open, NoneWaits or Memory.
 #[unsafe(no_mangle)]
 pub extern "C" fn percpu_gate_next_pass(control: &mut ControlHandle, pass: &mut PassHandle) -> u32 {
     let Some(mut open) = control.take() else {
@@ -80,7 +78,7 @@ pub extern "C" fn percpu_gate_next_pass(control: &mut ControlHandle, pass: &mut 
     of_unit(answer)
 }
 
-/// The number of a pass's gate, or 0 of a closed handle.
+/// The number of a pass's gate, or 0 for a closed handle.
 #[unsafe(no_mangle)]
 pub extern "C" fn percpu_gate_pass_number(pass: &mut PassHandle) -> u64 {
     let Some(open) = pass.take() else {
@@ -91,7 +89,7 @@ pub extern "C" fn percpu_gate_pass_number(pass: &mut PassHandle) -> u64 {
     number
 }
 
-/// The number of a control's gate, or 0 of a closed handle.
+/// The number of a control's gate, or 0 for a closed handle.
 #[unsafe(no_mangle)]
 pub extern "C" fn percpu_gate_control_number(control: &mut ControlHandle) -> u64 {
     let Some(open) = control.take() else {
@@ -102,19 +100,19 @@ pub extern "C" fn percpu_gate_control_number(control: &mut ControlHandle) -> u64
     number
 }
 
-/// Frees what a pass handle has, and closes it. Its gate counts the pass as out for ever, if it wasn't retired.
+/// Frees the box of a pass handle, and closes it. If the pass wasn't retired, its gate counts it as out forever.
 #[unsafe(no_mangle)]
 pub extern "C" fn percpu_gate_free_pass(pass: &mut PassHandle) {
     drop(pass.take());
 }
 
-/// Frees what a control handle has, and closes it.
+/// Frees the box of a control handle, and closes it.
 #[unsafe(no_mangle)]
 pub extern "C" fn percpu_gate_free_control(control: &mut ControlHandle) {
     drop(control.take());
 }
 
-/// The pass of a handle is taken in by the control, unless that is refused.
+/// Has the control take in the pass of a handle, unless that is refused.
 ///
 /// # Preconditions
 ///
@@ -131,7 +129,7 @@ fn retire(chosen: &mut OpenControl, pass: &mut PassHandle) -> Result<(), Misuse>
     Ok(())
 }
 
-/// Ends a pass that holds nothing. Refuses Closed, OtherGate, StillHeld.
+/// Ends a pass that holds nothing. Refuses with Closed, Foreign or StillHeld.
 ///
 /// # Preconditions
 ///
@@ -146,10 +144,10 @@ pub extern "C" fn percpu_gate_retire(control: &mut ControlHandle, pass: &mut Pas
     of_unit(answer)
 }
 
-/// Ends a gate, and closes the handle: takes in the passes that nobody asked for. Refuses Closed; 20 in the middle of a
-/// kill, 22 where passes that were given out aren't retired. Somebody else's share of the gate, which no way of using handles leads to, is answered InUse,
-/// with everything as it was, or Memory where the control has no new box: it is gone then. Linux: `percpu_ref_exit`
-/// (lib/percpu-refcount.c).
+/// Ends a gate, and closes the handle; takes in the passes that nobody asked for. Refuses with Closed; returns 20
+/// during a kill, and 22 if passes that were given out aren't retired. If somebody else has a share of the gate, which
+/// no use of handles leads to, it returns InUse with everything unchanged, or Memory if the control gets no new box:
+/// then the control is gone. Linux: `percpu_ref_exit` (lib/percpu-refcount.c).
 #[unsafe(no_mangle)]
 pub extern "C" fn percpu_gate_exit(control: &mut ControlHandle, last: &mut Final) -> u32 {
     let Some(open) = control.take() else {

@@ -1,18 +1,10 @@
 // Erased from crates/percpu_gate_c/src/number.rt by tools/erase: edit that file.
-//! The numbers that C is answered.
+//! The numbers that only the library of the gate returns to C.
 
+use crate::erased::c_answers::{Misuse, put_number};
 use crate::erased::percpu_gate::{ControlFault, Phase, Put, Revived, Tried};
-use crate::erased::percpu_gate_c::misuse::Misuse;
-use crate::erased::percpu_gate_c::open_pass::WORDS;
 
-fn put_number(put: Put) -> u32 {
-    match put {
-        Put::NotLast => 0,
-        Put::Last => 1,
-    }
-}
-
-/// What a try answers: 0 where the reference is given; where it isn't, 2, or 3 where that was the last put.
+/// The number of a try: 0 if the reference was taken; otherwise 2, or 3 if the try's put was the last.
 pub fn of_tried(answer: Result<Tried, Misuse>) -> u32 {
     match answer {
         Ok(Tried::Given) => 0,
@@ -21,50 +13,12 @@ pub fn of_tried(answer: Result<Tried, Misuse>) -> u32 {
     }
 }
 
-/// What a put answers: 0, or 1 where it was the last.
-pub fn of_put(answer: Result<Put, Misuse>) -> u32 {
-    match answer {
-        Ok(put) => put_number(put),
-        Err(why) => why.number(),
-    }
-}
-
-/// 0 where all went well.
-pub fn of_unit(answer: Result<(), Misuse>) -> u32 {
-    match answer {
-        Ok(()) => 0,
-        Err(why) => why.number(),
-    }
-}
-
-/// Writes what was read. 0 where all went well.
-pub fn write(answer: Result<u64, Misuse>, here: &mut u64) -> u32 {
-    match answer {
-        Ok(value) => {
-            *here = value;
-            0
-        }
-        Err(why) => why.number(),
-    }
-}
-
-/// Writes the guarded words. 0 where all went well.
-pub fn write_words(answer: Result<[u64; WORDS], Misuse>, here: &mut [u64; WORDS]) -> u32 {
-    match answer {
-        Ok(words) => {
-            *here = words;
-            0
-        }
-        Err(why) => why.number(),
-    }
-}
-
-/// A refusal of the gate: 16 more than its number.
+/// The number of a refusal by the gate, plus 16.
 fn of_fault(why: ControlFault) -> u32 {
     16 + u32::from(why.number())
 }
 
-/// What a kill answers: as a put, or the gate's refusal.
+/// The number of a kill: that of its put, or of the gate's refusal.
 pub fn of_kill(answer: Result<Result<Put, ControlFault>, Misuse>) -> u32 {
     match answer {
         Ok(Ok(put)) => put_number(put),
@@ -73,7 +27,7 @@ pub fn of_kill(answer: Result<Result<Put, ControlFault>, Misuse>) -> u32 {
     }
 }
 
-/// 0 where the gate did it.
+/// 0 if the gate did it.
 pub fn of_done(answer: Result<Result<(), ControlFault>, Misuse>) -> u32 {
     match answer {
         Ok(Ok(())) => 0,
@@ -82,7 +36,7 @@ pub fn of_done(answer: Result<Result<(), ControlFault>, Misuse>) -> u32 {
     }
 }
 
-/// 4 where the count had reached zero, else 0.
+/// 4 if the count had reached zero, else 0.
 pub fn of_revived(answer: Result<Result<Revived, ControlFault>, Misuse>) -> u32 {
     match answer {
         Ok(Ok(Revived::AtZero)) => 4,
@@ -92,7 +46,7 @@ pub fn of_revived(answer: Result<Result<Revived, ControlFault>, Misuse>) -> u32 
     }
 }
 
-/// Writes the slots that a kill has to close. 0 where it is begun.
+/// Writes the number of slots that a kill has to close. Returns 0 if the kill has begun.
 pub fn write_slots(answer: Result<Result<u32, ControlFault>, Misuse>, slots: &mut u32) -> u32 {
     match answer {
         Ok(Ok(to_close)) => {
@@ -104,7 +58,7 @@ pub fn write_slots(answer: Result<Result<u32, ControlFault>, Misuse>, slots: &mu
     }
 }
 
-/// 0 where a slot is closed. (Its delta is the control's to sum.)
+/// 0 if a slot was closed. (The control sums up its delta.)
 pub fn of_closed(answer: Result<i64, Misuse>) -> u32 {
     match answer {
         Ok(_) => 0,

@@ -1,12 +1,11 @@
 // Erased from crates/percpu_gate_c/src/open_control.rt by tools/erase: edit that file.
-//! What an open control handle leads to.
+//! The box of an open control handle.
 
+use crate::erased::c_answers::{DrawnNumber, Misuse};
 use crate::erased::percpu_gate::{
     Control, ControlFault, ExitWhy, Gate, PASS_LIMIT, Pass, Phase, Put, Revived, SLOT_LIMIT, Start,
 };
-use crate::erased::percpu_gate_c::gate_number::GateNumber;
 use crate::erased::percpu_gate_c::life::Final;
-use crate::erased::percpu_gate_c::misuse::Misuse;
 use crate::erased::percpu_gate_c::open_pass::{OpenPass, WORDS};
 use crate::erased::pointers::{Arc, TryBox};
 use alloc::boxed::Box;
@@ -17,7 +16,7 @@ use alloc::vec::Vec;
 pub struct OpenControl {
     before: [u64; 16],
     gate: Arc<Gate<WORDS>>,
-    number: GateNumber,
+    number: DrawnNumber,
     waiting: Vec<Pass<WORDS>>,
     spare: Option<Pass<WORDS>>,
     control: Control<WORDS>,
@@ -56,9 +55,9 @@ fn take_in_all(
 }
 
 impl OpenControl {
-    /// The control of a new gate. Refuses Size, Memory.
+    /// Makes the control of a new gate. Refuses with Size or Memory.
     pub fn new(
-        number: GateNumber,
+        number: DrawnNumber,
         slots: u32,
         passes: u32,
         start: Start,
@@ -76,14 +75,14 @@ impl OpenControl {
         Ok(OpenControl { before: [0; 16], gate, number, waiting, spare: None, control, after: [0; 16] })
     }
 
-    /// The next pass that waits. Refuses NoPass, Memory.
+    /// The next pass that no handle has had yet. Refuses with NoneWaits or Memory.
     pub fn next_pass(&mut self) -> Result<Box<OpenPass>, Misuse> {
         let next = match self.spare.take() {
             Some(pass) => Some(pass),
             None => self.waiting.pop(),
         };
         let Some(pass) = next else {
-            return Err(Misuse::NoPass);
+            return Err(Misuse::NoneWaits);
         };
         let Ok(gate) = Arc::try_clone(&self.gate) else {
             self.spare = Some(pass);
@@ -103,12 +102,12 @@ impl OpenControl {
         Ok(self.control.kill(&self.gate))
     }
 
-    /// Begins a kill. The number of slots that are to be closed.
+    /// Begins a kill. Returns the number of slots that have to be closed.
     pub fn mark_dead(&mut self) -> Result<Result<u32, ControlFault>, Misuse> {
         Ok(self.control.mark_dead(&self.gate))
     }
 
-    /// Closes the next slot of a kill. Its delta. Refuses Step.
+    /// Closes the next slot of a kill. Returns its delta. Refuses with Step.
     pub fn close_next(&mut self) -> Result<i64, Misuse> {
         match self.control.phase() {
             Phase::Closing(closed) if closed < self.gate.slots() => Ok(self.control.close_next(&self.gate)),
@@ -116,7 +115,7 @@ impl OpenControl {
         }
     }
 
-    /// Collects the slots that a kill has closed. Refuses Step.
+    /// Collects the slots that a kill has closed. Refuses with Step.
     pub fn collect(&mut self) -> Result<(), Misuse> {
         match self.control.phase() {
             Phase::Closing(closed) if closed == self.gate.slots() => {
@@ -127,7 +126,7 @@ impl OpenControl {
         }
     }
 
-    /// Confirms a kill. Its front. Refuses Step.
+    /// Confirms a kill. Returns its front. Refuses with Step.
     pub fn confirm(&mut self) -> Result<u64, Misuse> {
         match self.control.phase() {
             Phase::Collected => Ok(self.control.confirm(&self.gate)),
@@ -135,7 +134,7 @@ impl OpenControl {
         }
     }
 
-    /// Drops the initial reference, which ends a kill. Refuses Step.
+    /// Drops the initial reference, which ends a kill. Refuses with Step.
     pub fn drop_base(&mut self) -> Result<Put, Misuse> {
         match self.control.phase() {
             Phase::Confirmed => Ok(self.control.drop_base(&self.gate)),
@@ -143,7 +142,7 @@ impl OpenControl {
         }
     }
 
-    /// Where the control stands.
+    /// The phase of the control.
     pub fn phase(&mut self) -> Result<Phase, Misuse> {
         Ok(self.control.phase())
     }
@@ -173,7 +172,7 @@ impl OpenControl {
         Ok(self.control.switch_to_slots(&self.gate))
     }
 
-    /// Stores a guarded word. Refuses Word.
+    /// Stores a guarded word. Refuses with Word.
     pub fn store_word(&mut self, k: u32, v: u64) -> Result<Result<(), ControlFault>, Misuse> {
         if k as usize >= WORDS {
             return Err(Misuse::Word);
@@ -181,12 +180,12 @@ impl OpenControl {
         Ok(self.control.store_word(&self.gate, k, v))
     }
 
-    /// The kills so far.
+    /// The number of kills so far.
     pub fn kills(&mut self) -> Result<u64, Misuse> {
         Ok(self.control.kills())
     }
 
-    /// The releases of the control and of retired passes.
+    /// The number of releases of the control and of retired passes.
     pub fn releases(&mut self) -> Result<u64, Misuse> {
         Ok(self.control.releases())
     }
@@ -196,11 +195,11 @@ impl OpenControl {
         Ok(self.control.words())
     }
 
-    /// Why this pass may not be retired. Refuses OtherGate, StillHeld.
+    /// Why this pass may not be retired. Refuses with Foreign or StillHeld.
     pub fn refuse_retire(&self, pass: &OpenPass) -> Result<(), Misuse> {
         let number = pass.number();
         if self.number.counter != number.counter || self.number.drawn != number.drawn {
-            Err(Misuse::OtherGate)
+            Err(Misuse::Foreign)
         } else if pass.held() != 0 {
             Err(Misuse::StillHeld)
         } else {
@@ -219,11 +218,11 @@ impl OpenControl {
     }
 
     /// The number of its gate.
-    pub fn number(&self) -> GateNumber {
+    pub fn number(&self) -> DrawnNumber {
         self.number
     }
 
-    /// The passes that were given out and aren't retired.
+    /// The number of passes that were given out and aren't retired.
     fn given_out(&self) -> u32 {
         let waiting = self.waiting.len() + usize::from(self.spare.is_some());
         (self.control.passes() as usize).saturating_sub(waiting) as u32
@@ -234,8 +233,8 @@ impl OpenControl {
         self.control.refuse_exit(self.given_out())
     }
 
-    /// Ends the gate, once the passes that nobody asked for are taken in. Itself where somebody has a share of the
-    /// gate, which no way of using handles leads to.
+    /// Ends the gate, after taking in the passes that nobody asked for. Returns itself if somebody has a share of the
+    /// gate, which no use of handles leads to.
     ///
     /// # Preconditions
     ///

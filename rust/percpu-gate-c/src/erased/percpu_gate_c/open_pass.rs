@@ -1,23 +1,21 @@
 // Erased from crates/percpu_gate_c/src/open_pass.rt by tools/erase: edit that file.
-//! What an open pass handle leads to.
+//! The box of an open pass handle.
 
+use crate::erased::c_answers::{DrawnNumber, Misuse};
 use crate::erased::percpu_gate::{Gate, HELD_LIMIT, Pass, Put, Tried};
-use crate::erased::percpu_gate_c::gate_number::GateNumber;
-use crate::erased::percpu_gate_c::misuse::Misuse;
 use crate::erased::pointers::Arc;
 
 /// The guarded words of each gate.
 pub const WORDS: usize = 8;
 
-/// A pass with its gate, and the number that tells the gate from others.
+/// A pass with its gate, and the gate's unique number.
 ///
-/// There are 128 unused bytes before and behind what calls write, so that boxes of different threads share no
-/// 128 bytes.
+/// 128 unused bytes before and after what calls write keep the boxes of different threads from sharing 128 bytes.
 #[repr(C)]
 pub struct OpenPass {
     before: [u64; 8],
     gate: Arc<Gate<WORDS>>,
-    number: GateNumber,
+    number: DrawnNumber,
     pass: Pass<WORDS>,
     after: [u64; 8],
 }
@@ -28,7 +26,7 @@ impl OpenPass {
     /// # Preconditions
     ///
     /// - `pass` belongs to `gate`.
-    pub fn new(gate: Arc<Gate<WORDS>>, number: GateNumber, pass: Pass<WORDS>) -> OpenPass {
+    pub fn new(gate: Arc<Gate<WORDS>>, number: DrawnNumber, pass: Pass<WORDS>) -> OpenPass {
         OpenPass { before: [0; 8], gate, number, pass, after: [0; 8] }
     }
 
@@ -42,19 +40,19 @@ impl OpenPass {
         if self.pass.held() < HELD_LIMIT { Ok(()) } else { Err(Misuse::HeldFull) }
     }
 
-    /// Takes a reference unless the gate has reached zero. Refuses Slot, HeldFull.
+    /// Takes a reference unless the gate has reached zero. Refuses with Slot or HeldFull.
     pub fn try_get(&mut self, slot: u32) -> Result<Tried, Misuse> {
         self.refuse_take(slot)?;
         Ok(self.pass.try_get(&self.gate, slot))
     }
 
-    /// Takes a reference unless the gate was killed. Refuses Slot, HeldFull.
+    /// Takes a reference unless the gate was killed. Refuses with Slot or HeldFull.
     pub fn try_get_live(&mut self, slot: u32) -> Result<Tried, Misuse> {
         self.refuse_take(slot)?;
         Ok(self.pass.try_get_live(&self.gate, slot))
     }
 
-    /// Takes `n` references more. Refuses Slot, NotHeld, Amount, HeldFull.
+    /// Takes `n` more references. Refuses with Slot, NotHeld, Amount or HeldFull.
     pub fn get(&mut self, slot: u32, n: u32) -> Result<(), Misuse> {
         self.refuse_slot(slot)?;
         let held = self.pass.held();
@@ -71,7 +69,7 @@ impl OpenPass {
         Ok(())
     }
 
-    /// Drops `n` references. Refuses Slot, Amount, NotHeld.
+    /// Drops `n` references. Refuses with Slot, Amount or NotHeld.
     pub fn put(&mut self, slot: u32, n: u32) -> Result<Put, Misuse> {
         self.refuse_slot(slot)?;
         if n == 0 {
@@ -98,7 +96,7 @@ impl OpenPass {
         self.pass.is_zero(&self.gate)
     }
 
-    /// A guarded word. Refuses NotHeld, Word.
+    /// A guarded word. Refuses with NotHeld or Word.
     pub fn word(&mut self, k: u32) -> Result<u64, Misuse> {
         if self.pass.held() == 0 {
             return Err(Misuse::NotHeld);
@@ -110,7 +108,7 @@ impl OpenPass {
     }
 
     /// The number of its gate.
-    pub fn number(&self) -> GateNumber {
+    pub fn number(&self) -> DrawnNumber {
         self.number
     }
 

@@ -1,8 +1,8 @@
 // Erased from crates/percpu_gate_c/src/pass_calls.rt by tools/erase: edit that file.
-//! The calls of a pass. A closed handle answers Closed, and a question of it false.
+//! The calls of a pass. A closed handle returns Closed, or false from a question.
 
-use crate::erased::percpu_gate_c::misuse::Misuse;
-use crate::erased::percpu_gate_c::number::{of_put, of_tried, of_unit, write};
+use crate::erased::c_answers::{Misuse, of_put, of_unit, write};
+use crate::erased::percpu_gate_c::number::of_tried;
 use crate::erased::percpu_gate_c::pass_handle::PassHandle;
 
 /// Takes a reference unless the gate has reached zero. Linux: `percpu_ref_tryget`
@@ -29,8 +29,7 @@ pub extern "C" fn percpu_gate_try_get_live(pass: &mut PassHandle, slot: u32) -> 
     of_tried(answer)
 }
 
-/// Takes `n` references more, of a pass that holds one. Linux: `percpu_ref_get_many`
-/// (include/linux/percpu-refcount.h).
+/// Takes `n` more references of a pass that holds one. Linux: `percpu_ref_get_many` (include/linux/percpu-refcount.h).
 #[unsafe(no_mangle)]
 pub extern "C" fn percpu_gate_get(pass: &mut PassHandle, slot: u32, n: u32) -> u32 {
     let Some(mut open) = pass.take() else {
@@ -63,7 +62,7 @@ pub extern "C" fn percpu_gate_is_dying(pass: &mut PassHandle) -> bool {
     yes
 }
 
-/// Whether the count has reached zero. Linux: `percpu_ref_is_zero` (include/linux/percpu-refcount.h).
+/// Whether the count has reached zero. Linux: `percpu_ref_is_zero` (lib/percpu-refcount.c).
 #[unsafe(no_mangle)]
 pub extern "C" fn percpu_gate_is_zero(pass: &mut PassHandle) -> bool {
     let Some(mut open) = pass.take() else {

@@ -1,13 +1,13 @@
 // Erased from crates/percpu_gate_c/src/pass_handle.rt by tools/erase: edit that file.
-//! A pass, to C.
+//! A pass's handle for C.
 
-use crate::erased::percpu_gate_c::misuse::Misuse;
+use crate::erased::c_answers::Misuse;
 use crate::erased::percpu_gate_c::open_pass::OpenPass;
 use crate::erased::percpu_gate_c::pass_held::PassHeld;
 use alloc::boxed::Box;
 use core::mem;
 
-/// A pass handle: to C a `bool` and a pointer, all zero where it is closed.
+/// A pass's handle: for C a `bool` and a pointer, all zero if it is closed.
 #[repr(C)]
 pub struct PassHandle {
     is_open: bool,
@@ -21,7 +21,7 @@ impl PassHandle {
         PassHandle { is_open: false, held: PassHeld::nothing() }
     }
 
-    /// The box of an open handle, which is left closed.
+    /// Takes the box of an open handle, which is closed afterwards.
     pub fn take(&mut self) -> Option<Box<OpenPass>> {
         if !self.is_open {
             return None;
@@ -31,7 +31,7 @@ impl PassHandle {
         Some(mem::replace(&mut self.held, nothing).into_box())
     }
 
-    /// Its allocator, where it is closed. Refuses Open.
+    /// The allocator of a closed handle. Refuses with Open.
     pub fn closed(&self) -> Result<(), Misuse> {
         if self.is_open { Err(Misuse::Open) } else { Ok(()) }
     }
@@ -42,7 +42,7 @@ impl PassHandle {
     ///
     /// - `self.held.pass` is `None`.
     pub fn put_back(&mut self, pass: Box<OpenPass>) {
-        // One by one, since the bytes between them needn't be stored: what is stored delays the exchange that comes next.
+        // Field by field, since the bytes between them needn't be stored: a store delays the exchange that comes next.
         self.held = PassHeld::of(pass);
         self.is_open = true;
     }

@@ -1,31 +1,31 @@
 // Erased from crates/percpu_gate_c/src/pass_held.rt by tools/erase: edit that file.
-//! The box of a handle, under a pointer that C may keep.
+//! The box of a handle, behind a pointer that C may keep.
 
 use crate::erased::loose_box::Loose;
 use crate::erased::percpu_gate_c::open_pass::OpenPass;
 use alloc::boxed::Box;
 use core::ptr;
 
-/// A box of a pass, or nothing. The pointer's type hides the pass's, which C may not know. One that is let go
-/// keeps its box.
+/// A box of a pass, or nothing. The pointer's type hides the pass's, which C may not know. Dropping it doesn't free the
+/// box.
 #[repr(C)]
 pub struct PassHeld {
     at: *mut u8,
 }
 
 impl PassHeld {
-    /// Nothing.
+    /// Returns nothing.
     pub(crate) fn nothing() -> PassHeld {
         let at = ptr::null_mut();
         PassHeld { at }
     }
 
-    /// This box.
+    /// Holds this box.
     pub(crate) fn of(pass: Box<OpenPass>) -> PassHeld {
         PassHeld::of_loose(Loose::of(pass))
     }
 
-    /// Its box.
+    /// Returns the box.
     ///
     /// # Preconditions
     ///

@@ -1,19 +1,19 @@
 // Erased from crates/percpu_gate_c/src/tests.rt by tools/erase: edit that file.
-//! A life through the exports, and each misuse. What the program does with C's threads, sanitizers and a failing
-//! `malloc` is tested by c/tests.
+//! A life through the exports, and each misuse. c/tests tests what the library does with C's threads, sanitizers and a
+//! failing `malloc`.
 
 mod amounts;
 mod ends;
 mod freed;
 mod places;
 
+use crate::erased::c_answers::DrawnNumber;
 use crate::erased::percpu_gate_c::control_calls::{
     percpu_gate_all_words, percpu_gate_control_is_zero, percpu_gate_kill, percpu_gate_kill_count, percpu_gate_reinit,
     percpu_gate_release_count, percpu_gate_resurrect, percpu_gate_store_word, percpu_gate_switch_to_atomic,
     percpu_gate_switch_to_slots,
 };
 use crate::erased::percpu_gate_c::control_handle::ControlHandle;
-use crate::erased::percpu_gate_c::gate_number::GateNumber;
 use crate::erased::percpu_gate_c::kill_steps::{
     percpu_gate_close_next, percpu_gate_collect, percpu_gate_confirm, percpu_gate_drop_base, percpu_gate_mark_dead,
     percpu_gate_phase,
@@ -32,13 +32,13 @@ use crate::erased::percpu_gate_c::pass_handle::PassHandle;
 
 const WORDS: [u64; 8] = [7, 1, 2, 3, 4, 5, 6, 9];
 
-/// The number of a test's gate.
-const NUMBER: GateNumber = GateNumber { counter: 1, drawn: 1 };
+/// The number of the tests' gate.
+const NUMBER: DrawnNumber = DrawnNumber { counter: 1, drawn: 1 };
 
-/// What a handle leads to may cross threads.
+/// The box of a handle may cross threads.
 fn crosses<T: Send>() {}
 
-/// A control and a pass of a new gate with two slots and two passes.
+/// Returns a control and a pass of a new gate with two slots and two passes.
 fn opened() -> (ControlHandle, PassHandle) {
     crosses::<OpenPass>();
     crosses::<OpenControl>();
@@ -73,7 +73,8 @@ fn a_life() {
     percpu_gate_free_control(&mut control);
 }
 
-/// In each life zero is found once it is reached and not before, a word is stored and the gate revived, with a pass out.
+/// In each life zero is found once it is reached and not before, a word is stored and the gate revived, with a pass
+/// out.
 #[test]
 fn three_lives() {
     let (mut control, mut pass) = opened();
@@ -185,7 +186,7 @@ fn switches_and_revivals() {
     percpu_gate_free_pass(&mut pass);
 }
 
-/// What was counted on each slot, which C isn't told.
+/// What was counted on each slot, which C can't see.
 #[test]
 fn counts_on_the_slot_asked_for() {
     let (mut control, mut pass) = opened();

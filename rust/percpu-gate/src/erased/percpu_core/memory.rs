@@ -1,11 +1,11 @@
 // Erased from crates/percpu_core/src/memory.rt by tools/erase: edit that file.
-//! Want of memory.
+//! Refused memory.
 
 use crate::erased::fallible::AllocError;
 use core::error::Error;
 use core::fmt;
 
-/// A growth was refused.
+/// An allocation was refused.
 #[derive(Clone, Copy, Debug, PartialEq, Eq)]
 pub struct Memory;
 

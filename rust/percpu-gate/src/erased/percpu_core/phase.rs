@@ -3,10 +3,10 @@
 
 use crate::erased::percpu_words::Mode;
 
-/// Where the control of a gate stands.
+/// The phase of a gate's control.
 ///
-/// Counts are kept per slot in `LiveSlots` and on the shared word alone in every phase but that,
-/// `Closing` and `Opening`. Linux: the states told by `__PERCPU_REF_ATOMIC` and `__PERCPU_REF_DEAD`
+/// Counts are kept per slot in `LiveSlots`. `Closing` and `Opening` are the transitions, and in every other phase all
+/// counts are on the shared word. Linux: the states that `__PERCPU_REF_ATOMIC` and `__PERCPU_REF_DEAD` encode
 /// (include/linux/percpu-refcount.h).
 #[derive(Clone, Copy, Debug, PartialEq, Eq)]
 pub enum Phase {
@@ -14,19 +14,19 @@ pub enum Phase {
     LiveSlots,
     /// Live, with every slot closed.
     LiveAtomic,
-    /// So many slots are closed, from the first on.
+    /// This many slots are closed, from the first on.
     Closing(u32),
-    /// Killed, and every count is on the shared word.
+    /// Killed, with every count on the shared word.
     Collected,
-    /// Killed, and the odd front says so.
+    /// Killed, with the odd front stored.
     Confirmed,
-    /// Killed, and the initial reference is dropped.
+    /// Killed, with the initial reference dropped.
     Dead,
-    /// The initial reference is taken back.
+    /// The initial reference was taken back.
     Reviving,
-    /// The even front says that the gate comes back.
+    /// The even front was stored: the gate comes back.
     Fronted,
-    /// So many slots are open, from the first on.
+    /// This many slots are open, from the first on.
     Opening(u32),
 }
 
@@ -50,7 +50,7 @@ impl Phase {
         matches!(self, Phase::Closing(_) | Phase::Collected | Phase::Confirmed)
     }
 
-    /// Whether one of so many slots is to be closed, as the next step of a kill or of a switch.
+    /// Whether the next step of a kill or of a switch closes one of this many slots.
     pub fn has_slot_to_close(self, slots: usize) -> bool {
         match self {
             Phase::LiveSlots => true,
@@ -59,7 +59,7 @@ impl Phase {
         }
     }
 
-    /// Whether each of so many slots is closed, and none collected.
+    /// Whether all of this many slots are closed and none is collected yet.
     pub fn has_closed_all(self, slots: usize) -> bool {
         match self {
             Phase::Closing(closed) => closed as usize == slots,

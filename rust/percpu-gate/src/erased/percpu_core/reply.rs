@@ -1,20 +1,20 @@
 // Erased from crates/percpu_core/src/reply.rt by tools/erase: edit that file.
-//! What a step answers.
+//! The replies to steps.
 
-/// The answer to an enabled event.
+/// The reply to an enabled event.
 #[derive(Clone, Copy, Debug, PartialEq, Eq)]
 pub enum Reply {
     /// The references are held.
     Given,
-    /// The try came too late; what it added is to be undone.
+    /// The try came too late; what it added has to be undone.
     Refused,
-    /// The step didn't leave DEAD alone: a count is left, or ZERO is set already.
+    /// The step didn't leave DEAD alone: some count is left, or ZERO is already set.
     NotLast,
-    /// The step left DEAD alone, so this seat is to mark zero.
+    /// The step left DEAD alone, so this seat has to mark zero.
     ToMark,
     /// The mark was won: this is the release.
     Last,
-    /// The exchange found another word than it expected.
+    /// The exchange found a word other than the expected one.
     Lost,
     /// The exchange of a slot's delta was won.
     Won,
@@ -28,7 +28,7 @@ pub enum Reply {
     Shared(u64),
     /// The front, or a guarded word.
     Number(u64),
-    /// The control's step is made.
+    /// The control has made its step.
     Done,
 }
 

@@ -4,11 +4,11 @@
 use crate::erased::percpu_core::reply::Reply;
 use crate::erased::percpu_words::{CLOSED, slot_word};
 
-/// What a slot holds: nothing while it is closed, else what was taken on it less what was given back on it.
+/// What a slot holds: nothing while it is closed, otherwise its delta.
 ///
-/// Linux: one processor's count (`percpu_count_ptr`, include/linux/percpu-refcount.h). There a gate that goes
-/// atomic waits until no processor counts on its own any more, and reads each count then; here each slot is
-/// closed by an exchange, which tells its last delta.
+/// Linux: one processor's count (`percpu_count_ptr`, include/linux/percpu-refcount.h). A gate that goes atomic there
+/// waits until no processor counts on its own any more, and then reads each count. Here each slot is closed by an
+/// exchange, which returns its last delta.
 #[derive(Clone, Copy, Debug, PartialEq, Eq)]
 pub enum Slot {
     Closed,
@@ -28,7 +28,7 @@ impl Slot {
         }
     }
 
-    /// What it counts; a closed slot counts nothing.
+    /// The delta; 0 for a closed slot.
     pub fn delta(self) -> i64 {
         match self {
             Slot::Closed => 0,
@@ -36,7 +36,7 @@ impl Slot {
         }
     }
 
-    /// Whether it is open with this delta.
+    /// Whether the slot is open with this delta.
     pub fn is_open_with(self, seen: i64) -> bool {
         match self {
             Slot::Closed => false,
@@ -44,7 +44,7 @@ impl Slot {
         }
     }
 
-    /// What a look at it answers.
+    /// The reply to a look at the slot.
     pub fn look_reply(self) -> Reply {
         match self {
             Slot::Closed => Reply::Closed,
@@ -52,7 +52,7 @@ impl Slot {
         }
     }
 
-    /// What an exchange of the delta `seen` answers.
+    /// The reply to an exchange that expects the delta `seen`.
     pub fn exchange_reply(self, seen: i64) -> Reply {
         if self.is_open_with(seen) { Reply::Won } else { Reply::Lost }
     }

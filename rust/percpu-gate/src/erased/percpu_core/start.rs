@@ -37,7 +37,7 @@ impl Start {
         }
     }
 
-    /// The mode that a gate with this start has, or comes back in.
+    /// The mode that a gate with this start has, or has once it is revived.
     pub fn mode(self) -> Mode {
         match self {
             Start::Atomic => Mode::Atomic,
@@ -45,7 +45,7 @@ impl Start {
         }
     }
 
-    /// The front at the start: two for each kill, and the odd one of a dead start.
+    /// The front at the start: 2 for each kill, and 1 more if the gate starts dead.
     ///
     /// # Preconditions
     ///
@@ -58,7 +58,7 @@ impl Start {
         }
     }
 
-    /// What each slot is at the start.
+    /// The state of each slot at the start.
     pub fn slot(self) -> Slot {
         match self {
             Start::Slots => Slot::Open(0),

@@ -1,6 +1,6 @@
 // Erased from crates/percpu_gate/src/control.rt by tools/erase: edit that file.
-//! The control of a gate: what it is and tells, and its end. It kills the gate (`kill`), stores guarded words
-//! once nothing is held (`words`), and brings it back (`revival`).
+//! The control of a gate: its state and its end. It kills the gate (`kill`), switches its mode (`switch`), stores
+//! guarded words once nothing is held (`words`), and revives the gate (`revival`).
 
 mod kill;
 mod revival;
@@ -14,7 +14,7 @@ use crate::erased::percpu_gate::gate::Gate;
 use crate::erased::percpu_gate::pass::Pass;
 use crate::erased::percpu_words::Mode;
 
-/// The one control of a gate: it kills the gate, and knows the phase, the kills and the releases.
+/// The one control of a gate. It kills the gate, and knows the phase and the numbers of kills and releases.
 ///
 /// It moves between threads by ownership.
 pub struct Control<const W: usize> {
@@ -25,13 +25,13 @@ pub struct Control<const W: usize> {
     releases: u64,
     words: [u64; W],
     passes: u32,
-    /// The sum of the deltas of the slots that a kill has closed and not collected yet.
+    /// The sum of the deltas of the slots that a kill has closed and not yet collected.
     uncollected: i64,
     wants: Mode,
 }
 
 impl<const W: usize> Control<W> {
-    /// The control of a new gate that has made so many passes.
+    /// The control of a new gate that has made this many passes.
     ///
     /// # Preconditions
     ///
@@ -52,39 +52,38 @@ impl<const W: usize> Control<W> {
         }
     }
 
-    /// Where the control stands: live, closing, collected, confirmed or dead.
+    /// The phase: live, closing, collected, confirmed or dead.
     #[inline]
     pub fn phase(&self) -> Phase {
         self.phase
     }
 
-    /// The kills so far.
+    /// The number of kills so far.
     #[inline]
     pub fn kills(&self) -> u64 {
         self.kills
     }
 
-    /// The mode of a live gate, and the one in which a gate that is dead, or that a kill is under way on, comes
-    /// back. Linux: `force_atomic` (lib/percpu-refcount.c).
+    /// The mode of a live gate; of a dead gate, or during a kill, the mode in which it will be revived. Linux:
+    /// `force_atomic` (lib/percpu-refcount.c).
     #[inline]
     pub fn wants(&self) -> Mode {
         self.wants
     }
 
-    /// The releases that the control has won, and those that retired passes had won.
+    /// The number of releases that the control and the retired passes have won.
     #[inline]
     pub fn releases(&self) -> u64 {
         self.releases
     }
 
-    /// The passes that aren't retired.
+    /// The number of passes that aren't retired.
     #[inline]
     pub fn passes(&self) -> u32 {
         self.passes
     }
 
-    /// Ends a pass that holds nothing, and adds its releases to the control's. A control that has no pass
-    /// out changes nothing; no caller has a pass then.
+    /// Ends a pass that holds nothing, and adds its releases to the control's.
     ///
     /// # Preconditions
     ///
@@ -95,14 +94,15 @@ impl<const W: usize> Control<W> {
         debug_assert!(pass.held() == 0);
         let (seat, releases) = pass.into_parts();
         self.seat.take_in(&gate.table, seat);
+        // Always so, by the laws: this pass was counted.
         if self.passes > 0 {
             self.releases += releases;
             self.passes -= 1;
         }
     }
 
-    /// Why the gate may not end where so many passes are out: MidSwitch, PassesOut. Who keeps passes that he has given to
-    /// nobody, and retires them before the end, leaves these out. Linux: `percpu_ref_exit` (lib/percpu-refcount.c).
+    /// Why the gate may not end if this many passes are out: MidSwitch, PassesOut. Don't count passes that were never
+    /// handed out, if they are retired before the end. Linux: `percpu_ref_exit` (lib/percpu-refcount.c).
     pub fn refuse_exit(&self, out: u32) -> Option<ExitWhy> {
         if self.phase.is_mid_switch() {
             Some(ExitWhy::MidSwitch)
@@ -113,7 +113,7 @@ impl<const W: usize> Control<W> {
         }
     }
 
-    /// The seat, of a control that ends.
+    /// The seat of a control that ends.
     pub(crate) fn into_seat(self) -> ControlSeat {
         self.seat
     }

@@ -1,19 +1,19 @@
 // Erased from crates/percpu_gate/src/control_fault.rt by tools/erase: edit that file.
-//! What the control refuses.
+//! Refusals of the control.
 
 use core::error::Error;
 use core::fmt;
 
-/// Why the control refuses a call. Everything is as before.
+/// Why the control refuses a call. The call has changed nothing.
 #[derive(Clone, Copy, Debug, PartialEq, Eq)]
 pub enum ControlFault {
     /// The gate is killed already. Linux: a second kill warns (`percpu_ref_kill_and_confirm`).
     AlreadyDead,
     /// The gate is live.
     NotDead,
-    /// The count has not reached zero.
+    /// The count hasn't reached zero.
     NotZero,
-    /// A kill begun by `mark_dead` has not reached `drop_base`.
+    /// A kill that `mark_dead` began hasn't reached `drop_base`.
     MidSwitch,
     /// The gate was killed 2^40 times.
     WornOut,

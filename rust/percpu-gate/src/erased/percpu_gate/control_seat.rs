@@ -1,5 +1,5 @@
 // Erased from crates/percpu_gate/src/control_seat.rt by tools/erase: edit that file.
-//! The atomic steps of the control, each one event of the core's machine.
+//! The atomic steps of the control, each of which is one event of the core's machine.
 
 mod switch;
 
@@ -24,12 +24,12 @@ impl ControlSeat {
         ControlSeat { seat }
     }
 
-    /// The seat, of a control that ends.
+    /// The seat of a control that ends.
     pub(crate) fn into_seat(self) -> Seat {
         self.seat
     }
 
-    /// A seat of a new pass. A control has at most 1,024.
+    /// Returns a seat for a new pass. A control makes at most 1,024.
     ///
     /// # Preconditions
     ///
@@ -77,7 +77,7 @@ impl ControlSeat {
         gate.table.shared.store(&mut self.seat, FRONT, front);
     }
 
-    /// Drops the initial reference. Whether that left DEAD alone.
+    /// Drops the initial reference. Returns whether that left DEAD alone.
     ///
     /// # Preconditions
     ///
@@ -90,7 +90,7 @@ impl ControlSeat {
         found.wrapping_sub(1) == DEAD
     }
 
-    /// One exchange of DEAD alone for DEAD and ZERO. Winning it is the release.
+    /// Exchanges DEAD alone for DEAD and ZERO, once. A win is the release.
     ///
     /// # Preconditions
     ///
@@ -103,7 +103,7 @@ impl ControlSeat {
         Put::of(found == DEAD)
     }
 
-    /// Takes the initial reference back. The shared word as it was.
+    /// Takes the initial reference back. Returns the shared word as it was.
     ///
     /// # Preconditions
     ///
@@ -163,7 +163,7 @@ impl ControlSeat {
         gate.table.shared.load(&mut self.seat, SHARED)
     }
 
-    /// Drops the initial reference and marks the zero that this left, if it left one.
+    /// Drops the initial reference, and marks the zero if that left DEAD alone.
     ///
     /// # Preconditions
     ///
@@ -173,8 +173,8 @@ impl ControlSeat {
         if self.drop_base(gate) { self.mark(gate) } else { Put::NotLast }
     }
 
-    /// Takes the initial reference back, stores the next front and clears both marks. Whether ZERO was set
-    /// when the reference was taken.
+    /// Takes the initial reference back, stores the next front and clears both marks. Returns whether ZERO was set when
+    /// the reference was taken.
     ///
     /// # Preconditions
     ///

@@ -9,7 +9,7 @@ use core::fmt;
 /// Why a gate may not end.
 #[derive(Clone, Copy, Debug, PartialEq, Eq)]
 pub enum ExitWhy {
-    /// A kill begun by `mark_dead` has not reached `drop_base`.
+    /// A kill that `mark_dead` began hasn't reached `drop_base`.
     MidSwitch,
     /// This many passes aren't retired.
     PassesOut(u32),
@@ -36,7 +36,7 @@ impl ExitWhy {
     }
 }
 
-/// A gate that may not end comes back with its control, both as they were.
+/// A gate that may not end, with its control, both unchanged.
 pub struct ExitFault<const W: usize> {
     pub why: ExitWhy,
     pub gate: Gate<W>,
@@ -50,13 +50,13 @@ impl<const W: usize> ExitFault<W> {
     }
 }
 
-/// What is left of a gate that has ended.
+/// The last facts of a gate that has ended.
 #[derive(Clone, Copy, Debug, PartialEq, Eq)]
 pub struct Final<const W: usize> {
     /// Whether it was dead.
     pub dead: bool,
     pub kills: u64,
-    /// The releases that were won, by all its seats.
+    /// The number of releases that all its seats have won.
     pub releases: u64,
     /// The guarded words.
     pub words: [u64; W],

@@ -14,10 +14,10 @@ use alloc::vec::Vec;
 /// A gate, its control and its passes.
 pub type NewGate<const W: usize> = (Gate<W>, Control<W>, Vec<Pass<W>>);
 
-/// A gate with `W` guarded words. Threads share it by reference, and count on it by their passes.
+/// A gate with `W` guarded words. Threads share it by reference, and count on it with their passes.
 ///
-/// Every call reads where its words are. There are 128 unused bytes on each side of that, so that who writes
-/// beside a gate, as to another field of a struct that has one, slows no call.
+/// 128 unused bytes on each side keep the pointer to the words, which every call reads, off the cache lines of
+/// neighbouring data.
 #[repr(C)]
 pub struct Gate<const W: usize> {
     before: [u64; 16],
@@ -25,7 +25,7 @@ pub struct Gate<const W: usize> {
     after: [u64; 16],
 }
 
-/// So many passes, split off a control that has made none.
+/// Makes this many passes, from a control that has made none.
 ///
 /// # Preconditions
 ///
@@ -46,10 +46,10 @@ fn make_passes<const W: usize>(
 }
 
 impl<const W: usize> Gate<W> {
-    /// A gate with so many slots (1 to 512) and guarded words (up to 8), its control, and so many passes (1 to
-    /// 1,024) that hold nothing. Live with its slots open by `Start::Slots`, live with them closed by `Start::Atomic`,
-    /// dead and at zero by `Start::Dead`, which comes back with its slots open. Refuses with `Memory` if a growth was refused.
-    /// Linux: `percpu_ref_init` (lib/percpu-refcount.c).
+    /// Returns a gate with this many slots (1 to 512), its control, and this many passes (1 to 1,024) that hold
+    /// nothing. With `Start::Slots` the gate is live with its slots open, with `Start::Atomic` live with them closed,
+    /// and with `Start::Dead` dead and at zero; then its slots open when it is revived. Returns `Memory` if an
+    /// allocation was refused. Linux: `percpu_ref_init` (lib/percpu-refcount.c).
     ///
     /// # Preconditions
     ///
@@ -69,13 +69,13 @@ impl<const W: usize> Gate<W> {
         Ok((gate, control, made))
     }
 
-    /// The slots of the gate: 1 to 512.
+    /// The number of slots: 1 to 512.
     #[inline]
     pub fn slots(&self) -> u32 {
         self.table.slots()
     }
 
-    /// Ends a gate whose passes are all retired. Refuses MidSwitch, PassesOut. Linux: `percpu_ref_exit`
+    /// Ends a gate whose passes are all retired. Refuses with MidSwitch or PassesOut. Linux: `percpu_ref_exit`
     /// (lib/percpu-refcount.c).
     ///
     /// # Preconditions

@@ -1,5 +1,5 @@
 // Erased from crates/percpu_gate/src/pass.rt by tools/erase: edit that file.
-//! A pass: what a thread counts with.
+//! A pass, with which a thread counts.
 
 use crate::erased::percpu_core::HELD_LIMIT;
 use crate::erased::percpu_gate::gate::Gate;
@@ -7,10 +7,10 @@ use crate::erased::percpu_gate::pass_seat::PassSeat;
 use crate::erased::percpu_gate::tried::{Put, Tried};
 use crate::erased::percpu_words::{is_dead, is_zero};
 
-/// What a thread counts with: a pass of one gate, which knows how many references it holds.
+/// A thread's right to count on one gate, with the number of references that it holds.
 ///
-/// A pass moves between threads by ownership. One that is dropped keeps what it held. There are 64 unused bytes on
-/// each side of it, so that passes which threads use in place, as those of a `Vec`, share no 128 bytes.
+/// A pass moves between threads by ownership. Dropping a pass doesn't drop the references that it holds. 64 unused
+/// bytes on each side keep neighbouring passes, as in a `Vec`, off each other's cache lines.
 #[repr(C)]
 pub struct Pass<const W: usize> {
     before: [u64; 8],
@@ -21,7 +21,8 @@ pub struct Pass<const W: usize> {
     after: [u64; 8],
 }
 
-/// Counts so many releases more, and stores nothing where there are none: a store delays the exchange that comes next.
+/// Adds to the number of releases. It stores nothing if there is none, because a store delays the exchange that comes
+/// next.
 ///
 /// # Preconditions
 ///
@@ -43,20 +44,20 @@ impl<const W: usize> Pass<W> {
         Pass { before: [0; 8], seat, held: 0, seen_front: 0, releases: 0, after: [0; 8] }
     }
 
-    /// The references that this pass holds: 0 to 65,535.
+    /// The number of references that this pass holds: 0 to 65,535.
     #[inline]
     pub fn held(&self) -> u32 {
         self.held
     }
 
-    /// The greatest front that this pass has seen, 0 before it has seen one.
+    /// The greatest front that this pass has seen; 0 if it has seen none.
     #[inline]
     pub fn seen_front(&self) -> u64 {
         self.seen_front
     }
 
-    /// Takes a reference unless the gate has reached zero. A pass that holds one already always gets it.
-    /// Linux: `percpu_ref_tryget` (include/linux/percpu-refcount.h).
+    /// Takes a reference unless the gate has reached zero. A pass that holds one already always gets another. Linux:
+    /// `percpu_ref_tryget` (include/linux/percpu-refcount.h).
     ///
     /// # Preconditions
     ///
@@ -74,8 +75,8 @@ impl<const W: usize> Pass<W> {
         answer
     }
 
-    /// Takes a reference unless the gate was killed; while a kill closes the slots, one that is still open may give.
-    /// Once the pass has seen the odd front `f` of a kill, a reference that it is given belongs to a later life: its
+    /// Takes a reference unless the gate was killed. While a kill closes the slots, a slot that is still open may give
+    /// one. Once the pass has seen the odd front `f` of a kill, a reference that it gets belongs to a later life: its
     /// floor is `f + 1` or more. Linux: `percpu_ref_tryget_live` (include/linux/percpu-refcount.h).
     ///
     /// # Preconditions
@@ -94,7 +95,7 @@ impl<const W: usize> Pass<W> {
         answer
     }
 
-    /// Takes `n` references more, for a pass that holds one. Linux: `percpu_ref_get_many`
+    /// Takes `n` more references, for a pass that holds one. Linux: `percpu_ref_get_many`
     /// (include/linux/percpu-refcount.h).
     ///
     /// # Preconditions
@@ -134,8 +135,8 @@ impl<const W: usize> Pass<W> {
         answer
     }
 
-    /// The front, which only grows: odd from the confirmation of a kill to the first step of the next life,
-    /// which stores the next even one.
+    /// The front, which only grows: it is odd from the confirmation of a kill, or from a dead start, until the revival
+    /// stores the next one, just before it clears DEAD.
     ///
     /// # Preconditions
     ///
@@ -146,7 +147,7 @@ impl<const W: usize> Pass<W> {
         self.seen_front
     }
 
-    /// Whether the gate was killed and isn't revived yet, at this load. Linux: `percpu_ref_is_dying`
+    /// Whether one load finds the gate killed and not revived yet. Linux: `percpu_ref_is_dying`
     /// (include/linux/percpu-refcount.h).
     ///
     /// # Preconditions
@@ -157,8 +158,8 @@ impl<const W: usize> Pass<W> {
         is_dead(self.seat.look(&gate.table))
     }
 
-    /// Whether the count has reached zero since the kill, at this load. Linux: `percpu_ref_is_zero`
-    /// (include/linux/percpu-refcount.h).
+    /// Whether one load finds that the count has reached zero since the kill. Linux: `percpu_ref_is_zero`
+    /// (lib/percpu-refcount.c).
     ///
     /// # Preconditions
     ///
@@ -168,7 +169,7 @@ impl<const W: usize> Pass<W> {
         is_zero(self.seat.look(&gate.table))
     }
 
-    /// The guarded word `k`, for a pass that holds a reference: one value for as long as it holds one.
+    /// The guarded word `k`, for a pass that holds a reference. Its value stays the same as long as the pass holds one.
     ///
     /// # Preconditions
     ///
@@ -182,7 +183,7 @@ impl<const W: usize> Pass<W> {
         self.seat.load_word(&gate.table, k)
     }
 
-    /// The seat, of a pass that ends, and the releases that it won.
+    /// The seat of a pass that ends, and the number of releases that it won.
     pub(crate) fn into_parts(self) -> (PassSeat, u64) {
         (self.seat, self.releases)
     }

@@ -1,5 +1,5 @@
 // Erased from crates/percpu_gate/src/pass_seat.rt by tools/erase: edit that file.
-//! The atomic steps of a pass, each one event of the core's machine.
+//! The atomic steps of a pass, each of which is one event of the core's machine.
 
 mod slots;
 
@@ -23,12 +23,12 @@ impl PassSeat {
         PassSeat { seat }
     }
 
-    /// The seat, of a pass that ends.
+    /// The seat of a pass that ends.
     pub(crate) fn into_seat(self) -> Seat {
         self.seat
     }
 
-    /// Adds 1 to the shared word. Whether ZERO was clear.
+    /// Adds 1 to the shared word. Returns whether ZERO was clear.
     ///
     /// # Preconditions
     ///
@@ -41,7 +41,7 @@ impl PassSeat {
         !is_zero(found)
     }
 
-    /// Adds 1 to the shared word. Whether DEAD was clear.
+    /// Adds 1 to the shared word. Returns whether DEAD was clear.
     ///
     /// # Preconditions
     ///
@@ -66,7 +66,7 @@ impl PassSeat {
         shared.fetch_add(&mut self.seat, SHARED, u64::from(n));
     }
 
-    /// Subtracts from the shared word. Whether that left DEAD alone.
+    /// Subtracts from the shared word. Returns whether that left DEAD alone.
     ///
     /// # Preconditions
     ///
@@ -80,7 +80,7 @@ impl PassSeat {
         found.wrapping_sub(n) == DEAD
     }
 
-    /// Takes back what a refused try added. Whether that left DEAD alone.
+    /// Takes back what a refused try added. Returns whether that left DEAD alone.
     ///
     /// # Preconditions
     ///
@@ -93,7 +93,7 @@ impl PassSeat {
         found.wrapping_sub(1) == DEAD
     }
 
-    /// One exchange of DEAD alone for DEAD and ZERO. Winning it is the release.
+    /// Exchanges DEAD alone for DEAD and ZERO, once. A win is the release.
     ///
     /// # Preconditions
     ///
@@ -140,7 +140,7 @@ impl PassSeat {
         gate.table.shared.load(&mut self.seat, place)
     }
 
-    /// What a subtraction came to: it marks the zero that it left, if it left one.
+    /// Ends a subtraction: marks the zero if it left DEAD alone.
     ///
     /// # Preconditions
     ///
@@ -163,7 +163,7 @@ impl PassSeat {
         self.end_put(gate, to_mark)
     }
 
-    /// Ends a try that was given, or refused.
+    /// Ends a try that took its reference, or was refused.
     ///
     /// # Preconditions
     ///

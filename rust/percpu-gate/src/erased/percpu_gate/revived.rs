@@ -1,5 +1,5 @@
 // Erased from crates/percpu_gate/src/revived.rt by tools/erase: edit that file.
-//! What a revival answers.
+//! The result of a revival.
 
 /// Whether a revived gate had reached zero.
 #[derive(Clone, Copy, Debug, PartialEq, Eq)]

@@ -1,9 +1,9 @@
 // Erased from crates/percpu_gate/src/rule.rt by tools/erase: edit that file.
-//! The rule of a gate's table: the laws of the core.
+//! The rule of a gate's table: the laws of `percpu_core`.
 
 use crate::erased::percpu_core::{Start, WORD_LIMIT};
 
-/// What a gate is made with, which never changes.
+/// What a gate was made with. It never changes.
 pub(crate) struct GateKey {
     pub slots: u32,
     pub start: Start,
@@ -13,7 +13,7 @@ pub(crate) struct GateKey {
 }
 
 impl GateKey {
-    /// The key of a gate with so many slots and these guarded words.
+    /// The key of a gate with this many slots and these guarded words.
     ///
     /// # Preconditions
     ///

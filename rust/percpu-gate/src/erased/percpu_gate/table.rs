@@ -1,5 +1,5 @@
 // Erased from crates/percpu_gate/src/table.rt by tools/erase: edit that file.
-//! The words of a gate, which its seats step on.
+//! The words of a gate, on which its seats step.
 
 use crate::erased::atomic_table::Table;
 use crate::erased::fallible::{AllocError, TryVec};
@@ -9,22 +9,22 @@ use crate::erased::percpu_gate::rule::GateKey;
 use crate::erased::percpu_words::{CLOSED, slot_word};
 use alloc::vec::Vec;
 
-/// Where the shared word lies: 128 bytes into the block, so that what the heap has before it is on another line.
+/// Index of the shared word: 128 bytes into the block, so that whatever precedes the block is on another line.
 pub(crate) const SHARED: usize = 16;
 
-/// Where the front lies.
+/// Index of the front.
 pub(crate) const FRONT: usize = 32;
 
-/// Where the first guarded word lies.
+/// Index of the first guarded word.
 pub(crate) const FIRST_WORD: usize = 33;
 
-/// Where the first slot lies, apart from the words before it by more than 128 bytes.
+/// Index of the first slot, more than 128 bytes after the words before it.
 const FIRST_SLOT: usize = 64;
 
-/// A slot is hot in every thread, so it is alone on 128 bytes.
+/// A slot is written by its thread all the time, so it has 128 bytes to itself.
 const WORDS_OF_A_SLOT: usize = 16;
 
-/// Where a slot lies.
+/// Index of a slot.
 #[inline]
 pub(crate) fn place_of(slot: u32) -> usize {
     FIRST_SLOT + WORDS_OF_A_SLOT * slot as usize
@@ -44,7 +44,7 @@ fn first_slot_word(start: Start) -> u64 {
     }
 }
 
-/// The words of a gate that isn't shared yet. Those that nothing steps on are as the slots are.
+/// The words of a gate that isn't shared yet. Unused words have the same value as the slots.
 ///
 /// # Preconditions
 ///
@@ -54,7 +54,7 @@ fn first_words(key: &GateKey) -> Result<Vec<u64>, AllocError> {
     debug_assert!(key.count <= WORD_LIMIT);
     debug_assert!(key.slots <= SLOT_LIMIT);
     let slot = first_slot_word(key.start);
-    // It ends where one slot more would begin.
+    // The words end where another slot would begin.
     let size = place_of(key.slots);
     let mut words = Vec::try_with_room(size)?;
     words.try_resize(SHARED, slot)?;
@@ -93,7 +93,7 @@ impl GateTable {
         closed.free();
     }
 
-    /// The slots of the gate.
+    /// The number of slots of the gate.
     #[inline]
     pub(crate) fn slots(&self) -> u32 {
         self.slots

@@ -4,7 +4,7 @@
 /// The word of a closed slot.
 pub const CLOSED: u64 = 1 << 63;
 
-/// A delta is at most this, and at least as much below 0.
+/// Maximum delta; `-DELTA_MAX` is the minimum.
 pub const DELTA_MAX: i64 = 1 << 20;
 
 /// The word of the delta 0.
@@ -21,7 +21,7 @@ pub fn is_closed(word: u64) -> bool {
     word == CLOSED
 }
 
-/// The word of an open slot with this delta, which the caller sees to be within its limit.
+/// The word of an open slot with this delta. The caller ensures that the delta is within its limit.
 ///
 /// # Preconditions
 ///
@@ -31,7 +31,7 @@ pub fn slot_word(delta: i64) -> u64 {
     (MIDDLE + delta) as u64
 }
 
-/// The delta that the word spells; `None` for a closed slot, and for every other word that spells none.
+/// The delta that the word encodes; `None` for a closed slot and for any other word that encodes no delta.
 #[inline]
 pub fn slot_delta(word: u64) -> Option<i64> {
     if word < LEAST || word > GREATEST {

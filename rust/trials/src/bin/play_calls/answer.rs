@@ -10,12 +10,12 @@ use trials::erased::percpu_gate::{ControlFault, ExitWhy, Final, Mode, Phase, Put
 /// The answer to a call, as its line has it.
 #[derive(Clone, Copy)]
 pub(crate) enum Answer {
-    /// A condition of the call isn't met, so it isn't made.
+    /// A condition of the call isn't met, so the call isn't made.
     PassedOver,
     Done,
     Text(&'static str),
     Number(u64),
-    /// A number behind a text.
+    /// A text, and a number after it.
     Named(&'static str, u64),
     /// The delta of a slot that a kill closes.
     Closed(i64),

@@ -1,6 +1,6 @@
 // Erased from crates/play_calls/src/gate.rt by tools/erase: edit that file.
-//! A gate that is asked call after call, until its end. Each call's conditions are tested when it is made, so a row of calls needs
-//! no proof of its own.
+//! A gate on which calls are made one after another, until it ends. The conditions of each call are tested when it is made, so a
+//! row of calls needs no proof of its own.
 
 use crate::answer::{Answer, push_end};
 use crate::gate_calls::{ControlCall, PassCall};
@@ -12,18 +12,18 @@ pub(crate) struct GatePlayer {
     gate: Gate<8>,
     control: Control<8>,
     passes: Vec<Pass<8>>,
-    /// The number of each pass, at its place.
+    /// The number of each pass, at its index.
     numbers: Vec<u32>,
     /// How many guarded words the row names. The gate has eight.
     words: usize,
 }
 
-/// Whether the row names this guarded word.
+/// Returns whether the row names this guarded word.
 fn is_named(k: u32, words: usize) -> bool {
     k < 8 && (k as usize) < words
 }
 
-/// Plays a call of a pass that stays.
+/// Makes a call of a pass, except `Retire` and `Lose`.
 ///
 /// # Preconditions
 ///
@@ -49,7 +49,7 @@ fn play_pass(gate: &Gate<8>, pass: &mut Pass<8>, words: usize, call: PassCall) -
     }
 }
 
-/// Whether a kill has one of so many slots to close.
+/// Returns whether a kill has a slot left to close, of this many.
 fn is_closing(phase: Phase, slots: u32) -> bool {
     match phase {
         Phase::Closing(closed) => closed < slots,
@@ -57,7 +57,7 @@ fn is_closing(phase: Phase, slots: u32) -> bool {
     }
 }
 
-/// Plays a call of the control of a gate that goes on.
+/// Makes a call of the control, except `Exit`.
 ///
 /// # Preconditions
 ///
@@ -90,7 +90,7 @@ fn play_control(gate: &Gate<8>, control: &mut Control<8>, words: usize, call: Co
 }
 
 impl GatePlayer {
-    /// A new gate of these sizes, with these words first.
+    /// Returns a new gate of these sizes, whose first words are these.
     ///
     /// # Preconditions
     ///
@@ -110,7 +110,8 @@ impl GatePlayer {
         Ok(GatePlayer { gate, control, passes, numbers, words: named.len() })
     }
 
-    /// The answer to a call of the pass with this number, if it is there. Behind a pass that is retired or lost the others move up.
+    /// Returns the answer to a call of the pass with this number, if it is there. After a pass is retired or lost, those behind it
+    /// move up.
     pub(crate) fn ask_pass(&mut self, number: u32, call: PassCall) -> Answer {
         let Some(at) = self.numbers.iter().position(|it| *it == number) else {
             return Answer::PassedOver;
@@ -134,7 +135,7 @@ impl GatePlayer {
         }
     }
 
-    /// Ends the gate, and appends its end. A gate that may not end goes on.
+    /// Ends the gate, and appends its end. Returns the gate if it may not end.
     fn exit(self, out: &mut Vec<u8>) -> Result<Option<GatePlayer>, AllocError> {
         let GatePlayer { gate, control, passes, numbers, words } = self;
         match gate.exit(control) {
@@ -151,7 +152,7 @@ impl GatePlayer {
     }
 }
 
-/// Appends the answer to a call of the control. Behind its end there is no gate.
+/// Appends the answer to a call of the control. After its end there is no gate.
 pub(crate) fn ask_control(
     gate: &mut Option<GatePlayer>,
     out: &mut Vec<u8>,

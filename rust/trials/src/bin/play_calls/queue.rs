@@ -1,23 +1,23 @@
 // Erased from crates/play_calls/src/queue.rt by tools/erase: edit that file.
-//! A queue that is asked call after call, until its end. Each call's conditions are tested when it is made, so a row of calls needs
-//! no proof of its own.
+//! A queue on which calls are made one after another, until it ends. The conditions of each call are tested when it is made, so a
+//! row of calls needs no proof of its own.
 
 use crate::answer::{Answer, push_end};
 use crate::queue_calls::{FreezerCall, TagCall};
 use trials::erased::fallible::{AllocError, TryCollect, TryVec};
 use trials::erased::freeze_queue::{BlockQueue, Freezer, LIMIT_WORDS, LimitFault, Limits, Memory, RemoveFault, Tag};
 
-/// A queue, its freezer, its tags, and those that were given back for its removal.
+/// A queue, its freezer, its tags, and the tags that were given back for its removal.
 pub(crate) struct QueuePlayer {
     queue: BlockQueue,
     freezer: Freezer,
     tags: Vec<Tag>,
-    /// The number of each tag, at its place.
+    /// The number of each tag, at its index.
     numbers: Vec<u32>,
     given_back: Vec<Tag>,
 }
 
-/// Plays a call of a tag that stays.
+/// Makes a call of a tag, except `GiveBack` and `Lose`.
 ///
 /// # Preconditions
 ///
@@ -34,14 +34,14 @@ fn play_tag(queue: &BlockQueue, tag: &mut Tag, call: TagCall) -> Answer {
     }
 }
 
-/// The limits of a device that takes what these do, with other settings.
+/// Returns limits with the same hardware limit as these, and with other settings.
 fn limits_like(limits: Limits, max: u32, chunk: u32, physical: u32) -> Result<Limits, LimitFault> {
     let mut made = Limits::new(limits.hw(), max, chunk)?;
     made.set_physical(physical)?;
     Ok(made)
 }
 
-/// Plays a call of the freezer of a queue that goes on.
+/// Makes a call of the freezer, except `Remove`.
 ///
 /// # Preconditions
 ///
@@ -66,7 +66,7 @@ fn play_freezer(queue: &BlockQueue, freezer: &mut Freezer, call: FreezerCall) ->
 }
 
 impl QueuePlayer {
-    /// A new queue of these sizes, for a device of these limits.
+    /// Returns a new queue of these sizes, for a device of these limits.
     ///
     /// # Preconditions
     ///
@@ -82,8 +82,8 @@ impl QueuePlayer {
         Ok(QueuePlayer { queue, freezer, tags, numbers, given_back: Vec::new() })
     }
 
-    /// Appends the answer to a call of the tag with this number, if it is there. Behind one that is given back or lost the others move
-    /// up.
+    /// Appends the answer to a call of the tag with this number, if it is there. After a tag is given back or lost, those behind it
+    /// move up.
     pub(crate) fn ask_tag(&mut self, out: &mut Vec<u8>, number: u32, call: TagCall) -> Result<(), AllocError> {
         let Some(at) = self.numbers.iter().position(|it| *it == number) else {
             return Answer::PassedOver.append_to(out);
@@ -107,7 +107,7 @@ impl QueuePlayer {
         }
     }
 
-    /// Removes the queue, and appends its end. A queue that may not end goes on.
+    /// Removes the queue, and appends its end. Returns the queue if it may not end.
     fn remove(self, out: &mut Vec<u8>) -> Result<Option<QueuePlayer>, AllocError> {
         let QueuePlayer { queue, freezer, tags, numbers, given_back } = self;
         match freezer.remove(queue, given_back) {
@@ -124,7 +124,7 @@ impl QueuePlayer {
     }
 }
 
-/// Appends the answer to a call of the freezer. Behind its end there is no queue.
+/// Appends the answer to a call of the freezer. After its end there is no queue.
 pub(crate) fn ask_freezer(
     queue: &mut Option<QueuePlayer>,
     out: &mut Vec<u8>,

@@ -29,7 +29,7 @@ pub(crate) enum FreezerCall {
     Remove,
 }
 
-/// The call of a tag that a line spells, if it spells one.
+/// Returns the call of a tag that a line spells, if it spells one.
 pub(crate) fn of_tag(name: &[u8], numbers: &[u64]) -> Option<TagCall> {
     Some(match (name, numbers) {
         (b"try", [slot]) => TagCall::Enter { slot: short(*slot) },
@@ -43,7 +43,7 @@ pub(crate) fn of_tag(name: &[u8], numbers: &[u64]) -> Option<TagCall> {
     })
 }
 
-/// The call of the freezer that a line spells, if it spells one.
+/// Returns the call of the freezer that a line spells, if it spells one.
 pub(crate) fn of_freezer(name: &[u8], numbers: &[u64]) -> Option<FreezerCall> {
     Some(match (name, numbers) {
         (b"freeze", []) => FreezerCall::Freeze,

@@ -1,19 +1,20 @@
 // Erased from crates/uses/src/cutting.rt by tools/erase: edit that file.
-//! A range cut into the commands that a device takes.
+//! Cutting a range into the commands that a device takes.
 
 use crate::erased::fallible::{AllocError, TryVec};
 use crate::erased::queue_limits::Limits;
 
-/// One command to a device: its first sector, and how many sectors it moves.
+/// A command to a device: its first sector, and how many sectors it moves.
 #[derive(Clone, Copy, Debug, PartialEq, Eq)]
 pub struct Command {
     pub first: u64,
     pub sectors: u32,
 }
 
-/// The commands for the `count` sectors from `start` on: each begins where the one before it ended, and their
-/// lengths are the pieces of the range. So each sector is moved once, and no command goes past a limit. Linux:
-/// a driver's `queue_rq` (include/linux/blk-mq.h), which is handed one piece a call.
+/// Returns the commands for the `count` sectors that start at `start`. Each begins where the one before it ended, and their lengths
+/// are the pieces of the range. So each sector is moved once, and no command exceeds a limit.
+///
+/// Linux: a driver's `queue_rq` (include/linux/blk-mq.h), which gets one piece at a call.
 ///
 /// # Preconditions
 ///

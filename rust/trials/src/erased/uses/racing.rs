@@ -5,7 +5,7 @@ use crate::erased::percpu_gate::{Control, Gate, Pass, Put};
 use crate::erased::thread;
 use crate::erased::uses::removal::{Served, remove, serve};
 
-/// What a request and the removal of its device were told.
+/// The results of a request, and of the removal of its device.
 #[derive(Clone, Copy, Debug, PartialEq, Eq)]
 pub struct Raced {
     pub served: Served,
@@ -34,8 +34,8 @@ fn removed_by(gate: &Gate<1>, mut control: Control<1>) -> (Control<1>, Put) {
     }
 }
 
-/// This thread runs a request while another removes its device; then the gate ends. In whatever order their steps
-/// come, exactly one of the two is told that it was the last, and so the device is freed once.
+/// Runs a request on this thread while another thread removes its device; then the gate ends. In every interleaving of their steps
+/// exactly one of the two puts the last reference, and so the device is freed once.
 ///
 /// # Preconditions
 ///

@@ -3,16 +3,18 @@
 
 use crate::erased::percpu_gate::{Control, ControlFault, Gate, Pass, Put, Tried};
 
-/// What became of a request. Whoever is told `Put::Last` frees what the device has: nobody is at it any more.
+/// The result of a request. If it has `Put::Last`, its caller frees the device: no thread uses it any more.
 #[derive(Clone, Copy, Debug, PartialEq, Eq)]
 pub enum Served {
     Done(Put),
-    /// The device is being removed, so the request wasn't run. It had counted itself in, and may be the last too.
+    /// The device is being removed, so the request wasn't run. Its failed try held a reference briefly, and its put may be the last
+    /// put too.
     Gone(Put),
 }
 
-/// Runs a request on a device, unless it is being removed. The device's setting is the guarded word 0. Linux:
-/// `blk_try_enter_queue` and `blk_queue_exit` round a driver's work (block/blk.h, block/blk-core.c).
+/// Runs a request on a device, unless it is being removed. The device's setting is the guarded word 0.
+///
+/// Linux: `blk_try_enter_queue` and `blk_queue_exit` around a driver's work (block/blk.h, block/blk-core.c).
 ///
 /// # Preconditions
 ///
@@ -33,7 +35,8 @@ pub fn serve(gate: &Gate<1>, pass: &mut Pass<1>, slot: u32) -> Served {
     }
 }
 
-/// Removes the device: requests that come from now on aren't run. `Put::Last` says that none is under way.
+/// Removes the device: later requests aren't run. `Put::Last` means that no request is in flight.
+///
 /// Linux: `blk_queue_start_drain` (block/blk-core.c).
 ///
 /// # Preconditions

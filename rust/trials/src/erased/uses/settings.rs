@@ -1,5 +1,5 @@
 // Erased from crates/uses/src/settings.rt by tools/erase: edit that file.
-//! The limits of a queue, changed while others submit to it.
+//! The limits of a queue, changed while other threads submit to it.
 
 use crate::erased::fallible::AllocError;
 use crate::erased::freeze_queue::{BlockQueue, Enter, FreezeFault, Freezer, Tag};
@@ -7,8 +7,10 @@ use crate::erased::queue_limits::Limits;
 use crate::erased::thread;
 use crate::erased::uses::cutting::{Command, commands};
 
-/// The commands for a request that enters a queue: all of them by the limits that its tag is told, which hold still until
-/// it leaves, whatever a freezer does meanwhile. Whoever ends the request leaves with the tag. None where the queue is frozen.
+/// Returns the commands for a request that enters a queue, all of them by the limits that its tag reads. These don't change until
+/// it leaves, whatever a freezer does meanwhile. The thread that ends the request leaves with the tag. Returns None if the queue is
+/// frozen.
+///
 /// Linux: `blk_mq_submit_bio` (block/blk-mq.c).
 ///
 /// # Preconditions
@@ -41,9 +43,10 @@ pub fn submit(
     }
 }
 
-/// The commands for the next request of a thread whose tag is in. It stays for that, with the limits that it was told, unless a
-/// freeze has begun: then it leaves, waits for the thaw and enters again. A busy thread submits for the price of a
-/// load by this. It leaves before it waits for anything else, since a thread that stays and then sleeps holds up every freeze.
+/// Returns the commands for the next request of a thread whose tag is entered. The tag stays entered with the limits that it read,
+/// unless a freeze has begun: then it leaves, waits for the thaw and enters again. So a busy thread submits at the price of a load.
+///
+/// Such a thread has to leave before it waits for anything else, since a thread that stays and then sleeps holds up every freeze.
 ///
 /// # Preconditions
 ///
@@ -66,8 +69,8 @@ pub fn submit_next(
     commands(&limits, start, count)
 }
 
-/// Enters, and waits until the limits in force are these. A tag that enters after a change of limits may find that the freezer
-/// has gone on: so what it is told is compared, and where it differs the tag leaves and enters again.
+/// Enters, and waits until the limits in force are these. By the time a tag enters after a change of limits, the freezer may have
+/// made another change. So the tag compares what it reads, and leaves and enters again if that differs.
 ///
 /// # Preconditions
 ///
@@ -87,7 +90,7 @@ pub fn enter_under(queue: &BlockQueue, tag: &mut Tag, slot: u32, limits: &Limits
     }
 }
 
-/// Changes the limits of a queue that others submit to: it is frozen, drained, set and thawed.
+/// Changes the limits of a queue to which other threads submit: it is frozen, drained, set and thawed.
 ///
 /// # Preconditions
 ///
@@ -95,7 +98,7 @@ pub fn enter_under(queue: &BlockQueue, tag: &mut Tag, slot: u32, limits: &Limits
 /// - `limits.hw()` is `freezer.queue.hardware`.
 pub fn change_limits(queue: &BlockQueue, freezer: &mut Freezer, limits: Limits) -> Result<(), FreezeFault> {
     freezer.freeze(queue)?;
-    // Drained: no request is under way, and none can enter.
+    // Drained: no request is in flight, and none can enter.
     match freezer.set(queue, limits) {
         Ok(()) => {}
         Err(_) => unreachable!(),

@@ -74,23 +74,6 @@ impl Way for Queue<Device> {
     }
 }
 
-/// A queue whose readers stay entered between two reads.
-struct Staying(Queue<Device>);
-
-impl Way for Staying {
-    fn reads(&self, _number: u32, mut go_on: impl FnMut() -> bool) {
-        let mut tag = self.0.tag().expect("a tag");
-        let mut request = self.0.enter(&mut tag).expect("a live queue");
-        while go_on() {
-            black_box(request.read());
-            request = request.stay_or_enter().expect("a live queue");
-        }
-    }
-    fn change(&self) {
-        self.0.change();
-    }
-}
-
 /// A gate whose control is under a lock.
 struct Gated(Mutex<Gate<Device>>);
 
@@ -197,7 +180,6 @@ fn main() -> ExitCode {
     time("RwLock<T>", || RwLock::new(device), sizes);
     time("ArcSwap<T>", || ArcSwap::from_pointee(device), sizes);
     time("Queue<T>", queue, sizes);
-    time("Queue<T> by stay", || Staying(queue()), sizes);
     time("Gate<T>", || Gated(Mutex::new(gate())), sizes);
     ExitCode::SUCCESS
 }

@@ -5,9 +5,9 @@ use Rattle.blk_workers.proofs.submitter.Submitter.drain.Goals as goal
 
 pub returns-clause-drained : goal.returns-clause-drained
 returns-clause-drained g c =
-    let here = length c.args.self.now.desk.replies in
-    let its_queue = c.hall.invariant.0.its_queue in
-    let before : IsFollowing c.hall.inside.queue.now here c.args.self.now.freezer =
+    let here = length c.args.self.now.table.replies in
+    let its_queue = c.context.invariant.0.its_queue in
+    let before : IsFollowing c.context.inside.queue.now here c.args.self.now.freezer =
     subst (λ (q : QueueFacts). IsFollowing q here c.args.self.now.freezer) (sym its_queue) c.requires.at.freezer
     in
     record {

@@ -3,16 +3,17 @@ use Rattle.run_queues.specs.Parts.{CollectorFacts, SourceFacts}
 use Rattle.script_meaning.specs.Queue.{Queue}
 use Rattle.script_meaning.specs.Taken.{request_counted}
 use Rattle.blk_workers.specs.Progress.{AreHandedOver}
-use Rattle.run_desk.proofs.NextLines.{counted_there}
-use Rattle.run_desk.proofs.Numbering.{counts_request}
+use Rattle.in_flight.proofs.NextLines.{counted_there}
+use Rattle.in_flight.proofs.Numbering.{counts_request}
 use Rattle.blk_workers.specs.Following.{IsInStep}
 use Rattle.blk_workers.proofs.InStep.{in_step_counted}
+use Rattle.blk_workers.proofs.PassedPoints.{accepted_passes, always_err, ordered_may_pass}
 use Rattle.blk_workers.proofs.submitter.Submitter.submit.Goals as goal
 
 pub returns-clause-taken : goal.returns-clause-taken
 returns-clause-taken g c =
     let script = g.J.Run.script in
-    let here = length c.args.self.now.desk.replies in
+    let here = length c.args.self.now.table.replies in
     let way = c.in_ok-make_way.ensures.collected in
     let next = c.requires.next in
     let counted = c.requires.taken.at.counted in
@@ -33,5 +34,13 @@ returns-clause-taken g c =
           few = omega (arith, way.accepted, counted.few);
         };
       };
-      handed_over = subst (λ n. AreHandedOver script g.L.QueueNames.requests g.C.QueueName.id (n + 1) c.hand_over.new.desk.replies source collector) way.lines over.all;
+      handed_over = subst (λ n. AreHandedOver script g.L.QueueNames.requests g.C.QueueName.id (n + 1) c.hand_over.new.table.replies source collector) way.lines over.all;
     }
+
+pub returns-clause-points : goal.returns-clause-points
+returns-clause-points g c =
+    accepted_passes g.J.Run.script (length c.args.self.now.table.replies) c.args.request c.args.self.now.points c.make_way.new.self.points c.requires.next.accepted c.in_ok-make_way.ensures.points
+
+pub returns-in_err-hand_over-clause-points_err : goal.returns-in_err-hand_over-clause-points_err
+returns-in_err-hand_over-clause-points_err g c =
+    always_err _ _ (ordered_may_pass g.J.Run.script (length c.args.self.now.table.replies) c.args.self.now.points c.make_way.new.self.points c.in_ok-make_way.ensures.points)

@@ -5,6 +5,6 @@ use Rattle.blk_workers.proofs.submitter.Submitter.take_next.Goals as goal
 
 pub submit-requires-clause-next : goal.submit-requires-clause-next
 submit-requires-clause-next g c κs within = record {
-  few = omega (arith, c.requires.more, c.hall.invariant.0.few_lines);
-  accepted = sym (c.in-Some.ensures ∙ ap (accepted_at c.hall.inside.checked.now) c.len.ensures ∙ ap (λ (s : Meant). accepted_at s (length c.args.self.now.desk.replies)) c.hall.invariant.0.its_script);
+  few = omega (arith, c.requires.more, c.context.invariant.0.few_lines);
+  accepted = sym (c.in-Some.ensures ∙ ap (accepted_at c.context.inside.checked.now) c.len.ensures ∙ ap (λ (s : Meant). accepted_at s (length c.args.self.now.table.replies)) c.context.invariant.0.its_script);
 }

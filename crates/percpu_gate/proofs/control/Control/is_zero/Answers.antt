@@ -5,7 +5,7 @@ use Rattle.percpu_gate.specs.ControlCalls.{IsBetweenCalls}
 use Rattle.percpu_gate.proofs.control.Control.is_zero.Goals as goal
 
 pub returns-clause-view : goal.returns-clause-view
-returns-clause-view g c = rw (← c.self.view_is) (λ j. record { gate = c.look.ensures.own j; view = looked _ _ _ c.is_zero.result (ap (λ s. s.to_mark) c.self.invariant.0) c.is_zero.ensures c.look.ensures.step j; wants = c.self.inside.wants })
+returns-clause-view g c = rw (← c.self.view_is) (λ j. record { gate = c.look.ensures.own j; view = looked _ _ _ c.is_zero.result (ap (λ s. s.to_mark) c.self.invariant.0) c.is_zero.ensures c.look.ensures.step j; moves = c.look.ensures.moves j; wants = c.self.inside.wants })
 
 pub returns-clause-found : goal.returns-clause-found
 returns-clause-found g c = rw (← c.gate.view_is, ← c.self.view_is) (finds_zero _ _ _ _ c.is_zero.ensures c.look.ensures.step)

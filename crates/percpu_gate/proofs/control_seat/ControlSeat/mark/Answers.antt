@@ -7,4 +7,7 @@ pub compare_exchange-found-requires : goal.compare_exchange-found-requires
 compare_exchange-found-requires c = (rw (← c.gate.view_is, ← c.self.view_is) at (ap (λ g. g.id) c.requires.own), search rules, marks_zero c.gate.inside.table.shared.key _ _ _ (control_at c.gate.inside.table.shared.key _ _ _ c.self.invariant (rw (← c.gate.view_is, ← c.self.view_is) at c.requires.own)) (rw (← c.self.view_is) at c.requires.enabled))
 
 pub returns-clause-step : goal.returns-clause-step
-returns-clause-step c = rw (← c.gate.view_is, ← c.self.view_is, c.of.ensures) (zero_marked_as c.gate.inside.table.shared.key 0 0 _ (control_at c.gate.inside.table.shared.key _ _ _ c.self.invariant (rw (← c.gate.view_is, ← c.self.view_is) at c.requires.own)) _ _ _ c.compare_exchange-found.ensures.2)
+returns-clause-step c = rw (← c.gate.view_is, ← c.self.view_is, c.of.ensures) (zero_marked_as c.gate.inside.table.shared.key 0 0 _ (control_at c.gate.inside.table.shared.key _ _ _ c.self.invariant (rw (← c.gate.view_is, ← c.self.view_is) at c.requires.own)) _ _ _ c.compare_exchange-found.ensures.2).0
+
+pub returns-clause-moves : goal.returns-clause-moves
+returns-clause-moves c = rw (← c.self.view_is) (zero_marked_as c.gate.inside.table.shared.key 0 0 _ (control_at c.gate.inside.table.shared.key _ _ _ c.self.invariant (rw (← c.gate.view_is, ← c.self.view_is) at c.requires.own)) c.gate.inside.table.shared.table_id _ _ c.compare_exchange-found.ensures.2).1

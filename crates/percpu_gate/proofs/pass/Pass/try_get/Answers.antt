@@ -1,5 +1,6 @@
 use Rattle.std.proofs.Common.{ap}
 use Rattle.percpu_gate.proofs.Tries.{try_finds, try_leaves, given_again, refused_found}
+use Rattle.percpu_gate.proofs.CallSteps.{try_steps}
 use Rattle.percpu_gate.proofs.TryEnds.{fields_kept}
 use Rattle.percpu_gate.proofs.TryMeets.{try_meets, zero_times, both_times}
 use Rattle.percpu_gate.specs.Calls.{has_zero}
@@ -7,6 +8,9 @@ use Rattle.percpu_gate.proofs.pass.Pass.try_get.Goals as goal
 
 pub returns-clause-leaves : goal.returns-clause-leaves
 returns-clause-leaves g c = rw (← c.self.view_is) (try_leaves _ _ _ _ _ c.count_try-is_given.ensures.counts (ap (λ s. s.view) c.end_try-answer.ensures.view) c.end_try-answer.ensures.answer)
+
+pub returns-clause-steps : goal.returns-clause-steps
+returns-clause-steps g c = rw (← c.self.view_is) (try_steps _ _ _ _ _ _ _ c.count_try-is_given.ensures.steps c.end_try-answer.ensures.answer c.end_try-answer.ensures.steps)
 
 pub returns-clause-finds : goal.returns-clause-finds
 returns-clause-finds g c = rw (← c.gate.view_is, ← c.self.view_is) (try_finds _ _ _ _ c.count_try-is_given.ensures.counts c.end_try-answer.ensures.answer)

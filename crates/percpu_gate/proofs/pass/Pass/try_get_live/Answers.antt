@@ -1,5 +1,6 @@
 use Rattle.std.proofs.Common.{ap, arith}
 use Rattle.percpu_gate.proofs.Tries.{live_try_finds, live_try_leaves, live_refused_found, floor_after_try, given_live, given_later}
+use Rattle.percpu_gate.proofs.CallSteps.{try_steps}
 use Rattle.percpu_gate.proofs.TryEnds.{fields_kept}
 use Rattle.percpu_gate.proofs.TryMeets.{try_meets, dead_times}
 use Rattle.percpu_gate.specs.Calls.{has_dead}
@@ -7,6 +8,9 @@ use Rattle.percpu_gate.proofs.pass.Pass.try_get_live.Goals as goal
 
 pub returns-clause-leaves : goal.returns-clause-leaves
 returns-clause-leaves g c = rw (← c.self.view_is) (live_try_leaves _ _ _ _ _ _ c.count_live-is_given.ensures.counts (ap (λ s. s.view) c.end_try-answer.ensures.view) c.end_try-answer.ensures.answer)
+
+pub returns-clause-steps : goal.returns-clause-steps
+returns-clause-steps g c = rw (← c.self.view_is) (try_steps _ _ _ _ _ _ _ c.count_live-is_given.ensures.steps c.end_try-answer.ensures.answer c.end_try-answer.ensures.steps)
 
 pub returns-clause-finds : goal.returns-clause-finds
 returns-clause-finds g c = rw (← c.gate.view_is, ← c.self.view_is) (live_try_finds _ _ _ _ _ c.count_live-is_given.ensures.counts c.end_try-answer.ensures.answer)

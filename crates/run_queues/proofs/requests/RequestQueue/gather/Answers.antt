@@ -15,7 +15,7 @@ invariant_of-source-2 g c =
       c.absorb.ensures.queue.2 ∙ c.source.invariant.0,
       ap (λ v. v.pushes) rule ∙ c.source.invariant.1,
       subst₂ AreGathered
-          (sym (ap (map (λ list. list.items)) (c.push_reserved.ensures.items ∙ ap (λ l. l ++ c.drawer.inside.drawn ∷ []) c.in_ok-reserve.ensures.items) ∙ map-append _ c.source.inside.lists.items _))
-          (sym (ap (λ v. v.drawn) rule ∙ ap (λ v. merged (known c.source.inside.seat).drawn v.drawn) c.drawer.invariant.1))
-          (gathers _ _ _ c.source.invariant.2 c.drawer.invariant.2),
+          (sym (ap (map (λ list. list.items)) (c.push_reserved.ensures.items ∙ ap (λ l. l ++ c.consumer.inside.drawn ∷ []) c.in_ok-reserve.ensures.items) ∙ map-append _ c.source.inside.lists.items _))
+          (sym (ap (λ v. v.drawn) rule ∙ ap (λ v. merged (known c.source.inside.seat).drawn v.drawn) c.consumer.invariant.1))
+          (gathers _ _ _ c.source.invariant.2 c.consumer.invariant.2),
     )

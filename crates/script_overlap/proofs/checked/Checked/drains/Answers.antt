@@ -2,7 +2,7 @@ use Rattle.std.proofs.Common.{◌≡◌, ◌∙◌, refl, sym, ap, subst, ◌+�
 use Rattle.std.proofs.lemmas.List.{get_or_default, take_all}
 use Rattle.std.proofs.lemmas.Option.{slice_get_read}
 use Rattle.script_meaning.specs.Requests.{number_at}
-use Rattle.script_meaning.specs.declared.line.Line.{Line}
+use Rattle.script_meaning.specs.declared.script.Line.{Line}
 use Rattle.script_meaning.proofs.Positions.{number_at_line}
 use Rattle.script_overlap.proofs.OrderedLines.{drains_of, numbers_more, ordered_within}
 use Rattle.script_overlap.proofs.checked.Checked.drains.Goals as goal

@@ -1,72 +1,120 @@
 // Erased from crates/freeze_queue_c/src/open_freezer/ends.rt by tools/erase: edit that file.
-//! How a queue ends.
+//! The end of a queue.
 
 use super::OpenFreezer;
+use crate::erased::biased_queue::{BiasedFreezer, BiasedQueue, BiasedTag};
+use crate::erased::c_answers::{DrawnNumber, Misuse};
 use crate::erased::freeze_queue_c::life::Final;
-use crate::erased::freeze_queue_c::misuse::Misuse;
 use crate::erased::freeze_queue_c::plain_limits::PlainLimits;
-use crate::erased::freeze_queue_c::queue_number::QueueNumber;
 use crate::erased::freeze_queue_c::refusal::Refusal;
 use crate::erased::pointers::Arc;
-use crate::erased::queue_core::{BlockQueue, Freezer, RemoveFault, Tag};
+use crate::erased::queue_core::{FreezeFault, Tag};
 use alloc::vec::Vec;
 
-/// A freezer whose queue may not end, and why. It is gone where there is no memory for it.
+/// Why a queue may not end, and its freezer. The freezer is gone if there was no memory for it.
 pub struct KeptFreezer {
     pub why: Refusal,
     pub freezer: Option<OpenFreezer>,
 }
 
-/// The freezer of a queue that comes back. Lost without memory.
+/// The parts of an open freezer, without its queue.
+pub(super) struct Parts {
+    pub number: DrawnNumber,
+    pub tags: u32,
+    pub waiting: Vec<BiasedTag>,
+    pub room: Vec<Tag>,
+    pub freezer: BiasedFreezer,
+}
+
+/// Moves the plain tags of these tags into the room for them.
 ///
 /// # Preconditions
 ///
-/// - `fault.freezer.queue` is `fault.queue`.
-/// - `fault.freezer.tags` is at most `vec_capacity(fault.tags)`.
-/// - For each `t` of `fault.tags` `t` belongs to `fault.queue`.
-/// - For each `t` of `fault.tags` `t.entered` is `false`.
-fn put_back(number: QueueNumber, fault: RemoveFault) -> KeptFreezer {
-    let RemoveFault { why, freezer, queue, tags: waiting } = fault;
-    match Arc::try_new(queue) {
-        Ok(queue) => {
-            KeptFreezer { why: Refusal::OfQueue(why), freezer: Some(OpenFreezer::of(queue, number, waiting, freezer)) }
+/// - `room` is `[]`.
+/// - `waiting.len()` is at most `vec_capacity(room)`.
+/// - For each `t` of `waiting` `IsSome(t.tag)`.
+fn take_plain(mut room: Vec<Tag>, waiting: Vec<BiasedTag>) -> Vec<Tag> {
+    for tag in waiting {
+        if let Some(plain) = tag.into_tag() {
+            room.push(plain);
         }
+    }
+    room
+}
+
+/// Freezes a queue that is to end, unless it is already frozen. Refuses with WornOut.
+///
+/// # Preconditions
+///
+/// - `IsOf(freezer, queue)`: the freezer belongs to this queue's gate and lanes.
+fn freeze_to_end(freezer: &mut BiasedFreezer, queue: &BiasedQueue) -> Result<(), FreezeFault> {
+    if freezer.depth() == 0 {
+        freezer.start_freeze(queue)?;
+    }
+    Ok(())
+}
+
+/// Makes the freezer again of a queue that doesn't end. The freezer is lost if there is no memory.
+///
+/// # Preconditions
+///
+/// - `IsOf(parts.freezer, queue)`: the freezer belongs to this queue's gate and lanes.
+/// - `parts.tags` is `parts.freezer.freezer.tags`.
+/// - `parts.tags` is at most `vec_capacity(parts.waiting)`.
+/// - `parts.tags` is at most `vec_capacity(parts.room)`.
+/// - `parts.room` is `[]`.
+/// - `All(Waits(queue), parts.waiting)`.
+/// - `parts.waiting.len()` is at most `parts.tags`.
+fn put_back(queue: BiasedQueue, parts: Parts, why: FreezeFault) -> KeptFreezer {
+    match Arc::try_new(queue) {
+        Ok(queue) => KeptFreezer { why: Refusal::OfQueue(why), freezer: Some(OpenFreezer::of(queue, parts)) },
         Err(_) => KeptFreezer { why: Refusal::OfMisuse(Misuse::Memory), freezer: None },
     }
 }
 
-/// Ends a queue of which nobody else has a share. Refuses WornOut.
+/// Ends a queue that nobody else has a share of, and whose tags no handle has. Refuses with WornOut.
 ///
 /// # Preconditions
 ///
-/// - `freezer` belongs to `queue`.
-/// - `freezer.tags()` is at most `vec_capacity(waiting)`.
-/// - For each `t` of `waiting` `t` belongs to `queue`.
-/// - For each `t` of `waiting` `t.entered` is `false`.
-fn remove(queue: BlockQueue, number: QueueNumber, waiting: Vec<Tag>, freezer: Freezer) -> Result<Final, KeptFreezer> {
-    let limits = PlainLimits::of(freezer.limits());
-    match freezer.remove(queue, waiting) {
+/// - `IsOf(parts.freezer, queue)`: the freezer belongs to this queue's gate and lanes.
+/// - `parts.tags` is `parts.freezer.freezer.tags`.
+/// - `parts.tags` is at most `vec_capacity(parts.waiting)`.
+/// - `parts.tags` is at most `vec_capacity(parts.room)`.
+/// - `parts.room` is `[]`.
+/// - `All(Waits(queue), parts.waiting)`.
+/// - `parts.tags` is `parts.waiting.len()`.
+fn remove(queue: BiasedQueue, mut parts: Parts) -> Result<Final, KeptFreezer> {
+    let limits = PlainLimits::of(parts.freezer.limits());
+    if let Err(why) = freeze_to_end(&mut parts.freezer, &queue) {
+        return Err(put_back(queue, parts, why));
+    }
+    let plain = take_plain(parts.room, parts.waiting);
+    match parts.freezer.remove(queue, plain) {
         Ok(left) => Ok(Final { dead: left.dead, kills: left.kills, releases: left.releases, limits }),
-        Err(fault) => Err(put_back(number, fault)),
+        Err(_) => unreachable!(),
     }
 }
 
 impl OpenFreezer {
-    /// The tags that were given out and aren't back.
+    /// The number of tags that were given out and aren't back.
     pub fn tags_out(&self) -> u32 {
-        (self.freezer.tags() as usize).saturating_sub(self.waiting.len()) as u32
+        (self.tags as usize).saturating_sub(self.waiting.len()) as u32
     }
 
-    /// Ends the queue. Refuses TagsOut, WornOut; InUse where somebody has a share of the queue. Memory where there is none
-    /// to put back a queue that is refused.
+    /// Ends the queue, whose tags no handle has. Refuses with WornOut, or with InUse if somebody has a share of the queue; returns
+    /// Memory if there is no memory to put back a queue that is refused.
+    ///
+    /// # Preconditions
+    ///
+    /// - `missing_tags(self)` is 0.
     pub fn end(self) -> Result<Final, KeptFreezer> {
-        let Self { before: _, queue, number, waiting, freezer, after: _ } = self;
+        let Self { before: _, queue, number, tags, waiting, room, freezer, after: _ } = self;
+        let parts = Parts { number, tags, waiting, room, freezer };
         match Arc::try_unwrap(queue) {
-            Ok(queue) => remove(queue, number, waiting, freezer),
-            Err(queue) => Err(KeptFreezer {
-                why: Refusal::OfMisuse(Misuse::InUse),
-                freezer: Some(OpenFreezer::of(queue, number, waiting, freezer)),
-            }),
+            Ok(queue) => remove(queue, parts),
+            Err(queue) => {
+                Err(KeptFreezer { why: Refusal::OfMisuse(Misuse::InUse), freezer: Some(OpenFreezer::of(queue, parts)) })
+            }
         }
     }
 }

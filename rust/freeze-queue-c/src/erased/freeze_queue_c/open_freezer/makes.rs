@@ -2,21 +2,23 @@
 //! A new queue.
 
 use super::OpenFreezer;
-use crate::erased::freeze_queue_c::misuse::Misuse;
+use super::ends::Parts;
+use crate::erased::biased_queue::BiasedQueue;
+use crate::erased::c_answers::{DrawnNumber, Misuse};
+use crate::erased::fallible::TryVec;
 use crate::erased::freeze_queue_c::plain_limits::PlainLimits;
-use crate::erased::freeze_queue_c::queue_number::QueueNumber;
 use crate::erased::freeze_queue_c::refusal::Refusal;
 use crate::erased::percpu_core::SLOT_LIMIT;
 use crate::erased::pointers::Arc;
-use crate::erased::queue_core::{BlockQueue, Freezer, Limits, MOST_TAGS, Tag};
+use crate::erased::queue_core::{Limits, MOST_TAGS};
 use alloc::vec::Vec;
 
-/// The misuse of sizes that no queue has.
+/// The misuse of a queue size that no queue has.
 fn refuse_size(slots: u32, tags: u32) -> Result<(), Misuse> {
     if slots == 0 || slots > SLOT_LIMIT || tags == 0 || tags > MOST_TAGS { Err(Misuse::Size) } else { Ok(()) }
 }
 
-/// Limits that a queue may have, for sizes that it may have. Refuses the limits' faults, then Size.
+/// Returns these limits if a queue may have them and the sizes. Refuses with the limits' faults, then with Size.
 fn checked(limits: &PlainLimits, slots: u32, tags: u32) -> Result<Limits, Refusal> {
     match limits.checked() {
         Err(why) => Err(Refusal::OfLimits(why)),
@@ -28,27 +30,40 @@ fn checked(limits: &PlainLimits, slots: u32, tags: u32) -> Result<Limits, Refusa
 }
 
 impl OpenFreezer {
-    /// A freezer of its parts.
+    /// Makes a freezer from its parts.
     ///
     /// # Preconditions
     ///
-    /// - `freezer` belongs to `arc_value(queue)`.
-    /// - `freezer.tags()` is at most `vec_capacity(waiting)`.
-    /// - For each `t` of `waiting` `t` belongs to `arc_value(queue)`.
-    /// - For each `t` of `waiting` `t.entered` is `false`.
-    pub(super) fn of(queue: Arc<BlockQueue>, number: QueueNumber, waiting: Vec<Tag>, freezer: Freezer) -> OpenFreezer {
-        OpenFreezer { before: [0; 16], queue, number, waiting, freezer, after: [0; 16] }
+    /// - `IsOf(parts.freezer, arc_value(queue))`: the freezer belongs to this queue's gate and lanes.
+    /// - `parts.tags` is `parts.freezer.freezer.tags`.
+    /// - `parts.tags` is at most `vec_capacity(parts.waiting)`.
+    /// - `parts.tags` is at most `vec_capacity(parts.room)`.
+    /// - `parts.room` is `[]`.
+    /// - `All(Waits(arc_value(queue)), parts.waiting)`.
+    /// - `parts.waiting.len()` is at most `parts.tags`.
+    /// - `IsBiasedQueue(arc_value(queue))`: every such queue has lanes that were made for it.
+    pub(super) fn of(queue: Arc<BiasedQueue>, parts: Parts) -> OpenFreezer {
+        let Parts { number, tags, waiting, room, freezer } = parts;
+        OpenFreezer { before: [0; 16], queue, number, tags, waiting, room, freezer, after: [0; 16] }
     }
 
-    /// The freezer of a new queue. Refuses the limits' faults, Size, Memory.
-    pub fn new(number: QueueNumber, limits: &PlainLimits, slots: u32, tags: u32) -> Result<OpenFreezer, Refusal> {
+    /// Makes the freezer of a new queue. Refuses with the limits' faults, Size or Memory.
+    pub fn new(number: DrawnNumber, limits: &PlainLimits, slots: u32, tags: u32) -> Result<OpenFreezer, Refusal> {
         let limits = checked(limits, slots, tags)?;
-        let Ok((queue, freezer, waiting)) = BlockQueue::new(limits, slots, tags) else {
+        let Ok((queue, freezer, waiting)) = BiasedQueue::new(limits, slots, tags) else {
             return Err(Refusal::OfMisuse(Misuse::Memory));
         };
+        let Ok(room) = Vec::try_with_room(tags as usize) else {
+            return Err(Refusal::OfMisuse(Misuse::Memory));
+        };
+        // A new queue has each of its tags.
+        if waiting.len() != tags as usize {
+            return Err(Refusal::OfMisuse(Misuse::Memory));
+        }
         let Ok(queue) = Arc::try_new(queue) else {
             return Err(Refusal::OfMisuse(Misuse::Memory));
         };
-        Ok(OpenFreezer::of(queue, number, waiting, freezer))
+        let parts = Parts { number, tags, waiting, room, freezer };
+        Ok(OpenFreezer::of(queue, parts))
     }
 }

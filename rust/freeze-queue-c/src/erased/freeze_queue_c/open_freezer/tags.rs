@@ -1,17 +1,17 @@
 // Erased from crates/freeze_queue_c/src/open_freezer/tags.rt by tools/erase: edit that file.
-//! The tags that wait: given to handles, and taken back.
+//! The tags that no handle has: how they are given to handles and taken back.
 
 use super::OpenFreezer;
-use crate::erased::freeze_queue_c::misuse::Misuse;
+use crate::erased::c_answers::Misuse;
 use crate::erased::freeze_queue_c::open_tag::OpenTag;
 use crate::erased::pointers::{Arc, TryBox};
 use alloc::boxed::Box;
 
 impl OpenFreezer {
-    /// The next tag that waits: the one that was given back last. Refuses NoTag, Memory.
+    /// Takes out the next tag that no handle has: the tag that was given back last. Refuses with NoneWaits or Memory.
     pub fn next_tag(&mut self) -> Result<Box<OpenTag>, Misuse> {
         let Some(tag) = self.waiting.pop() else {
-            return Err(Misuse::NoTag);
+            return Err(Misuse::NoneWaits);
         };
         let Ok(queue) = Arc::try_clone(&self.queue) else {
             self.waiting.push(tag);
@@ -26,15 +26,12 @@ impl OpenFreezer {
         }
     }
 
-    /// Why this tag may not go back. Refuses OtherQueue, also where every tag of the queue waits; Entered.
+    /// Why this tag may not go back. Refuses with Foreign, also if no tag of the queue is out; then with Entered.
     pub fn refuse_back(&self, tag: &OpenTag) -> Result<(), Misuse> {
         let own = self.number;
         let number = tag.number();
-        if self.waiting.len() >= self.freezer.tags() as usize
-            || own.counter != number.counter
-            || own.drawn != number.drawn
-        {
-            Err(Misuse::OtherQueue)
+        if self.waiting.len() >= self.tags as usize || own.counter != number.counter || own.drawn != number.drawn {
+            Err(Misuse::Foreign)
         } else if tag.entered() {
             Err(Misuse::Entered)
         } else {
@@ -42,15 +39,13 @@ impl OpenFreezer {
         }
     }
 
-    /// Takes a tag back, into the place that it had.
+    /// Takes back a tag that has no bias. There is room for it.
     ///
     /// # Preconditions
     ///
-    /// - `tag.tag.queue` is `self.freezer.queue`.
-    /// - `tag.entered()` is `false`.
-    /// - `self.waiting.len()` is less than `self.freezer.tags`.
+    /// - `Waits(self.queue, tag.tag)`: a tag that no handle has is of the queue, has no bias, and isn't in.
+    /// - `self.waiting.len()` is less than `self.freezer.freezer.tags`.
     pub fn take_back(&mut self, tag: OpenTag) {
-        debug_assert!(!tag.entered());
         self.waiting.push(tag.into_tag());
     }
 }

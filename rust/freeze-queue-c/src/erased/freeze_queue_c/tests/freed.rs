@@ -10,12 +10,10 @@ use crate::erased::freeze_queue_c::life::{
     freeze_queue_free_freezer, freeze_queue_free_tag, freeze_queue_new_numbered, freeze_queue_next_tag,
 };
 use crate::erased::freeze_queue_c::plain_limits::PlainLimits;
-use crate::erased::freeze_queue_c::tag_calls::{
-    freeze_queue_leave, freeze_queue_try_enter, freeze_queue_try_enter_frozen,
-};
+use crate::erased::freeze_queue_c::tag_calls::{freeze_queue_leave, freeze_queue_look_in, freeze_queue_try_enter};
 use crate::erased::freeze_queue_c::tag_handle::TagHandle;
 
-/// A freezer and two tags of a new queue with two slots and these limits.
+/// Returns a freezer and two tags of a new queue with two slots and these limits.
 fn of_two_tags(limits: &PlainLimits) -> (FreezerHandle, TagHandle, TagHandle) {
     let mut freezer = FreezerHandle::new();
     let mut first = TagHandle::new();
@@ -26,7 +24,7 @@ fn of_two_tags(limits: &PlainLimits) -> (FreezerHandle, TagHandle, TagHandle) {
     (freezer, first, second)
 }
 
-/// A tag that is out when it is freed enters nothing: a freeze finds the queue empty.
+/// Freeing a tag that is out doesn't enter: a freeze finds the queue empty.
 #[test]
 fn a_freed_tag_enters_nothing() {
     let (mut freezer, mut freed, mut left) = of_two_tags(&LIMITS);
@@ -37,7 +35,7 @@ fn a_freed_tag_enters_nothing() {
     freeze_queue_free_freezer(&mut freezer);
 }
 
-/// A tag that is freed while the queue is frozen doesn't look in: the other tag is the last to leave.
+/// Freeing a tag while the queue is frozen doesn't look in: the other tag is the last to leave.
 #[test]
 fn a_freed_tag_looks_into_nothing() {
     let (mut freezer, mut freed, mut left) = of_two_tags(&LIMITS);
@@ -51,7 +49,7 @@ fn a_freed_tag_looks_into_nothing() {
     freeze_queue_free_freezer(&mut freezer);
 }
 
-/// A tag that is in when it is freed doesn't leave, on either slot: the other tag isn't the last to leave.
+/// Freeing a tag that is in doesn't leave, on either slot: the other tag isn't the last to leave.
 #[test]
 fn a_freed_tag_leaves_nothing() {
     for slot in 0..2u32 {
@@ -68,7 +66,7 @@ fn a_freed_tag_leaves_nothing() {
     }
 }
 
-/// A freezer that is freed while its queue is live doesn't freeze it, whatever its limits are.
+/// Freeing a freezer while its queue is live doesn't freeze the queue, whatever its limits are.
 #[test]
 fn a_freed_freezer_freezes_nothing() {
     for max in 1..17u32 {
@@ -84,7 +82,7 @@ fn a_freed_freezer_freezes_nothing() {
     }
 }
 
-/// A freezer that was frozen and thawed before it is freed freezes nothing either.
+/// Freeing a freezer after a freeze and a thaw doesn't freeze the queue either.
 #[test]
 fn a_freed_freezer_stays_thawed() {
     let (mut freezer, mut first, mut second) = of_two_tags(&LIMITS);
@@ -98,7 +96,7 @@ fn a_freed_freezer_stays_thawed() {
     freeze_queue_free_tag(&mut second);
 }
 
-/// A freezer that is freed while its queue is frozen thaws nothing, at whatever depth.
+/// Freeing a freezer while its queue is frozen doesn't thaw the queue, at any depth.
 #[test]
 fn a_freed_freezer_thaws_nothing() {
     for freezes in [1u32, 2, 7, 1_000] {
@@ -112,7 +110,7 @@ fn a_freed_freezer_thaws_nothing() {
         freeze_queue_free_freezer(&mut freezer);
         let entered = freeze_queue_try_enter(&mut first, 0);
         assert!(entered == 2, "{freezes}");
-        let looked_in = freeze_queue_try_enter_frozen(&mut first, 0);
+        let looked_in = freeze_queue_look_in(&mut first, 0);
         assert!(looked_in == 2, "{freezes}");
         freeze_queue_free_tag(&mut first);
         freeze_queue_free_tag(&mut second);

@@ -1,5 +1,5 @@
 // Erased from crates/freeze_queue_c/src/tests/limits.rt by tools/erase: edit that file.
-//! Limits that are set, told, refused, and cut by.
+//! Limits that are set, read, refused, and used to cut.
 
 use super::{LIMITS, NUMBER, close, opened};
 use crate::erased::freeze_queue_c::first_piece::freeze_queue_first_piece;
@@ -11,16 +11,16 @@ use crate::erased::freeze_queue_c::life::{freeze_queue_free_freezer, freeze_queu
 use crate::erased::freeze_queue_c::plain_limits::PlainLimits;
 use crate::erased::freeze_queue_c::tag_calls::{freeze_queue_leave, freeze_queue_limits_of, freeze_queue_try_enter};
 
-/// None of these.
+/// A value that no test sets or reads.
 const NOT_YET: PlainLimits = PlainLimits { hardware: 1, max: 2, chunk: 3, physical: 4 };
 
-/// Limits of four numbers.
+/// Makes limits from four numbers.
 fn limits(hardware: u32, max: u32, chunk: u32, physical: u32) -> PlainLimits {
     PlainLimits { hardware, max, chunk, physical }
 }
 
-/// Set while the queue is drained, and told from then on; 0 asks for as many sectors as the hardware takes, for no chunk, and
-/// for a physical block of one sector.
+/// Limits set on a drained queue are read from then on. 0 asks for the hardware's maximum, for no chunk, and for a physical
+/// block of one sector.
 #[test]
 fn set_and_told() {
     let (mut freezer, mut tag) = opened();
@@ -50,7 +50,7 @@ fn set_and_told() {
     assert!(freeze_queue_limits_in_force(&mut freezer, &mut told) == 32);
 }
 
-/// Faults of limits come before what the queue refuses, in their order, and nothing is set.
+/// Faults of limits come before refusals of the queue, in their order, and nothing is set.
 #[test]
 fn refused_limits() {
     let (mut freezer, mut tag) = opened();
@@ -68,7 +68,7 @@ fn refused_limits() {
     close(&mut freezer, &mut tag);
 }
 
-/// A queue is made with limits that it may have, and is refused by the same numbers.
+/// A queue is made if its limits are valid. Otherwise it is refused with the same numbers.
 #[test]
 fn limits_of_a_new_queue() {
     let mut freezer = FreezerHandle::new();
@@ -83,8 +83,8 @@ fn limits_of_a_new_queue() {
     freeze_queue_free_freezer(&mut freezer);
 }
 
-/// By hand: from sector 3 on, ten sectors in chunks of ten reach to sector 10, and the last block of four that ends there
-/// ends at 8. What is within reach stays whole. 2^33 - 1 is the last place.
+/// By hand: with chunks of ten, ten sectors from sector 3 reach to sector 10, and the last block of four before it ends at 8. A
+/// request that fits stays whole. The last valid start is sector 2^33 - 1.
 #[test]
 fn first_pieces() {
     let mut piece = 9;

@@ -1,5 +1,5 @@
 // Erased from crates/percpu_gate_c/src/tests/amounts.rt by tools/erase: edit that file.
-//! The slots on which C's calls count: each amount, as a kill finds it.
+//! The slots on which C's calls count: each amount, as a kill collects it.
 
 use super::{NUMBER, WORDS};
 use crate::erased::percpu_gate::{Put, Revived};
@@ -11,8 +11,8 @@ use crate::erased::percpu_gate_c::life::{
 use crate::erased::percpu_gate_c::pass_calls::{percpu_gate_get, percpu_gate_put, percpu_gate_try_get};
 use crate::erased::percpu_gate_c::pass_handle::PassHandle;
 
-/// A gate of so many slots, with a pass that holds a reference on the shared word, so that the slots count nothing yet.
-/// Whether all calls succeed.
+/// Makes a gate with this many slots, and a pass that holds a reference on the shared word, so that the slots count
+/// nothing yet. Returns whether all calls succeed.
 fn held_on_no_slot(control: &mut ControlHandle, pass: &mut PassHandle, slots: u32) -> bool {
     percpu_gate_new_numbered(control, &NUMBER, slots, 1, 1, &WORDS) == 0
         && percpu_gate_next_pass(control, pass) == 0
@@ -20,7 +20,7 @@ fn held_on_no_slot(control: &mut ControlHandle, pass: &mut PassHandle, slots: u3
         && percpu_gate_switch_to_slots(control) == 0
 }
 
-/// Takes an amount on the slots of one half, the odd ones or the others, and puts it on the slot beside each.
+/// Takes an amount on the slots of one half, the odd ones or the even ones, and puts it on the slot beside each.
 ///
 /// # Preconditions
 ///
@@ -36,7 +36,7 @@ fn counts_on_pairs(pass: &mut PassHandle, pairs: u32, n: u32, is_odd: bool) -> b
     true
 }
 
-/// Whether a kill finds this sum on the slots of one half, and as much below zero on the others, before a revival.
+/// Whether a kill finds this sum on the slots of one half, and its negative on the others, before a revival.
 ///
 /// # Preconditions
 ///

@@ -1,14 +1,14 @@
 // Erased from crates/percpu_gate_c/src/tests/ends.rt by tools/erase: edit that file.
-//! Passes that are retired, and gates that end. `percpu_gate_retire` asks that gates of one number are one gate, so the
-//! helpers say that it holds of the two handles still.
+//! Passes that are retired, and gates that end. `percpu_gate_retire` requires that gates of one number are one gate, so
+//! the helpers say that this still holds of the two handles.
 
 use super::WORDS;
+use crate::erased::c_answers::DrawnNumber;
 use crate::erased::fallible::Fail;
 use crate::erased::percpu_gate_c::control_calls::{
     percpu_gate_control_is_zero, percpu_gate_kill, percpu_gate_release_count, percpu_gate_resurrect,
 };
 use crate::erased::percpu_gate_c::control_handle::ControlHandle;
-use crate::erased::percpu_gate_c::gate_number::GateNumber;
 use crate::erased::percpu_gate_c::life::{
     Final, percpu_gate_control_number, percpu_gate_exit, percpu_gate_free_control, percpu_gate_free_pass,
     percpu_gate_new_numbered, percpu_gate_next_pass, percpu_gate_pass_number, percpu_gate_retire,
@@ -17,14 +17,14 @@ use crate::erased::percpu_gate_c::pass_calls::{percpu_gate_is_dying, percpu_gate
 use crate::erased::percpu_gate_c::pass_handle::PassHandle;
 use alloc::format;
 
-/// What is there before a gate has ended.
+/// The value before a gate has ended.
 const NOT_YET: Final = Final { dead: false, kills: 9, releases: 9, words: [0; 8] };
 
-/// The handles of a new gate with two slots and one pass.
+/// Returns the handles of a new gate with two slots and one pass.
 fn of_one_gate(drawn: u64) -> (ControlHandle, PassHandle) {
     let mut control = ControlHandle::new();
     let mut pass = PassHandle::new();
-    let number = GateNumber { counter: 5, drawn };
+    let number = DrawnNumber { counter: 5, drawn };
     let made = percpu_gate_new_numbered(&mut control, &number, 2, 1, 0, &WORDS);
     assert!(made == 0);
     let given = percpu_gate_next_pass(&mut control, &mut pass);
@@ -87,7 +87,7 @@ fn a_whole_life() {
     assert!(percpu_gate_exit(&mut control, &mut last) == 32);
 }
 
-/// Three kills of which two reached zero: each field of what is left has a number of its own, and stands in its place.
+/// Three kills, two of which reached zero: each field of the final facts has a number of its own, in its place.
 #[test]
 fn what_is_left() -> Result<(), Fail> {
     let (mut control, mut pass) = of_one_gate(1);
@@ -111,13 +111,13 @@ fn what_is_left() -> Result<(), Fail> {
     Ok(())
 }
 
-/// Three passes of which nobody asked for one end with the gate, but not one that was given out.
+/// Of three passes one was never asked for: it ends with the gate, but a pass that was given out doesn't.
 #[test]
 fn passes_that_nobody_asked_for() {
     let mut control = ControlHandle::new();
     let mut pass = PassHandle::new();
     let mut last = NOT_YET;
-    let number = GateNumber { counter: 5, drawn: 6 };
+    let number = DrawnNumber { counter: 5, drawn: 6 };
     assert!(percpu_gate_new_numbered(&mut control, &number, 2, 3, 2, &WORDS) == 0);
     assert!(percpu_gate_exit(&mut control, &mut last) == 0);
     assert!((last.dead, last.kills, last.releases) == (true, 0, 0));
@@ -157,7 +157,7 @@ fn a_pass_of_another_gate() {
     percpu_gate_free_control(&mut second);
 }
 
-/// What a freed pass held, it holds for ever: nobody is told that the last reference is gone.
+/// What a freed pass held stays held forever: no call returns that the last reference is gone.
 #[test]
 fn a_freed_pass_holds_on() {
     let (mut control, mut pass) = of_one_gate(1);
@@ -168,7 +168,7 @@ fn a_freed_pass_holds_on() {
     percpu_gate_free_control(&mut control);
 }
 
-/// The passes of a freed control count on: nobody has killed their gate.
+/// The passes of a freed control go on counting: nobody has killed their gate.
 #[test]
 fn a_freed_control_leaves_its_gate_live() {
     let (mut control, mut pass) = of_one_gate(1);
@@ -179,13 +179,13 @@ fn a_freed_control_leaves_its_gate_live() {
     percpu_gate_free_pass(&mut pass);
 }
 
-/// The greatest gate is made where there is memory, and gives each of its passes once.
+/// The largest gate is made if there is memory, and gives each of its passes once.
 #[test]
 fn the_greatest_gate() {
     let mut control = ControlHandle::new();
     let mut pass = PassHandle::new();
     let mut last = NOT_YET;
-    let number = GateNumber { counter: 5, drawn: 6 };
+    let number = DrawnNumber { counter: 5, drawn: 6 };
     assert!(percpu_gate_new_numbered(&mut control, &number, 512, 1_024, 0, &WORDS) == 0);
     for _ in 0..1_024u32 {
         assert!(percpu_gate_next_pass(&mut control, &mut pass) == 0);
@@ -196,7 +196,7 @@ fn the_greatest_gate() {
     percpu_gate_free_control(&mut control);
 }
 
-/// Who asks for a pass where none waits takes no share of the gate, which ends.
+/// Asking for a pass when none is left takes no share of the gate, which ends.
 #[test]
 fn no_pass_takes_no_share() {
     let (mut control, mut pass) = of_one_gate(1);

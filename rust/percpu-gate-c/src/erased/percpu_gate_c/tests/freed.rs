@@ -18,7 +18,7 @@ use crate::erased::percpu_gate_c::pass_calls::{
 };
 use crate::erased::percpu_gate_c::pass_handle::PassHandle;
 
-/// A control and two passes of a new gate with two slots.
+/// Returns a control and two passes of a new gate with two slots.
 fn of_two_passes() -> (ControlHandle, PassHandle, PassHandle) {
     let mut control = ControlHandle::new();
     let mut first = PassHandle::new();
@@ -29,7 +29,7 @@ fn of_two_passes() -> (ControlHandle, PassHandle, PassHandle) {
     (control, first, second)
 }
 
-/// A pass takes so many references on a slot. Whether all calls succeed.
+/// A pass takes this many references on a slot. Returns whether all calls succeed.
 fn holds(pass: &mut PassHandle, slot: u32, n: u32) -> bool {
     n == 0 || (percpu_gate_try_get_live(pass, slot) == 0 && (n == 1 || percpu_gate_get(pass, slot, n - 1) == 0))
 }

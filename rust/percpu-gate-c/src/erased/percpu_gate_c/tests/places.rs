@@ -1,5 +1,6 @@
 // Erased from crates/percpu_gate_c/src/tests/places.rt by tools/erase: edit that file.
-//! The places of arguments, which no contract has: each call that takes several numbers, with another in each place.
+//! The places of arguments, which no contract sees: each call that takes several numbers, with another number in each
+//! place.
 
 use super::{NUMBER, WORDS, opened};
 use crate::erased::percpu_gate_c::control_calls::{percpu_gate_all_words, percpu_gate_kill, percpu_gate_store_word};

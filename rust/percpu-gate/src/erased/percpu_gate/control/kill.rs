@@ -8,7 +8,7 @@ use crate::erased::percpu_gate::gate::Gate;
 use crate::erased::percpu_gate::tried::Put;
 
 impl<const W: usize> Control<W> {
-    /// Why a kill is refused now.
+    /// Why a kill would be refused now.
     fn refuse_unless_live(&self) -> Result<(), ControlFault> {
         if self.phase.is_mid_switch() {
             Err(ControlFault::MidSwitch)
@@ -21,9 +21,9 @@ impl<const W: usize> Control<W> {
         }
     }
 
-    /// Begins a kill: sets DEAD, so that tries for a live gate are refused. The number of slots that are now
-    /// to be closed: none in atomic mode. Refuses MidSwitch, AlreadyDead, WornOut. Linux:
-    /// `percpu_ref_kill_and_confirm` (lib/percpu-refcount.c).
+    /// Begins a kill: sets DEAD. `try_get_live` is now refused on the shared word, and on a slot once that slot is
+    /// closed. Returns the number of slots that have to be closed now: 0 in atomic mode. Refuses with MidSwitch,
+    /// AlreadyDead or WornOut. Linux: `percpu_ref_kill_and_confirm` (lib/percpu-refcount.c).
     ///
     /// # Preconditions
     ///
@@ -41,7 +41,8 @@ impl<const W: usize> Control<W> {
         }
     }
 
-    /// Begins a kill, and closes and collects the open slots: `mark_dead`, each `close_next` and `collect` in one call.
+    /// Begins a kill, and closes and collects the open slots: `mark_dead`, `close_next` for each slot, and `collect` in
+    /// one call.
     ///
     /// # Preconditions
     ///
@@ -57,9 +58,8 @@ impl<const W: usize> Control<W> {
         Ok(())
     }
 
-    /// Stores and gives the odd front of the kill: a pass that has seen it is given no live reference before
-    /// the next life. Linux: the `confirm_kill` callback of `percpu_ref_kill_and_confirm`
-    /// (lib/percpu-refcount.c).
+    /// Stores the odd front of the kill, and returns it. A pass that has seen it gets no live reference before the next
+    /// life. Linux: the `confirm_kill` callback of `percpu_ref_kill_and_confirm` (lib/percpu-refcount.c).
     ///
     /// # Preconditions
     ///
@@ -86,8 +86,8 @@ impl<const W: usize> Control<W> {
         answer
     }
 
-    /// Kills the gate: `mark_dead`, `close_next` once for each open slot and `collect`, `confirm` and
-    /// `drop_base`. The put of the initial reference. Refuses MidSwitch, AlreadyDead, WornOut. Linux:
+    /// Kills the gate: `mark_dead`, `close_next` for each open slot and `collect`, `confirm`, and `drop_base`. Returns
+    /// the result of putting the initial reference. Refuses with MidSwitch, AlreadyDead or WornOut. Linux:
     /// `percpu_ref_kill` (include/linux/percpu-refcount.h).
     ///
     /// # Preconditions
@@ -99,8 +99,8 @@ impl<const W: usize> Control<W> {
         Ok(self.drop_base(gate))
     }
 
-    /// The same, and `confirm` is called once with the odd front, when everything is collected and the
-    /// initial reference is still held; its answer is handed back. Linux: `percpu_ref_kill_and_confirm`
+    /// Kills the gate, and calls `confirm` once with the odd front, when everything is collected and the initial
+    /// reference is still held. Also returns the result of `confirm`. Linux: `percpu_ref_kill_and_confirm`
     /// (lib/percpu-refcount.c).
     ///
     /// # Preconditions

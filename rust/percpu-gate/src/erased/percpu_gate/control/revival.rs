@@ -1,5 +1,5 @@
 // Erased from crates/percpu_gate/src/control/revival.rt by tools/erase: edit that file.
-//! Bringing a dead gate back.
+//! Reviving a dead gate.
 
 use super::Control;
 use crate::erased::percpu_core::Phase;
@@ -9,7 +9,7 @@ use crate::erased::percpu_gate::revived::Revived;
 use crate::erased::percpu_words::Mode;
 
 impl<const W: usize> Control<W> {
-    /// Revives a gate that has reached zero. Refuses MidSwitch, NotDead, NotZero. Linux: `percpu_ref_reinit`
+    /// Revives a gate that has reached zero. Refuses with MidSwitch, NotDead or NotZero. Linux: `percpu_ref_reinit`
     /// (lib/percpu-refcount.c).
     ///
     /// # Preconditions
@@ -21,7 +21,7 @@ impl<const W: usize> Control<W> {
         Ok(())
     }
 
-    /// Revives a dead gate, whether or not it has reached zero. Refuses MidSwitch, NotDead. Linux:
+    /// Revives a dead gate, whether or not it has reached zero. Refuses with MidSwitch or NotDead. Linux:
     /// `percpu_ref_resurrect` (lib/percpu-refcount.c).
     ///
     /// # Preconditions
@@ -32,7 +32,7 @@ impl<const W: usize> Control<W> {
         Ok(if self.revive(gate) { Revived::AtZero } else { Revived::Held })
     }
 
-    /// Brings a dead gate back, in the mode that is wanted. Whether it was at zero.
+    /// Revives a dead gate in its mode. Returns whether it was at zero.
     ///
     /// # Preconditions
     ///

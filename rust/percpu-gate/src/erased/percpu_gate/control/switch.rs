@@ -1,5 +1,5 @@
 // Erased from crates/percpu_gate/src/control/switch.rt by tools/erase: edit that file.
-//! Switching a gate between its two modes, and the steps with which a kill leaves the slots.
+//! Switching a gate between its two modes, and the steps of a kill that close and collect the slots.
 
 use super::Control;
 use crate::erased::percpu_core::Phase;
@@ -8,13 +8,13 @@ use crate::erased::percpu_gate::gate::Gate;
 use crate::erased::percpu_words::Mode;
 
 impl<const W: usize> Control<W> {
-    /// Closes the next slot of a kill. Its delta: what was taken on it less what was given back on it.
+    /// Closes the next slot of a kill. Returns its delta: the references taken on it less those given back on it.
     ///
     /// # Preconditions
     ///
     /// - `self` belongs to `gate`.
-    /// - `HasSlotToClose(self.view.standing.phase, gate.slots())`: a kill is closing slots and one of so many is to be
-    ///   closed next, or all of them are closed.
+    /// - `HasSlotToClose(self.view.standing.phase, gate.slots())`: a kill is closing the slots of a gate with this
+    ///   many, and a slot is to be closed next, or all slots are closed.
     pub fn close_next(&mut self, gate: &Gate<W>) -> i64 {
         let Phase::Closing(slot) = self.phase else {
             unreachable!();
@@ -25,7 +25,7 @@ impl<const W: usize> Control<W> {
         delta
     }
 
-    /// Collects a kill: the sum of the closed deltas comes to the shared word and the bias off it, in one step.
+    /// Collects a kill: adds the sum of the closed deltas to the shared word and removes the bias, in one step.
     ///
     /// # Preconditions
     ///
@@ -37,12 +37,12 @@ impl<const W: usize> Control<W> {
         self.phase = Phase::Collected;
     }
 
-    /// Why a switch is refused now.
+    /// Why a switch would be refused now.
     fn refuse_mid_switch(&self) -> Result<(), ControlFault> {
         if self.phase.is_mid_switch() { Err(ControlFault::MidSwitch) } else { Ok(()) }
     }
 
-    /// Counts on the shared word alone from now on; where the gate is dead, once it is revived. Refuses MidSwitch.
+    /// Counts on the shared word alone from now on; if the gate is dead, once it is revived. Refuses with MidSwitch.
     /// Linux: `percpu_ref_switch_to_atomic_sync` (lib/percpu-refcount.c).
     ///
     /// # Preconditions
@@ -58,7 +58,7 @@ impl<const W: usize> Control<W> {
         Ok(())
     }
 
-    /// Counts on slots from now on; where the gate is dead, once it is revived. Refuses MidSwitch. Linux:
+    /// Counts on slots from now on; if the gate is dead, once it is revived. Refuses with MidSwitch. Linux:
     /// `percpu_ref_switch_to_percpu` (lib/percpu-refcount.c).
     ///
     /// # Preconditions

@@ -1,5 +1,5 @@
 // Erased from crates/percpu_gate/src/control/words.rt by tools/erase: edit that file.
-//! What the control does with a gate at zero: it looks for ZERO, and stores guarded words.
+//! The calls of the control for a gate at zero: looking for ZERO, and storing guarded words.
 
 use super::Control;
 use crate::erased::percpu_core::Phase;
@@ -8,8 +8,8 @@ use crate::erased::percpu_gate::gate::Gate;
 use crate::erased::percpu_words::is_zero;
 
 impl<const W: usize> Control<W> {
-    /// Whether the count has reached zero since the kill, at this load. It stays true until the gate is
-    /// revived. Linux: `percpu_ref_is_zero` (include/linux/percpu-refcount.h).
+    /// Whether the count has reached zero since the kill, at this load. It stays true until the gate is revived. Linux:
+    /// `percpu_ref_is_zero` (lib/percpu-refcount.c).
     ///
     /// # Preconditions
     ///
@@ -18,7 +18,7 @@ impl<const W: usize> Control<W> {
         is_zero(self.seat.look(&gate.table))
     }
 
-    /// Why a call for a dead gate is refused now.
+    /// Why a call for a dead gate would be refused now.
     pub(super) fn refuse_unless_dead(&self) -> Result<(), ControlFault> {
         if self.phase.is_mid_switch() {
             Err(ControlFault::MidSwitch)
@@ -29,7 +29,7 @@ impl<const W: usize> Control<W> {
         }
     }
 
-    /// Why a call for a gate at zero is refused now, by one load.
+    /// Why a call for a gate at zero would be refused now. It makes one load.
     ///
     /// # Preconditions
     ///
@@ -39,7 +39,7 @@ impl<const W: usize> Control<W> {
         if self.is_zero(gate) { Ok(()) } else { Err(ControlFault::NotZero) }
     }
 
-    /// Stores the guarded word `k`, while the gate is dead and at zero. Refuses MidSwitch, NotDead, NotZero.
+    /// Stores the guarded word `k`, while the gate is dead and at zero. Refuses with MidSwitch, NotDead or NotZero.
     ///
     /// # Preconditions
     ///

@@ -6,7 +6,7 @@ use crate::erased::percpu_gate::table::{GateTable, SHARED, place_of};
 use crate::erased::percpu_words::{BIAS, CLOSED, slot_delta, slot_word};
 
 impl ControlSeat {
-    /// The step `Close`: closes the next slot. Its delta, or none if it was closed, which the laws exclude.
+    /// The step `Close`: closes the next slot. Returns its delta, or `None` if it was closed, which the laws exclude.
     ///
     /// # Preconditions
     ///
@@ -21,8 +21,8 @@ impl ControlSeat {
         slot_delta(found)
     }
 
-    /// Adds the sum of the closed deltas to the shared word, and takes the bias off it, in one step: `less` is the
-    /// bias less the sum.
+    /// Adds the sum of the closed deltas to the shared word, and removes the bias, in one step: `less` is the bias
+    /// less the sum.
     ///
     /// # Preconditions
     ///
@@ -60,7 +60,7 @@ impl ControlSeat {
         gate.table.shared.store(&mut self.seat, place, word);
     }
 
-    /// Closes the next slot, which the laws say is open. Its delta.
+    /// Closes the next slot, which the laws say is open. Returns its delta.
     ///
     /// # Preconditions
     ///
@@ -74,7 +74,7 @@ impl ControlSeat {
         self.close_slot(gate, slot).unwrap_or(0)
     }
 
-    /// Closes every slot, from the first on. The sum of their deltas.
+    /// Closes every slot, from the first on. Returns the sum of their deltas.
     ///
     /// # Preconditions
     ///
@@ -91,7 +91,7 @@ impl ControlSeat {
         sum
     }
 
-    /// Collects the slots, all of which are closed, with this sum of their deltas.
+    /// Collects the slots, all of which are closed, given the sum of their deltas.
     ///
     /// # Preconditions
     ///

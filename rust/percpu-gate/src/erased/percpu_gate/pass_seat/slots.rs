@@ -1,5 +1,5 @@
 // Erased from crates/percpu_gate/src/pass_seat/slots.rt by tools/erase: edit that file.
-//! A pass's counts on a slot: a look at it, and the exchange where it is open and has room.
+//! Counting on a slot: a look, and an exchange if the slot is open and has room.
 
 use super::PassSeat;
 use crate::erased::percpu_gate::table::{GateTable, place_of};
@@ -29,7 +29,7 @@ fn word_of_fewer(seen: i64, n: u32) -> u64 {
 }
 
 impl PassSeat {
-    /// Looks at a slot. Its delta, or `None` where it is closed.
+    /// Looks at a slot. Returns its delta, or `None` if it is closed.
     ///
     /// # Preconditions
     ///
@@ -41,7 +41,7 @@ impl PassSeat {
         slot_delta(gate.table.shared.load(&mut self.seat, place))
     }
 
-    /// Exchanges the delta that was seen for one that counts `n` more. Whether that was won.
+    /// Exchanges the delta that was seen for that delta plus `n`. Returns whether the exchange was won.
     ///
     /// # Preconditions
     ///
@@ -57,7 +57,7 @@ impl PassSeat {
         found == expected
     }
 
-    /// Exchanges the delta that was seen for one that counts `n` fewer. Whether that was won.
+    /// Exchanges the delta that was seen for that delta minus `n`. Returns whether the exchange was won.
     ///
     /// # Preconditions
     ///
@@ -73,8 +73,8 @@ impl PassSeat {
         found == expected
     }
 
-    /// Takes `n` references on a slot: a look, and one exchange where the slot is open and the delta stays within its
-    /// limit. Whether that was won.
+    /// Takes `n` references on a slot: a look, and one exchange if the slot is open and the delta stays within its
+    /// limit. Returns whether it won.
     ///
     /// # Preconditions
     ///
@@ -97,8 +97,8 @@ impl PassSeat {
         self.take_on_slot(gate, slot, seen, n)
     }
 
-    /// Drops `n` references on a slot: a look, and one exchange where the slot is open and the delta stays within its
-    /// limit. Whether that was won; else nothing is dropped.
+    /// Drops `n` references on a slot: a look, and one exchange if the slot is open and the delta stays within its
+    /// limit. Returns whether it won; otherwise nothing was dropped.
     ///
     /// # Preconditions
     ///
@@ -120,7 +120,7 @@ impl PassSeat {
         self.give_on_slot(gate, slot, seen, n)
     }
 
-    /// Counts for `try_get`: on the slot, else on the shared word. Whether the reference is given.
+    /// Counts for `try_get`: on the slot, or else on the shared word. Returns whether the reference was taken.
     ///
     /// # Preconditions
     ///
@@ -137,7 +137,7 @@ impl PassSeat {
         self.add_try(gate)
     }
 
-    /// Counts for `try_get_live`: on the slot, else on the shared word. Whether the reference is given.
+    /// Counts for `try_get_live`: on the slot, or else on the shared word. Returns whether the reference was taken.
     ///
     /// # Preconditions
     ///
@@ -154,7 +154,7 @@ impl PassSeat {
         self.add_live(gate)
     }
 
-    /// Takes `n` references more, of a pass that holds one: on the slot, else on the shared word.
+    /// Takes `n` more references of a pass that holds one: on the slot, or else on the shared word.
     ///
     /// # Preconditions
     ///
@@ -173,7 +173,7 @@ impl PassSeat {
         }
     }
 
-    /// Drops `n` references that the pass holds: on the slot, else on the shared word.
+    /// Drops `n` references that the pass holds: on the slot, or else on the shared word.
     ///
     /// # Preconditions
     ///

@@ -1,8 +1,0 @@
-use Rattle.std.proofs.Common.{◌≡◌, ◌-◌, All, length}
-use Rattle.blk_workers.specs.Progress.{IsNewDrawer}
-use Rattle.blk_workers.proofs.team.drawers.Given as goal
-
-abbrev pub invariant-loop-worker : goal.invariant-loop-worker
-invariant-loop-worker g l =
-    (l.source ≡ record l.initial.source { parts = l.initial.source.parts - l._worker })
-    × (length l.drawers.items ≡ l._worker) × All (IsNewDrawer g.L.QueueNames.requests l.numbers_each) l.drawers.items

@@ -1,0 +1,2 @@
+-- what a closed handle returns
+pub mod Closed

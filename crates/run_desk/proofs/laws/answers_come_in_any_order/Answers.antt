@@ -1,6 +1,0 @@
-use Rattle.run_desk.proofs.Desks.{first, line_taken, submitted, collected, all_there}
-use Rattle.run_desk.proofs.Ends.{are_joined}
-use Rattle.run_desk.proofs.laws.answers_come_in_any_order.Goals as goal
-
-pub returns : goal.returns
-returns c = record { start = first; line = line_taken; request = submitted; answer = collected; end = all_there; replies = are_joined }

@@ -1,5 +1,0 @@
-use Rattle.run_desk.proofs.Spans.{reads_stand}
-use Rattle.run_desk.proofs.laws.reads_stand_in_a_span.Goals as goal
-
-pub returns : goal.returns
-returns c = reads_stand

@@ -1,0 +1,12 @@
+// Erased from crates/bias_lanes/src/fence.rt by tools/erase: edit that file.
+//! The heavy fence.
+
+use crate::erased::lane_table;
+
+/// Orders the freezer's store of the epoch and its looks with the owners' stores and loads.
+///
+/// Each step is sequentially consistent here, so there is nothing to do. If the owners' steps are weaker, this is a
+/// barrier for all processors: each owner's store is visible to the looks, or the owner finds the new epoch.
+pub fn heavy_fence() {
+    lane_table::heavy_fence();
+}

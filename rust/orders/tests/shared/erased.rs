@@ -1,0 +1,52 @@
+//! The erased gate and queue of the crates beside this one, over tables whose steps are turns.
+#[path = "../../../percpu-gate/src/erased/atomic_table.rs"]
+pub mod atomic_table;
+#[path = "../../../freeze-queue/src/erased/lane_table.rs"]
+pub mod lane_table;
+
+#[path = "../../../percpu-gate/src/erased"]
+mod gate {
+    pub mod fallible;
+    pub mod percpu_core;
+    pub mod percpu_gate;
+    pub mod percpu_words;
+}
+
+#[path = "../../../freeze-queue/src/erased"]
+mod queue {
+    pub mod bias_lanes;
+    pub mod biased_queue;
+    pub mod queue_core;
+    pub mod queue_limits;
+}
+
+pub use gate::{fallible, percpu_core, percpu_gate, percpu_words};
+pub use queue::{bias_lanes, biased_queue, queue_core, queue_limits};
+
+pub(crate) use orders::turns::AtomicU64;
+
+/// The fences. With ORDERS_WITHOUT_FENCE the process has no heavy one. No turn reorders what a light one keeps in order.
+pub mod fences {
+    use std::sync::LazyLock;
+
+    static HAS_HEAVY_FENCE: LazyLock<bool> = LazyLock::new(|| std::env::var_os("ORDERS_WITHOUT_FENCE").is_none());
+
+    pub fn light_fence() {}
+
+    pub fn has_heavy_fence() -> bool {
+        *HAS_HEAVY_FENCE
+    }
+
+    /// Empties each thread's buffer of stores.
+    pub fn heavy_fence() {
+        if has_heavy_fence() {
+            orders::turns::heavy_fence();
+        }
+    }
+}
+
+/// A step on a word that its table doesn't have.
+#[track_caller]
+fn past_the_end(word: usize, words: usize) -> ! {
+    panic!("a table of {words} words has no word {word}")
+}

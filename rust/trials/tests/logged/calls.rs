@@ -1,0 +1,129 @@
+//! Which steps the calls of the waiting queue and of its callers take.
+
+use crate::erased::freeze_queue::{BlockQueue, Enter, Freezer, Limits, Put, SharedFreezer, Stay, StayOrEnter, Tag};
+use crate::erased::uses::{enter_under, submit_next};
+use crate::gate::Log;
+use crate::gate::Step::{self, Dropped, Looked, Refused, Taken};
+use std::thread;
+
+use crate::turns::{insist, until};
+
+fn with_one_tag() -> (BlockQueue, Freezer, Tag) {
+    let (queue, freezer, mut tags) = BlockQueue::new(Limits::start(8).expect("limits"), 3, 1).expect("memory");
+    (queue, freezer, tags.swap_remove(0))
+}
+
+/// On a live queue each call is one step on its slot, and to stay is none.
+#[test]
+fn a_call_of_a_live_queue_is_one_step() {
+    let log = Log::begin();
+    let (queue, _freezer, mut tag) = with_one_tag();
+    log.steps();
+    for (way, slot) in (0..9).map(|round| (round % 3, round / 3)) {
+        match way {
+            0 => assert_eq!(queue.try_enter(&mut tag, slot), Enter::Entered),
+            1 => assert_eq!(queue.try_enter_frozen(&mut tag, slot), Enter::Entered),
+            _ => queue.enter(&mut tag, slot),
+        }
+        assert_eq!(log.steps(), [Taken(slot)]);
+        assert_eq!(queue.stay(&mut tag, slot), Stay::Stayed);
+        assert_eq!(queue.stay_or_enter(&mut tag, slot), StayOrEnter::Stayed);
+        let made = submit_next(&queue, &mut tag, slot, 0, 8).map(|commands| commands.len());
+        assert_eq!((made, log.steps()), (Ok(1), vec![]));
+        assert_eq!(queue.leave(&mut tag, 2 - slot), Put::NotLast);
+        assert_eq!(log.steps(), [Dropped(2 - slot)]);
+    }
+}
+
+/// Calls this while the queue is frozen, and thaws once it was refused so often. Returns its steps but those refusals.
+fn steps_while_frozen(refusals: usize, call: impl FnOnce(&BlockQueue, &mut Tag) + Send) -> Vec<Step> {
+    let log = Log::begin();
+    let (queue, mut freezer, mut tag) = with_one_tag();
+    let (mut steps, mut refused) = (vec![], 0);
+    queue.enter(&mut tag, 0);
+    insist(freezer.start_freeze(&queue) == Ok(1), "a freeze is refused");
+    log.steps();
+    let (queue, tag) = (&queue, &mut tag);
+    thread::scope(|scope| {
+        let calls = scope.spawn(|| call(queue, tag));
+        until(|| {
+            queue.thawed.wake_all();
+            let (tries, others) = log.steps().into_iter().partition::<Vec<_>, _>(|step| *step == Refused(1));
+            refused += tries.len();
+            steps.extend(others);
+            insist(!calls.is_finished(), "it returns from a frozen queue");
+            refused >= refusals
+        });
+        insist(freezer.thaw(queue) == Ok(0), "a thaw is refused");
+    });
+    steps.extend(log.steps());
+    steps.retain(|step| !matches!(step, Refused(1) | Step::Killed | Step::Revived));
+    steps
+}
+
+/// A tag that waits for the thaw leaves once and enters once, on its slot, and however often it was woken in vain.
+#[test]
+fn a_tag_that_waits_enters_once() {
+    for refusals in [1, 9, 20_000] {
+        let waits = steps_while_frozen(refusals, |queue, tag| {
+            queue.leave(tag, 2);
+            queue.enter(tag, 1);
+        });
+        assert_eq!(waits, [Dropped(2), Taken(1)]);
+        let stays = steps_while_frozen(refusals, |queue, tag| {
+            assert_eq!(queue.stay_or_enter(tag, 1), StayOrEnter::EnteredAgain);
+        });
+        assert_eq!(stays, [Dropped(1), Taken(1)]);
+    }
+}
+
+/// A freeze of this queue waits until the tag leaves, although it is woken in vain again and again, and looks each time.
+fn drains_late(depth: u32, freeze: impl FnOnce(&BlockQueue, Freezer) -> Option<u32> + Send) {
+    let log = Log::begin();
+    let (queue, mut freezer, mut tag) = with_one_tag();
+    queue.enter(&mut tag, 0);
+    (1..depth).for_each(|depth| assert_eq!(freezer.start_freeze(&queue), Ok(depth)));
+    let frozen = thread::scope(|scope| {
+        let freezes = scope.spawn(|| freeze(&queue, freezer));
+        let mut looks = 0;
+        until(|| {
+            queue.drained.wake_all();
+            queue.freezer.unpark();
+            looks += log.steps().into_iter().filter(|step| *step == Looked).count();
+            insist(!freezes.is_finished(), "a freeze ends before the drain");
+            looks >= 20_000
+        });
+        assert_eq!(queue.leave(&mut tag, 0), Put::Last);
+        freezes.join().expect("a freeze that ends")
+    });
+    assert_eq!(frozen, Some(depth));
+}
+
+/// The same by a freezer that one thread has, and by one that is shared, in a first freeze and in nested ones.
+#[test]
+fn a_wait_for_the_drain_outlasts_vain_wakes() {
+    for depth in 1..=3 {
+        drains_late(depth, |queue, mut freezer| freezer.freeze(queue).ok());
+        drains_late(depth, |queue, freezer| {
+            let shared = SharedFreezer::new(freezer, queue);
+            shared.freeze().map(|guard| guard.freezer.depth()).ok()
+        });
+    }
+}
+
+/// A tag that finds the limits that it wants enters once. One that finds others leaves and enters again, on its slot.
+#[test]
+fn a_tag_that_finds_its_limits_stays() {
+    let log = Log::begin();
+    let (queue, mut freezer, mut tag) = with_one_tag();
+    let [wide, narrow] = [8, 4].map(|most| Limits::new(8, most, 0).expect("limits"));
+    for limits in [wide, narrow] {
+        assert_eq!(freezer.freeze(&queue), Ok(1));
+        assert_eq!(freezer.set(&queue, limits), Ok(()));
+        assert_eq!(freezer.thaw(&queue), Ok(0));
+        log.steps();
+        enter_under(&queue, &mut tag, 2, &limits);
+        assert_eq!(log.steps(), [Taken(2)]);
+        queue.leave(&mut tag, 0);
+    }
+}

@@ -1,0 +1,26 @@
+//! The erased files of the waiting queue, of the workers and of a caller, over a gate that logs and over the other erased modules of blkq.
+#[path = "../../../freeze-queue/src/erased"]
+mod queue {
+    pub mod queue_core;
+}
+
+#[path = "../../../blkq/src/erased"]
+mod runs {
+    pub mod blk_workers;
+    pub mod freeze_queue;
+}
+
+#[path = "../../src/erased"]
+mod callers {
+    pub mod uses;
+}
+
+pub use crate::gate as percpu_gate;
+pub use blkq::erased::percpu_gate as gates;
+pub use blkq::erased::{
+    blk_script, crossbeam_utils, fallible, in_flight, percpu_core, pointers, queue_limits, ram_disk, run_queues,
+    script_meaning, script_overlap, sync, thread, wait_queue,
+};
+pub use callers::uses;
+pub use queue::queue_core;
+pub use runs::{blk_workers, freeze_queue};

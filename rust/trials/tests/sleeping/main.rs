@@ -1,0 +1,325 @@
+//! Tests which push wakes whom at the queues between the threads of a run, how often a thread looks before it sleeps, and that both stay so
+//! after thousands of requests. No contract says it. The queues' erased files are compiled again here, so that a thread can be held at a step.
+
+#[allow(dead_code)]
+pub mod counting;
+#[allow(dead_code, unused_imports, clippy::all, clippy::pedantic)]
+mod erased;
+#[allow(dead_code)]
+pub mod ring;
+#[allow(dead_code)]
+#[path = "../shared/turns.rs"]
+mod turns;
+
+use crate::counting::wakes;
+use crate::erased::run_queues::{Consumer, Numbered, RequestQueue, Source};
+use std::sync::Arc;
+use std::sync::atomic::{AtomicBool, AtomicU64, Ordering::SeqCst};
+use std::thread::{Scope, ScopedJoinHandle, scope};
+use turns::{insist, until, wait_for};
+
+struct Request(u32);
+
+impl Numbered for Request {
+    fn number(&self) -> u32 {
+        self.0
+    }
+}
+
+/// A queue of requests, and what its threads did.
+struct Line {
+    queue: RequestQueue<Request>,
+    asleep: Arc<AtomicU64>,
+    drawn: AtomicU64,
+    pushed: AtomicU64,
+}
+
+/// What a thread did in its draws.
+#[derive(Debug, PartialEq)]
+struct Done {
+    looks: u64,
+    looks_for_more: u64,
+    wakes: u64,
+}
+
+/// When a thread is held.
+#[derive(Clone, Copy, PartialEq)]
+enum When {
+    Never,
+    /// At its look of this number.
+    Look(u64),
+    /// Once it was woken.
+    Woken,
+    /// At its first look after it was woken.
+    WokenLook,
+}
+
+/// Holds threads until it is released.
+#[derive(Clone)]
+struct Hold {
+    when: When,
+    is_woken: Arc<AtomicBool>,
+    held: Arc<AtomicU64>,
+    released: Arc<AtomicU64>,
+}
+
+impl Hold {
+    fn new(when: When) -> Hold {
+        Hold { when, is_woken: Arc::default(), held: Arc::default(), released: Arc::default() }
+    }
+
+    /// Does what is to be done once the thread was woken.
+    fn woken(&self) {
+        self.is_woken.store(true, SeqCst);
+        if self.when == When::Woken {
+            self.hold();
+        }
+    }
+
+    /// Does what is to be done before the look of this number.
+    fn look(&self, look: u64) {
+        if self.when == When::Look(look) || self.when == When::WokenLook && self.is_woken.swap(false, SeqCst) {
+            self.hold();
+        }
+    }
+
+    fn hold(&self) {
+        self.held.fetch_add(1, SeqCst);
+        wait_for(&self.released, 1);
+    }
+
+    fn release(&self) {
+        self.released.store(1, SeqCst);
+    }
+}
+
+impl Line {
+    fn new(room: usize, threads: u32, draws: usize) -> (Line, Source<Request>, Vec<Consumer<Request>>) {
+        let (queue, mut source) = RequestQueue::new(room, threads as usize).expect("memory");
+        let consumers = (0..threads).map(|_| queue.consumer(&mut source, draws).expect("memory")).collect();
+        let [drawn, pushed] = [const { AtomicU64::new(0) }; 2];
+        (Line { queue, asleep: Arc::default(), drawn, pushed }, source, consumers)
+    }
+
+    /// Pushes the next request. Returns how many waiters it was to wake.
+    fn push(&self, source: &mut Source<Request>) -> u64 {
+        wakes();
+        self.queue.push(source, Request(self.pushed.fetch_add(1, SeqCst) as u32));
+        wakes()
+    }
+
+    /// Draws a request. Returns what that took.
+    fn draw(&self, consumer: &mut Consumer<Request>) -> Done {
+        wakes();
+        ring::looks_for_more();
+        ring::looks();
+        insist(matches!(self.queue.draw(consumer), Ok(Some(_))), "a draw without a request");
+        let done = Done { looks: ring::looks(), looks_for_more: ring::looks_for_more(), wakes: wakes() };
+        self.drawn.fetch_add(1, SeqCst);
+        done
+    }
+
+    /// Draws a request on this thread, which is held as told.
+    fn draw_held(&self, consumer: &mut Consumer<Request>, hold: &Hold) -> Done {
+        let (asleep, woken, looks) = (Arc::clone(&self.asleep), hold.clone(), hold.clone());
+        let notes_sleep = move || {
+            asleep.fetch_add(1, SeqCst);
+        };
+        counting::at_sleeps(notes_sleep, move || woken.woken());
+        ring::before_looks(move |look| looks.look(look));
+        self.draw(consumer)
+    }
+
+    /// Starts a thread that draws once, and is held as told.
+    fn draws<'s>(
+        &'s self,
+        scope: &'s Scope<'s, '_>,
+        mut consumer: Consumer<Request>,
+        hold: &Hold,
+    ) -> ScopedJoinHandle<'s, Done> {
+        let hold = hold.clone();
+        scope.spawn(move || self.draw_held(&mut consumer, &hold))
+    }
+
+    /// Starts so many threads that draw once, one after the other, and waits until all sleep.
+    fn sleepers<'s>(
+        &'s self,
+        scope: &'s Scope<'s, '_>,
+        consumers: Vec<Consumer<Request>>,
+        hold: &Hold,
+    ) -> Vec<ScopedJoinHandle<'s, Done>> {
+        let starts = |(others, consumer): (u64, _)| {
+            let thread = self.draws(scope, consumer, hold);
+            wait_for(&self.asleep, others + 1);
+            thread
+        };
+        (0..).zip(consumers).map(starts).collect()
+    }
+}
+
+fn done(thread: ScopedJoinHandle<'_, Done>) -> Done {
+    until(|| thread.is_finished());
+    thread.join().expect("a draw that ends")
+}
+
+/// A push wakes one of those who sleep, and nobody once all are up. Nor does anybody look for such threads behind a draw then.
+#[test]
+fn a_push_wakes_while_somebody_sleeps() {
+    for sleepers in [1, 2, 5, 40] {
+        let (line, mut source, mut consumers) = Line::new(4, sleepers + 1, 2_000);
+        let mut own = consumers.pop().expect("a consumer");
+        scope(|scope| {
+            let threads = line.sleepers(scope, consumers, &Hold::new(When::Never));
+            for drawn in 1..=sleepers.into() {
+                insist(line.push(&mut source) == 1, "a push wakes nobody, or two");
+                wait_for(&line.drawn, drawn);
+            }
+            let all: Vec<_> = threads.into_iter().map(done).collect();
+            insist(all.iter().all(|done| done.wakes == 1), "a draw wakes another than who waits for room");
+            let looks: u64 = all.iter().map(|done| done.looks_for_more).sum();
+            insist(looks == u64::from(sleepers) - 1, "somebody counts as a sleeper for ever");
+        });
+        for _ in 0..2_000 {
+            assert_eq!(line.push(&mut source), 0, "{sleepers} slept");
+            assert_eq!(line.draw(&mut own), Done { looks: 1, looks_for_more: 0, wakes: 1 });
+        }
+    }
+}
+
+/// A push wakes nobody while a thread looks. That thread finds what was pushed, and wakes the next if more is left.
+#[test]
+fn who_looks_finds_what_is_pushed() {
+    for pushes in 1..=3 {
+        let (line, mut source, mut consumers) = Line::new(4, 2, 1);
+        let own = consumers.pop().expect("a consumer");
+        scope(|scope| {
+            let sleeper = line.sleepers(scope, consumers, &Hold::new(When::Never)).swap_remove(0);
+            let hold = Hold::new(When::Look(5));
+            let looks = line.draws(scope, own, &hold);
+            wait_for(&hold.held, 1);
+            (0..pushes).for_each(|_| insist(line.push(&mut source) == 0, "a push wakes a sleeper though one looks"));
+            hold.release();
+            let wakes = 1 + u64::from(pushes > 1);
+            insist(done(looks) == Done { looks: 5, looks_for_more: 1, wakes }, "who looks does something else");
+            insist(pushes > 1 || line.push(&mut source) == 1, "a push doesn't wake who sleeps");
+            // Its first look, a look of the full length, one before it sleeps, and one that finds.
+            let once = Done { looks: 1 + 256 + 1 + 1, looks_for_more: 0, wakes: 1 };
+            insist(done(sleeper) == once, "the sleeper is woken in vain");
+        });
+    }
+}
+
+/// Four threads look at most. Another sleeps at once, and isn't woken as long as one of them looks.
+#[test]
+fn four_look_at_most() {
+    let (line, mut source, mut consumers) = Line::new(8, 5, 1);
+    let own = consumers.pop().expect("a consumer");
+    scope(|scope| {
+        let hold = Hold::new(When::Look(2));
+        let looking: Vec<_> = consumers.into_iter().map(|consumer| line.draws(scope, consumer, &hold)).collect();
+        wait_for(&hold.held, 4);
+        let sleeps = line.draws(scope, own, &Hold::new(When::Never));
+        wait_for(&line.asleep, 1);
+        (0..5).for_each(|_| insist(line.push(&mut source) == 0, "a push wakes a sleeper though four look"));
+        hold.release();
+        insist(looking.into_iter().all(|thread| done(thread).looks == 2), "who looks doesn't find the next item");
+        insist(done(sleeps).looks == 3, "the fifth looks longer, or is woken in vain");
+    });
+}
+
+/// A push wakes nobody while a thread that was woken is on its way. That one wakes the next, and so on.
+#[test]
+fn one_at_a_time_is_on_its_way() {
+    for sleepers in 1..=6 {
+        let (line, mut source, consumers) = Line::new(8, sleepers, 1);
+        scope(|scope| {
+            let hold = Hold::new(When::Woken);
+            let threads = line.sleepers(scope, consumers, &hold);
+            insist(line.push(&mut source) == 1, "a push wakes nobody");
+            wait_for(&hold.held, 1);
+            (1..sleepers).for_each(|_| insist(line.push(&mut source) == 0, "a second one is woken"));
+            hold.release();
+            let mut wakes: Vec<u64> = threads.into_iter().map(|thread| done(thread).wakes).collect();
+            wakes.sort_unstable();
+            // Each wakes who waits for room, and each but the last wakes the next.
+            let last = wakes.remove(0);
+            insist(last == 1 && wakes.iter().all(|wakes| *wakes == 2), "not each wakes the next");
+        });
+    }
+}
+
+/// Once a woken thread has come, a push wakes the next, although the one that came hasn't looked yet. The next finds what the first was
+/// woken for, and leaves the other item to it.
+#[test]
+fn who_has_come_is_not_waited_for() {
+    let (line, mut source, consumers) = Line::new(8, 2, 1);
+    scope(|scope| {
+        let holds = [When::WokenLook; 2].map(Hold::new);
+        let threads: Vec<_> =
+            consumers.into_iter().zip(&holds).map(|(consumer, hold)| line.draws(scope, consumer, hold)).collect();
+        wait_for(&line.asleep, 2);
+        insist(line.push(&mut source) == 1, "a push wakes nobody");
+        until(|| holds.iter().any(|hold| hold.held.load(SeqCst) > 0));
+        let first = holds.iter().position(|hold| hold.held.load(SeqCst) > 0).expect("one that was woken");
+        holds[1 - first].release();
+        insist(line.push(&mut source) == 1, "a push wakes nobody though all sleep");
+        wait_for(&line.drawn, 1);
+        holds[first].release();
+        let wakes: Vec<u64> = threads.into_iter().map(|thread| done(thread).wakes).collect();
+        insist((wakes[first], wakes[1 - first]) == (1, 2), "the second leaves an item and wakes nobody");
+    });
+}
+
+/// Draws as often as there are numbers here, each once the thread sleeps, and compares its looks: the first, these many, one before it sleeps,
+/// and the one that finds. With `Some` it is held at its look of this number instead, and finds what is pushed meanwhile.
+fn looks_are(plan: &[(u64, Option<u64>)]) {
+    let (line, mut source, mut consumers) = Line::new(1, 1, plan.len());
+    let holds: Vec<Hold> = plan.iter().map(|(_, at)| Hold::new(at.map_or(When::Never, When::Look))).collect();
+    let mut consumer = consumers.swap_remove(0);
+    scope(|scope| {
+        scope.spawn(|| {
+            for (draw, ((tries, at_look), hold)) in plan.iter().zip(&holds).enumerate() {
+                let looks = line.draw_held(&mut consumer, hold).looks;
+                let wanted = at_look.unwrap_or(1 + tries + 1 + 1);
+                insist(looks == wanted, &format!("draw {draw} looks {looks} times, not {wanted}"));
+            }
+        });
+        let mut sleeps = 0;
+        for (draw, hold) in (1..).zip(&holds) {
+            let is_to_sleep = hold.when == When::Never;
+            sleeps += u64::from(is_to_sleep);
+            until(|| line.asleep.load(SeqCst) >= sleeps && (is_to_sleep || hold.held.load(SeqCst) > 0));
+            insist(line.push(&mut source) == u64::from(is_to_sleep), "a push wakes another number of threads");
+            hold.release();
+            wait_for(&line.drawn, draw);
+        }
+    });
+}
+
+/// A look in vain halves the next. After 16 of them one has its full length again, then after 32 more, and so on up to each 1,024.
+#[test]
+fn looks_in_vain_grow_short() {
+    let halves = [256, 128, 64, 32, 16, 8, 4, 2].into_iter().chain([1; 8]);
+    let seldom = [32, 64, 128, 256, 512, 1_024, 1_024, 1_024].map(|ones| [256].into_iter().chain(vec![1; ones]));
+    let all: Vec<_> = halves.chain(seldom.into_iter().flatten()).chain([256]).map(|tries| (tries, None)).collect();
+    looks_are(&all);
+}
+
+/// A look that finds an item doubles the next, up to the full length, and begins the count of those in vain anew.
+#[test]
+fn looks_that_find_grow_long() {
+    let vain = |tries| (tries, None);
+    let found = |look| (0, Some(look));
+    let mut plan: Vec<_> = [256, 128, 64, 32, 16].map(vain).to_vec();
+    plan.extend([found(3), vain(16), vain(8), found(2), found(2), found(2), vain(32)]);
+    plan.extend([found(6), found(6), found(6), found(6), found(6), found(6), vain(256)]);
+    plan.extend([128, 64, 32, 16, 8, 4, 2].map(vain));
+    plan.extend([vain(1); 8]);
+    plan.extend([found(3), vain(2)]);
+    plan.extend([vain(1); 15]);
+    // From now on 32 are in vain between two of the full length, until one finds an item again.
+    plan.extend([vain(256), vain(1), found(2), vain(2)]);
+    plan.extend([vain(1); 15]);
+    plan.push(vain(256));
+    looks_are(&plan);
+}
