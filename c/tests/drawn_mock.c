@@ -19,7 +19,7 @@ uint32_t percpu_gate_new_numbered(percpu_gate_control *control, const struct gat
     return PERCPU_GATE_OK;
 }
 
-uint32_t percpu_gate_next_pass(percpu_gate_control *control, percpu_gate_pass *pass)
+percpu_gate_answer percpu_gate_next_pass(percpu_gate_control *control, percpu_gate_pass *pass)
 {
     pass->is_open = true;
     pass->at = control->at;
@@ -29,23 +29,23 @@ uint32_t percpu_gate_next_pass(percpu_gate_control *control, percpu_gate_pass *p
 uint64_t percpu_gate_control_number(percpu_gate_control *control) { return (uintptr_t)control->at / 4; }
 uint64_t percpu_gate_pass_number(percpu_gate_pass *pass) { return (uintptr_t)pass->at / 4; }
 
-uint32_t percpu_gate_try_get(percpu_gate_pass *pass, uint32_t slot)
+percpu_gate_answer percpu_gate_try_get(percpu_gate_pass *pass, uint32_t slot)
 {
     return slot == 0 && (uintptr_t)pass->at % 4 == PERCPU_GATE_START_DEAD ? PERCPU_GATE_NOT_GIVEN : PERCPU_GATE_OK;
 }
 
-uint32_t percpu_gate_put(percpu_gate_pass *pass, uint32_t slot, uint32_t n)
+percpu_gate_answer percpu_gate_put(percpu_gate_pass *pass, uint32_t slot, uint32_t n)
 {
     return pass->is_open && slot == 0 && n == 1 ? PERCPU_GATE_OK : PERCPU_GATE_ERR_NOT_HELD;
 }
 
-uint32_t percpu_gate_retire(percpu_gate_control *control, percpu_gate_pass *pass)
+percpu_gate_answer percpu_gate_retire(percpu_gate_control *control, percpu_gate_pass *pass)
 {
     pass->is_open = false;
     return control->is_open ? PERCPU_GATE_OK : PERCPU_GATE_ERR_CLOSED;
 }
 
-uint32_t percpu_gate_exit(percpu_gate_control *control, percpu_gate_final *last)
+percpu_gate_answer percpu_gate_exit(percpu_gate_control *control, percpu_gate_final *last)
 {
     control->is_open = last->dead = false;
     return PERCPU_GATE_OK;

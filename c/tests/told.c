@@ -26,15 +26,15 @@ static uint32_t (*const resurrect)(percpu_gate_control *) = percpu_gate_resurrec
 
 uint64_t percpu_gate_pass_number(percpu_gate_pass *pass) { return pass ? number : 0; }
 uint64_t percpu_gate_control_number(percpu_gate_control *control) { return control ? number : 0; }
-uint32_t percpu_gate_try_get(percpu_gate_pass *pass, uint32_t slot) { return called(pass && slot == 2); }
-uint32_t percpu_gate_try_get_live(percpu_gate_pass *pass, uint32_t slot) { return called(pass && slot == 2); }
-uint32_t percpu_gate_put(percpu_gate_pass *pass, uint32_t slot, uint32_t n) { return called(pass && slot == 2 && n == 3); }
+percpu_gate_answer percpu_gate_try_get(percpu_gate_pass *pass, uint32_t slot) { return called(pass && slot == 2); }
+percpu_gate_answer percpu_gate_try_get_live(percpu_gate_pass *pass, uint32_t slot) { return called(pass && slot == 2); }
+percpu_gate_answer percpu_gate_put(percpu_gate_pass *pass, uint32_t slot, uint32_t n) { return called(pass && slot == 2 && n == 3); }
 bool percpu_gate_is_zero(percpu_gate_pass *pass) { return called(pass) == 1; }
-uint32_t percpu_gate_kill(percpu_gate_control *control) { return called(control); }
-uint32_t percpu_gate_drop_base(percpu_gate_control *control) { return called(control); }
+percpu_gate_answer percpu_gate_kill(percpu_gate_control *control) { return called(control); }
+percpu_gate_answer percpu_gate_drop_base(percpu_gate_control *control) { return called(control); }
 bool percpu_gate_control_is_zero(percpu_gate_control *control) { return called(control) == 1; }
-uint32_t percpu_gate_reinit(percpu_gate_control *control) { return called(control); }
-uint32_t percpu_gate_resurrect(percpu_gate_control *control) { return called(control); }
+percpu_gate_answer percpu_gate_reinit(percpu_gate_control *control) { return called(control); }
+percpu_gate_answer percpu_gate_resurrect(percpu_gate_control *control) { return called(control); }
 
 static percpu_gate_pass pass;
 static percpu_gate_control control;

@@ -18,17 +18,17 @@ static uint32_t (*const thaw)(freeze_queue *, uint32_t *) = freeze_queue_thaw;
 
 uint64_t freeze_queue_tag_number(freeze_queue_tag *tag) { return tag ? number : 0; }
 uint64_t freeze_queue_number(freeze_queue *freezer) { return freezer ? number : 0; }
-uint32_t freeze_queue_try_enter(freeze_queue_tag *tag, uint32_t slot) { return called(tag && slot == 2); }
-uint32_t freeze_queue_try_enter_frozen(freeze_queue_tag *tag, uint32_t slot) { return called(tag && slot == 2); }
-uint32_t freeze_queue_leave(freeze_queue_tag *tag, uint32_t slot) { return called(tag && slot == 2); }
-uint32_t freeze_queue_leave_biased(freeze_queue_tag *tag, uint32_t slot) { return called(tag && slot == 2); }
-uint32_t freeze_queue_start_freeze(freeze_queue *freezer, uint32_t *depth) { return called(freezer && depth); }
+freeze_queue_answer freeze_queue_try_enter(freeze_queue_tag *tag, uint32_t slot) { return called(tag && slot == 2); }
+freeze_queue_answer freeze_queue_try_enter_frozen(freeze_queue_tag *tag, uint32_t slot) { return called(tag && slot == 2); }
+freeze_queue_answer freeze_queue_leave(freeze_queue_tag *tag, uint32_t slot) { return called(tag && slot == 2); }
+freeze_queue_answer freeze_queue_leave_biased(freeze_queue_tag *tag, uint32_t slot) { return called(tag && slot == 2); }
+freeze_queue_answer freeze_queue_start_freeze(freeze_queue *freezer, uint32_t *depth) { return called(freezer && depth); }
 bool freeze_queue_poll_drained(freeze_queue *freezer) { return called(freezer) == 1; }
-uint32_t freeze_queue_set(freeze_queue *freezer, const freeze_queue_limits *limits)
+freeze_queue_answer freeze_queue_set(freeze_queue *freezer, const freeze_queue_limits *limits)
 {
     return called(freezer && limits);
 }
-uint32_t freeze_queue_thaw(freeze_queue *freezer, uint32_t *depth) { return called(freezer && depth); }
+freeze_queue_answer freeze_queue_thaw(freeze_queue *freezer, uint32_t *depth) { return called(freezer && depth); }
 
 static freeze_queue_tag tag;
 static freeze_queue freezer;
