@@ -30,6 +30,7 @@
 //! - `whole`: freeze-queue's own files. Threads and tasks enter beside freezes, wait in line for a tag, and wait for the drain; a device goes
 //!   away, deadlines pass at any moment, futures are dropped, a waker panics. Each wait ends. A guarded value is never lent twice.
 //! - `biased`: the queue of biased tags, with store buffers. Owners enter by their lanes and by the gate, beside freezes that take their biases away.
+//! - `steps`: no orders, but which steps each call takes, one after another, in each life of a gate and of a queue.
 //! - `whole_gate`: percpu-gate's own files. References lend a guarded value beside kills, changes, revivals and the removal.
 //!
 //! `tests/planted/run orders` plants mistakes in a copy, each of which they find.

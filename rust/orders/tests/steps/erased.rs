@@ -1,0 +1,107 @@
+//! The erased gate and queue of the crates beside this one, over atomic numbers and fences that note each step of this thread.
+#[path = "../../../percpu-gate/src/erased/atomic_table.rs"]
+pub mod atomic_table;
+#[path = "../../../freeze-queue/src/erased/lane_table.rs"]
+pub mod lane_table;
+
+#[path = "../../../percpu-gate/src/erased"]
+mod gate {
+    pub mod fallible;
+    pub mod percpu_core;
+    pub mod percpu_gate;
+    pub mod percpu_words;
+}
+
+#[path = "../../../freeze-queue/src/erased"]
+mod queue {
+    pub mod bias_lanes;
+    pub mod biased_queue;
+    pub mod queue_core;
+    pub mod queue_limits;
+}
+
+pub use gate::{fallible, percpu_core, percpu_gate, percpu_words};
+pub use queue::{bias_lanes, biased_queue, queue_core, queue_limits};
+
+use std::cell::RefCell;
+use std::sync::atomic::{self, Ordering};
+
+thread_local!(static STEPS: RefCell<String> = const { RefCell::new(String::new()) });
+
+fn note(step: char) {
+    STEPS.with_borrow_mut(|steps| steps.push(step));
+}
+
+/// Returns the steps of this thread since the last call of this: a letter for each load, store, exchange without a condition (`w`), exchange
+/// with one (`x`) and fence, and the sign of an operator for each other step.
+pub fn steps() -> String {
+    STEPS.take()
+}
+
+#[derive(Debug)]
+pub struct AtomicU64(atomic::AtomicU64);
+
+impl AtomicU64 {
+    pub const fn new(value: u64) -> AtomicU64 {
+        AtomicU64(atomic::AtomicU64::new(value))
+    }
+
+    pub fn load(&self, order: Ordering) -> u64 {
+        note('l');
+        self.0.load(order)
+    }
+
+    pub fn store(&self, value: u64, order: Ordering) {
+        note('s');
+        self.0.store(value, order);
+    }
+
+    pub fn swap(&self, value: u64, order: Ordering) -> u64 {
+        note('w');
+        self.0.swap(value, order)
+    }
+
+    pub fn fetch_add(&self, more: u64, order: Ordering) -> u64 {
+        note('+');
+        self.0.fetch_add(more, order)
+    }
+
+    pub fn fetch_sub(&self, less: u64, order: Ordering) -> u64 {
+        note('-');
+        self.0.fetch_sub(less, order)
+    }
+
+    pub fn fetch_and(&self, bits: u64, order: Ordering) -> u64 {
+        note('&');
+        self.0.fetch_and(bits, order)
+    }
+
+    pub fn fetch_or(&self, bits: u64, order: Ordering) -> u64 {
+        note('|');
+        self.0.fetch_or(bits, order)
+    }
+
+    pub fn compare_exchange(&self, old: u64, new: u64, won: Ordering, lost: Ordering) -> Result<u64, u64> {
+        note('x');
+        self.0.compare_exchange(old, new, won, lost)
+    }
+}
+
+/// The fences. The process has a heavy one, which no thread of these tests needs.
+pub mod fences {
+    pub fn light_fence() {}
+
+    pub fn has_heavy_fence() -> bool {
+        true
+    }
+
+    pub fn heavy_fence() {
+        super::note('f');
+    }
+}
+
+/// A step on a word that its table doesn't have.
+#[track_caller]
+fn past_the_end(word: usize, words: usize) -> ! {
+    panic!("a table of {words} words has no word {word}")
+}

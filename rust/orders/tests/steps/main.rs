@@ -1,0 +1,184 @@
+//! The atomic steps of each call, one after another, in each life of a gate and of a queue. No contract says which steps the calls of a control
+//! or of a freezer take, or that a lane is looked at once.
+#![allow(
+    dead_code,
+    unused_imports,
+    unfulfilled_lint_expectations,
+    unsafe_code,
+    missing_docs,
+    missing_debug_implementations,
+    clippy::all,
+    clippy::pedantic
+)]
+
+extern crate alloc;
+
+mod erased;
+
+use crate::erased::bias_lanes::{Freezer, Lane, Lanes};
+use crate::erased::biased_queue::{BiasedEntry, BiasedFreezer, BiasedQueue, BiasedTag};
+use crate::erased::percpu_gate::{Control, Gate, Pass, Put, Revived, Start, Tried};
+use crate::erased::queue_core::{FreezeFault, Limits, Mode};
+use crate::erased::steps;
+
+/// Whether a call returns this and takes these steps.
+#[track_caller]
+fn takes<T: PartialEq + std::fmt::Debug>(returned: T, wanted: T, its_steps: &str) {
+    assert_eq!((returned, steps().as_str()), (wanted, its_steps));
+}
+
+const LIVES: u64 = 9;
+
+/// A gate of two slots, its control and its passes.
+fn gate(passes: u32) -> (Gate<1>, Control<1>, Vec<Pass<1>>) {
+    let made = Gate::new(2, passes, Start::Slots, [7]).expect("memory");
+    steps();
+    made
+}
+
+#[test]
+fn a_pass_takes_few_steps() {
+    let (gate, mut control, mut passes) = gate(2);
+    let pass = &mut passes[1];
+    for life in 0..LIVES {
+        takes(pass.try_get_live(&gate, 1), Tried::Given, "lx");
+        takes(pass.try_get(&gate, 1), Tried::Given, "lx");
+        takes(pass.get(&gate, 0, 5), (), "lx");
+        takes((pass.word(&gate, 0), pass.front(&gate)), (7, 2 * life), "ll");
+        takes((pass.is_dying(&gate), pass.is_zero(&gate)), (false, false), "ll");
+        takes(pass.put(&gate, 0, 6), Put::NotLast, "lx");
+        assert_eq!(control.kill(&gate), Ok(Put::NotLast));
+        steps();
+        takes(pass.get(&gate, 1, 1), (), "l+");
+        takes(pass.try_get_live(&gate, 1), Tried::Refused(Put::NotLast), "l+-");
+        takes(pass.put(&gate, 1, 1), Put::NotLast, "l-");
+        takes(pass.put(&gate, 1, 1), Put::Last, "l-x");
+        takes(pass.try_get(&gate, 1), Tried::Refused(Put::NotLast), "l+-");
+        assert_eq!(control.reinit(&gate), Ok(()));
+        steps();
+    }
+}
+
+/// A look of the control is one load, also if its call is refused after it. A kill and a revival take the steps of docs/GATE.md.
+#[test]
+fn a_control_takes_the_steps_of_its_call() {
+    use crate::erased::percpu_gate::ControlFault::{AlreadyDead, NotDead, NotZero};
+    let (gate, mut control, mut passes) = gate(2);
+    for _ in 0..LIVES {
+        takes(control.kill_and_confirm(&gate, |_| steps()), Ok((Put::Last, "|ww-s".into())), "-x");
+        takes((control.kill(&gate), control.is_zero(&gate)), (Err(AlreadyDead), true), "l");
+        takes(control.store_word(&gate, 0, 7), Ok(()), "ls");
+        takes(control.reinit(&gate), Ok(()), "l+s&+ss");
+        takes((control.is_zero(&gate), control.reinit(&gate)), (false, Err(NotDead)), "l");
+        takes(control.switch_to_slots(&gate), Ok(()), "");
+        takes(control.switch_to_atomic(&gate), Ok(()), "ww-");
+        assert_eq!(passes[0].try_get_live(&gate, 0), Tried::Given);
+        steps();
+        takes(control.kill(&gate), Ok(Put::NotLast), "|s-");
+        takes(control.is_zero(&gate), false, "l");
+        takes(control.reinit(&gate), Err(NotZero), "l");
+        takes(control.store_word(&gate, 0, 9), Err(NotZero), "l");
+        takes(control.resurrect(&gate), Ok(Revived::Held), "+s&");
+        takes(control.switch_to_slots(&gate), Ok(()), "+ss");
+        assert_eq!(passes[0].put(&gate, 0, 1), Put::NotLast);
+        steps();
+    }
+}
+
+/// Lanes in each of which an owner has parked its number.
+fn parked(count: usize) -> (Lanes<usize>, Freezer<usize>, Vec<Lane<usize>>) {
+    let (lanes, freezer) = Lanes::new(count).expect("memory");
+    let mut owners: Vec<_> = (0..count).map(|lane| lanes.owner(lane).expect("an owner")).collect();
+    steps();
+    for owner in &mut owners {
+        takes(owner.park(&lanes, owner.number()), Ok(true), "lssl");
+    }
+    (lanes, freezer, owners)
+}
+
+/// A request is a store and a load on each side, and each look of the freezer is a load.
+#[test]
+fn a_lane_takes_few_steps() {
+    let (lanes, mut freezer, mut owners) = parked(1_023);
+    for life in 0..LIVES {
+        for owner in &mut owners {
+            takes(owner.enter(&lanes), true, "sl");
+        }
+        for owner in &mut owners[1..] {
+            takes(owner.leave(&lanes), true, "sl");
+        }
+        takes(freezer.freeze(&lanes), (), "s");
+        takes(freezer.look(&lanes, 0), true, "l");
+        takes((1..1_023).any(|lane| freezer.look(&lanes, lane)), false, &"l".repeat(1_022));
+        takes(freezer.none_in(&lanes), false, "l");
+        takes(owners[0].leave(&lanes), false, "sl");
+        takes(freezer.none_in(&lanes), true, "l");
+        takes(freezer.none_in(&lanes), true, "");
+        takes(freezer.reclaim(&lanes, 1_022), Some(1_022), "x");
+        takes(owners[1_022].take_back(&lanes), None, "sx");
+        takes(owners[1_022].take_back(&lanes), None, "sx");
+        takes(freezer.restore(&lanes, 1_022, 1_022), (), "s");
+        for (number, owner) in owners.iter_mut().enumerate() {
+            takes(owner.take_back(&lanes), Some(number), "sx");
+            takes(owner.park(&lanes, number), Err(number), "l");
+        }
+        takes(freezer.thaw(&lanes), (), "s");
+        for (number, owner) in owners.iter_mut().enumerate() {
+            takes(owner.park(&lanes, number), Ok(true), "lssl");
+        }
+        assert_eq!(freezer.epoch(), 2 * life + 4);
+    }
+}
+
+fn queue(tags: u32) -> (BiasedQueue, BiasedFreezer, Vec<BiasedTag>) {
+    let made = BiasedQueue::new(Limits::start(8).expect("limits"), 1, tags).unwrap_or_else(|_| panic!("memory"));
+    steps();
+    made
+}
+
+/// A freeze of a queue with idle tags issues a heavy fence, before it looks at each lane once. It does so in each life.
+#[test]
+fn a_freeze_takes_each_bias_behind_a_fence() {
+    let (queue, mut freezer, mut tags) = queue(3);
+    for life in 0..LIVES {
+        // In a later life the tag tries its lane first, and takes itself back.
+        let enters = if life == 0 { "lxlll" } else { "slsxlxlll" };
+        for tag in &mut tags {
+            takes(tag.try_enter(&queue, 0), BiasedEntry::Entered, enters);
+            takes(tag.leave(&queue, 0, true), Put::NotLast, "+lssl");
+        }
+        let frozen = freezer.start_freeze(&queue).map(|frozen| (frozen.depth, frozen.put));
+        takes(frozen, Ok((1, Put::Last)), "|w-s-slflx-l-slx-l-slx-l-xs");
+        takes(freezer.start_freeze(&queue).map(|frozen| frozen.depth), Ok(2), "");
+        takes(freezer.poll_drained(&queue), true, "l");
+        takes(freezer.set(&queue, Limits::start(8).expect("limits")), Ok(()), "llslsls");
+        takes(freezer.thaw(&queue).map(|thawed| thawed.depth), Ok(1), "");
+        takes(freezer.thaw(&queue).map(|thawed| thawed.depth), Ok(0), "+s&+ss");
+    }
+}
+
+/// A freeze looks at a tag that is in once, and so does each poll. A set before the drain looks once too.
+#[test]
+fn a_look_in_vain_is_one_load() {
+    let (queue, mut freezer, mut tags) = queue(2);
+    let limits = Limits::start(8).expect("limits");
+    for _ in 0..LIVES {
+        for tag in &mut tags {
+            assert_eq!(tag.try_enter(&queue, 0), BiasedEntry::Entered);
+        }
+        assert_eq!(tags[0].leave(&queue, 0, true), Put::NotLast);
+        assert_eq!(tags[0].try_enter(&queue, 0), BiasedEntry::Entered);
+        steps();
+        let frozen = freezer.start_freeze(&queue).map(|frozen| frozen.put);
+        takes(frozen, Ok(Put::NotLast), "|w-s-slfllx");
+        takes(freezer.poll_drained(&queue), false, "l");
+        takes(freezer.set(&queue, limits), Err(FreezeFault::NotDrained), "l");
+        takes(tags[0].leave(&queue, 0, true), Put::NotLast, "slsx-l-");
+        takes(freezer.poll_drained(&queue), false, "l");
+        takes(freezer.set(&queue, limits), Err(FreezeFault::NotDrained), "ll");
+        takes(tags[1].leave(&queue, 0, true), Put::Last, "+l-l-x");
+        assert!(freezer.poll_drained(&queue));
+        assert_eq!(freezer.thaw(&queue).map(|thawed| thawed.depth), Ok(0));
+        steps();
+    }
+}
