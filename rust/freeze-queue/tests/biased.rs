@@ -68,6 +68,24 @@ fn a_freeze_takes_each_bias() {
     });
 }
 
+/// A tag whose owner stays away is counted once, by the freeze that takes its bias. Each later freeze still takes the bias of another.
+#[test]
+fn a_tag_that_stays_away_is_counted_once() {
+    ends(|| {
+        let queue = queue(1, 2);
+        let (mut away, mut other) = (queue.tag().unwrap(), queue.tag().unwrap());
+        biased(&queue, &mut away);
+        for biased in [2, 1, 1, 1] {
+            until("the tag is biased", || {
+                drop(queue.enter(&mut other).unwrap());
+                queue.stats().biased == biased
+            });
+            drop(queue.try_freeze().expect("a drained queue"));
+            assert_eq!(queue.stats().biased, 0);
+        }
+    });
+}
+
 /// The limits are those in force, by whichever way the request enters: each change is seen by the first request after it.
 #[test]
 fn a_request_after_a_change_has_its_limits() {

@@ -61,6 +61,20 @@ fn a_freeze_drops_on_the_slots_of_the_tags() {
     }
 }
 
+/// A freeze tells that it drained the queue, whichever lane had the last reference.
+#[test]
+fn a_freeze_tells_the_last_put_of_any_lane() {
+    let log = Log::begin();
+    let (queue, mut freezer, mut tags) = queue(2, 4);
+    log.steps();
+    for number in 0..12 {
+        park(&log, &queue, &mut tags[number % 4], 0, 1);
+        assert_eq!(freezer.start_freeze(&queue).unwrap().put, Put::Last);
+        freezer.thaw(&queue).unwrap();
+        assert_eq!(log.steps(), [Killed, Dropped(1), Revived]);
+    }
+}
+
 /// Each way out of a bias counts on the slot of its call: a request that a freeze finds by its lane, in its life or the next, an end of
 /// the bias, and a look.
 #[test]
