@@ -47,22 +47,31 @@ fn given_once_given_again() {
 }
 
 /// While the closure of a kill runs, the odd front is stored and the initial reference still held: the gate is dying and not at zero,
-/// in either mode, of one slot and of the most, in each of its lives. The closure of a kill that is refused isn't called.
+/// in each of its lives. The closure of a kill that is refused isn't called.
+fn closure_finds_the_base_held<const W: usize>(start: Start, slots: u32, passes: u32) {
+    let (gate, mut control, mut made) = Gate::new(slots, passes, start, [7; W]).unwrap();
+    let pass = &mut made[0];
+    for life in 0..5 {
+        assert_eq!(pass.front(&gate), 2 * life);
+        let seen = control
+            .kill_and_confirm(&gate, |front| (front, pass.front(&gate), pass.is_dying(&gate), pass.is_zero(&gate)));
+        assert_eq!(seen, Ok((Last, (2 * life + 1, 2 * life + 1, true, false))));
+        assert!(control.is_zero(&gate));
+        let mut called = false;
+        let again = control.kill_and_confirm(&gate, |_front| called = true);
+        assert_eq!((again, called), (Err(ControlFault::AlreadyDead), false));
+        control.reinit(&gate).unwrap();
+    }
+}
+
+/// The same in either mode, with the fewest and the most slots, passes and guarded words.
 #[test]
-fn closure_finds_the_base_held() {
-    for (start, slots) in [(Start::Slots, 1), (Start::Slots, 512), (Start::Atomic, 1), (Start::Atomic, 512)] {
-        let (gate, mut control, mut passes) = Gate::<0>::new(slots, 1, start, []).unwrap();
-        let mut pass = passes.pop().unwrap();
-        for life in 0..5 {
-            assert_eq!(pass.front(&gate), 2 * life);
-            let seen = control
-                .kill_and_confirm(&gate, |front| (front, pass.front(&gate), pass.is_dying(&gate), pass.is_zero(&gate)));
-            assert_eq!(seen, Ok((Last, (2 * life + 1, 2 * life + 1, true, false))));
-            assert!(control.is_zero(&gate));
-            let mut called = false;
-            let again = control.kill_and_confirm(&gate, |_front| called = true);
-            assert_eq!((again, called), (Err(ControlFault::AlreadyDead), false));
-            control.reinit(&gate).unwrap();
+fn closures_find_the_base_held() {
+    for start in [Start::Slots, Start::Atomic] {
+        for (slots, passes) in [(1, 1), (1, 2), (1, 1_024), (512, 1), (512, 1_024)] {
+            closure_finds_the_base_held::<0>(start, slots, passes);
+            closure_finds_the_base_held::<1>(start, slots, passes);
+            closure_finds_the_base_held::<8>(start, slots, passes);
         }
     }
 }

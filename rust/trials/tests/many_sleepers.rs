@@ -1,6 +1,7 @@
 //! As many threads as never wait in a run wait for requests: each push reaches one of them, and leaves the others asleep. And what is
-//! spare comes in order.
+//! spare comes in order. A thaw wakes all of them.
 
+use blkq::erased::freeze_queue::{BlockQueue, Limits, MOST_TAGS, Tag};
 use blkq::erased::run_queues::{Consumer, Numbered, RequestQueue, SpareQueue};
 use std::sync::Mutex;
 use std::sync::atomic::{AtomicU64, Ordering::SeqCst};
@@ -10,7 +11,7 @@ use std::{fs, thread};
 #[allow(dead_code)]
 #[path = "shared/turns.rs"]
 mod turns;
-use turns::{until, wait_for};
+use turns::{insist, until, wait_for};
 
 const THREADS: u64 = 64;
 
@@ -101,6 +102,29 @@ fn a_push_leaves_the_others_asleep() {
         }
     });
     assert!(woken <= SLEEPING as u64, "{woken} needless wakes by {SLEEPING} pushes");
+}
+
+/// A thaw wakes each of many threads that wait to enter, of a queue with few tags and with the most.
+#[test]
+fn a_thaw_wakes_each_of_sixty_four() {
+    for tags in [THREADS as u32, MOST_TAGS] {
+        let (queue, mut freezer, mut tags) =
+            BlockQueue::new(Limits::start(8).expect("limits"), 2, tags).expect("memory");
+        assert_eq!(freezer.freeze(&queue), Ok(1));
+        let (waiting, entered) = (AtomicU64::new(0), AtomicU64::new(0));
+        let enters = |tag: &mut Tag| {
+            waiting.fetch_add(1, SeqCst);
+            queue.enter(tag, 1);
+            entered.fetch_add(1, SeqCst);
+        };
+        thread::scope(|scope| {
+            tags.iter_mut().take(THREADS as usize).for_each(|tag| drop(scope.spawn(|| enters(tag))));
+            wait_for(&waiting, THREADS);
+            thread::sleep(Duration::from_millis(100)); // so that they sleep
+            insist(freezer.thaw(&queue) == Ok(0), "a thaw is refused");
+            wait_for(&entered, THREADS);
+        });
+    }
 }
 
 /// Spares are taken in the order in which they were put, in queues of each size.

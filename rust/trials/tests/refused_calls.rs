@@ -12,7 +12,7 @@ use blkq::erased::percpu_core::ControlEvent::MarkDead;
 use blkq::erased::percpu_core::Event::{Control, Pass};
 use blkq::erased::percpu_core::PassEvent::AddTry;
 use blkq::erased::percpu_core::{Memory, ReplayFault, Reply, Start, World, replay};
-use blkq::erased::percpu_gate::Gate;
+use blkq::erased::percpu_gate::{self as gate, Gate};
 use blkq::erased::ram_disk::{Disk, DiskFault, patterned, runs};
 use std::sync::atomic::{AtomicI64, Ordering::SeqCst};
 
@@ -111,6 +111,29 @@ fn want_of_memory_for_a_gate() {
         }
     });
     assert!(asked > 0);
+}
+
+/// A gate takes 128 bytes for each slot, and the size of a pass for each pass. When it ends, all of it is free again.
+#[test]
+fn a_gate_takes_memory_for_what_it_has() {
+    let taken = |slots: u32, passes: u32| {
+        let before = BYTES.get();
+        let (gate, mut control, made) = Gate::<0>::new(slots, passes, Start::Slots, []).unwrap();
+        let taken = BYTES.get() - before;
+        made.into_iter().for_each(|pass| control.retire(&gate, pass));
+        assert!(gate.exit(control).is_ok());
+        assert_eq!(BYTES.get(), before, "{slots} slots, {passes} passes");
+        taken
+    };
+    let least = taken(1, 1);
+    for (slots, passes) in [(1, 2), (2, 1), (3, 5), (512, 1), (1, 1_024), (512, 1_024)] {
+        let of_passes = size_of::<gate::Pass<0>>() as i64 * i64::from(passes - 1);
+        assert_eq!(
+            taken(slots, passes) - least,
+            128 * i64::from(slots - 1) + of_passes,
+            "{slots} slots, {passes} passes"
+        );
+    }
 }
 
 #[test]

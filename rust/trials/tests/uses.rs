@@ -4,7 +4,9 @@
 use blkq::erased::freeze_queue::{BlockQueue, Limits};
 use blkq::erased::percpu_gate::{Control, Gate, Pass, Put, Start, Tried};
 use std::time::Instant;
-use trials::erased::uses::{Command, Raced, Served, change_limits, commands, enter_under, race, remove, serve, submit};
+use trials::erased::uses::{
+    Command, Raced, Served, change_limits, commands, enter_under, race, remove, serve, submit, submit_next,
+};
 
 #[path = "shared/patience.rs"]
 mod patience;
@@ -25,6 +27,20 @@ fn a_range_is_cut() {
 #[test]
 fn a_long_range_is_cut() {
     assert_eq!(commands(&Limits::new(8, 1, 0).unwrap(), 1, 200_000).unwrap().len(), 200_000);
+}
+
+/// There is memory for the commands of a request of each magnitude.
+#[test]
+fn a_request_of_each_magnitude_is_cut() {
+    let (queue, _freezer, mut tags) = BlockQueue::new(Limits::start(65_535).unwrap(), 1, 1).unwrap();
+    for count in (0..32).flat_map(|bits| [1 << bits, u32::MAX >> bits]) {
+        let entered = submit(&queue, &mut tags[0], 0, 7, count).unwrap().expect("entered");
+        let stayed = submit_next(&queue, &mut tags[0], 0, 7, count).unwrap();
+        queue.leave(&mut tags[0], 0);
+        for made in [entered, stayed] {
+            assert_eq!(made.iter().map(|command| u64::from(command.sectors)).sum::<u64>(), u64::from(count));
+        }
+    }
 }
 
 #[test]

@@ -12,8 +12,8 @@ use trials::erased::uses::commands;
 mod both_texts;
 use both_texts::both_texts;
 
-/// The maximum number of turns before a thread sleeps: some before it announces its wait, and one after.
-const MOST_TURNS: u64 = 32;
+/// The number of turns before a thread sleeps: seven before it announces its wait, between which it pauses and never yields, and one after.
+const MOST_TURNS: u64 = 8;
 
 /// The turns that a thread takes while nobody wakes it. In 50 milliseconds one that spins takes thousands.
 fn turns_taken(announced: bool) -> u64 {

@@ -2,6 +2,7 @@
 
 use crate::{Sizes, draw};
 use blkq::erased::freeze_queue::{BlockQueue, Limits, MOST_TAGS};
+use blkq::erased::percpu_core::ControlEvent::{ClearDead, Confirm, DropBase, Mark, MarkDead, NextFront, TakeBase};
 use blkq::erased::percpu_core::PassEvent::{AddTry, LoadFront, LookShared, Sub};
 use blkq::erased::percpu_core::{Event, Start, World, replay};
 use blkq::erased::percpu_gate::{Gate, KILL_LIMIT, PASS_LIMIT, SLOT_LIMIT};
@@ -19,6 +20,17 @@ fn events(sizes: &mut Sizes, passes: u32, is_live: bool) -> Vec<Event> {
     events
 }
 
+/// The steps of a kill of an atomic gate that nothing holds, and of its revival.
+const LIFE: [Event; 7] = [
+    Event::Control(MarkDead),
+    Event::Control(Confirm),
+    Event::Control(DropBase),
+    Event::Control(Mark),
+    Event::Control(TakeBase),
+    Event::Control(NextFront),
+    Event::Control(ClearDead),
+];
+
 #[test]
 fn worlds_and_replays() {
     draw(4_000, |sizes| {
@@ -30,10 +42,12 @@ fn worlds_and_replays() {
             _ => World::with_kills(slots, passes, start, kills, &words),
         };
         let mut world = first.unwrap();
+        let lives = if start == Start::Atomic { sizes.size(0, 50).min(KILL_LIMIT - kills) } else { 0 };
+        (0..lives).for_each(|_| assert_eq!(replay(&mut world, &LIFE).unwrap().len(), LIFE.len()));
         let events = events(sizes, passes, start != Start::Dead);
         let replies = replay(&mut world, &events).unwrap();
         let copy = world.copy().unwrap();
-        assert_eq!((replies.len(), copy.kills(), copy.held_by_all()), (events.len(), kills, 0));
+        assert_eq!((replies.len(), copy.kills(), copy.held_by_all()), (events.len(), kills + lives, 0));
         assert!(copy.is_same(&world));
     });
 }
@@ -59,13 +73,20 @@ fn gates() {
     draw(20_000, |sizes| sizes.one_of(&OF_WORDS)(sizes));
 }
 
+/// Limits of any device.
+fn limits(sizes: &mut Sizes) -> Limits {
+    let hardware = sizes.small(1, 65_535);
+    let mut limits = Limits::new(hardware, sizes.small(0, hardware), sizes.small(0, 65_535)).unwrap();
+    limits.set_physical(1 << sizes.small(0, 15)).unwrap();
+    limits
+}
+
 /// Queues, each of which is frozen some times.
 #[test]
 fn queues() {
     draw(4_000, |sizes| {
         let (slots, tags, freezes) = (sizes.small(1, SLOT_LIMIT), sizes.small(1, MOST_TAGS), sizes.size(0, 1_000));
-        let limits = Limits::start(sizes.small(1, 65_535)).unwrap();
-        let (queue, mut freezer, mut all) = BlockQueue::new(limits, slots, tags).unwrap();
+        let (queue, mut freezer, mut all) = BlockQueue::new(limits(sizes), slots, tags).unwrap();
         assert_eq!((queue.slots(), all.len() as u32), (slots, tags));
         for freeze in 0..freezes {
             let (tag, slot) = (&mut all[freeze as usize % tags as usize], freeze as u32 % slots);

@@ -1,10 +1,13 @@
 //! Which steps the calls of the waiting queue and of its callers take.
 
 use crate::erased::freeze_queue::{BlockQueue, Enter, Freezer, Limits, Put, SharedFreezer, Stay, StayOrEnter, Tag};
-use crate::erased::uses::{enter_under, submit_next};
+use crate::erased::percpu_gate::{Gate, Start};
+use crate::erased::thread::IS_SECOND_FIRST;
+use crate::erased::uses::{Raced, Served, enter_under, race, submit_next};
 use crate::gate::Log;
 use crate::gate::Step::{self, Dropped, Looked, Refused, Taken};
 use std::thread;
+use std::time::Duration;
 
 use crate::turns::{insist, until};
 
@@ -125,5 +128,89 @@ fn a_tag_that_finds_its_limits_stays() {
         enter_under(&queue, &mut tag, 2, &limits);
         assert_eq!(log.steps(), [Taken(2)]);
         queue.leave(&mut tag, 0);
+    }
+}
+
+/// The number of looks before a freezer sleeps: seven, between which it pauses and never yields, and one before it sleeps.
+const LOOKS: usize = 8;
+
+/// The refused tries and the looks at the gate since the last call of this.
+fn refused_and_looked(log: &Log) -> (usize, usize) {
+    let steps = log.steps();
+    let count = |is_so: fn(&Step) -> bool| steps.iter().filter(|step| is_so(step)).count();
+    (count(|step| matches!(step, Refused(_))), count(|step| *step == Looked))
+}
+
+/// Waits until there were so many looks, and a while longer: there are no more.
+fn looks(log: &Log, wanted: usize) {
+    let mut looked = 0;
+    let mut look = || {
+        looked += refused_and_looked(log).1;
+        looked >= wanted
+    };
+    until(&mut look);
+    thread::sleep(Duration::from_millis(50));
+    look();
+    insist(looked == wanted, "a freezer looks without a wake, or is woken in vain");
+}
+
+/// A freezer looks a few times, and sleeps until the drain. No try that is refused meanwhile wakes it, in each life of the queue.
+#[test]
+fn a_refused_try_wakes_no_freezer() {
+    let log = Log::begin();
+    let (queue, mut freezer, mut tags) = BlockQueue::new(Limits::start(8).expect("limits"), 3, 2).expect("memory");
+    let [inside, waiting] = &mut tags[..] else { panic!("two tags") };
+    for _ in 0..3 {
+        queue.enter(inside, 0);
+        log.steps();
+        thread::scope(|scope| {
+            let freezes = scope.spawn(|| {
+                insist(freezer.freeze(&queue) == Ok(1), "a freeze is refused");
+                freezer.thaw(&queue)
+            });
+            looks(&log, LOOKS);
+            let enters = scope.spawn(|| queue.enter(waiting, 1));
+            let (mut refused, mut looked) = (0, 0);
+            until(|| {
+                queue.thawed.wake_all();
+                let (tries, looks) = refused_and_looked(&log);
+                (refused, looked) = (refused + tries, looked + looks);
+                refused >= 1_000
+            });
+            insist(looked == 0, "a refused try wakes the freezer");
+            queue.leave(inside, 2);
+            enters.join().expect("an entry that ends");
+            assert_eq!(freezes.join().expect("a freeze that ends"), Ok(0));
+        });
+        queue.leave(waiting, 2);
+    }
+}
+
+/// A shared freezer that waits for the drain isn't woken by the freezes of other threads, each of which looks a few times too.
+#[test]
+fn a_nested_freeze_wakes_no_freezer() {
+    let log = Log::begin();
+    let (queue, freezer, mut tag) = with_one_tag();
+    queue.enter(&mut tag, 0);
+    log.steps();
+    let shared = SharedFreezer::new(freezer, &queue);
+    thread::scope(|scope| {
+        let freeze = || drop(scope.spawn(|| insist(shared.freeze().is_ok(), "a freeze is refused")));
+        for _ in 0..4 {
+            freeze();
+            looks(&log, LOOKS);
+        }
+        assert_eq!(queue.leave(&mut tag, 0), Put::Last);
+    });
+    assert_eq!(shared.into_inner().freezer.depth(), 4);
+}
+
+/// A race runs neither call before the other one may begin: each can be first.
+#[test]
+fn each_call_of_a_race_can_be_first() {
+    for (is_request_first, served) in [(true, Served::Done(Put::NotLast)), (false, Served::Gone(Put::NotLast))] {
+        IS_SECOND_FIRST.set(is_request_first);
+        let (gate, control, mut passes) = Gate::new(1, 1, Start::Atomic, [7]).expect("memory");
+        assert_eq!(race(gate, passes.swap_remove(0), control), Raced { served, removed: Put::Last });
     }
 }

@@ -19,8 +19,24 @@ pub use crate::gate as percpu_gate;
 pub use blkq::erased::percpu_gate as gates;
 pub use blkq::erased::{
     blk_script, crossbeam_utils, fallible, in_flight, percpu_core, pointers, queue_limits, ram_disk, run_queues,
-    script_meaning, script_overlap, sync, thread, wait_queue,
+    script_meaning, script_overlap, sync, wait_queue,
 };
 pub use callers::uses;
 pub use queue::queue_core;
+
+/// The threads of blkq. Two calls that are joined run one after the other: the first one first, unless this thread says otherwise.
+pub mod thread {
+    pub use blkq::erased::thread::*;
+    use std::cell::Cell;
+
+    thread_local!(pub static IS_SECOND_FIRST: Cell<bool> = const { Cell::new(false) });
+
+    pub fn join<A, B>(first: impl FnOnce() -> A, second: impl FnOnce() -> B) -> (A, B) {
+        if IS_SECOND_FIRST.get() {
+            let second = second();
+            return (first(), second);
+        }
+        (first(), second())
+    }
+}
 pub use runs::{blk_workers, freeze_queue};
