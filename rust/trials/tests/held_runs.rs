@@ -12,7 +12,7 @@ mod both_texts;
 mod meeting;
 
 use both_texts::both_texts;
-use meeting::{ended, is_met_within};
+use meeting::{ended, hold_for, is_met, is_met_within};
 
 /// Two writes, a drain, and a read of both.
 const WRITTEN_THEN_READ: &str = "blkq 1\ndisk 4 hw 4\nwrite 0 1 01\nwrite 1 1 02\nfreeze\nthaw\nread 0 2\n";
@@ -137,6 +137,92 @@ fn every_drain_waits_for_the_tag() {
 fn ordered_requests_wait() {
     for point in [Point::Entered, Point::Drawn, Point::Answered] {
         assert!(drains_after(ORDERED, 2, point));
+    }
+}
+
+/// Holds each of as many requests as there are workers at `Answered` for a while, once all are drawn, and notes a drain that comes before.
+struct HoldsAll {
+    workers: u32,
+    drawn: AtomicU32,
+    answered: AtomicU32,
+    early: AtomicBool,
+}
+
+impl Stall for HoldsAll {
+    fn at(&self, _number: u32, point: Point) {
+        match point {
+            Point::Drawn => {
+                self.drawn.fetch_add(1, SeqCst);
+                is_met(|| self.drawn.load(SeqCst) >= self.workers);
+            }
+            Point::Answered => {
+                hold_for(10_000);
+                self.answered.fetch_add(1, SeqCst);
+            }
+            Point::Drained if self.answered.load(SeqCst) < self.workers => self.early.store(true, SeqCst),
+            _ => {}
+        }
+    }
+}
+
+// Each worker passes `Answered` before its tag leaves, whatever its slot, and `Drained` comes behind all of them, however many tags there are.
+#[test]
+fn a_drain_waits_for_each_worker() {
+    for sizes @ [workers, _, _] in [[3, 2, 3], [4, 8, 16], [9, 64, 9], [32, 64, 63]] {
+        let [drawn, answered] = [0; 2].map(AtomicU32::new);
+        let holds = HoldsAll { workers, drawn, answered, early: AtomicBool::new(false) };
+        let text = format!("blkq 1\ndisk 8 hw 8\n{}", "read 0 8\n".repeat(workers as usize));
+        let [out, wanted] = both_texts(text.as_bytes(), sizes, &holds);
+        assert!(out == wanted && !holds.early.into_inner(), "{sizes:?}");
+    }
+}
+
+/// The workers that are to work at once.
+const CROWD: u32 = 3;
+
+/// Holds each request from this one on at `Drawn` until all workers have one, and notes a request that was alone.
+struct Crowd {
+    first: u32,
+    drawn: AtomicU32,
+    alone: AtomicBool,
+}
+
+impl Stall for Crowd {
+    fn at(&self, number: u32, point: Point) {
+        if point == Point::Drawn && number >= self.first {
+            self.drawn.fetch_add(1, SeqCst);
+            if !is_met(|| self.drawn.load(SeqCst) >= CROWD || self.alone.load(SeqCst)) {
+                self.alone.store(true, SeqCst);
+            }
+        }
+    }
+}
+
+// All workers work at once, whatever the version and the lines before: and no line that doesn't drain waits for the requests before it.
+#[test]
+fn all_at_once_whatever_comes_before() {
+    let thousand = "read 0 1\n".repeat(1_100);
+    let rows = [
+        ("", 0),
+        ("mode atomic\n", 0),
+        ("set max_sectors 1\nset chunk_sectors 1\n", 0),
+        ("freeze\nset max_sectors 2\nfreeze\nthaw\nthaw\n", 0),
+        ("write 0 1 01\nstat\nwrite 0 1 02\nstat\n", 2),
+        (&thousand, 1_100),
+    ];
+    let refused = "thaw\nmode slots\nset max_sectors 9\nset chunk_sectors 65536\nread 8 1\nwrite 0 9 61\nmode atomic\n";
+    for (before, first) in rows {
+        for (version, between) in [(1, ""), (2, ""), (1, refused), (2, refused)] {
+            for ends in ["", " 61"] {
+                let line =
+                    |sector| format!("{between}{} {sector} 1{ends}\n", if ends.is_empty() { "read" } else { "write" });
+                let lines: String = (1..=CROWD).map(line).collect();
+                let text = format!("blkq {version}\ndisk 8 hw 8\n{before}{lines}");
+                let crowd = Crowd { first, drawn: AtomicU32::new(0), alone: AtomicBool::new(false) };
+                let [out, wanted] = both_texts(text.as_bytes(), [CROWD, 2, 8], &crowd);
+                assert!(out == wanted && !crowd.alone.into_inner(), "behind {first} requests: {before:.60}{lines}");
+            }
+        }
     }
 }
 

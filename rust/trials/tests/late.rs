@@ -102,11 +102,47 @@ fn a_held_request_holds_no_other_up() {
     }
 }
 
-/// There is memory for the replies behind one that is owed.
+/// Holds each request but the first at `Drawn` until one more has entered than there are tags.
+struct OneMore {
+    tags: u32,
+    is_in: AtomicBool,
+    is_short_of_tags: AtomicBool,
+}
+
+impl OneMore {
+    fn wait_for_one_more(&self) {
+        if !is_met(|| self.is_in.load(SeqCst) || self.is_short_of_tags.load(SeqCst)) {
+            self.is_short_of_tags.store(true, SeqCst);
+        }
+    }
+}
+
+impl Stall for OneMore {
+    fn at(&self, number: u32, point: Point) {
+        match point {
+            Point::Entered if number == self.tags => self.is_in.store(true, SeqCst),
+            Point::Drawn if number > 0 => self.wait_for_one_more(),
+            _ => {}
+        }
+    }
+}
+
+/// The first tag that comes back serves again at once, while all others are in use, however many there are.
+#[test]
+fn a_tag_that_comes_back_serves_again() {
+    for (workers, tags) in [(1, 1), (2, 9), (1, 16), (4, 33), (1, 63), (32, 63)] {
+        let script = script(&format!("blkq 1\ndisk 1 hw 1\n{}", "read 0 1\n".repeat(tags as usize + 1)));
+        let one_more = OneMore { tags, is_in: AtomicBool::new(false), is_short_of_tags: AtomicBool::new(false) };
+        run_checked(&Checked::of(&script).unwrap(), Config::new(workers, 3, tags).unwrap(), &one_more).unwrap();
+        assert!(!one_more.is_short_of_tags.into_inner(), "{workers} workers, {tags} tags");
+    }
+}
+
+/// There is memory for the replies behind one that is owed, as many as a text has room for.
 #[test]
 fn very_many_replies_behind_one_that_is_owed() {
     for behind in ["read 1 1\n", "write 1 1 01\n", "thaw\n", "mode slots\n"] {
-        let script = script(&format!("blkq 1\ndisk 1 hw 1\nread 0 1\n{}", behind.repeat(60_000)));
+        let script = script(&format!("blkq 1\ndisk 1 hw 1\nread 0 1\n{}", behind.repeat(1_048_000 / behind.len())));
         let ran = run(&script, Config::new(2, 2, 2).unwrap(), &NoStall).unwrap();
         let mut out = ran.replies;
         push_disk(&mut out, &ran.disk).unwrap();
@@ -114,14 +150,17 @@ fn very_many_replies_behind_one_that_is_owed() {
     }
 }
 
-/// `run` checks the script itself, and replies as one thread does.
+/// `run` checks the script itself, of either version, and replies as one thread does.
 #[test]
 fn a_run_of_a_script_replies_as_one_thread() {
-    let script = script("blkq 1\ndisk 8 hw 4\nwrite 0 6 61\nset max_sectors 2\nread 0 8\nfreeze\nthaw\nstat\n");
-    let ran = run(&script, Config::new(3, 2, 5).unwrap(), &NoStall).unwrap();
-    let mut out = ran.replies;
-    push_disk(&mut out, &ran.disk).unwrap();
-    assert_eq!(out, run_alone(&script).unwrap());
+    for version in [1, 2] {
+        let lines = "write 0 6 61\nset max_sectors 2\nread 0 8\nfreeze\nthaw\nstat\n";
+        let script = script(&format!("blkq {version}\ndisk 8 hw 4\n{lines}"));
+        let ran = run(&script, Config::new(3, 2, 5).unwrap(), &NoStall).unwrap();
+        let mut out = ran.replies;
+        push_disk(&mut out, &ran.disk).unwrap();
+        assert_eq!(out, run_alone(&script).unwrap());
+    }
 }
 
 /// The numbers with which a run passes each point.

@@ -1,8 +1,8 @@
-//! As many threads as never wait in a run wait for requests: each push reaches one of them, and leaves the others asleep. And what is
-//! spare comes in order. A thaw wakes all of them.
+//! As many threads as never wait in a run wait for requests: each push reaches one of them, and leaves the others asleep. Whoever waits
+//! sleeps, a thaw wakes all that wait to enter, and what is spare comes in order.
 
 use blkq::erased::freeze_queue::{BlockQueue, Limits, MOST_TAGS, Tag};
-use blkq::erased::run_queues::{Consumer, Numbered, RequestQueue, SpareQueue};
+use blkq::erased::run_queues::{CompletionQueue, Consumer, Numbered, RequestQueue, SpareQueue};
 use std::sync::Mutex;
 use std::sync::atomic::{AtomicU64, Ordering::SeqCst};
 use std::time::Duration;
@@ -125,6 +125,45 @@ fn a_thaw_wakes_each_of_sixty_four() {
             wait_for(&entered, THREADS);
         });
     }
+}
+
+/// Returns the name of this thread in /proc, if there is one.
+fn own_name() -> Option<String> {
+    Some(fs::read_link("/proc/thread-self").ok()?.display().to_string())
+}
+
+/// A thread sleeps while it waits for a completion, for a spare, or for room for a request.
+#[test]
+fn who_waits_sleeps() {
+    let Some(_) = own_name() else { return };
+    let (requests, mut source) = RequestQueue::new(1, 1).expect("memory");
+    let (completions, mut collector) = CompletionQueue::<Request>::new(1).expect("memory");
+    let (spares, mut taker) = SpareQueue::new(1).expect("memory");
+    let mut consumer = requests.consumer(&mut source, 2).expect("memory");
+    let token = completions.token(&mut collector, 0);
+    requests.push(&mut source, Request(0));
+    let names = Mutex::new(Vec::new());
+    let says_its_name = || names.lock().expect("names").push(own_name().expect("a thread"));
+    thread::scope(|scope| {
+        scope.spawn(|| {
+            says_its_name();
+            requests.push(&mut source, Request(1));
+        });
+        scope.spawn(|| {
+            says_its_name();
+            completions.collect(&mut collector).0
+        });
+        scope.spawn(|| {
+            says_its_name();
+            spares.take(&mut taker)
+        });
+        until(|| names.lock().expect("names").len() == 3);
+        let names = names.lock().expect("names").clone();
+        slept(&names);
+        assert!(requests.draw(&mut consumer).expect("room in the list").is_some());
+        completions.tell(token, Request(0));
+        spares.put(&mut spares.put_count(), 7);
+    });
 }
 
 /// Spares are taken in the order in which they were put, in queues of each size.

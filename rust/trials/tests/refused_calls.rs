@@ -5,7 +5,7 @@
 
 use blkq::erased::blk_script::{ScriptFault, check, parse, run_alone};
 use blkq::erased::blk_workers::{Config, MOST_SLOTS, Point, Stall};
-use blkq::erased::blkq_run::run_bytes;
+use blkq::erased::blkq_run::{command, run_bytes};
 use blkq::erased::counted_io::Counted;
 use blkq::erased::freeze_queue::{BlockQueue, Limits, MOST_TAGS};
 use blkq::erased::percpu_core::ControlEvent::MarkDead;
@@ -203,6 +203,26 @@ fn want_of_memory() {
         }
     });
     assert!(asked > 10);
+}
+
+/// A replay whose memory is refused writes nothing but this on standard error.
+#[test]
+fn want_of_memory_is_told() {
+    let args = [String::from("replay")];
+    let asked = refuse_each(|| {
+        let (mut out, mut errors) = ([0; 99], [0; 99]);
+        let (mut writer, mut says) = (Counted::new(out.as_mut_slice()), errors.as_mut_slice());
+        let mut reader = Counted::new(b"gate 1\nworld 1 1 slots 0 7\n0 look 0\n".as_slice());
+        let status = command(&args, &mut reader, &mut writer, &mut says);
+        let said = 99 - says.len();
+        if status == 0 {
+            assert!(said == 0 && out.starts_with(b"open 0\nend "));
+            return true;
+        }
+        assert!(status == 4 && errors[..said] == *b"memory\n" && out == [0; 99]);
+        false
+    });
+    assert!(asked > 1);
 }
 
 /// Notes the bytes that the submitting thread has in use once its request has entered.

@@ -5,6 +5,7 @@ use blkq::erased::blk_script::{Checked, parse, render_disk};
 use blkq::erased::blk_workers::{Config, NoStall, Point, Stall, run_checked};
 use std::fmt::Write;
 use std::hint;
+use std::sync::Mutex;
 use std::sync::atomic::{AtomicU32, Ordering::SeqCst};
 
 #[path = "shared/both_texts.rs"]
@@ -74,31 +75,40 @@ fn any_two_sizes_go_together() {
     }
 }
 
-/// Notes after how many requests each drain came: a digit for each.
+/// Notes after how many requests each drain came.
 #[derive(Default)]
-struct Drains(AtomicU32);
+struct Drains(Mutex<Vec<u32>>);
 
 impl Stall for Drains {
     fn at(&self, number: u32, point: Point) {
         if point == Point::Drained {
-            self.0.store(self.0.load(SeqCst) * 10 + number, SeqCst);
+            self.0.lock().expect("numbers").push(number);
         }
     }
 }
 
 /// Each ordered request drains the queue, and so does the end; of version 1 only the end does. `Drained` is passed also if a line
-/// or the end finds the queue frozen, and not by a setting, which doesn't drain then.
+/// or the end finds the queue frozen, at any depth, and before the first request. It isn't passed by a setting, which doesn't drain then, nor
+/// by a thaw, a switch or what is refused.
 #[test]
 fn as_many_drains_as_are_ordered() {
-    for (text, wanted) in [
-        ("blkq 2\ndisk 4 hw 4\nwrite 0 2 01\nwrite 1 2 02\nwrite 0 1 03\nread 1 1\n", 134),
-        ("blkq 2\ndisk 8 hw 8\nread 0 4\nread 2 4\nwrite 6 1 ff\nread 6 2\n", 34),
-        ("blkq 1\ndisk 4 hw 4\nread 0 4\nread 0 4\n", 2),
-        ("blkq 1\ndisk 4 hw 4\nread 0 4\nfreeze\nset max_sectors 2\nstat\n", 111),
-    ] {
-        let drains = Drains::default();
-        agrees(text, 2, 2, &drains);
-        assert_eq!(drains.0.into_inner(), wanted, "{text}");
+    let rows: [(&str, &[u32]); 6] = [
+        ("blkq 2\ndisk 4 hw 4\nwrite 0 2 01\nwrite 1 2 02\nwrite 0 1 03\nread 1 1\n", &[1, 3, 4]),
+        ("blkq 2\ndisk 8 hw 8\nread 0 4\nread 2 4\nwrite 6 1 ff\nread 6 2\n", &[3, 4]),
+        ("blkq 1\ndisk 4 hw 4\nread 0 4\nread 0 4\n", &[2]),
+        ("blkq 1\ndisk 4 hw 4\nread 0 4\nfreeze\nset max_sectors 2\nstat\n", &[1, 1, 1]),
+        ("blkq 1\ndisk 4 hw 4\nstat\nfreeze\nfreeze\nstat\nfreeze\nthaw\nstat\nthaw\nremove\n", &[0; 8]),
+        (
+            "blkq 1\ndisk 4 hw 4\nfreeze\nread 0 4\nthaw\nread 0 4\nthaw\nmode atomic\nset max_sectors 9\nread 4 1\n",
+            &[0, 1],
+        ),
+    ];
+    for (text, wanted) in rows {
+        for tags in [2, 9, 63] {
+            let drains = Drains::default();
+            agrees(text, 2, tags, &drains);
+            assert_eq!(drains.0.into_inner().expect("numbers"), wanted, "{tags} tags: {text}");
+        }
     }
 }
 

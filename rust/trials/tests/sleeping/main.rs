@@ -12,7 +12,7 @@ pub mod ring;
 mod turns;
 
 use crate::counting::wakes;
-use crate::erased::run_queues::{Consumer, Numbered, RequestQueue, Source};
+use crate::erased::run_queues::{Consumer, Numbered, RequestQueue, Source, SpareQueue};
 use std::sync::Arc;
 use std::sync::atomic::{AtomicBool, AtomicU64, Ordering::SeqCst};
 use std::thread::{Scope, ScopedJoinHandle, scope};
@@ -267,6 +267,33 @@ fn who_has_come_is_not_waited_for() {
         holds[first].release();
         let wakes: Vec<u64> = threads.into_iter().map(|thread| done(thread).wakes).collect();
         insist((wakes[first], wakes[1 - first]) == (1, 2), "the second leaves an item and wakes nobody");
+    });
+}
+
+/// A put wakes who sleeps for a spare, also behind more of them than any run puts back.
+#[test]
+fn a_put_wakes_behind_very_many() {
+    let (spares, mut taker) = SpareQueue::new(2).expect("memory");
+    let mut count = spares.put_count();
+    for spare in 0..200_000 {
+        spares.put(&mut count, spare);
+        assert_eq!(spares.take(&mut taker), spare);
+    }
+    let asleep = Arc::new(AtomicU64::new(0));
+    scope(|scope| {
+        let (spares, notes) = (&spares, Arc::clone(&asleep));
+        let takes = scope.spawn(move || {
+            let notes_sleep = move || {
+                notes.fetch_add(1, SeqCst);
+            };
+            counting::at_sleeps(notes_sleep, || {});
+            spares.take(&mut taker)
+        });
+        wait_for(&asleep, 1);
+        wakes();
+        spares.put(&mut count, 7);
+        insist(wakes() == 1, "a put wakes nobody");
+        insist(takes.join().is_ok_and(|spare| spare == 7), "another spare is taken");
     });
 }
 

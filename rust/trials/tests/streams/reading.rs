@@ -83,6 +83,15 @@ fn an_endless_input_is_cut() {
     assert_eq!(input.len(), 1_048_577);
 }
 
+// However small the reads are, and however many.
+#[test]
+fn the_longest_input_a_byte_at_a_time() {
+    let text = vec![b'#'; 1_048_577];
+    let mut feed = Feed::new(&text);
+    feed.most = 1;
+    assert!(read_whole(&mut Counted::new(feed), 1_048_577).unwrap() == text);
+}
+
 #[test]
 fn texts_of_faults() {
     for (fault, number, text) in [(InputFault::Memory, 1, "memory"), (InputFault::Read, 2, "read")] {
