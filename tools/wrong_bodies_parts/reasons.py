@@ -33,10 +33,8 @@ GONE = re.compile(
 # The goal has the form that its answer is for, and says it of another value.
 OTHER_VALUE = re.compile(r"the two (types|sides) (first differ|differ only) where one has")
 UNFIT = re.compile(r"expected type|types differ|is not a function|expected a function|expected .* found|too many arguments")
-# The prover's own search for a goal broke off, at a limit that no flag moves.
-BROKE_OFF = "what antt said of a `search` in the proof that rattle made: "
 # A place in a file, and what is said of it.
-PLACED = re.compile(rf"(?:note: )?(?:{BROKE_OFF})?(?:\./)?((?:src|specs|proofs)/\S+?):(\d+):\d+: (.*)")
+PLACED = re.compile(r"(?:note: )?(?:\./)?((?:src|specs|proofs)/\S+?):(\d+):\d+: (.*)")
 
 
 def kind_of(said):
@@ -45,8 +43,6 @@ def kind_of(said):
     file, text = (placed[1], placed[3]) if placed else ("", said)
     if OPEN in text:
         return Kind.CONTRACT if OF_CONTRACT.search(text) else Kind.NEED
-    if BROKE_OFF in said:
-        return Kind.CONTRACT if re.match(r"error: `(returns|loop|invariant)", text) else Kind.NEED
     if "does not cover" in said:
         return Kind.NOT_COVERED
     if file.startswith("proofs/"):
@@ -81,9 +77,7 @@ class Reason:
         return bool(re.match(function.proofs, self.file))
 
 
-REFUSED = re.compile(
-    rf"(note: (\./)?src/\S+:\d+:\d+: it is not proved)|((note: {BROKE_OFF})?(\./)?(src|specs|proofs)/\S+:\d+:\d+: error)"
-)
+REFUSED = re.compile(r"(note: (\./)?src/\S+:\d+:\d+: it is not proved)|((\./)?(src|specs|proofs)/\S+:\d+:\d+: error)")
 
 
 def reasons_in(said):
@@ -109,4 +103,4 @@ def telling(reasons):
     good = [it for it in reasons if it.kind.tells() and it.goal.partition("-")[0] not in gone]
     # The first of a contract, and best one that is shown to be false.
     rank = {Kind.CONTRACT: 0, Kind.NEED: 1, Kind.VALUE: 2}
-    return min(good, key=lambda it: ("gave up" in it.line or BROKE_OFF in it.line, rank[it.kind]), default=None)
+    return min(good, key=lambda it: ("gave up" in it.line, rank[it.kind]), default=None)
