@@ -104,12 +104,14 @@ static freeze_queue_pool pool;
 /* What waits are made of, in any order: a mutex, and four conditions of three steps each. */
 static void waits_are_made(void)
 {
+    freeze_queue_final last;
     for (int allow = 0; allow < 13; allow++) {
         allowed = allow;
         TELLS(freeze_queue_waits_init(&waits, &freezer), FREEZE_QUEUE_ERR_NO_MEMORY);
         TELLS(made, 0);
         TELLS(allowed, -1);
         TELLS(freeze_queue_waits_destroy(&waits), FREEZE_QUEUE_ERR_CLOSED);
+        TELLS(freeze_queue_waits_end(&waits, &last, NULL), FREEZE_QUEUE_ERR_CLOSED);
     }
     allowed = 13;
     monotonic = 0;

@@ -7,7 +7,7 @@ use std::task::{Context, Poll, Wake, Waker};
 use std::thread;
 
 mod shared;
-use shared::{LIMITS, ends, number_of};
+use shared::{LIMITS, Woken, ends, number_of};
 
 /// A task that its waker polls.
 struct Inline(Mutex<Option<Pin<Box<dyn Future<Output = ()> + Send>>>>);
@@ -145,6 +145,22 @@ fn a_future_outlives_its_queue() {
         drop((request, entering));
         assert_eq!(Arc::strong_count(&value), 1, "the queue has ended");
     }
+}
+
+/// A future in line is woken when its queue is dropped, and then learns that the queue is gone.
+#[test]
+fn a_line_is_woken_as_its_queue_is_dropped() {
+    let queue = one_tag();
+    let request = queue.enter_any().unwrap();
+    let woken = Arc::<Woken>::default();
+    let mut in_line = Box::pin(queue.enter_any_owned_async());
+    let waker = Waker::from(Arc::clone(&woken));
+    assert!(in_line.as_mut().poll(&mut Context::from_waker(&waker)).is_pending());
+    drop(queue);
+    assert_eq!(woken.times(), 1);
+    let polled = in_line.as_mut().poll(&mut Context::from_waker(&waker));
+    assert!(matches!(polled, Poll::Ready(Err(EnterError::Dying))));
+    drop(request);
 }
 
 /// A future with a share of the queue holds a removal up until it is dropped: before a poll, and as it was sent away.
