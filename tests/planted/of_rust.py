@@ -62,7 +62,7 @@ class Kind:
             return COMPILER
         for test in TESTS[crate]:
             if self.fails(900, [*of_crate, "--test", test, "--no-run"]):
-                return COMPILER
+                return f"{test}, which doesn't compile"
             if self.tests.fails((crate, test), ["cargo", *of_crate, "--test", test], **self.how()) is not None:
                 return test
         if self.fails(600, [*of_crate, "--lib"]):
