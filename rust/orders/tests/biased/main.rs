@@ -16,3 +16,5 @@ extern crate alloc;
 #[path = "../shared/erased.rs"]
 mod erased;
 mod races;
+#[path = "../shared/words.rs"]
+mod words;

@@ -1,4 +1,4 @@
-//! The erased gate and queue of the crates beside this one, over tables whose steps are turns.
+//! The erased gate and queue of the crates beside this one, over the atomic numbers and the fences of the test's module `words`.
 #[path = "../../../percpu-gate/src/erased/atomic_table.rs"]
 pub mod atomic_table;
 #[path = "../../../freeze-queue/src/erased/lane_table.rs"]
@@ -23,27 +23,7 @@ mod queue {
 pub use gate::{fallible, percpu_core, percpu_gate, percpu_words};
 pub use queue::{bias_lanes, biased_queue, queue_core, queue_limits};
 
-pub(crate) use orders::turns::AtomicU64;
-
-/// The fences. With ORDERS_WITHOUT_FENCE the process has no heavy one. No turn reorders what a light one keeps in order.
-pub mod fences {
-    use std::sync::LazyLock;
-
-    static HAS_HEAVY_FENCE: LazyLock<bool> = LazyLock::new(|| std::env::var_os("ORDERS_WITHOUT_FENCE").is_none());
-
-    pub fn light_fence() {}
-
-    pub fn has_heavy_fence() -> bool {
-        *HAS_HEAVY_FENCE
-    }
-
-    /// Empties each thread's buffer of stores.
-    pub fn heavy_fence() {
-        if has_heavy_fence() {
-            orders::turns::heavy_fence();
-        }
-    }
-}
+pub(crate) use crate::words::{AtomicU64, fences};
 
 /// A step on a word that its table doesn't have.
 #[track_caller]

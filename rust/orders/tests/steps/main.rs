@@ -13,13 +13,15 @@
 
 extern crate alloc;
 
+#[path = "../shared/erased.rs"]
 mod erased;
+mod words;
 
 use crate::erased::bias_lanes::{Freezer, Lane, Lanes};
 use crate::erased::biased_queue::{BiasedEntry, BiasedFreezer, BiasedQueue, BiasedTag};
 use crate::erased::percpu_gate::{Control, Gate, Pass, Put, Revived, Start, Tried};
 use crate::erased::queue_core::{FreezeFault, Limits, Mode};
-use crate::erased::steps;
+use crate::words::steps;
 
 /// Whether a call returns this and takes these steps.
 #[track_caller]

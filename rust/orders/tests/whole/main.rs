@@ -17,6 +17,8 @@ extern crate alloc;
 
 #[path = "../shared/erased.rs"]
 mod erased;
+#[path = "../shared/words.rs"]
+mod words;
 
 /// The files of freeze-queue, where they are.
 #[path = "../../../freeze-queue/src"]

@@ -14,6 +14,8 @@ extern crate alloc;
 
 #[path = "../shared/erased.rs"]
 mod erased;
+#[path = "../shared/words.rs"]
+mod words;
 
 /// The files of percpu-gate, where they are.
 #[path = "../../../percpu-gate/src"]

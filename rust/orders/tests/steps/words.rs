@@ -1,28 +1,4 @@
-//! The erased gate and queue of the crates beside this one, over atomic numbers and fences that note each step of this thread.
-#[path = "../../../percpu-gate/src/erased/atomic_table.rs"]
-pub mod atomic_table;
-#[path = "../../../freeze-queue/src/erased/lane_table.rs"]
-pub mod lane_table;
-
-#[path = "../../../percpu-gate/src/erased"]
-mod gate {
-    pub mod fallible;
-    pub mod percpu_core;
-    pub mod percpu_gate;
-    pub mod percpu_words;
-}
-
-#[path = "../../../freeze-queue/src/erased"]
-mod queue {
-    pub mod bias_lanes;
-    pub mod biased_queue;
-    pub mod queue_core;
-    pub mod queue_limits;
-}
-
-pub use gate::{fallible, percpu_core, percpu_gate, percpu_words};
-pub use queue::{bias_lanes, biased_queue, queue_core, queue_limits};
-
+//! Atomic numbers and fences that note each step of this thread.
 use std::cell::RefCell;
 use std::sync::atomic::{self, Ordering};
 
@@ -98,10 +74,4 @@ pub mod fences {
     pub fn heavy_fence() {
         super::note('f');
     }
-}
-
-/// A step on a word that its table doesn't have.
-#[track_caller]
-fn past_the_end(word: usize, words: usize) -> ! {
-    panic!("a table of {words} words has no word {word}")
 }
