@@ -1,4 +1,4 @@
-//! The ring of `blkq`. It counts by thread the looks, and a thread can be held at one of its looks.
+//! The ring of `blkq`. It counts the looks of each thread, and can hold a thread at one of them.
 
 use blkq::erased::crossbeam_queue as rings;
 pub use blkq::erased::crossbeam_queue::Pass;
