@@ -91,6 +91,7 @@ typedef struct freeze_queue {
 } freeze_queue;
 typedef struct freeze_queue_tag {
     bool is_open FREEZE_QUEUE_ZEROED;
+    uint32_t lent_slots FREEZE_QUEUE_ZEROED; /* internal: freeze_queue/lane.h */
     void *at FREEZE_QUEUE_ZEROED;
     freeze_queue_reserve reserved;
 } freeze_queue_tag;

@@ -47,18 +47,16 @@ _Static_assert(sizeof(freeze_queue_lane) <= 64, "a lane has a line of 64 bytes")
 struct found_lane freeze_queue_find_lane(freeze_queue_tag *tag);
 void freeze_queue_rest_in_lane(freeze_queue_tag *tag);
 
-/* Stands for the lane of a tag that may be biased, until its lane is found. */
-static freeze_queue_lane not_found = {.bias = FREEZE_QUEUE_NOT_LENT};
+/* Stands for the lane of a tag that may be biased, until its lane is found. Its word stays 0, so it is never busy. */
+static freeze_queue_lane not_found;
 
 /* Takes a lane back. While a lane is lent, Rust regards its tag as entered by the lane. */
 static void take_lane_back(freeze_queue_tag *tag)
 {
-    freeze_queue_lane *lane = freeze_queue_lane_of(tag);
-    if (lane == NULL || lane->bias == FREEZE_QUEUE_NOT_LENT)
+    if (tag->lent_slots == 0)
         return;
-    const bool is_idle = lane->word == lane->bias;
-    lane->bias = FREEZE_QUEUE_NOT_LENT;
-    if (is_idle)
+    tag->lent_slots = 0;
+    if (!freeze_queue_lane_is_busy(freeze_queue_lane_of(tag)))
         freeze_queue_rest_in_lane(tag);
 }
 
@@ -74,8 +72,8 @@ static void lend_lane(freeze_queue_tag *tag)
         lane->epoch = found.epoch;
         lane->slots = found.slots;
     }
-    if (lane->word % 2 != 0 && freeze_queue_limits_of(tag, &lane->limits) == FREEZE_QUEUE_OK)
-        lane->bias = lane->word - 1;
+    if (freeze_queue_lane_is_busy(lane) && freeze_queue_limits_of(tag, &lane->limits) == FREEZE_QUEUE_OK)
+        tag->lent_slots = lane->slots;
 }
 
 freeze_queue_answer freeze_queue_laned_try_enter(freeze_queue_tag *tag, uint32_t slot);
@@ -140,6 +138,7 @@ freeze_queue_answer freeze_queue_laned_give_tag_back(freeze_queue *queue, freeze
 void freeze_queue_laned_free_tag(freeze_queue_tag *tag)
 {
     tag->reserved.words[0] = NULL;
+    tag->lent_slots = 0;
     freeze_queue_free_tag(tag);
 }
 #else

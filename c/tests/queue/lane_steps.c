@@ -1,7 +1,7 @@
 /* Freezes and thaws between the steps of a biased tag that enters or leaves in place: before the call, and after each of its atomic steps.
- * One thread makes them all, so each run is the same. A poll that finds no drain while the queue is frozen stands for a thread that goes to
- * sleep then: if the tag is out after the call, the call has to return an answer that wakes it. With a word, lanes have to be lent, as
- * cargo's build does. */
+ * Also if the call is misuse, of a tag that is in already, or out. One thread makes all steps, so each run is the same. A poll that finds no
+ * drain while the queue is frozen stands for a thread that goes to sleep then: if the tag is out after the call, the call has to return an
+ * answer that wakes it. With a word, lanes have to be lent, as cargo's build does: a call with no freeze between is made in place. */
 #include <stdint.h>
 
 static void between_steps(void);
@@ -18,8 +18,8 @@ static void between_steps(void);
 
 typedef freeze_queue_answer by_slot(freeze_queue_tag *tag, uint32_t slot);
 
-/* A point is the number of steps that the call has made. In place it makes at most four. */
-enum { EVENTS = 5, LAST_POINT = 4, NEVER, SLOTS = 3, SLOT = SLOTS - 1 };
+/* A point is the number of steps that the call has made. In place it makes at most three. */
+enum { EVENTS = 5, LAST_POINT = 3, NEVER, SLOTS = 3, SLOT = SLOTS - 1 };
 
 static freeze_queue queue;
 static freeze_queue_tag tag;
@@ -27,7 +27,7 @@ static const char *call_name;
 static uint32_t points[EVENTS]; /* when each event comes: a freeze, its thaw, the next freeze, .. */
 static int event;
 static uint32_t point, most_points;
-static bool is_calling, was_frozen, sleeps, is_drained; /* the last two of the freeze that goes on */
+static bool has_lanes, is_calling, was_frozen, sleeps, is_drained; /* the last two of the freeze that goes on */
 static uint32_t freezes, depth, max;
 static long runs;
 
@@ -94,7 +94,8 @@ static void begin(void)
         need(freeze_queue_try_enter(&tag, SLOT) == FREEZE_QUEUE_OK && freeze_queue_leave_biased(&tag, SLOT) == FREEZE_QUEUE_OK, "no request");
 }
 
-static freeze_queue_answer result_of(by_slot *call)
+/* Calls, with the freezes and thaws between. In place the call makes this number of steps if none comes. */
+static freeze_queue_answer result_of(by_slot *call, uint32_t steps)
 {
     event = 0;
     point = 0;
@@ -102,6 +103,7 @@ static freeze_queue_answer result_of(by_slot *call)
     between_steps();
     const freeze_queue_answer answer = call(&tag, SLOT);
     is_calling = false;
+    need(!has_lanes || points[0] != NEVER || point == steps + 1, "other steps");
     return answer;
 }
 
@@ -139,7 +141,7 @@ static void end(void)
 
 static void leaves(by_slot *call)
 {
-    const freeze_queue_answer answer = result_of(call);
+    const freeze_queue_answer answer = result_of(call, 3);
     need(answer == FREEZE_QUEUE_OK || answer == FREEZE_QUEUE_LAST, "it doesn't leave");
     is_out(answer);
     end();
@@ -148,7 +150,7 @@ static void leaves(by_slot *call)
 static void enters_and_leaves(by_slot *leave)
 {
     begin();
-    const freeze_queue_answer answer = result_of(freeze_queue_try_enter);
+    const freeze_queue_answer answer = result_of(freeze_queue_try_enter, 2);
     need(answer == FREEZE_QUEUE_OK || was_frozen, "a live queue that isn't entered");
     need(!freeze_queue_is_refused(answer), "an entering that is refused");
     if (answer == FREEZE_QUEUE_OK) {
@@ -170,6 +172,24 @@ static void is_in_and_leaves(by_slot *leave)
 static void leaves_plain(void) { is_in_and_leaves(freeze_queue_leave); }
 static void leaves_biased(void) { is_in_and_leaves(freeze_queue_leave_biased); }
 
+static void enters_twice(void)
+{
+    begin();
+    need(freeze_queue_try_enter(&tag, SLOT) == FREEZE_QUEUE_OK, "no entering");
+    need(result_of(freeze_queue_try_enter, 0) == FREEZE_QUEUE_ERR_ALREADY_ENTERED, "it enters twice");
+    is_in();
+    is_out(freeze_queue_leave(&tag, SLOT));
+    end();
+}
+
+static void leaves_twice(void)
+{
+    begin();
+    need(result_of(freeze_queue_leave, 1) == FREEZE_QUEUE_ERR_TAG_NOT_ENTERED, "it leaves twice");
+    is_out(FREEZE_QUEUE_OK);
+    end();
+}
+
 /* Each choice of points at which events from one on come. */
 static void at_all_points(void (*play)(void), int from)
 {
@@ -183,12 +203,14 @@ static void at_all_points(void (*play)(void), int from)
 int main(int argc, char **argv)
 {
     static const struct { const char *name; void (*play)(void); } plays[] = {
-        {"try_enter", enters}, {"try_enter, and a leave that biases", enters_biased}, {"leave", leaves_plain}, {"leave_biased", leaves_biased}};
+        {"try_enter", enters}, {"try_enter, and a leave that biases", enters_biased}, {"leave", leaves_plain}, {"leave_biased", leaves_biased},
+        {"try_enter of a tag that is in", enters_twice}, {"leave of a tag that is out", leaves_twice}};
     (void)argv;
-    for (int i = 0; i < 4; i++) {
+    has_lanes = argc > 1;
+    for (int i = 0; i < 6; i++) {
         call_name = plays[i].name;
         at_all_points(plays[i].play, 0);
     }
     printf("%ld runs, of up to %u points\n", runs, most_points);
-    return argc > 1 && most_points != LAST_POINT + 1;
+    return has_lanes && most_points != LAST_POINT + 1;
 }

@@ -46,7 +46,7 @@ static bool drained(void)
 static bool has_lent(int t)
 {
 #ifdef FREEZE_QUEUE_LANE_H
-    return freeze_queue_lane_is(freeze_queue_lane_of(&tags[t].handle), 1);
+    return tags[t].handle.lent_slots != 0 && freeze_queue_lane_is_busy(freeze_queue_lane_of(&tags[t].handle));
 #else
     (void)t;
     return false;
@@ -73,6 +73,7 @@ static void enter(int t, uint32_t slot, bool here)
         tags[t].had_bias = by_lane && tags[t].in;
     }
     IS((here ? in_place : by_call)[ENTER](&tags[t].handle, slot), want);
+    IS(want == FREEZE_QUEUE_OK && !by_lane && tags[t].handle.lent_slots != 0, false); /* none is lent to a tag that is in by the gate */
     lent += want == FREEZE_QUEUE_OK && by_lane && has_lent(t);
 }
 
@@ -126,7 +127,7 @@ static void open_or_close(int t)
         tags[t].open = tags[t].in;
         tags[t].had_bias &= tags[t].in;
     }
-    IS(tags[t].open || tags[t].handle.reserved.words[0] == NULL, true);
+    IS(tags[t].open || (tags[t].handle.reserved.words[0] == NULL && tags[t].handle.lent_slots == 0), true);
 }
 
 static void freeze_or_thaw(void)

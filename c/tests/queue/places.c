@@ -15,6 +15,7 @@ static void sizes(void)
 {
     HANDLE_IS_LAID_OUT(freeze_queue);
     HANDLE_IS_LAID_OUT(freeze_queue_tag);
+    IS(offsetof(freeze_queue_tag, lent_slots), 4);
     IS(sizeof(freeze_queue_limits), 16);
     IS(offsetof(freeze_queue_limits, hardware), 0);
     IS(offsetof(freeze_queue_limits, max), 4);
@@ -106,6 +107,7 @@ int main(void)
     IS(tag[2].is_open, 0);
     IS(freeze_queue_try_enter(&tag[1], 3), FREEZE_QUEUE_ERR_BAD_SLOT);
     limits(&freezer, &tag[0]);
+    IS(tag[0].lent_slots, 0); /* between the flag and the pointer, where Rust stores nothing */
     IS(freeze_queue_give_tag_back(&freezer, &tag[0]), FREEZE_QUEUE_OK);
     IS(freeze_queue_give_tag_back(&freezer, &tag[1]), FREEZE_QUEUE_OK);
     IS(tag[1].is_open, 0);

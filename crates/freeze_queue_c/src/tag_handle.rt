@@ -62,7 +62,7 @@ impl TagHandle {
         requires closed { self.old.held.tag ≡ None }
         ensures { self.new.held.tag ≡ Some tag.value }
     {
-        // Field by field, since the bytes between them needn't be stored: a store delays the exchange that comes next.
+        // Field by field: between the two are bytes of C's (lent_slots).
         self.held = TagHeld::of(tag);
         self.is_open = true;
     }

@@ -42,7 +42,7 @@ impl TagHandle {
     ///
     /// - `self.held.tag` is `None`.
     pub fn put_back(&mut self, tag: Box<OpenTag>) {
-        // Field by field, since the bytes between them needn't be stored: a store delays the exchange that comes next.
+        // Field by field: between the two are bytes of C's (lent_slots).
         self.held = TagHeld::of(tag);
         self.is_open = true;
     }
