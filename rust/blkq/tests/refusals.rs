@@ -22,6 +22,13 @@ fn lines_of_scripts() {
     }
 }
 
+/// The later line and the earlier one, of the first pair.
+#[test]
+fn lines_that_overlap() {
+    let refused = Err(RunError::Overlap { line: 5, earlier: 4 });
+    assert_eq!(script("blkq 1\ndisk 8 hw 8\nread 7 1\nwrite 0 2 00\nread 1 1\nwrite 1 1 00\n"), refused);
+}
+
 #[test]
 fn texts_and_numbers() {
     let all = [
@@ -44,6 +51,9 @@ fn texts_and_numbers() {
     assert_eq!(RunError::Thread.to_string(), "thread");
     assert_eq!(RunError::Overlap { line: 4, earlier: 3 }.to_string(), "line 4: overlaps line 3");
     assert_eq!(ReplayError::Memory.to_string(), "memory");
+    let line = LineError { line: 3, reason: Reason::BadHex };
+    assert_eq!(RunError::Script(line).to_string(), "line 3: bad hex");
+    assert_eq!(ReplayError::Schedule(line).to_string(), "line 3: bad hex");
 }
 
 #[test]

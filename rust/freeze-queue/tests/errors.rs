@@ -1,6 +1,11 @@
-//! Each call that enters returns the first error of its row in docs/RUST.md that applies, in each state of the queue and of its tag.
+//! Each call that enters returns the first error of its row in docs/RUST.md that applies, in each state of the queue and of its tag; and
+//! each error's text.
 use freeze_queue::EnterError::{Drained, Dying, Frozen, NoTag, OtherQueue, StillEntered, TimedOut};
-use freeze_queue::{EnterError, HandedBack, OwnedRequest, Queue, Tag};
+use freeze_queue::{
+    EnterError, FreezeError, HandedBack, Limits, LimitsError, NewError, OwnedRequest, Queue, RemoveError, Tag,
+    UpdateError,
+};
+use std::error::Error;
 use std::future::Future;
 use std::iter;
 use std::mem;
@@ -117,4 +122,56 @@ fn outcome(waits: bool, why: Option<EnterError>) -> Poll<Result<(), EnterError>>
 #[test]
 fn the_first_error_that_applies() {
     Applies::all().for_each(Applies::check);
+}
+
+#[test]
+fn texts() {
+    let all: [(Box<dyn Error>, &str); 28] = [
+        (LimitsError::HardwareRange.into(), "a hardware limit outside 1 to 65535 sectors"),
+        (LimitsError::AboveHardware.into(), "more sectors than the hardware takes"),
+        (LimitsError::ChunkTooLarge.into(), "a chunk of more than 65535 sectors"),
+        (LimitsError::BadPhysical.into(), "a physical block that isn't a power of two from 1 to 32768 sectors"),
+        (LimitsError::TooFar.into(), "a sector of 2^33 or above"),
+        (NewError::Limits(LimitsError::TooFar).into(), "invalid limits"),
+        (NewError::Size.into(), "number of slots, tags or reserved tags out of range"),
+        (NewError::NoMemory.into(), "no memory"),
+        (OtherQueue.into(), "the tag is of another queue"),
+        (StillEntered.into(), "the tag has entered"),
+        (Frozen.into(), "the queue is frozen"),
+        (Drained.into(), "the queue is drained"),
+        (Dying.into(), "the queue's device is gone"),
+        (NoTag.into(), "no tag is free"),
+        (TimedOut.into(), "the deadline has passed"),
+        (EnterError::NoMemory.into(), "no memory to wait for a tag"),
+        (FreezeError::DepthFull.into(), "1000 freezes aren't thawed yet"),
+        (FreezeError::WornOut.into(), "the queue was frozen 2^40 times"),
+        (FreezeError::NotDrained.into(), "the queue isn't drained"),
+        (FreezeError::TimedOut.into(), "the deadline has passed"),
+        (UpdateError::Limits(LimitsError::TooFar).into(), "invalid limits"),
+        (UpdateError::OtherHardware.into(), "a hardware limit that isn't the queue's"),
+        (UpdateError::from(FreezeError::DepthFull).into(), "the update couldn't freeze the queue"),
+        (UpdateError::from(FreezeError::TimedOut).into(), "the deadline has passed"),
+        (UpdateError::Nested.into(), "an update within an update of the same queue"),
+        (UpdateError::NoMemory.into(), "no memory to wait for another update"),
+        (RemoveError::TagsOut.into(), "tags are out"),
+        (RemoveError::Shared.into(), "a freeze or a future still uses the queue"),
+    ];
+    for (error, text) in all {
+        assert_eq!(error.to_string(), text);
+    }
+    let why = UpdateError::from(FreezeError::DepthFull);
+    assert_eq!(why.source().unwrap().to_string(), "1000 freezes aren't thawed yet");
+}
+
+#[test]
+fn what_is_handed_back_says_why() {
+    let queue = Queue::builder(Limits::of_hardware(8)).slots(1).tags(1).build().unwrap();
+    let tag = queue.tag().unwrap();
+    let refused = queue.remove().map(drop).unwrap_err();
+    assert_eq!((refused.to_string().as_str(), refused.reason), ("tags are out", RemoveError::TagsOut));
+    assert_eq!(format!("{refused:?}"), "HandedBack { reason: TagsOut, .. }");
+    assert_eq!(Box::<dyn Error + Send + Sync>::from(refused).to_string(), "tags are out");
+    drop(tag);
+    let Err(why) = Queue::new(Limits::of_hardware(0)) else { panic!("a queue without hardware") };
+    assert_eq!(why, NewError::Limits(LimitsError::HardwareRange));
 }
