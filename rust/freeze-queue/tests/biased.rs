@@ -46,6 +46,46 @@ fn a_tag_is_biased_from_its_first_request_to_a_freeze() {
     assert_eq!((left.kills, left.releases), (2, 2), "one release for each drain");
 }
 
+/// Limits in which any two of these values come together: of the hardware, the largest request, the chunk and the physical block. The numbers
+/// of values have no common divisor, so 112 limits are enough.
+fn limits_of_each_kind() -> impl Iterator<Item = Limits> {
+    (0..112_u32).map(|kind| {
+        let hardware: u32 = [1, 8, 9, 1_024, 65_535][kind as usize % 5];
+        let max = [hardware, hardware.div_ceil(2), 1][kind as usize % 3];
+        let chunk = [0, 1, 4, 8, 100, 4_096, 65_535][kind as usize % 7];
+        Limits::of_hardware(hardware).with_max(max).with_chunk(chunk).with_physical(1 << (kind % 16))
+    })
+}
+
+/// Under any limits a tag on any slot is biased by its first request, and some time after a change to them.
+#[test]
+fn a_tag_of_any_device_is_biased() {
+    for (limits, slots) in limits_of_each_kind().zip([1, 2, 3, 64, 512].into_iter().cycle()) {
+        let made = Queue::builder(limits).slots(slots).tags(5).build().unwrap();
+        let changed = Queue::builder(Limits::of_hardware(limits.hardware)).slots(slots).tags(5).build().unwrap();
+        let tags: Vec<Tag> = (0..5).map(|_| made.tag().unwrap()).collect();
+        for (mut tag, biased) in tags.into_iter().zip(1..) {
+            drop(made.enter(&mut tag).unwrap());
+            assert_eq!(made.stats().biased, biased, "{limits:?}, {slots} slots");
+        }
+        changed.update(|_| limits).unwrap();
+        biased(&changed, &mut changed.tag().unwrap());
+    }
+}
+
+/// Tags that a freeze finds in with their first requests, on any slots, aren't biased once these have left.
+#[test]
+fn a_request_that_a_freeze_finds_leaves_no_bias() {
+    for (tags, slots) in [(1, 1), (2, 2), (3, 2), (3, 64), (65, 64), (1_023, 512)] {
+        let queue = queue(slots, tags);
+        let mut all: Vec<Tag> = (0..tags).map(|_| queue.tag().unwrap()).collect();
+        let requests: Vec<_> = all.iter_mut().map(|tag| queue.enter(tag).unwrap()).collect();
+        let freezing = queue.begin_freeze().unwrap();
+        drop(requests);
+        assert_eq!((queue.stats().biased, freezing.is_drained()), (0, true), "{tags} tags on {slots} slots");
+    }
+}
+
 /// A freeze takes the bias of every idle tag, the last of the most tags too: the queue is drained at once, and a thread that sleeps
 /// with its tag isn't waited for.
 #[test]

@@ -11,6 +11,22 @@ fn parked(lanes: usize) -> (Lanes<usize>, Freezer<usize>, Vec<Lane<usize>>) {
     (made, freezer, owners)
 }
 
+/// There is memory for far more lanes than a queue has tags, and the last of them has an owner.
+#[test]
+fn lanes_of_each_magnitude() {
+    for count in (0..=20).flat_map(|bits| [(1 << bits) - 1, 1 << bits, (1 << bits) + 1]) {
+        let (lanes, mut freezer) = Lanes::new(count).expect("memory");
+        assert_eq!(lanes.count(), count);
+        if let Some(last) = count.checked_sub(1) {
+            let mut owner = lanes.owner(last).expect("an owner");
+            assert_eq!(owner.park(&lanes, last), Ok(true), "{count} lanes");
+            freezer.freeze(&lanes);
+            assert!(!freezer.look(&lanes, last));
+            assert_eq!(freezer.reclaim(&lanes, last), Some(last), "{count} lanes");
+        }
+    }
+}
+
 #[test]
 fn a_lane_has_one_owner() {
     let (lanes, _freezer, _owners) = parked(1);

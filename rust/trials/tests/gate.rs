@@ -47,11 +47,15 @@ fn given_once_given_again() {
 }
 
 /// While the closure of a kill runs, the odd front is stored and the initial reference still held: the gate is dying and not at zero,
-/// in each of its lives. The closure of a kill that is refused isn't called.
+/// in each of its lives and in either mode. The closure of a kill that is refused isn't called.
 fn closure_finds_the_base_held<const W: usize>(start: Start, slots: u32, passes: u32) {
     let (gate, mut control, mut made) = Gate::new(slots, passes, start, [7; W]).unwrap();
     let pass = &mut made[0];
-    for life in 0..5 {
+    let first = u64::from(start == Start::Dead);
+    if start == Start::Dead {
+        control.reinit(&gate).unwrap();
+    }
+    for life in first..first + 5 {
         assert_eq!(pass.front(&gate), 2 * life);
         let seen = control
             .kill_and_confirm(&gate, |front| (front, pass.front(&gate), pass.is_dying(&gate), pass.is_zero(&gate)));
@@ -61,13 +65,18 @@ fn closure_finds_the_base_held<const W: usize>(start: Start, slots: u32, passes:
         let again = control.kill_and_confirm(&gate, |_front| called = true);
         assert_eq!((again, called), (Err(ControlFault::AlreadyDead), false));
         control.reinit(&gate).unwrap();
+        match life % 3 {
+            0 => control.switch_to_atomic(&gate).unwrap(),
+            1 => control.switch_to_slots(&gate).unwrap(),
+            _ => (),
+        }
     }
 }
 
-/// The same in either mode, with the fewest and the most slots, passes and guarded words.
+/// The same from each start, with the fewest and the most slots, passes and guarded words.
 #[test]
 fn closures_find_the_base_held() {
-    for start in [Start::Slots, Start::Atomic] {
+    for start in [Start::Slots, Start::Atomic, Start::Dead] {
         for (slots, passes) in [(1, 1), (1, 2), (1, 1_024), (512, 1), (512, 1_024)] {
             closure_finds_the_base_held::<0>(start, slots, passes);
             closure_finds_the_base_held::<1>(start, slots, passes);

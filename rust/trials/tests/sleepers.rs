@@ -6,10 +6,13 @@ use std::sync::atomic::{AtomicU64, Ordering::SeqCst};
 use std::thread;
 use std::time::Duration;
 
+#[path = "shared/kinds.rs"]
+mod kinds;
 #[path = "shared/texts.rs"]
 mod texts;
 #[path = "shared/turns.rs"]
 mod turns;
+use kinds::limits_of_each_kind;
 use texts::texts_of;
 use turns::{insist, until, wait_for};
 
@@ -134,24 +137,32 @@ fn a_live_queue_is_not_waited_for() {
 }
 
 /// Sharing a freezer, locking it, waiting for a drain that is over and taking it back change nothing, and it stays the freezer of its queue.
-#[test]
-fn a_shared_freezer_is_as_it_was() {
-    let (queue, mut freezer, mut tag) = with_one_tag();
-    let mut narrow = Limits::new(8, 4, 2).expect("limits");
-    narrow.set_physical(4).expect("a power of two");
+fn stays_as_it_was(limits: Limits, before: u32) {
+    let first = Limits::start(limits.hw()).expect("limits");
+    let (queue, mut freezer, mut tags) = BlockQueue::new(first, 2, 1).expect("memory");
     let shown = |freezer: &Freezer| (freezer.depth(), freezer.limits());
-    assert_eq!([freezer.start_freeze(&queue), freezer.start_freeze(&queue)], [Ok(1), Ok(2)]);
-    assert_eq!(freezer.set(&queue, narrow), Ok(()));
+    (1..=before).for_each(|depth| assert_eq!(freezer.start_freeze(&queue), Ok(depth)));
+    assert_eq!(freezer.set(&queue, limits), Ok(()));
     let shared = SharedFreezer::new(freezer, &queue);
-    for _ in 0..2 {
-        assert_eq!(shown(&shared.lock().freezer), (2, narrow));
-        assert_eq!(shared.wait_drained().map(|guard| shown(&guard.freezer)), Ok((2, narrow)));
+    for depth in before..before + 3 {
+        assert_eq!(shown(&shared.lock().freezer), (depth, limits));
+        assert_eq!(shared.wait_drained().map(|guard| shown(&guard.freezer)), Ok((depth, limits)));
+        assert_eq!(shared.freeze().map(|guard| shown(&guard.freezer)), Ok((depth + 1, limits)));
     }
     let mut pair = shared.into_inner();
-    assert_eq!(shown(&pair.freezer), (2, narrow));
-    assert_eq!([pair.freezer.thaw(pair.queue), pair.freezer.thaw(pair.queue)], [Ok(1), Ok(0)]);
-    assert_eq!(queue.try_enter(&mut tag, 0), Enter::Entered);
-    assert_eq!(queue.limits(&mut tag), narrow);
+    assert_eq!(shown(&pair.freezer), (before + 3, limits));
+    (0..before + 3).rev().for_each(|depth| assert_eq!(pair.freezer.thaw(pair.queue), Ok(depth)));
+    assert_eq!(queue.try_enter(&mut tags[0], 1), Enter::Entered);
+    assert_eq!(queue.limits(&mut tags[0]), limits);
+}
+
+/// The same under each limits, at each depth from which three freezes are left.
+#[test]
+fn a_shared_freezer_is_as_it_was() {
+    for limits in limits_of_each_kind() {
+        (1..=4).for_each(|depth| stays_as_it_was(limits, depth));
+    }
+    (1..=997).for_each(|depth| stays_as_it_was(Limits::start(8).expect("limits"), depth));
 }
 
 /// Two queues that are frozen together are each drained by their own tag; here the queue that was frozen first drains first.

@@ -132,55 +132,112 @@ fn a_lane_takes_few_steps() {
     }
 }
 
-fn queue(tags: u32) -> (BiasedQueue, BiasedFreezer, Vec<BiasedTag>) {
-    let made = BiasedQueue::new(Limits::start(8).expect("limits"), 1, tags).unwrap_or_else(|_| panic!("memory"));
+/// The fewest slots, the most, and some between.
+const SLOTS: [u32; 6] = [1, 2, 3, 64, 65, 512];
+
+fn queue(slots: u32, tags: u32) -> (BiasedQueue, BiasedFreezer, Vec<BiasedTag>) {
+    let made = BiasedQueue::new(Limits::start(8).expect("limits"), slots, tags).unwrap_or_else(|_| panic!("memory"));
     steps();
     made
+}
+
+/// The steps of a freeze before it looks whether a tag is biased: it closes each slot.
+fn freeze_of(slots: u32) -> String {
+    format!("|{}-s-s", "w".repeat(slots as usize))
 }
 
 /// A freeze of a queue with idle tags issues a heavy fence, before it looks at each lane once. It does so in each life.
 #[test]
 fn a_freeze_takes_each_bias_behind_a_fence() {
-    let (queue, mut freezer, mut tags) = queue(3);
-    for life in 0..LIVES {
-        // In a later life the tag tries its lane first, and takes itself back.
-        let enters = if life == 0 { "lxlll" } else { "slsxlxlll" };
-        for tag in &mut tags {
-            takes(tag.try_enter(&queue, 0), BiasedEntry::Entered, enters);
-            takes(tag.leave(&queue, 0, true), Put::NotLast, "+lssl");
+    for slots in SLOTS {
+        let (queue, mut freezer, mut tags) = queue(slots, 3);
+        let (freeze, opened) = (freeze_of(slots), "s".repeat(slots as usize));
+        for life in 0..LIVES {
+            // In a later life the tag tries its lane first, and takes itself back.
+            let enters = if life == 0 { "lxlll" } else { "slsxlxlll" };
+            for (slot, tag) in (slots - 1..).zip(&mut tags) {
+                takes(tag.try_enter(&queue, (slot + 1) % slots), BiasedEntry::Entered, enters);
+                takes(tag.leave(&queue, slot % slots, true), Put::NotLast, "+lssl");
+            }
+            let frozen = freezer.start_freeze(&queue).map(|frozen| (frozen.depth, frozen.put));
+            takes(frozen, Ok((1, Put::Last)), &format!("{freeze}lflx-l-slx-l-slx-l-xs"));
+            takes(freezer.start_freeze(&queue).map(|frozen| frozen.depth), Ok(2), "");
+            takes(freezer.poll_drained(&queue), true, "l");
+            takes(freezer.set(&queue, Limits::start(8).expect("limits")), Ok(()), "llslsls");
+            takes(freezer.thaw(&queue).map(|thawed| thawed.depth), Ok(1), "");
+            takes(freezer.thaw(&queue).map(|thawed| thawed.depth), Ok(0), &format!("+s&+{opened}s"));
         }
-        let frozen = freezer.start_freeze(&queue).map(|frozen| (frozen.depth, frozen.put));
-        takes(frozen, Ok((1, Put::Last)), "|w-s-slflx-l-slx-l-slx-l-xs");
-        takes(freezer.start_freeze(&queue).map(|frozen| frozen.depth), Ok(2), "");
-        takes(freezer.poll_drained(&queue), true, "l");
-        takes(freezer.set(&queue, Limits::start(8).expect("limits")), Ok(()), "llslsls");
-        takes(freezer.thaw(&queue).map(|thawed| thawed.depth), Ok(1), "");
-        takes(freezer.thaw(&queue).map(|thawed| thawed.depth), Ok(0), "+s&+ss");
     }
 }
 
 /// A freeze looks at a tag that is in once, and so does each poll. A set before the drain looks once too.
 #[test]
 fn a_look_in_vain_is_one_load() {
-    let (queue, mut freezer, mut tags) = queue(2);
     let limits = Limits::start(8).expect("limits");
-    for _ in 0..LIVES {
-        for tag in &mut tags {
-            assert_eq!(tag.try_enter(&queue, 0), BiasedEntry::Entered);
+    for slots in SLOTS {
+        let (queue, mut freezer, mut tags) = queue(slots, 2);
+        for life in 0..LIVES {
+            let slot = (slots - 1 + life as u32) % slots;
+            for tag in &mut tags {
+                assert_eq!(tag.try_enter(&queue, slot), BiasedEntry::Entered);
+            }
+            assert_eq!(tags[0].leave(&queue, slot, true), Put::NotLast);
+            assert_eq!(tags[0].try_enter(&queue, slot), BiasedEntry::Entered);
+            steps();
+            let frozen = freezer.start_freeze(&queue).map(|frozen| frozen.put);
+            takes(frozen, Ok(Put::NotLast), &format!("{}lfllx", freeze_of(slots)));
+            takes(freezer.poll_drained(&queue), false, "l");
+            takes(freezer.set(&queue, limits), Err(FreezeFault::NotDrained), "l");
+            takes(tags[0].leave(&queue, slot, true), Put::NotLast, "slsx-l-");
+            takes(freezer.poll_drained(&queue), false, "l");
+            takes(freezer.set(&queue, limits), Err(FreezeFault::NotDrained), "ll");
+            takes(tags[1].leave(&queue, slot, true), Put::Last, "+l-l-x");
+            assert!(freezer.poll_drained(&queue));
+            assert_eq!(freezer.thaw(&queue).map(|thawed| thawed.depth), Ok(0));
+            steps();
         }
-        assert_eq!(tags[0].leave(&queue, 0, true), Put::NotLast);
-        assert_eq!(tags[0].try_enter(&queue, 0), BiasedEntry::Entered);
+    }
+}
+
+/// Tags that could not be parked, since a freeze found them in, count for no later freeze: it issues no fence and looks at no lane.
+#[test]
+fn a_freeze_without_a_bias_looks_at_no_lane() {
+    for slots in SLOTS {
+        let (queue, mut freezer, mut tags) = queue(slots, 3);
+        for life in 0..LIVES {
+            let slot = (slots - 1 + life as u32) % slots;
+            for tag in &mut tags {
+                assert_eq!(tag.try_enter(&queue, slot), BiasedEntry::Entered);
+            }
+            steps();
+            let frozen = freezer.start_freeze(&queue).map(|frozen| frozen.put);
+            takes(frozen, Ok(Put::NotLast), &format!("{}l", freeze_of(slots)));
+            for (tag, put) in tags.iter_mut().zip([Put::NotLast, Put::NotLast, Put::Last]) {
+                assert_eq!(tag.leave(&queue, slot, true), put);
+            }
+            assert_eq!(freezer.thaw(&queue).map(|thawed| thawed.depth), Ok(0));
+        }
+    }
+}
+
+/// A removal that is refused, since some tags are parked, takes no step and changes nothing: the next freeze takes the bias of each.
+#[test]
+fn a_removal_in_vain_leaves_each_bias() {
+    for (slots, parked) in SLOTS.into_iter().flat_map(|slots| (1..=4).map(move |parked| (slots, parked))) {
+        let (queue, freezer, mut tags) = queue(slots, 4);
+        let others: Vec<_> =
+            tags.split_off(parked).into_iter().map(|tag| tag.into_tag().expect("a plain tag")).collect();
+        for tag in &mut tags {
+            assert_eq!(tag.try_enter(&queue, slots - 1), BiasedEntry::Entered);
+            assert_eq!(tag.leave(&queue, 0, true), Put::NotLast);
+        }
         steps();
+        let Err(refused) = freezer.remove(queue, others) else { panic!("a queue without its tags") };
+        takes((refused.why, refused.tags.len()), (FreezeFault::TagsOut(parked as u32), 4 - parked), "");
+        let (queue, mut freezer) = (refused.queue, refused.freezer);
+        let lanes = "lx-l-s".repeat(parked - 1) + "lx-l-xs" + &"lx".repeat(4 - parked);
         let frozen = freezer.start_freeze(&queue).map(|frozen| frozen.put);
-        takes(frozen, Ok(Put::NotLast), "|w-s-slfllx");
-        takes(freezer.poll_drained(&queue), false, "l");
-        takes(freezer.set(&queue, limits), Err(FreezeFault::NotDrained), "l");
-        takes(tags[0].leave(&queue, 0, true), Put::NotLast, "slsx-l-");
-        takes(freezer.poll_drained(&queue), false, "l");
-        takes(freezer.set(&queue, limits), Err(FreezeFault::NotDrained), "ll");
-        takes(tags[1].leave(&queue, 0, true), Put::Last, "+l-l-x");
-        assert!(freezer.poll_drained(&queue));
-        assert_eq!(freezer.thaw(&queue).map(|thawed| thawed.depth), Ok(0));
-        steps();
+        takes(frozen, Ok(Put::Last), &format!("{}lf{lanes}", freeze_of(slots)));
+        takes(freezer.poll_drained(&queue), true, "l");
     }
 }

@@ -3,8 +3,8 @@
 use crate::{Sizes, draw};
 use blkq::erased::freeze_queue::{BlockQueue, Limits, MOST_TAGS};
 use blkq::erased::percpu_core::ControlEvent::{ClearDead, Confirm, DropBase, Mark, MarkDead, NextFront, TakeBase};
-use blkq::erased::percpu_core::PassEvent::{AddTry, LoadFront, LookShared, Sub};
-use blkq::erased::percpu_core::{Event, Start, World, replay};
+use blkq::erased::percpu_core::PassEvent::{AddTry, LoadFront, LoadWord, Look, LookShared, Sub};
+use blkq::erased::percpu_core::{Event, NotEnabled, ReplayFault, Start, World, replay};
 use blkq::erased::percpu_gate::{Gate, KILL_LIMIT, PASS_LIMIT, SLOT_LIMIT};
 
 const STARTS: [Start; 3] = [Start::Slots, Start::Atomic, Start::Dead];
@@ -52,6 +52,36 @@ fn worlds_and_replays() {
     });
 }
 
+/// A replay ends at the first event that isn't enabled, wherever it stands, and says which. The references that were taken until then are in
+/// the world and in its copy, which goes on by itself.
+#[test]
+fn held_worlds_and_refused_events() {
+    draw(2_000, |sizes| {
+        let (slots, passes) = (sizes.small(1, SLOT_LIMIT), sizes.small(1, PASS_LIMIT));
+        let start = sizes.one_of(&[Start::Slots, Start::Atomic]);
+        let words: Vec<u64> = (0..sizes.small(0, 8)).map(|_| sizes.size(0, u64::MAX)).collect();
+        let mut world = World::new(slots, passes, start, &words).unwrap();
+        let (held, later) = (sizes.count(0, 40_000), sizes.count(0, 40_000));
+        let takes = |sizes: &mut Sizes| Event::Pass(sizes.small(0, passes - 1), AddTry);
+        let (event, why) = sizes.one_of(&[
+            (Event::Pass(passes, LoadFront), NotEnabled::NoSuchActor),
+            (Event::Pass(0, Look(slots)), NotEnabled::NoSuchSlot),
+            (Event::Pass(0, LoadWord(words.len() as u32)), NotEnabled::NoSuchWord),
+            (Event::Control(TakeBase), NotEnabled::WrongPhase),
+        ]);
+        let mut events: Vec<Event> = (0..held).map(|_| takes(sizes)).collect();
+        events.push(event);
+        events.extend((0..later).map(|_| takes(sizes)));
+        assert_eq!(replay(&mut world, &events).unwrap_err(), ReplayFault::Stuck { at: held, why });
+        assert_eq!((world.held_by_all(), world.kills()), (held as u64, 0));
+        let mut copy = world.copy().unwrap();
+        assert!(copy.is_same(&world));
+        assert_eq!(replay(&mut copy, &[Event::Control(MarkDead)]).unwrap().len(), 1);
+        assert_eq!((copy.held_by_all(), copy.kills(), world.kills()), (held as u64, 1, 0));
+        assert!(copy.copy().unwrap().is_same(&copy) && !copy.is_same(&world));
+    });
+}
+
 /// A gate of so many guarded words, from its making to its end.
 fn gate<const W: usize>(sizes: &mut Sizes) {
     let (slots, passes) = (sizes.small(1, SLOT_LIMIT), sizes.small(1, PASS_LIMIT));
@@ -74,7 +104,7 @@ fn gates() {
 }
 
 /// Limits of any device.
-fn limits(sizes: &mut Sizes) -> Limits {
+pub fn limits(sizes: &mut Sizes) -> Limits {
     let hardware = sizes.small(1, 65_535);
     let mut limits = Limits::new(hardware, sizes.small(0, hardware), sizes.small(0, 65_535)).unwrap();
     limits.set_physical(1 << sizes.small(0, 15)).unwrap();

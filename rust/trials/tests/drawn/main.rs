@@ -7,6 +7,7 @@ mod gates;
 mod schedules;
 mod scripts;
 mod texts;
+mod uses;
 
 #[path = "../shared/mod.rs"]
 mod shared;

@@ -205,12 +205,16 @@ fn a_nested_freeze_wakes_no_freezer() {
     assert_eq!(shared.into_inner().freezer.depth(), 4);
 }
 
-/// A race runs neither call before the other one may begin: each can be first.
+/// A race runs neither call before the other one may begin: each can be first, in either mode and with any number of slots.
 #[test]
 fn each_call_of_a_race_can_be_first() {
-    for (is_request_first, served) in [(true, Served::Done(Put::NotLast)), (false, Served::Gone(Put::NotLast))] {
-        IS_SECOND_FIRST.set(is_request_first);
-        let (gate, control, mut passes) = Gate::new(1, 1, Start::Atomic, [7]).expect("memory");
-        assert_eq!(race(gate, passes.swap_remove(0), control), Raced { served, removed: Put::Last });
+    let modes = [Start::Atomic, Start::Slots].into_iter();
+    for (start, slots) in modes.flat_map(|start| (1..=512).map(move |slots| (start, slots))) {
+        for (is_request_first, served) in [(true, Served::Done(Put::NotLast)), (false, Served::Gone(Put::NotLast))] {
+            IS_SECOND_FIRST.set(is_request_first);
+            let (gate, control, mut passes) = Gate::new(slots, 1, start, [7]).expect("memory");
+            let raced = race(gate, passes.swap_remove(0), control);
+            assert_eq!(raced, Raced { served, removed: Put::Last }, "{slots} slots");
+        }
     }
 }

@@ -6,6 +6,8 @@ extern crate alloc;
 pub mod counting;
 #[allow(dead_code, unused_imports, clippy::all, clippy::pedantic)]
 mod erased;
+#[path = "../shared/kinds.rs"]
+mod kinds;
 pub mod parking;
 #[allow(dead_code)]
 #[path = "../shared/turns.rs"]
@@ -13,7 +15,9 @@ mod turns;
 
 use crate::counting::WaitQueue;
 use crate::erased::freeze_queue::{BlockQueue, Enter, Freezer, Limits, Mode, Put, SharedFreezer, Stay, Tag};
-use std::sync::atomic::{AtomicU64, Ordering::SeqCst};
+use kinds::limits_of_each_kind;
+use std::sync::Arc;
+use std::sync::atomic::{AtomicBool, AtomicU64, Ordering::SeqCst};
 use std::thread;
 use std::time::Duration;
 use turns::{insist, until};
@@ -24,7 +28,11 @@ const LOOKS: u64 = 8;
 const PAUSE: Duration = Duration::from_millis(20);
 
 fn queue(slots: u32, tags: u32) -> (BlockQueue, Freezer, Vec<Tag>) {
-    BlockQueue::new(Limits::start(8).expect("limits"), slots, tags).expect("memory")
+    queue_of(Limits::start(8).expect("limits"), slots, tags)
+}
+
+fn queue_of(limits: Limits, slots: u32, tags: u32) -> (BlockQueue, Freezer, Vec<Tag>) {
+    BlockQueue::new(limits, slots, tags).expect("memory")
 }
 
 /// How often all waiters for the drain, and all waiters for the thaw, were woken. No waiter is ever woken alone.
@@ -52,48 +60,62 @@ fn requests_of_a_live_queue_wake_nobody() {
     assert_eq!(woken(&queue), (0, 0));
 }
 
-/// Of three tags in a frozen queue, only the last to go wakes, by a leave or by a stay. Refused tries wake nobody.
+/// Three tags of a frozen queue leave on this slot, by a leave or by a stay: only the last to go wakes. Refused tries wake nobody.
+fn leave_one_by_one(limits: Limits, slots: u32, slot: u32, stays: bool) {
+    let (queue, mut freezer, mut tags) = queue_of(limits, slots, 4);
+    let other = slots - 1 - slot;
+    let of_freezer = freezer.parker.unparker();
+    assert!(Arc::ptr_eq(&queue.freezer.counts, &of_freezer.counts), "another freezer is woken, {limits:?}");
+    let (late, tags) = tags.split_last_mut().expect("tags");
+    tags.iter_mut().for_each(|tag| queue.enter(tag, other));
+    assert_eq!(freezer.start_freeze(&queue), Ok(1));
+    for (tag, before) in tags.iter_mut().zip([2_u64, 1, 0]) {
+        assert_eq!(queue.try_enter(late, other), Enter::Again);
+        assert_eq!((freezer.poll_drained(&queue), woken(&queue)), (false, (0, 0)));
+        let put = if before == 0 { Put::Last } else { Put::NotLast };
+        if stays {
+            assert_eq!(queue.stay(tag, slot), Stay::Left(put));
+        } else {
+            assert_eq!(queue.leave(tag, slot), put);
+        }
+    }
+    assert_eq!((freezer.poll_drained(&queue), woken(&queue)), (true, (1, 0)), "slot {slot} of {slots}, {limits:?}");
+    assert_eq!(queue.freezer.counts.unparks.load(SeqCst), 1);
+    assert_eq!([queue.try_enter(late, slot), queue.try_enter_frozen(late, other)], [Enter::Again; 2]);
+    assert_eq!(woken(&queue), (1, 0));
+}
+
+/// The last to leave wakes on each slot, whatever the limits are.
 #[test]
 fn the_last_to_leave_wakes_alone() {
-    for stays in [false, true] {
-        let (queue, mut freezer, mut tags) = queue(2, 4);
-        let (late, tags) = tags.split_last_mut().expect("tags");
-        tags.iter_mut().for_each(|tag| queue.enter(tag, 1));
-        assert_eq!(freezer.start_freeze(&queue), Ok(1));
-        for (tag, before) in tags.iter_mut().zip([2_u64, 1, 0]) {
-            assert_eq!(queue.try_enter(late, 0), Enter::Again);
-            assert_eq!((freezer.poll_drained(&queue), woken(&queue)), (false, (0, 0)));
-            let put = if before == 0 { Put::Last } else { Put::NotLast };
-            if stays {
-                assert_eq!(queue.stay(tag, 0), Stay::Left(put));
-            } else {
-                assert_eq!(queue.leave(tag, 0), put);
-            }
+    for limits in limits_of_each_kind() {
+        for (slots, slot) in [(1, 0), (2, 0), (2, 1), (3, 1), (64, 63), (512, 0), (512, 300), (512, 511)] {
+            leave_one_by_one(limits, slots, slot, false);
+            leave_one_by_one(limits, slots, slot, true);
         }
-        assert_eq!((freezer.poll_drained(&queue), woken(&queue)), (true, (1, 0)));
-        assert_eq!([queue.try_enter(late, 0), queue.try_enter_frozen(late, 1)], [Enter::Again; 2]);
-        assert_eq!(woken(&queue), (1, 0));
     }
 }
 
-/// Nested freezes and their settings wake nobody; of their thaws, only the last one wakes.
+/// Nested freezes and their settings wake nobody; of their thaws, only the last one wakes, in each life and under each limits.
 #[test]
 fn the_last_thaw_wakes_alone() {
-    let (queue, mut freezer, _tags) = queue(2, 1);
-    for round in 0..3 {
-        for depth in 1..=5 {
-            assert_eq!(freezer.freeze(&queue), Ok(depth));
-            assert_eq!(freezer.wait_drained(&queue), Ok(()));
-            assert_eq!(freezer.set(&queue, Limits::start(8).expect("limits")), Ok(()));
+    for limits in limits_of_each_kind() {
+        let (queue, mut freezer, _tags) = queue_of(limits, 2, 1);
+        for round in 0..3 {
+            for depth in 1..=5 {
+                assert_eq!(freezer.freeze(&queue), Ok(depth));
+                assert_eq!(freezer.wait_drained(&queue), Ok(()));
+                assert_eq!(freezer.set(&queue, limits), Ok(()));
+            }
+            for depth in (1..5).rev() {
+                assert_eq!(freezer.thaw(&queue), Ok(depth));
+            }
+            assert_eq!(woken(&queue), (round, round));
+            assert_eq!(freezer.thaw(&queue), Ok(0));
+            assert_eq!(woken(&queue), (round + 1, round + 1), "{limits:?}");
+            assert!(freezer.thaw(&queue).is_err());
+            assert_eq!(woken(&queue), (round + 1, round + 1));
         }
-        for depth in (1..5).rev() {
-            assert_eq!(freezer.thaw(&queue), Ok(depth));
-        }
-        assert_eq!(woken(&queue), (round, round));
-        assert_eq!(freezer.thaw(&queue), Ok(0));
-        assert_eq!(woken(&queue), (round + 1, round + 1));
-        assert!(freezer.thaw(&queue).is_err());
-        assert_eq!(woken(&queue), (round + 1, round + 1));
     }
 }
 
@@ -102,7 +124,8 @@ fn the_last_thaw_wakes_alone() {
 fn waits_for_the_drain(queue: &BlockQueue, tag: &mut Tag, depth: u32, freeze: impl FnOnce() -> Option<u32> + Send) {
     thread::scope(|scope| {
         let freezes = scope.spawn(freeze);
-        until(|| queue.drained.looks.load(SeqCst) >= LOOKS);
+        until(|| queue.drained.looks.load(SeqCst) >= LOOKS || freezes.is_finished());
+        insist(!freezes.is_finished(), "a freeze ends before the drain");
         thread::sleep(PAUSE);
         insist(queue.drained.looks.load(SeqCst) == LOOKS, "a wait looks without a wake");
         insist(woken(queue) == (0, 0), "a wait wakes somebody");
@@ -112,11 +135,11 @@ fn waits_for_the_drain(queue: &BlockQueue, tag: &mut Tag, depth: u32, freeze: im
     assert_eq!((queue.drained.looks.load(SeqCst), woken(queue)), (LOOKS + 1, (1, 0)));
 }
 
-/// A wait for the drain by a shared freezer looks only a few times.
+/// A wait for the drain by a shared freezer looks only a few times, in a first freeze and in nested ones, under each limits.
 #[test]
 fn a_wait_for_the_drain_looks_seldom() {
-    for depth in 1..=3 {
-        let (queue, mut freezer, mut tags) = queue(1, 1);
+    for (depth, limits) in (1..=3).flat_map(|depth| limits_of_each_kind().take(35).map(move |limits| (depth, limits))) {
+        let (queue, mut freezer, mut tags) = queue_of(limits, 1, 1);
         queue.enter(&mut tags[0], 0);
         (1..depth).for_each(|depth| assert_eq!(freezer.start_freeze(&queue), Ok(depth)));
         let shared = SharedFreezer::new(freezer, &queue);
@@ -127,8 +150,9 @@ fn a_wait_for_the_drain_looks_seldom() {
 /// A freezer that one thread has parks once, and again if it is woken in vain. The last leave wakes it, and no other.
 #[test]
 fn the_freezer_parks_once() {
-    for (depth, slots) in [(1, 1), (2, 1), (3, 1), (1, 65), (1, 512)] {
-        let (queue, mut freezer, mut tags) = queue(slots, 2);
+    const SHAPES: [(u32, u32); 4] = [(1, 1), (2, 65), (3, 1), (1, 512)];
+    for ((depth, slots), limits) in SHAPES.into_iter().cycle().zip(limits_of_each_kind().take(35)) {
+        let (queue, mut freezer, mut tags) = queue_of(limits, slots, 2);
         tags.iter_mut().for_each(|tag| queue.enter(tag, 0));
         (1..depth).for_each(|depth| assert_eq!(freezer.start_freeze(&queue), Ok(depth)));
         let parked = || queue.freezer.counts.parks.load(SeqCst);
@@ -136,13 +160,14 @@ fn the_freezer_parks_once() {
         thread::scope(|scope| {
             let freezes = scope.spawn(|| freezer.freeze(&queue).ok());
             until(|| parked() > 0);
-            insist(queue.leave(&mut tags[0], 0) == Put::NotLast, "the first leave is the last");
+            insist(queue.leave(&mut tags[0], slots - 1) == Put::NotLast, "the first leave is the last");
             thread::sleep(PAUSE);
             insist((parked(), unparked(), woken(&queue)) == (1, 0, (0, 0)), "the freezer wakes before the last leave");
             queue.freezer.unpark(); // in vain
+            until(|| parked() > 1);
             thread::sleep(PAUSE);
-            insist(parked() == 2, "the freezer doesn't park again");
-            insist(queue.leave(&mut tags[1], 0) == Put::Last, "another leave is the last");
+            insist(parked() == 2, "the freezer wakes though nobody woke it");
+            insist(queue.leave(&mut tags[1], slots - 1) == Put::Last, "another leave is the last");
             insist(freezes.join().is_ok_and(|frozen| frozen == Some(depth)), "a freeze is refused");
         });
         assert_eq!((parked(), unparked(), woken(&queue)), (2, 2, (1, 0)));
@@ -197,4 +222,29 @@ fn one_wake_wakes_one() {
         waits.wake_all();
     });
     assert_eq!((tokens.into_inner(), waits.looks.into_inner()), (0, 3 * THREADS));
+}
+
+/// A waiter sleeps again after each wake in vain, however many there were: it looks once at each, and not in between.
+#[test]
+fn each_vain_wake_is_one_look() {
+    for first in [1, LOOKS] {
+        let (waits, is_over) = (WaitQueue::new(), AtomicBool::new(false));
+        let waits_until_over = || match first {
+            1 => waits.announced_tries().find(|()| is_over.load(SeqCst)),
+            _ => waits.tries().find(|()| is_over.load(SeqCst)),
+        };
+        thread::scope(|scope| {
+            scope.spawn(waits_until_over);
+            for vain in 0..=2_048 {
+                until(|| waits.looks.load(SeqCst) >= first + vain);
+                if vain < 16 || vain.is_power_of_two() {
+                    thread::sleep(PAUSE);
+                }
+                insist(waits.looks.load(SeqCst) == first + vain, "a wait looks without a wake");
+                if vain % 2 == 0 { waits.wake_one() } else { waits.wake_all() }
+            }
+            is_over.store(true, SeqCst);
+            waits.wake_all();
+        });
+    }
 }

@@ -1,0 +1,35 @@
+//! Requests of the callers in `uses`, cut into commands.
+
+use crate::draw;
+use crate::gates::limits;
+use blkq::erased::freeze_queue::BlockQueue;
+use blkq::erased::percpu_gate::SLOT_LIMIT;
+use trials::erased::uses::{Command, commands, submit, submit_next};
+
+/// Whether each sector of the range is moved once, in order.
+fn are_whole(commands: &[Command], start: u64, count: u64) -> bool {
+    let mut next = start;
+    commands.iter().all(|command| {
+        let is_next = command.first == next && command.sectors > 0;
+        next += u64::from(command.sectors);
+        is_next
+    }) && next == start + count
+}
+
+/// A request of any device, start and length, on any slot, has its commands: by its first call, and by one that stays.
+#[test]
+fn requests_have_their_commands() {
+    draw(4_000, |sizes| {
+        let (limits, slots) = (limits(sizes), sizes.small(1, SLOT_LIMIT));
+        let (queue, _freezer, mut tags) = BlockQueue::new(limits, slots, 1).unwrap();
+        let slot = sizes.small(0, slots - 1);
+        // A chunk ends a command early, so this many sectors need some 100,000 commands at most.
+        let shortest = if limits.chunk() == 0 { limits.max() } else { limits.max().min(limits.chunk()) };
+        let most = (50_000 * u64::from(shortest)).min(u32::MAX.into());
+        let (start, count) = (sizes.size(0, u32::MAX.into()), sizes.size(0, most) as u32);
+        let entered = submit(&queue, &mut tags[0], slot, start, count).unwrap().expect("a live queue");
+        let stayed = submit_next(&queue, &mut tags[0], slot, start, count).unwrap();
+        assert!(are_whole(&entered, start, count.into()), "{limits:?}, {count} sectors from {start}");
+        assert_eq!((&stayed, &commands(&limits, start, count).unwrap()), (&entered, &entered));
+    });
+}
