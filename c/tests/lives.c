@@ -140,19 +140,41 @@ static void slots_of(uint32_t slots)
     TELLS(blocks_now(), 0);
 }
 
-/* A gate that was killed and revived very often gives its last pass, and ends. */
-static void an_old_gate(void)
+/* How a life ends: at zero by the kill, at zero by a put, or held until the gate is revived. */
+enum { BY_KILL, BY_PUT, HELD, ENDS };
+
+/* Ends a life so, and revives the gate. Returns whether it was released. */
+static uint64_t dies_and_revives(int how)
 {
-    make_with(1);
+    if (how != BY_KILL)
+        IS(percpu_gate_try_get_live(&passes[0], 0), OK);
+    TELLS(percpu_gate_kill(&control), how == BY_KILL ? PERCPU_GATE_LAST : PERCPU_GATE_OK);
+    if (how == BY_PUT)
+        IS(percpu_gate_put(&passes[0], 0, 1), LAST);
+    TELLS(percpu_gate_resurrect(&control), how == HELD ? PERCPU_GATE_OK : PERCPU_GATE_WAS_AT_ZERO);
+    if (how == HELD)
+        IS(percpu_gate_put(&passes[0], 0, 1), OK);
+    return how != HELD;
+}
+
+/* A gate with this start that was killed and revived very often gives its last pass, and ends. Each life ends in this way, or each in one
+ * of the three. */
+static void an_old_gate(uint32_t start, int how)
+{
+    uint64_t releases = 0;
+    IS(percpu_gate_new(&control, 1, 2, start, words), OK);
+    IS(percpu_gate_next_pass(&control, &passes[0]), OK);
+    if (start == PERCPU_GATE_START_DEAD)
+        IS(percpu_gate_reinit(&control), OK);
     for (uint64_t life = 0; life < MANY_LIVES; life++)
-        live_again(life);
+        releases += dies_and_revives(how == ENDS ? (int)(life * life % 7 % ENDS) : how);
     IS(percpu_gate_next_pass(&control, &passes[1]), OK);
     IS(percpu_gate_next_pass(&control, &passes[2]), ERR_NO_PASS);
     IS(percpu_gate_retire(&control, &passes[0]), OK);
     IS(percpu_gate_retire(&control, &passes[1]), OK);
     IS(percpu_gate_exit(&control, &last), OK);
     TELLS(last.kills, MANY_LIVES);
-    TELLS(last.releases, MANY_LIVES);
+    TELLS(last.releases, releases);
     TELLS(blocks_now(), 0);
 }
 
@@ -196,7 +218,9 @@ int main(void)
     for (uint32_t slots = 1; slots <= 64; slots++)
         slots_of(slots);
     slots_of(SLOTS);
-    an_old_gate();
+    for (uint32_t start = 0; start < 3; start++)
+        for (int how = BY_KILL; how <= ENDS; how++)
+            an_old_gate(start, how);
     for (uint64_t lives = 0; lives < 3; lives++) {
         a_freed_pass(lives);
         a_freed_control(lives);

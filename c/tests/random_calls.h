@@ -1,18 +1,12 @@
 /* Included by tests that make random calls, whose answers a model of plain numbers says: a test ends at the first that differs. */
 #ifndef RANDOM_CALLS_H
 #define RANDOM_CALLS_H
-#include <stdint.h>
+#include "any_below.h"
+
 #include <stdio.h>
 #include <stdlib.h>
 
-static uint64_t seed;
 static long calls;
-
-static uint32_t any_below(uint32_t n)
-{
-    seed = seed * 6364136223846793005u + 1442695040888963407u;
-    return (uint32_t)(seed >> 33) % n;
-}
 
 static void is(uint64_t answer, uint64_t want, const char *what)
 {

@@ -3,6 +3,7 @@
 #ifndef REFUSED_H
 #define REFUSED_H
 #include "alike.h"
+#include "any_below.h"
 #include "refusing.h"
 
 #include <stdio.h>
@@ -70,16 +71,29 @@ static int one_size(uint32_t slots, uint32_t count, uint32_t start)
     return refused || end(&one, &last);
 }
 
-/* Every size is made and ends: none is too large. */
+/* Each number of slots, and each of seats, is made and ends: none is too large. */
 static int every_size(uint32_t start)
 {
     for (uint32_t slots = 1; slots <= MOST_SLOTS; slots++)
         if (one_size(slots, 2, start))
             return 1;
     for (uint32_t count = 1; count <= MOST_SEATS; count++)
-        if (one_size(1, count, start) || (count <= 16 && one_size(count, 17 - count, start)))
+        if (one_size(1, count, start))
             return 1;
     return one_size(MOST_SLOTS, MOST_SEATS, start);
+}
+
+/* Nor is one of up to 64 slots and 64 seats, or one of greater sizes that are drawn. */
+static int every_two_sizes(uint32_t start)
+{
+    for (uint32_t slots = 1; slots <= 64; slots++)
+        for (uint32_t count = 1; count <= 64; count++)
+            if (one_size(slots, count, start))
+                return 1;
+    for (int i = 0; i < 500; i++)
+        if (one_size(1 + any_below(MOST_SLOTS), 1 + any_below(MOST_SEATS), start))
+            return 1;
+    return 0;
 }
 
 /* Each seat in turn gets no memory once, and then it does: ERR_NO_MEMORY comes where an allocation was refused, and nowhere else. */
@@ -152,7 +166,7 @@ static int refused_as_it_is(void)
     if (!each_is_refused())
         return 1;
     for (uint32_t start = 0; start < STARTS; start++)
-        if (every_size(start))
+        if (every_size(start) || every_two_sizes(start))
             return 2;
     return each_seat_refused() || ends_without_memory() || two_alike() || one_place_twice() ? 3 : 0;
 }

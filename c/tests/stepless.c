@@ -5,32 +5,32 @@
 
 #include "stepless.h"
 
-enum { SLOTS = 4 };
+enum { SLOTS = 4, PASSES = 3 };
 
 #define IS(call, want) is(#call, call, PERCPU_GATE_##want, __LINE__)
 
 static const uint64_t words[PERCPU_GATE_WORD_COUNT] = {3};
 static percpu_gate_control control;
-static percpu_gate_pass passes[3], closed;
+static percpu_gate_pass passes[PERCPU_GATE_MOST_PASSES], closed;
 
 static void comes_in(int p) { IS(percpu_gate_try_get(&passes[p], 0), OK); }
 static void goes_out(int p) { IS(percpu_gate_put(&passes[p], 0, 1), OK); }
 
 enum { LIVE, BEGUN, DEAD, CONFIRMED };
 
-/* A gate, live, at the first or last step of a kill, or dead, whose last pass holds a reference, and the first one if asked for. */
-static void a_gate(uint32_t start, int kill, bool is_held)
+/* A gate of a size, live, at the first or last step of a kill, or dead, whose pass 2 holds a reference, and pass 0 if asked for. */
+static void a_gate(uint32_t slot_count, int count, uint32_t start, int kill, bool is_held)
 {
     uint32_t slots;
     uint64_t front;
     block_count = 0;
-    IS(percpu_gate_new(&control, SLOTS, 3, start, words), OK);
-    for (int p = 0; p < 3; p++)
+    IS(percpu_gate_new(&control, slot_count, (uint32_t)count, start, words), OK);
+    for (int p = 0; p < count; p++)
         IS(percpu_gate_next_pass(&control, &passes[p]), OK);
     finds_the_table(comes_in, goes_out);
-    IS(percpu_gate_try_get(&passes[2], 1), OK);
+    IS(percpu_gate_try_get(&passes[2], 1 % slot_count), OK);
     if (is_held)
-        IS(percpu_gate_try_get(&passes[0], 2), OK);
+        IS(percpu_gate_try_get(&passes[0], 2 % slot_count), OK);
     if (kill == DEAD)
         IS(percpu_gate_kill(&control), OK);
     if (kill == BEGUN || kill == CONFIRMED)
@@ -104,13 +104,40 @@ static uint64_t frees_control(void)
     return control.is_open;
 }
 
-/* All handles are freed, the last share of the gate by the last pass. */
-static void handles(void)
+/* All handles are freed, the last share of the gate by pass 2. */
+static void handles(int count)
 {
     TELLS(STEPLESS(frees_pass(0)), false);
     TELLS(STEPLESS(frees_control()), false);
     TELLS(STEPLESS(frees_pass(1)), false);
+    for (int p = PASSES; p < count; p++)
+        TELLS(STEPLESS(frees_pass(p)), false);
     percpu_gate_free_pass(&passes[2]);
+}
+
+/* Handles are freed of a gate of this size, in each state. */
+static void handles_of(uint32_t slot_count, int count)
+{
+    for (uint32_t start = 0; start < 2; start++)
+        for (int kill = LIVE; kill <= CONFIRMED; kill++) {
+            a_gate(slot_count, count, start, kill, kill % 2);
+            handles(count);
+        }
+}
+
+/* Of each number of slots, and of each number of passes; above 64 of some. */
+static void handles_of_each_size(void)
+{
+    for (int size = 1; size <= 64; size++) {
+        handles_of((uint32_t)size, PASSES);
+        handles_of(1, PASSES + size);
+    }
+    for (int size = 100; size < PERCPU_GATE_MOST_SLOTS; size = 2 * size + 1) {
+        handles_of((uint32_t)size, PASSES);
+        handles_of(2, size);
+    }
+    handles_of(PERCPU_GATE_MOST_SLOTS, PASSES);
+    handles_of(1, PERCPU_GATE_MOST_PASSES);
 }
 
 int main(void)
@@ -119,14 +146,15 @@ int main(void)
     for (uint32_t start = 0; start < 2; start++)
         for (int kill = LIVE; kill <= CONFIRMED; kill++)
             for (int is_held = 0; is_held < 2; is_held++) {
-                a_gate(start, kill, is_held);
+                a_gate(SLOTS, PASSES, start, kill, is_held);
                 questions(kill);
                 switches(start, kill);
                 refused_calls(kill);
                 TELLS(STEPS(percpu_gate_try_get(&passes[1], 0)), PERCPU_GATE_OK); /* and what does take steps is seen */
                 TELLS(STEPS(percpu_gate_put(&passes[1], 3, 1)), PERCPU_GATE_OK);
-                handles();
+                handles(PASSES);
             }
+    handles_of_each_size();
     printf("%s\n", failures ? "FAILED" : "no step but their own");
     return failures != 0;
 }

@@ -9,7 +9,7 @@
 #include <stdlib.h>
 #include <sys/mman.h>
 
-enum { PAGE = 4096, BLOCKS = 256 };
+enum { PAGE = 4096, BLOCKS = 2048 };
 
 /* The value of a call that takes no step, and the one of a call that does. */
 #define STEPLESS(call) (guards(true), tells_steps(#call, (call), 0, __LINE__))

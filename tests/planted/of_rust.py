@@ -12,7 +12,7 @@ ROOT = pathlib.Path(__file__).resolve().parents[2]
 HOST = "x86_64-unknown-linux-gnu"
 # The tests of each crate, the quickest first.
 OF_QUEUE = ["life", "errors", "owned", "lanes", "biased", "slots", "waking", "many", "attacks", "values", "updates", "panics", "futures", "pool", "freezes", "waits", "moments", "in_flight", "removal", "wakers",
-            "thread_ends", "refused_fence", "storm", "drawn_sizes"]
+            "thread_ends", "refused_fence", "storm", "stats", "drawn_sizes"]
 OF_GATE = ["life", "again", "values", "attacks", "drawn_sizes"]
 REST = ["refused_memory", "guarded", "hammer", "model"]
 TESTS = {"freeze-queue": OF_QUEUE + REST, "percpu-gate": OF_GATE + REST}

@@ -215,7 +215,7 @@ static void freed_handles(uint32_t mode, bool is_in, uint32_t freezes)
     IS(freeze_queue_new(&freezer, &limits, SLOTS, 3), OK);
     for (int t = 0; t < 3; t++)
         IS(freeze_queue_next_tag(&freezer, &tags[t]), OK);
-    is_in_a_mode(&freezer, tags, mode, freezes, is_in);
+    is_in_a_mode(&freezer, tags, SLOTS, mode, freezes, is_in);
     keep_all();
     freeze_queue_free_tag(&tags[0]);
     TELLS(words_changed(), 1);

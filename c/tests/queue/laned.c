@@ -143,9 +143,15 @@ static void freeze_or_thaw(void)
     IS(written, depth);
 }
 
+/* With chunks and without, and with each physical block. */
+static freeze_queue_limits any_limits(void)
+{
+    return (freeze_queue_limits){64, 1 + any_below(64), any_below(2) ? any_below(100) : 0, UINT32_C(1) << any_below(16)};
+}
+
 static void set(void)
 {
-    const freeze_queue_limits next = {64, 1 + any_below(64), any_below(100), 1};
+    const freeze_queue_limits next = any_limits();
     const freeze_queue_answer want = depth == 0 ? FREEZE_QUEUE_ERR_NOT_FROZEN : drained() ? FREEZE_QUEUE_OK : FREEZE_QUEUE_ERR_NOT_DRAINED;
     IS(freeze_queue_poll_drained(&queue), drained());
     IS(freeze_queue_set(&queue, &next), want);
@@ -156,7 +162,7 @@ static void set(void)
 /* A queue of fewer tags than handles, and its end, of which some tags may be freed before and some behind. */
 static void make(uint32_t count)
 {
-    limits = (freeze_queue_limits){64, 8, 0, 1};
+    limits = any_limits();
     need(freeze_queue_new(&queue, &limits, SLOTS, count) == FREEZE_QUEUE_OK, "no queue");
     depth = lost = 0;
 }
@@ -277,7 +283,7 @@ static void storm(void)
     pthread_t threads[THREADS];
     freeze_queue_final last;
     make(THREADS);
-    one = other = 7;
+    one = other = (long)limits.max - 1;
     is_over = false;
     need(freeze_queue_waits_init(&waits, &queue) == FREEZE_QUEUE_OK, "no waits");
     for (int i = 0; i < THREADS; i++) {

@@ -3,9 +3,10 @@
  * (Linked with --wrap=malloc and free.) */
 #include "freeze_queue.h"
 
+#include "../any_below.h"
 #include "../inside.h"
 
-enum { MANY_FREEZES = 100000, MANY_QUEUES = 1000000 };
+enum { MANY_FREEZES = 100000, MANY_QUEUES = 1000000, DRAWN_QUEUES = 200000 };
 
 #define IS(call, want) is(#call, call, FREEZE_QUEUE_##want, __LINE__)
 
@@ -84,6 +85,46 @@ static void many_limits(void)
         }
 }
 
+/* A number up to 65,535; a small one as often as a great one. */
+static uint32_t any_number(void) { return any_below(UINT32_C(2) << any_below(16)); }
+
+/* Limits in which each number is drawn, and a hardware's maximum for them. */
+static freeze_queue_limits drawn_limits(uint32_t hardware)
+{
+    freeze_queue_limits limits = {.hardware = hardware, .max = any_number(), .chunk = any_number()};
+    limits.physical = UINT32_C(1) << any_below(16);
+    limits.max = limits.max > hardware ? hardware : limits.max;
+    return limits;
+}
+
+/* What an end tells of limits: those that were set last, with a maximum that was asked for. */
+static void were_set(const freeze_queue_limits *limits)
+{
+    TELLS(last.limits.hardware, limits->hardware);
+    TELLS(last.limits.max, limits->max ? limits->max : limits->hardware);
+    TELLS(last.limits.chunk, limits->chunk);
+    TELLS(last.limits.physical, limits->physical);
+}
+
+/* Queues whose limits are drawn all four. Of each second one others are set under a freeze, and it ends frozen, or thawed. */
+static void drawn_queues(void)
+{
+    for (uint32_t i = 0; i < DRAWN_QUEUES; i++) {
+        const uint32_t hardware = 1 + any_number() % FREEZE_QUEUE_MOST_HARDWARE;
+        freeze_queue_limits limits = drawn_limits(hardware);
+        make(limits, 1);
+        if (i % 2 == 0) {
+            limits = drawn_limits(hardware);
+            IS(freeze_queue_start_freeze(&freezer, &depth), DRAINED);
+            IS(freeze_queue_set(&freezer, &limits), OK);
+            if (i % 4 == 0)
+                IS(freeze_queue_thaw(&freezer, &depth), LIVE_AGAIN);
+        }
+        end();
+        were_set(&limits);
+    }
+}
+
 /* At each depth a tag is given out and taken back, and the depth is told. */
 static void each_depth(void)
 {
@@ -151,6 +192,7 @@ int main(void)
         slots_of(slots);
     slots_of(FREEZE_QUEUE_MOST_SLOTS);
     many_limits();
+    drawn_queues();
     each_depth();
     an_old_queue();
     freed_at_each_depth();

@@ -6,24 +6,30 @@
 #include "../stepless.h"
 #include "in_a_mode.h"
 
-enum { SLOTS = 4 };
+enum { SLOTS = 4, TAGS = 3 };
 
 static const freeze_queue_limits limits = {.hardware = 8, .max = 3};
 static freeze_queue freezer;
-static freeze_queue_tag tags[3], closed;
+static freeze_queue_tag tags[FREEZE_QUEUE_MOST_TAGS], closed;
 
 static void comes_in(int t) { IS(freeze_queue_try_enter(&tags[t], 0), OK); }
 static void goes_out(int t) { IS(freeze_queue_leave(&tags[t], 0), OK); }
 
-/* A queue in a mode, frozen so often, with its last tag in, and the first if asked for. */
-static void a_queue(uint32_t mode, uint32_t freezes, bool is_in)
+/* A queue of a size in a mode, frozen so often, with tag 2 in, and tag 0 if asked for. So many tags from tag 1 on, but for tag 2, have had a
+ * request that biased them. */
+static void a_queue(uint32_t slots, int count, int biased, uint32_t mode, uint32_t freezes, bool is_in)
 {
     block_count = 0;
-    IS(freeze_queue_new(&freezer, &limits, SLOTS, 3), OK);
-    for (int t = 0; t < 3; t++)
+    IS(freeze_queue_new(&freezer, &limits, slots, (uint32_t)count), OK);
+    for (int t = 0; t < count; t++)
         IS(freeze_queue_next_tag(&freezer, &tags[t]), OK);
     finds_the_table(comes_in, goes_out);
-    is_in_a_mode(&freezer, tags, mode, freezes, is_in);
+    for (int t = 1; t <= biased; t++)
+        if (t != 2) {
+            IS(freeze_queue_try_enter(&tags[t], (uint32_t)t % slots), OK);
+            IS(freeze_queue_leave_biased(&tags[t], (uint32_t)t % slots), OK);
+        }
+    is_in_a_mode(&freezer, tags, slots, mode, freezes, is_in);
 }
 
 static void questions(uint32_t freezes)
@@ -72,15 +78,42 @@ static uint64_t frees_freezer(void)
     return freezer.is_open;
 }
 
-/* The tag that isn't in goes back and out again; then all handles are freed, the last share of the queue by the last tag. */
-static void handles(void)
+/* All handles are freed, the last share of the queue by tag 2. */
+static void handles(int count)
 {
-    TELLS(STEPLESS(freeze_queue_give_tag_back(&freezer, &tags[1])), FREEZE_QUEUE_OK);
-    TELLS(STEPLESS(freeze_queue_next_tag(&freezer, &tags[1])), FREEZE_QUEUE_OK);
     TELLS(STEPLESS(frees_tag(0)), false);
     TELLS(STEPLESS(frees_freezer()), false);
     TELLS(STEPLESS(frees_tag(1)), false);
+    for (int t = TAGS; t < count; t++)
+        TELLS(STEPLESS(frees_tag(t)), false);
     freeze_queue_free_tag(&tags[2]);
+}
+
+/* Handles are freed of a queue of this size in each state, with tags that were never biased, and with tags that were. */
+static void handles_of(uint32_t slots, int count)
+{
+    for (uint32_t mode = 0; mode < 2; mode++)
+        for (uint32_t freezes = 0; freezes < 3; freezes++) {
+            a_queue(slots, count, 0, mode, freezes, freezes % 2);
+            handles(count);
+            a_queue(slots, count, count - 1, mode, freezes, freezes % 2);
+            handles(count);
+        }
+}
+
+/* Of each number of slots, and of each number of tags; above 64 of some. */
+static void handles_of_each_size(void)
+{
+    for (int size = 1; size <= 64; size++) {
+        handles_of((uint32_t)size, TAGS);
+        handles_of(1, TAGS + size);
+    }
+    for (int size = 100; size < FREEZE_QUEUE_MOST_SLOTS; size = 2 * size + 1) {
+        handles_of((uint32_t)size, TAGS);
+        handles_of(2, size);
+    }
+    handles_of(FREEZE_QUEUE_MOST_SLOTS, TAGS);
+    handles_of(1, FREEZE_QUEUE_MOST_TAGS);
 }
 
 int main(void)
@@ -89,15 +122,18 @@ int main(void)
     for (uint32_t mode = 0; mode < 2; mode++)
         for (uint32_t freezes = 0; freezes < 3; freezes++)
             for (int is_in = 0; is_in < 2; is_in++) {
-                a_queue(mode, freezes, is_in);
+                a_queue(SLOTS, TAGS, 0, mode, freezes, is_in);
                 questions(freezes);
                 refused_calls(mode, is_in);
                 if (freezes == 0) { /* and what does take steps is seen */
                     TELLS(STEPS(freeze_queue_try_enter(&tags[1], 0)), FREEZE_QUEUE_OK);
                     TELLS(STEPS(freeze_queue_leave(&tags[1], 3)), FREEZE_QUEUE_OK);
                 }
-                handles();
+                TELLS(STEPLESS(freeze_queue_give_tag_back(&freezer, &tags[1])), FREEZE_QUEUE_OK);
+                TELLS(STEPLESS(freeze_queue_next_tag(&freezer, &tags[1])), FREEZE_QUEUE_OK);
+                handles(TAGS);
             }
+    handles_of_each_size();
     printf("%s\n", failures ? "FAILED" : "no step but their own");
     return failures != 0;
 }

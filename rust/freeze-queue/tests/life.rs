@@ -280,9 +280,9 @@ fn tags_of_another_queue() {
 
 #[test]
 fn sizes_by_default_and_reserved_tags() {
+    let processors = thread::available_parallelism().unwrap().get();
     let queue = Queue::new(LIMITS).unwrap();
-    assert_eq!((queue.tags(), queue.limits()), (256, LIMITS));
-    assert!((1..=Queue::MAX_SLOTS).contains(&queue.slots()));
+    assert_eq!((queue.tags(), queue.slots() as usize, queue.limits()), (256, processors.min(512), LIMITS));
     let refused = Queue::builder(LIMITS).tags(3).reserved(3).value("kept").build().unwrap_err();
     assert_eq!((refused.reason, refused.value), (NewError::Size, "kept"));
     let queue = Queue::builder(LIMITS).slots(2).tags(3).reserved(2).build().unwrap();

@@ -62,17 +62,24 @@ fn update_beside(
     (set, calls)
 }
 
-/// A set of another freeze, between what the closure reads and what it returns.
+/// A set of another freeze, between what the closure reads and what it returns, whichever of the limits each of them changes.
 #[test]
 fn a_set_while_the_closure_runs_is_kept() {
-    let queue = queue();
-    let (set, calls) = update_beside(
-        &queue,
-        |limits| limits.with_max(100),
-        |limits| queue.freeze().unwrap().set(limits.with_chunk(8)).unwrap(),
-    );
-    let both = LIMITS.with_max(100).with_chunk(8);
-    assert_eq!((set, queue.limits(), calls, queue.depth()), (Ok(both), both, 2, 0));
+    let changes: [fn(Limits) -> Limits; 4] = [
+        |limits| limits.with_max(limits.max + 99),
+        |limits| limits.with_chunk(limits.chunk + 8),
+        |limits| limits.with_physical(limits.physical * 4),
+        |limits| limits.with_max(limits.max + 1).with_chunk(limits.chunk + 1).with_physical(limits.physical * 2),
+    ];
+    for updates in changes {
+        for sets in changes {
+            let queue = queue();
+            let set_beside = |limits| queue.freeze().unwrap().set(sets(limits)).unwrap();
+            let (set, calls) = update_beside(&queue, updates, set_beside);
+            let both = updates(sets(LIMITS));
+            assert_eq!((set, queue.limits(), calls, queue.depth()), (Ok(both), both, 2, 0));
+        }
+    }
 }
 
 /// A set of a freeze stays, and so do the updates that come after it.

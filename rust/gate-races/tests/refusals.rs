@@ -1,5 +1,7 @@
-//! Tests the line and the reason of refused races (docs/races/FORMATS.md).
+//! Tests the line and the reason of refused races (docs/races/FORMATS.md), and what the program says of arguments that it can't read.
+use gate_races::erased::races_run::refuse_words;
 use gate_races::{LineError, RaceError, Reason, outcomes};
+use std::io::{Error, ErrorKind};
 
 fn refused(race: &[u8]) -> Option<LineError> {
     match outcomes(race) {
@@ -23,4 +25,18 @@ fn the_longest_text() {
     assert!(outcomes(&text).is_ok());
     text.push(b'#');
     assert_eq!(refused(&text), Some(LineError { line: 1, reason: Reason::TooLong }));
+}
+
+const USAGE: &str = "usage: gate_races [--outcomes | --summary | --beside] [--states N], with a race on standard input, or gate_races --replay\n";
+
+/// There is no memory for the arguments, or one of them isn't text.
+#[test]
+fn words_that_cannot_be_had() {
+    for (kind, line) in
+        [(ErrorKind::OutOfMemory, "memory\n"), (ErrorKind::InvalidInput, USAGE), (ErrorKind::InvalidData, USAGE)]
+    {
+        let mut errors = Vec::new();
+        assert_eq!(refuse_words(&mut errors, &Error::from(kind)), 4);
+        assert_eq!(String::from_utf8(errors).unwrap(), line);
+    }
 }

@@ -1,17 +1,18 @@
-//! Refuses each allocation of a race's search in turn, and each growth of a map.
+//! Refuses each allocation of a race's search in turn, and each growth of a map. Compares the memory that a watcher learns of with what is
+//! allocated.
 //! (This program has its own allocator, which refuses and counts, so it has `unsafe`.)
 #![allow(unsafe_code)]
 
 use gate_races::erased::counted_io::Counted;
 use gate_races::erased::maps::{HashMap, TryMap};
-use gate_races::erased::races_run::{Fault, Form, NoWatch, Request, outcomes_bytes};
+use gate_races::erased::races_run::{Fault, Form, NoWatch, Request, Watch, outcomes_bytes, outcomes_text};
 use std::fs::{read, read_dir};
 use std::io::{self, Read};
 use std::path::{Path, PathBuf};
 
 #[path = "../../trials/tests/shared/refused_thread.rs"]
 mod refused_thread;
-use refused_thread::{ALLOWED, BLOCKS, IS_ONE};
+use refused_thread::{ALLOWED, BLOCKS, BYTES, IS_ONE};
 
 /// An input that is read whole, and counts its reads.
 struct Feed<'a> {
@@ -82,4 +83,45 @@ fn a_refused_growth_of_a_map() {
     assert_eq!(map.try_put(keys - 1, 7), Ok(None));
     assert_eq!(map.try_put(keys - 1, 8), Ok(Some(7)));
     assert_eq!(map.len(), keys);
+}
+
+/// The first and the last report of a search: the number of states, the bytes that they are said to take, and those in use.
+#[derive(Default)]
+struct Heap(Vec<(f64, f64, f64)>);
+
+impl Watch for Heap {
+    #[expect(clippy::cast_precision_loss, reason = "the numbers are small")]
+    fn keeps(&mut self, moments: usize, bytes: u64) {
+        if self.0.len() == 2 {
+            self.0.pop();
+        }
+        self.0.push((moments as f64, bytes as f64, BYTES.get() as f64));
+    }
+
+    fn ended(&mut self) {}
+}
+
+/// The bytes that are told for each state of this race, as a share of those that it takes.
+fn share_told(race: &str) -> f64 {
+    let mut heap = Heap(Vec::with_capacity(2));
+    assert!(outcomes_text(race.as_bytes(), Request::Written(Form::Summary), None, &mut heap).is_ok(), "{race}");
+    let [(few, first_told, first), (many, last_told, last)] = heap.0[..] else { panic!("two reports") };
+    assert!(many - few > 100.0);
+    (last_told - first_told) / (last - first)
+}
+
+/// The bytes that a watcher learns of are about those that the states take, of any number of slots and passes, on this gate, on Linux's
+/// `percpu_ref` and of two gates.
+#[test]
+fn bytes_of_states() {
+    let calls = vec!["dying"; 300].join(" / ");
+    for gates in ["S P slots 0", "S P atomic 0", "S P slots 0 linux", "S P slots 0\nworld S P slots 0"] {
+        for slots in [1, 8, 33, 64] {
+            for passes in [1, 3, 8, 33, 64] {
+                let world = gates.replace('S', &slots.to_string()).replace('P', &passes.to_string());
+                let share = share_told(&format!("races 1\nworld {world}\n0 {calls}\n"));
+                assert!((0.6..=1.1).contains(&share), "{share:.2} of world {world}");
+            }
+        }
+    }
 }

@@ -1,5 +1,5 @@
-//! Tests which calls of the crate wake sleeping threads, that needless wakes end no wait, whom updates let in, and on which slots requests
-//! count. The crate's own files are compiled again here, over conditions that count and over a gate that logs.
+//! Tests which calls of the crate wake sleeping threads, that needless wakes end no wait, that a call has one deadline, whom updates let in, and
+//! on which slots requests count. The crate's own files are compiled again here, over conditions that count and over a gate that logs.
 #![allow(
     dead_code,
     unused_imports,
@@ -51,6 +51,7 @@ mod files {
 }
 #[path = "../shared/mod.rs"]
 mod common;
+mod deadlines;
 #[path = "../slots/gate.rs"]
 pub mod gate;
 mod let_in;
