@@ -33,12 +33,19 @@ def run(*words, **more):
     return subprocess.run([str(word) for word in words], check=True, cwd=more.pop("cwd", ROOT), **more)
 
 
+def aligned():
+    """What keeps jumps off the borders of 32 bytes, where they cost time on Intel's processors from Skylake to Cascade Lake."""
+    option = "-Wa,-mbranches-within-32B-boundaries"
+    has_it = subprocess.run(["cc", option, "-c", "-xc", "-", "-o", "/dev/null"], input=b"", capture_output=True, check=False).returncode == 0
+    return [option] if has_it else []
+
+
 def cc(output, source, library, *more):
     """Compiles a C program with one of the libraries. Its own functions begin at a line of the cache, as the libraries' do."""
     run("make", "-s", "-C", "c", stdout=sys.stderr)
     out = run("make", "-s", "-C", "c", "folder", stdout=subprocess.PIPE, text=True).stdout.strip()
     flags = ("-std=c11", "-O2", "-falign-functions=64", "-pthread", "-Ic/include")
-    run("cc", *flags, source, *(f"{out}/lib{it}.a" for it in library), *more, "-o", output)
+    run("cc", *flags, *aligned(), source, *(f"{out}/lib{it}.a" for it in library), *more, "-o", output)
 
 
 def has_header(name):
