@@ -11,7 +11,7 @@ from running import by_cargo
 
 ROOT = pathlib.Path(__file__).resolve().parents[2]
 RUST = ROOT / "rust"
-TESTS = ["steps", "gate", "queue", "waits", "biased", "whole", "whole_gate"]
+TESTS = ["steps", "gate", "queue", "waits", "biased", "handed", "whole", "whole_gate"]
 
 
 class Kind:

@@ -11,7 +11,7 @@ The first line of a file, after comments, is `programs:` with the arguments of e
                         input, which is then refused with `line N: WHY`, or accepted if WHY is `read`
     -- overlap          a table of scripts: `read`, or the line that reports the overlap
     -- last             a table of schedules: the last line of the answer
-    -- words            a table: `WORDS => ANSWER`, with the arguments, and what the program writes, or `usage`
+    -- words            a table: `WORDS => ANSWER`, with the arguments, and what the program writes, or `usage`. `""` is an empty word
 
 A line that begins with `%` is a comment; one empty line before a row is ignored. `\\t`, `\\r`, `\\\\` and `\\xHH` stand for bytes, and a
 `\\` at the end of a line for the end of the input.
@@ -110,7 +110,8 @@ def row_of_table(kind, runs, block, entry):
     left = left.removesuffix(" ")
     if kind[0] == "words":
         wanted = Answer(4, b"", USAGE) if right == "usage" else Answer(0, right.encode() + b"\n", b"")
-        return Row(f"{name}: {left}", [[runs[0][0], *left.split()]], text_of(lines), wanted)
+        words = ["" if word == '""' else word for word in left.split()]
+        return Row(f"{name}: {left}", [[runs[0][0], *words]], text_of(lines), wanted)
     at = lines.index("...")
     text = text_of([*lines[:at], *(left.split(" ; ") if left else ()), *lines[at + 1 :]])
     if right == "read":

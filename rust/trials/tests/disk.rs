@@ -1,6 +1,6 @@
 //! Tests the disk from inside: examples by hand, and calls compared with plain loops over bytes.
 
-use blkq::erased::blk_script::parse;
+use blkq::erased::blk_script::{Line, What, parse};
 use blkq::erased::fallible::TryClone;
 use blkq::erased::in_flight::{UniformSectors, answer_to};
 use blkq::erased::queue_limits::Limits;
@@ -66,6 +66,43 @@ fn writes_of_one_byte_share_a_sector() {
         assert_eq!(places(count - 1), vec![first; count]);
     }
     assert_eq!(places(LONGEST + BEFORE), [first; 2]);
+}
+
+// They do so too if the first write of the byte comes behind lines of any other kind.
+#[test]
+fn writes_behind_any_line_share_a_sector() {
+    const OTHERS: [&str; 12] = [
+        "read 0 1\n",
+        "read 0 9\n",
+        "freeze\n",
+        "thaw\n",
+        "freeze\nthaw\n",
+        "set max_sectors 3\n",
+        "set chunk_sectors 4\n",
+        "set physical_sectors 2\n",
+        "mode atomic\n",
+        "stat\n",
+        "write 4 2 6162\n",
+        "write 0 1 60\n",
+    ];
+    for before in OTHERS {
+        for between in OTHERS {
+            for times in [0, 1, 3, 1_000] {
+                let text =
+                    format!("blkq 2\ndisk 8 hw 8\n{}write 1 2 61\n{between}write 2 3 61\n", before.repeat(times));
+                let script = parse(text.as_bytes()).unwrap();
+                let uniform = UniformSectors::of(&script).unwrap();
+                let limits = Limits::start(8).unwrap();
+                let is_one =
+                    |line: &Line| matches!(&line.what, What::Write { pattern, .. } if pattern.bytes() == [0x61]);
+                let of_one = (0..script.lines().len()).filter(|at| is_one(&script.lines()[*at]));
+                let answers = of_one.map(|at| answer_to(&uniform, &script, at, limits, &[]).unwrap().sectors);
+                let sectors: Vec<Sector> = answers.flatten().collect();
+                let places: BTreeSet<_> = sectors.iter().map(|sector| sector.bytes().as_ptr()).collect();
+                assert_eq!((sectors.len(), places.len()), (5, 1), "{times} times {before}, {between}");
+            }
+        }
+    }
 }
 
 // So do the writes of each byte, and of no other.

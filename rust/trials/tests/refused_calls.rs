@@ -6,7 +6,7 @@
 use blkq::erased::blk_script::{ScriptFault, check, parse, run_alone};
 use blkq::erased::blk_workers::{Config, MOST_SLOTS, Point, Stall};
 use blkq::erased::blkq_run::{command, run_bytes};
-use blkq::erased::counted_io::Counted;
+use blkq::erased::counted_io::{Counted, WriteFault, write_whole};
 use blkq::erased::freeze_queue::{BlockQueue, Limits, MOST_TAGS};
 use blkq::erased::percpu_core::ControlEvent::MarkDead;
 use blkq::erased::percpu_core::Event::{Control, Pass};
@@ -14,6 +14,7 @@ use blkq::erased::percpu_core::PassEvent::AddTry;
 use blkq::erased::percpu_core::{Memory, ReplayFault, Reply, Start, World, replay};
 use blkq::erased::percpu_gate::{self as gate, Gate};
 use blkq::erased::ram_disk::{Disk, DiskFault, patterned, runs};
+use std::io::{self, ErrorKind, Read, Write};
 use std::sync::atomic::{AtomicI64, Ordering::SeqCst};
 
 #[path = "shared/refused_thread.rs"]
@@ -249,5 +250,42 @@ fn a_run_has_its_slots() {
     let least = taken(1);
     for slots in 1..=MOST_SLOTS {
         assert_eq!(taken(slots) - least, 128 * i64::from(slots - 1), "{slots} slots");
+    }
+}
+
+/// Fails each time, with no memory.
+struct Fails(ErrorKind);
+
+impl Read for Fails {
+    fn read(&mut self, _buf: &mut [u8]) -> io::Result<usize> {
+        Err(self.0.into())
+    }
+}
+
+impl Write for Fails {
+    fn write(&mut self, _buf: &[u8]) -> io::Result<usize> {
+        Err(self.0.into())
+    }
+
+    fn flush(&mut self) -> io::Result<()> {
+        Err(self.0.into())
+    }
+}
+
+/// A reader or a writer that fails takes no memory, whatever it fails with.
+#[test]
+fn a_failure_of_a_device_takes_no_memory() {
+    const ALLOCATIONS: u64 = 1_000_000;
+    for kind in [ErrorKind::Interrupted, ErrorKind::Other, ErrorKind::OutOfMemory, ErrorKind::BrokenPipe] {
+        let mut counted = Counted::new(Fails(kind));
+        IS_ONE.set(true);
+        ALLOWED.set(Some(ALLOCATIONS));
+        let mut failed = true;
+        for _ in 0..1_000 {
+            failed &= counted.read(&mut [0; 4]).is_err() && counted.write(b"text").is_err() && counted.flush().is_err();
+        }
+        let written = write_whole(&mut counted, b"text");
+        let left = ALLOWED.replace(None);
+        assert_eq!((failed, written, left), (true, Err(WriteFault { written: 0 }), Some(ALLOCATIONS)), "{kind:?}");
     }
 }

@@ -4,6 +4,8 @@
 
 mod disks;
 mod gates;
+mod handing;
+mod lines;
 mod schedules;
 mod scripts;
 mod texts;

@@ -1,7 +1,8 @@
 //! Texts of schedules, and their replays.
 
 use crate::{Sizes, draw};
-use blkq::erased::gate_replay::{Replayed, parse_schedule, replay_text};
+use blkq::erased::gate_replay::{Replayed, marked_world, parse_schedule, replay_text, world_said};
+use blkq::erased::line_text::words;
 use std::fmt::Write;
 
 const LONGEST: usize = 1 << 20;
@@ -40,5 +41,28 @@ fn schedules() {
         let replay = replay_text(text.as_bytes()).unwrap();
         assert_eq!(replay.ended(), Replayed::Whole);
         assert_eq!(replay.text().iter().filter(|byte| **byte == b'\n').count(), steps + 1);
+    });
+}
+
+/// The world of a line has the sizes and the guarded words that are there, with or without a mark that a caller may put in their place.
+#[test]
+fn worlds() {
+    draw(5_000, |sizes| {
+        let (slots, passes, kills) = (sizes.small(1, 64), sizes.small(1, 64), sizes.size(0, 1 << 40));
+        let start = sizes.one_of(&["slots", "atomic", "dead"]);
+        let values: Vec<u64> = (0..sizes.count(0, 8)).map(|_| sizes.size(0, u64::MAX)).collect();
+        let mut line = format!("{slots} {passes} {start} {kills}");
+        values.iter().for_each(|value| write!(line, " {value}").unwrap());
+        let named = format!("world {line}");
+        let marked = marked_world(2, words(&named), "linux").unwrap();
+        assert!(!marked.is_marked);
+        for world in [marked.world, world_said(2, words(&line)).unwrap()] {
+            assert_eq!((world.slots, world.passes, world.kills), (slots, passes, kills));
+            assert_eq!(format!("{:?}", world.start).to_lowercase(), start);
+            assert_eq!(world.words.as_slice(), values);
+        }
+        let in_place = format!("world {slots} {passes} {start} {kills} linux");
+        let marked = marked_world(2, words(&in_place), "linux").unwrap();
+        assert_eq!((marked.is_marked, marked.world.slots, marked.world.words.as_slice().len()), (true, slots, 0));
     });
 }

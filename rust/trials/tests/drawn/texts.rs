@@ -40,8 +40,9 @@ fn digits() {
         let mut digits = vec![0; 2 * count];
         encode_to_slice(&bytes, &mut digits).unwrap();
         assert!(decode(&digits).unwrap() == bytes);
-        let most = sizes.count(1, 64).min(count);
-        assert_eq!(hex_bytes(&digits[..2 * most], 64).unwrap(), bytes[..most]);
+        // A caller allows as many bytes as it likes.
+        let most = sizes.count(1, count);
+        assert!(hex_bytes(&digits[..2 * most], sizes.count(most, count)).unwrap() == bytes[..most]);
     });
 }
 
@@ -60,5 +61,22 @@ fn a_text_that_grows() {
             expected += 2 * digits + 5 + 3 + 2;
         }
         assert_eq!(text.len(), expected);
+    });
+}
+
+/// What is appended to a text of up to 4 GiB comes behind it, whether there is room for it or the text has to grow. Few of its bytes are touched, so
+/// it takes little memory.
+#[test]
+fn a_text_of_any_length() {
+    draw(40, |sizes| {
+        let (length, number) = (sizes.count(0, 1 << 32), sizes.size(0, u64::MAX));
+        let room = if length > 1 << 31 { 64 } else { sizes.count(0, 64) };
+        let mut text = vec![0; length + room];
+        text.truncate(length);
+        push_number(&mut text, number).unwrap();
+        push_text(&mut text, " and ").unwrap();
+        push_named(&mut text, " n ", number).unwrap();
+        push_hex(&mut text, 0xa5).unwrap();
+        assert_eq!(String::from_utf8_lossy(&text[length..]), format!("{number} and  n {number}a5"));
     });
 }

@@ -16,7 +16,8 @@ fn are_whole(commands: &[Command], start: u64, count: u64) -> bool {
     }) && next == start + count
 }
 
-/// A request of any device, start and length, on any slot, has its commands: by its first call, and by one that stays.
+/// A request of any device, start and length, on any slot, has its commands: by its first call, and by one that stays. They take memory for
+/// what they are, however many sectors they move.
 #[test]
 fn requests_have_their_commands() {
     draw(4_000, |sizes| {
@@ -30,6 +31,10 @@ fn requests_have_their_commands() {
         let entered = submit(&queue, &mut tags[0], slot, start, count).unwrap().expect("a live queue");
         let stayed = submit_next(&queue, &mut tags[0], slot, start, count).unwrap();
         assert!(are_whole(&entered, start, count.into()), "{limits:?}, {count} sectors from {start}");
+        assert!(
+            entered.capacity().max(stayed.capacity()) <= 8 + 2 * entered.len(),
+            "{limits:?}, {count} sectors from {start}"
+        );
         assert_eq!((&stayed, &commands(&limits, start, count).unwrap()), (&entered, &entered));
     });
 }

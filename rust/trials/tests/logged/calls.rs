@@ -2,10 +2,12 @@
 
 use crate::erased::freeze_queue::{BlockQueue, Enter, Freezer, Limits, Put, SharedFreezer, Stay, StayOrEnter, Tag};
 use crate::erased::percpu_gate::{Gate, Start};
-use crate::erased::thread::IS_SECOND_FIRST;
+use crate::erased::thread::{AT_YIELD, IS_SECOND_FIRST};
 use crate::erased::uses::{Raced, Served, enter_under, race, submit_next};
 use crate::gate::Log;
 use crate::gate::Step::{self, Dropped, Looked, Refused, Taken};
+use std::cell::RefCell;
+use std::rc::Rc;
 use std::thread;
 use std::time::Duration;
 
@@ -128,6 +130,53 @@ fn a_tag_that_finds_its_limits_stays() {
         enter_under(&queue, &mut tag, 2, &limits);
         assert_eq!(log.steps(), [Taken(2)]);
         queue.leave(&mut tag, 0);
+    }
+}
+
+/// What another thread does at the yields of `enter_under`.
+struct AtYields {
+    queue: BlockQueue,
+    freezer: RefCell<Freezer>,
+    log: Log,
+    slot: u32,
+}
+
+/// At its next yield the thread has entered and left, and so the queue drains at once. It then finds the first of these limits in force, and
+/// the others at its later yields.
+fn sets_at_yields(world: Rc<AtYields>, mut limits: impl Iterator<Item = Limits> + 'static) {
+    AT_YIELD.with(|at| {
+        at.set(move || {
+            let AtYields { queue, freezer, log, slot } = &*world;
+            assert_eq!(log.steps(), [Taken(*slot), Dropped(*slot)]);
+            let mut freezer = freezer.borrow_mut();
+            assert_eq!(freezer.start_freeze(queue), Ok(1));
+            assert!(freezer.poll_drained(queue), "a thread yields while it is entered");
+            let next = limits.next().expect("limits that are wanted");
+            assert_eq!((freezer.set(queue, next), freezer.thaw(queue)), (Ok(()), Ok(0)));
+            log.steps();
+            drop(freezer);
+            sets_at_yields(world, limits);
+        });
+    });
+}
+
+/// A tag that finds other limits, one time or many, yields once for each, when it has left. So another thread can change them meanwhile.
+#[test]
+fn a_tag_that_finds_other_limits_yields_when_it_is_out() {
+    let limits = |max: u32, chunk| Limits::new(8, max, chunk).expect("limits");
+    for (slots, others) in [1, 2, 3, 64, 512].into_iter().flat_map(|slots| [1, 2, 9, 1_000].map(|it| (slots, it))) {
+        for slot in [0, slots / 2, slots - 1] {
+            let log = Log::begin();
+            let (queue, freezer, mut tags) = BlockQueue::new(limits(8, 0), slots, 1).expect("memory");
+            let world = Rc::new(AtYields { queue, freezer: RefCell::new(freezer), log, slot });
+            // Each of the others has the largest request of the wanted limits, or their chunk.
+            let wanted = limits(3, 5);
+            let before = (1..others).map(move |it| if it % 2 == 0 { limits(3, it) } else { limits(4 + it % 5, 5) });
+            sets_at_yields(Rc::clone(&world), before.chain([wanted]));
+            enter_under(&world.queue, &mut tags[0], slot, &wanted);
+            assert_eq!((world.log.steps(), world.queue.limits(&mut tags[0])), (vec![Taken(slot)], wanted));
+            AT_YIELD.with(|at| at.set(|| ()));
+        }
     }
 }
 

@@ -1,7 +1,9 @@
 //! On which slots the threads of a run count, and what else it does at its gate.
 
 use crate::erased::blk_script::parse;
-use crate::erased::blk_workers::{Config, NoStall, Point, Stall, run_checked};
+use crate::erased::blk_workers::{self, Config, NoStall, Point, Stall, run_checked};
+use crate::erased::blkq_run::{command_held, run_bytes};
+use crate::erased::counted_io::Counted;
 use crate::erased::percpu_gate::Mode::{self, Atomic, Slots};
 use crate::erased::script_overlap::Checked;
 use crate::gate::Log;
@@ -38,15 +40,43 @@ fn run(text: &str, config: [u32; 3], stall: &impl Stall) {
     .expect("a run");
 }
 
+/// A call that runs a script.
+#[derive(Clone, Copy, Debug)]
+enum Way {
+    RunChecked,
+    Run,
+    RunBytes,
+    /// The program, whose words are the sizes.
+    Command,
+}
+
+const WAYS: [Way; 4] = [Way::RunChecked, Way::Run, Way::RunBytes, Way::Command];
+
+/// Runs a script by this call.
+fn run_by(way: Way, text: &str, config: [u32; 3], stall: &impl Stall) {
+    let sizes = Config::new(config[0], config[1], config[2]).expect("a config");
+    let (mut reader, mut writer) = (Counted::new(text.as_bytes()), Counted::new(Vec::new()));
+    match way {
+        Way::RunChecked => run(text, config, stall),
+        Way::Run => drop(blk_workers::run(&parse(text.as_bytes()).expect("a script"), sizes, stall)),
+        Way::RunBytes => run_bytes(&mut reader, &mut writer, sizes, stall).expect("a run"),
+        Way::Command => {
+            let words: Vec<String> = ["run".into()].into_iter().chain(config.map(|size| size.to_string())).collect();
+            assert_eq!(command_held(&words, &mut reader, &mut writer, &mut Vec::new(), stall), 0);
+        }
+    }
+}
+
 /// Each worker leaves on one slot of its own, if there are enough, and not on the submitter's. If there are fewer, the workers spread over
-/// all.
+/// all. It is so by each call.
 #[test]
 fn each_worker_leaves_on_a_slot_of_its_own() {
-    for (workers, slots) in [(1, 1), (1, 2), (2, 2), (3, 4), (3, 8), (4, 2), (5, 3), (8, 64), (32, 33), (32, 16)] {
+    let sizes = [(1, 1), (1, 2), (2, 2), (3, 4), (3, 8), (4, 2), (5, 3), (8, 64), (32, 33), (32, 16)];
+    for (way, (workers, slots)) in WAYS.into_iter().flat_map(|way| sizes.map(|sizes| (way, sizes))) {
         let log = Log::begin();
         let reads = "read 0 1\n".repeat(4 * workers as usize);
         let together = Together { workers, drawn: AtomicU32::new(0) };
-        run(&format!("blkq 1\ndisk 1 hw 1\n{reads}"), [workers, slots, workers], &together);
+        run_by(way, &format!("blkq 1\ndisk 1 hw 1\n{reads}"), [workers, slots, workers], &together);
         let steps = log.by_thread();
         let submits = thread::current().id();
         assert!(
@@ -60,7 +90,8 @@ fn each_worker_leaves_on_a_slot_of_its_own() {
             assert_eq!(slots_of_one.len(), 1, "a worker changes its slot");
             slots_of_one.into_iter().for_each(|slot| on[slot as usize] += 1);
         }
-        assert!(on.iter().all(|count| *count <= workers.div_ceil(slots)), "{workers} workers on {slots} slots: {on:?}");
+        let most = workers.div_ceil(slots);
+        assert!(on.iter().all(|count| *count <= most), "{workers} workers on {slots} slots by {way:?}: {on:?}");
         assert!(on[0] == 0 || workers >= slots, "a worker has the submitter's slot: {on:?}");
     }
 }

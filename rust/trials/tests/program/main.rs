@@ -5,6 +5,7 @@ mod driver;
 mod each_byte;
 #[path = "../streams/fakes.rs"]
 mod fakes;
+mod lines;
 #[path = "../shared/meeting.rs"]
 mod meeting;
 mod stalling;

@@ -1,10 +1,11 @@
 //! A run that is held passes its points, once, and has as many workers and tags as its words say.
 
-use crate::driver::{WILLING, call_held};
+use crate::driver::{WILLING, call_held, words};
 use crate::fakes::{Feed, Sink};
 use crate::meeting::{hold_for, is_met};
-use blkq::erased::blk_workers::{Config, Point, Stall};
-use blkq::erased::blkq_run::run_bytes;
+use blkq::erased::blk_script::{Checked, parse};
+use blkq::erased::blk_workers::{Config, Point, Stall, run, run_checked};
+use blkq::erased::blkq_run::{Task, requested, run_bytes};
 use blkq::erased::counted_io::Counted;
 use std::sync::Mutex;
 use std::sync::atomic::{AtomicBool, AtomicU8, AtomicU32, Ordering};
@@ -120,31 +121,55 @@ impl Stall for Gathers {
     }
 }
 
+/// A call that runs a script.
+#[derive(Clone, Copy, Debug)]
+enum Way {
+    Command,
+    RunBytes,
+    RunChecked,
+    Run,
+}
+
+const WAYS: [Way; 4] = [Way::Command, Way::RunBytes, Way::RunChecked, Way::Run];
+
+/// Runs a script by this call, with the sizes that the words say. Returns whether it succeeds.
+fn succeeds(way: Way, line: &str, script: &[u8], stall: &impl Stall) -> bool {
+    let Task::Run(config) = requested(&words(line)) else { panic!("words that ask for a run") };
+    let parsed = parse(script).expect("a script");
+    match way {
+        Way::Command => call_held(line, script, WILLING, stall).status == 0,
+        Way::RunBytes => run_bytes(&mut Counted::new(script), &mut Counted::new(Sink::new()), config, stall).is_ok(),
+        Way::RunChecked => run_checked(&Checked::of(&parsed).expect("no overlap"), config, stall).is_ok(),
+        Way::Run => run(&parsed, config, stall).is_ok(),
+    }
+}
+
 // Sees as many workers and tags as the words say, behind so many requests, a drain and 70 requests more.
-fn gather(words: &str, behind: u32, workers: u32, tags: u32) {
+fn gather(way: Way, words: &str, behind: u32, workers: u32, tags: u32) {
     let reads = |count: u32| "read 0 1\n".repeat(count as usize);
     let script = format!("blkq 1\ndisk 1 hw 1\n{}stat\n{}", reads(behind), reads(70));
     let gathers = Gathers::new(behind, workers, tags);
-    let answer = call_held(words, script.as_bytes(), WILLING, &gathers);
-    assert_eq!(answer.status, 0);
+    assert!(succeeds(way, words, script.as_bytes(), &gathers));
     let found = gathers.found.load(Ordering::SeqCst);
-    assert_eq!((found / 100, found % 100), (tags, workers), "{words} behind {behind} requests");
+    assert_eq!((found / 100, found % 100), (tags, workers), "{words} behind {behind} requests by {way:?}");
 }
 
 // While no request that is drawn goes on, each worker holds one, and each tag has entered.
 #[test]
 fn as_many_as_the_words_say() {
-    for (words, workers, tags) in
-        [("run", 4, 16), ("run 1 1 1", 1, 1), ("run 3 2 7", 3, 7), ("run 5 8 5", 5, 5), ("run 32 64 63", 32, 63)]
-    {
-        gather(words, 0, workers, tags);
+    for way in WAYS {
+        for (words, workers, tags) in
+            [("run", 4, 16), ("run 1 1 1", 1, 1), ("run 3 2 7", 3, 7), ("run 5 8 5", 5, 5), ("run 32 64 63", 32, 63)]
+        {
+            gather(way, words, 0, workers, tags);
+        }
     }
 }
 
 // The same behind as many requests as a text has room for.
 #[test]
 fn as_many_behind_thousands_of_requests() {
-    gather("run 3 2 7", 116_000, 3, 7);
+    gather(Way::Command, "run 3 2 7", 116_000, 3, 7);
 }
 
 /// How many points each request has passed, whether one was passed out of order, and after how many requests each drain came.
@@ -152,6 +177,19 @@ struct InOrder {
     passed: Vec<AtomicU8>,
     out_of_order: AtomicBool,
     drains: Mutex<Vec<u32>>,
+}
+
+impl InOrder {
+    fn new(requests: u32) -> InOrder {
+        let passed = (0..requests).map(|_| AtomicU8::new(0)).collect();
+        InOrder { passed, out_of_order: AtomicBool::new(false), drains: Mutex::default() }
+    }
+
+    /// Whether each request passed each of its points once, in order, and these drains came.
+    fn have_all(self, drains: Vec<u32>) -> bool {
+        let passed = self.passed.into_iter().all(|it| it.into_inner() == 3);
+        passed && !self.out_of_order.into_inner() && self.drains.into_inner().unwrap() == drains
+    }
 }
 
 impl Stall for InOrder {
@@ -178,14 +216,27 @@ fn each_point_in_order_behind_thousands_of_requests() {
         [("read 0 1\n", READS), ("write 0 1 01\n", WRITES)].map(|(line, count)| line.repeat(count as usize));
     let script = format!("blkq 2\ndisk 1 hw 1\n{reads}{writes}");
     for (workers, slots, tags) in [(1, 1, 1), (4, 8, 16), (32, 64, 63), (3, 2, 1), (1, 64, 63)] {
-        let passed = (0..READS + WRITES).map(|_| AtomicU8::new(0)).collect();
-        let points = InOrder { passed, out_of_order: AtomicBool::new(false), drains: Mutex::default() };
+        let points = InOrder::new(READS + WRITES);
         let config = Config::new(workers, slots, tags).unwrap();
         let mut answer = Vec::new();
         let found = run_bytes(&mut Counted::new(script.as_bytes()), &mut Counted::new(&mut answer), config, &points);
         assert!(found.is_ok(), "{found:?}");
-        assert!(!points.out_of_order.into_inner(), "{workers} workers");
-        assert!(points.passed.into_iter().all(|it| it.into_inner() == 3), "{workers} workers");
-        assert_eq!(points.drains.into_inner().unwrap(), Vec::from_iter(READS..=READS + WRITES));
+        assert!(points.have_all(Vec::from_iter(READS..=READS + WRITES)), "{workers} workers");
+    }
+}
+
+// Whatever the number of requests, none too, each line that drains and the end pass Drained behind them, by each call and frozen or not.
+#[test]
+fn each_drain_is_passed_behind_few_requests() {
+    for (way, requests) in WAYS.into_iter().flat_map(|way| (0..4).map(move |requests| (way, requests))) {
+        for (lines, drains) in [("", 0), ("stat\n", 1), ("stat\nremove\nstat\n", 2), ("freeze\nstat\nthaw\n", 2)] {
+            let reads = "read 0 1\n".repeat(requests as usize);
+            for refused in ["", "read 1 1\n", "thaw\nset max_sectors 9\n"] {
+                let script = format!("blkq 1\ndisk 1 hw 1\n{refused}{reads}{lines}");
+                let points = InOrder::new(requests);
+                assert!(succeeds(way, "run 2 2 2", script.as_bytes(), &points));
+                assert!(points.have_all(vec![requests; drains + 1]), "{way:?} of {script}");
+            }
+        }
     }
 }

@@ -1,7 +1,7 @@
 //! Which calls are counted as failures, and that the inner reader's and writer's answers are passed on.
 
 use crate::fakes::{Feed, KINDS, Sink};
-use blkq::erased::counted_io::{Counted, read_whole, write_whole};
+use blkq::erased::counted_io::{Counted, WriteFault, read_whole, write_whole};
 use std::fmt::Debug;
 use std::io::{self, Error, ErrorKind, Read, Write};
 
@@ -181,4 +181,65 @@ fn very_many_pieces() {
     (sink.most, sink.interruptions) = (1, 999);
     assert_eq!(write_whole(&mut Counted::new(&mut sink), &text), Ok(()));
     assert!(sink.taken == text);
+}
+
+/// An error of a device: with a number of the system, with a text, with a kind alone, or with an error of the device's own.
+fn device_error(way: usize, kind: ErrorKind) -> Error {
+    match way % 4 {
+        0 => Error::from_raw_os_error(1 + i32::try_from(way / 4).expect("a small number")),
+        1 => Error::new(kind, format!("the text of {way}")),
+        2 => Error::from(kind),
+        _ => Error::new(kind, WriteFault { written: way as u64 }),
+    }
+}
+
+/// Fails each time, in all ways in turn.
+struct Fails {
+    calls: usize,
+    kind: ErrorKind,
+}
+
+impl Fails {
+    fn fail(&mut self) -> Error {
+        self.calls += 1;
+        device_error(self.calls, self.kind)
+    }
+}
+
+impl Read for Fails {
+    fn read(&mut self, _buf: &mut [u8]) -> io::Result<usize> {
+        Err(self.fail())
+    }
+}
+
+impl Write for Fails {
+    fn write(&mut self, _buf: &[u8]) -> io::Result<usize> {
+        Err(self.fail())
+    }
+
+    fn flush(&mut self) -> io::Result<()> {
+        Err(self.fail())
+    }
+}
+
+// The caller gets the error itself: its number, its text and what it has inside, and not one that is like it.
+#[test]
+fn each_error_is_passed_on_whole() {
+    let mut last_call = 0;
+    for kind in KINDS {
+        let mut counted = Counted::new(Fails { calls: last_call, kind });
+        for call in 0..900 {
+            let failed = match call % 3 {
+                0 => counted.read(&mut [0; 4]).expect_err("a failure"),
+                1 => counted.write(b"text").expect_err("a failure"),
+                _ => counted.flush().expect_err("a failure"),
+            };
+            last_call += 1;
+            let wanted = device_error(last_call, kind);
+            assert_eq!((failed.kind(), failed.raw_os_error()), (wanted.kind(), wanted.raw_os_error()));
+            assert_eq!((failed.to_string(), format!("{failed:?}")), (wanted.to_string(), format!("{wanted:?}")));
+            let inside = |error: Error| error.into_inner().and_then(|it| it.downcast::<WriteFault>().ok());
+            assert_eq!(inside(failed), inside(wanted));
+        }
+    }
 }
