@@ -1,5 +1,5 @@
 -- What a run has answered once every line is taken and nothing is owed.
-use Rattle.std.proofs.Common.{◌≡◌, ◌∙◌, sym, ap, subst, ℕ, List, length, Option}
+use Rattle.std.proofs.Common.{◌≡◌, ◌∙◌, sym, ap, subst, ℕ, List, length, Option, Result, Ok, Err, IfOk}
 use Rattle.std.proofs.Math.Seq.{take-length}
 use Rattle.script_meaning.specs.Meaning.{after_lines, start_of}
 use Rattle.script_meaning.specs.Script.{Meant}
@@ -16,3 +16,8 @@ run_ended script replies disk text stands lines none is =
       told = subst (AreJoined script) (sym is) (are_joined script replies disk up none);
       left = all_there script (length script.lines) replies disk up none ∙ ap (λ ls. (after_lines (start_of script) ls).disk) (take-length script.lines);
     }
+
+-- two facts about a result together
+pub both_ok : {T E : Type 0} (r : Result T E) (P Q R : T → Type 0) → ((x : T) → P x → Q x → R x) → IfOk r P → IfOk r Q → IfOk r R
+both_ok (Ok x) P Q R f p q = f x p q
+both_ok (Err why) P Q R f p q = tt

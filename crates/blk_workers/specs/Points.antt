@@ -18,6 +18,10 @@ pub record DrainFacts : Type 0 where
   pub count : ℕ
   pub after : ℕ
 
+-- no drain has been passed
+abbrev pub none_passed : DrainFacts
+none_passed = record { count = 0; after = 0 }
+
 -- one more was passed, after this many requests; the count grows unless it is the greatest u64 already
 pub record AddsOne (after : ℕ) (old new : DrainFacts) : Type 0 where
   pub is_last : new.after ≡ after

@@ -59,7 +59,7 @@ pub record AreHandedOver (script : Meant) (requests completions : TableId) (posi
   pub awaited : AreAwaited script replies collector.given collector.collected
 
 -- the lines before a position are taken, and the freezer is in step with the script's queue
-pub record IsAt (script : Meant) (queue : QueueFacts) (position : ℕ) (s : Submitter) : Type 0 where
+pub record IsAt {J : Type 0} (script : Meant) (queue : QueueFacts) (position : ℕ) (s : Submitter J) : Type 0 where
   pub stands : Stands script s.table.replies s.table.disk
   pub lines : length s.table.replies ≡ position
   pub state : IsQueueAt script position s.state
@@ -68,7 +68,7 @@ pub record IsAt (script : Meant) (queue : QueueFacts) (position : ℕ) (s : Subm
   pub counted : IsCounted script position s.accepted
 
 -- the lines before a position are taken, and the accepted requests among them are handed over
-pub record HasTaken (script : Meant) (queue : QueueFacts) (requests completions : TableId) (position : ℕ) (s : Submitter) (source : SourceFacts) (collector : CollectorFacts) : Type 0 where
+pub record HasTaken {J : Type 0} (script : Meant) (queue : QueueFacts) (requests completions : TableId) (position : ℕ) (s : Submitter J) (source : SourceFacts) (collector : CollectorFacts) : Type 0 where
   pub at : IsAt script queue position s
   pub handed_over : AreHandedOver script requests completions position s.table.replies source collector
 
@@ -85,7 +85,7 @@ pub record HasTakenCompletion (script : Meant) (number : ℕ) (old new : InFligh
   pub awaited : StaysAwaitedBut script old.replies new.replies number
 
 -- completions were collected and no line was taken; the freezer may have killed its gate once more
-pub record HasCollected (script : Meant) (queue : QueueFacts) (completions : TableId) (old new : Submitter) (before after : CollectorFacts) : Type 0 where
+pub record HasCollected {J : Type 0} (script : Meant) (queue : QueueFacts) (completions : TableId) (old new : Submitter J) (before after : CollectorFacts) : Type 0 where
   pub collecting : IsCollecting script completions new.table after
   pub collector : after ≡ record before { collected = after.collected }
   pub lines : length new.table.replies ≡ length old.table.replies
@@ -94,7 +94,7 @@ pub record HasCollected (script : Meant) (queue : QueueFacts) (completions : Tab
   pub follows : IsFollowing queue (length old.table.replies + 1) new.freezer
 
 -- the same, and the queue is frozen and drained
-pub record HasDrained (script : Meant) (queue : QueueFacts) (completions : TableId) (old new : Submitter) (before after : CollectorFacts) : Type 0 where
+pub record HasDrained {J : Type 0} (script : Meant) (queue : QueueFacts) (completions : TableId) (old new : Submitter J) (before after : CollectorFacts) : Type 0 where
   pub collected : HasCollected script queue completions old new before after
   pub frozen : IsFrozenFor new.state new.freezer
 
@@ -133,24 +133,20 @@ pub record HasReplied (script : Meant) (old new : InFlightTable) : Type 0 where
 
 -- the lines before the next are taken, except that the freezer may have killed its gate once more; one step at most brings it into step with the queue that the
 -- next line leaves
-pub record IsBeforeLine (script : Meant) (queue : QueueFacts) (s : Submitter) (next : Queue) : Type 0 where
+pub record IsBeforeLine {J : Type 0} (script : Meant) (queue : QueueFacts) (s : Submitter J) (next : Queue) : Type 0 where
   pub stands : Stands script s.table.replies s.table.disk
   pub follows : IsFollowing queue (length s.table.replies + 1) s.freezer
   pub near : IsNear next s.freezer
   pub counted : IsCounted script (length s.table.replies) s.accepted
 
 -- the next line is taken with its reply, and the freezer follows; what was awaited still is
-pub record HasPassed (script : Meant) (queue : QueueFacts) (old new : Submitter) : Type 0 where
+pub record HasPassed {J : Type 0} (script : Meant) (queue : QueueFacts) (old new : Submitter J) : Type 0 where
   pub at : IsAt script queue (length old.table.replies + 1) new
   pub accepted : new.accepted ≡ old.accepted
   pub awaited : StaysAwaited script old.table.replies new.table.replies
 
--- no line is taken: the submitter of a run on whichever queue this freezer follows from its start, in step with the script's start
-abbrev pub IsAtStartWith : Meant → FreezerFacts → Submitter → Type 0
-IsAtStartWith script freezer s = (queue : QueueFacts) → IsFollowing queue 0 freezer → IsInStep (start_queue script) freezer → IsAt script queue 0 s
-
 -- every line is taken, nothing is owed, and the queue is frozen and drained
-pub record IsEnd (script : Meant) (s : Submitter) : Type 0 where
+pub record IsEnd {J : Type 0} (script : Meant) (s : Submitter J) : Type 0 where
   pub stands : Stands script s.table.replies s.table.disk
   pub lines : length s.table.replies ≡ length script.lines
   pub none_owed : owed_count s.table.replies ≡ 0

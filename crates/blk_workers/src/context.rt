@@ -7,6 +7,7 @@ ghost use Rattle.blk_workers.specs.Progress.{AreFreeTags};
 use crate::fault::RunFault;
 use crate::job::{Completion, FreeTag, Job};
 use crate::naming::{QueueName, QueueNames, Run};
+use crate::points::RunPoints;
 use freeze_queue::{BlockQueue, Tag};
 use in_flight::UniformSectors;
 use run_queues::{CompletionQueue, PutCount, RequestQueue, Source, SpareQueue, Taker};
@@ -78,7 +79,7 @@ impl<J: Run, C: QueueName> Queues<J, C> {
     }
 }
 
-/// What a run's threads share: the runtime, the allocator, the checked script, the stall, and the run's queues. The type names the
+/// What a run's threads share: the runtime, the allocator, the checked script, the run's points, and its queues. The type names the
 /// run, `J`, its queue of completions, `C`, and its queues of requests and free tags, `L`.
 ///
 /// Invariant: the script and the queues are those that the type names. There is room for one completion more than there are tags,
@@ -88,7 +89,7 @@ pub(crate) struct RunContext<'a, J: Run, C: QueueName, L: QueueNames, R, S> {
     pub(crate) rt: &'a R,
     pub(crate) alloc: Global,
     pub(crate) checked: &'a Checked<'a>,
-    pub(crate) stall: &'a S,
+    pub(crate) points: &'a RunPoints<'a, J, S>,
     pub(crate) queue: &'a BlockQueue,
     pub(crate) requests: &'a RequestQueue<Job<J, C>>,
     pub(crate) completions: &'a CompletionQueue<Completion<J>>,
@@ -117,7 +118,7 @@ impl<'a, J: Run, C: QueueName, L: QueueNames, R, S> RunContext<'a, J, C, L, R, S
         rt: &'a R,
         alloc: Global,
         checked: &'a Checked<'a>,
-        stall: &'a S,
+        points: &'a RunPoints<'a, J, S>,
         queues: &'a Queues<J, C>,
         uniform: &'a UniformSectors,
     ) -> RunContext<'a, J, C, L, R, S>
@@ -128,7 +129,7 @@ impl<'a, J: Run, C: QueueName, L: QueueNames, R, S> RunContext<'a, J, C, L, R, S
             rt,
             alloc,
             checked,
-            stall,
+            points,
             queue: &queues.queue,
             requests: &queues.requests,
             completions: &queues.completions,

@@ -8,7 +8,7 @@ use crate::context::RunContext;
 use crate::fault::RunFault;
 use crate::job::{Completion, FreeTag, Job};
 use crate::naming::{QueueName, QueueNames, Run};
-use crate::points::{Stall, pass_entered};
+use crate::points::Stall;
 use freeze_queue::Tag;
 use in_flight::InFlightTable;
 use queue_limits::Limits;
@@ -91,7 +91,7 @@ pub(crate) fn hand_over<J: Run, C: QueueName, L: QueueNames, R: Wait, S: Stall>(
     let position = table.replies.len();
     let found = table.submit(context.alloc, context.checked.script(), request)?;
     let tag = entered(context, &mut ends.taker, limits);
-    let passed = pass_entered(context.stall, number, &tag);
+    let passed = context.points.pass_entered(number, &tag);
     let token = context.completions.token(&mut ends.collector, number);
     let job = Job::new(passed, token, position, tag, found);
     context.requests.push(context.rt, &mut ends.source, job);

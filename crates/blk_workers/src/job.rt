@@ -44,7 +44,7 @@ impl<J: Run, C: QueueName> Model for Job<J, C> {
 impl<J: Run, C: QueueName> Job<J, C> {
     /// Makes the job of a request that has passed [`Point::Entered`](crate::Point).
     pub(crate) fn new(
-        entered: Passed,
+        entered: Passed<J>,
         token: CompletionToken<Completion<J>>,
         position: usize,
         tag: Box<Tag>,
@@ -69,7 +69,7 @@ impl<J: Run, C: QueueName> Job<J, C> {
     /// The contract repeats that the request is an accepted one of the script, so a worker's list has room for its number.
     pub(crate) fn done(
         self,
-        drawn: Passed,
+        drawn: Passed<J>,
         alloc: Global,
         uniform: &UniformSectors,
         queue: &BlockQueue,
@@ -283,7 +283,7 @@ impl<J: Run, C: QueueName> CompletedJob<J, C> {
     /// Leaves the queue once, on this slot. Returns the tag, and the acknowledgement, which shows that the completion was reported.
     pub(crate) fn leave(
         self,
-        answered: Passed,
+        answered: Passed<J>,
         queue: &BlockQueue,
         slot: u32,
     ) -> (FreeTag<J>, Acknowledgement<Completion<J>>)

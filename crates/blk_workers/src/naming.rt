@@ -13,7 +13,8 @@ pub(crate) trait Run {
 }
 
 // `Brand` is the kit's type for such names: a function is proved for every name, and the proof of a call `f::<Brand, ..>` picks one
-// (the `ghosts` of proofs/running/*/Invariants.antt). All three calls do, so nothing depends on the values here.
+// (the `ghosts` of proofs/running/*/Invariants.antt). All three calls do, so nothing depends on the values here. No type in the
+// signature of such a call may depend on the names. So the points of a run, which `run_as` takes, have a `J` without a bound.
 impl Run for Brand {
     ghost use Rattle.blk_workers.specs.Nobody.{no_script, no_queue};
 

@@ -3,6 +3,7 @@ ghost use Rattle.std.specs.Prelude.{◌≡◌, ◌≤◌, IfOk, length, map};
 ghost use Rattle.script_overlap.specs.Overlap.{HasNoOverlap};
 ghost use Rattle.run_queues.specs.Parts.{none_counted};
 ghost use Rattle.blk_workers.specs.Contexts.{HasQueues, IsContext};
+ghost use Rattle.blk_workers.specs.Points.{none_passed};
 ghost use Rattle.blk_workers.specs.Progress.{AreDrawn, AreFreeTags, AreNewCompletions, AreNewEnds, IsAt, IsNewQueue, IsRanBy, IsRun, Suits};
 
 use crate::config::Config;
@@ -11,7 +12,7 @@ use crate::fault::RunFault;
 use crate::handing::Ends;
 use crate::job::Completion;
 use crate::naming::{QueueName, QueueNames, Run};
-use crate::points::Stall;
+use crate::points::{DrainPoints, RunPoints, Stall};
 use crate::submitter::Submitter;
 use crate::team::{consumers, with_workers};
 use freeze_queue::{BlockQueue, NewQueue, Tag};
@@ -38,14 +39,14 @@ pub struct Ran {
     pub drawn: Vec<Vec<u32>>,
 }
 
-/// The caller's inputs: the runtime, the allocator, the script, the shape of the run, and the stall.
+/// The caller's inputs: the runtime, the allocator, the script, the shape of the run, and its points, which have the stall.
 #[derive(Drop)]
-struct Inputs<'a, R, S> {
+struct Inputs<'a, J: Run, R, S> {
     rt: &'a R,
     alloc: Global,
     checked: &'a Checked<'a>,
     config: Config,
-    stall: &'a S,
+    points: RunPoints<'a, J, S>,
 }
 
 // Starts the workers and leads them to the end. The types have three names by now, each taken once the thing was made: the run's in
@@ -57,14 +58,15 @@ fn run_in<
     R: Threads + Wait + Sync,
     S: Stall,
 >(
-    inputs: &Inputs<'_, R, S>,
+    inputs: &Inputs<'_, J, R, S>,
     queues: &Queues<J, C>,
-    submitter: Submitter,
+    submitter: Submitter<J>,
     mut ends: Ends<J, C>,
 ) -> Result<Ran, RunFault>
     requires context { IsContext J.script J.queue inputs.now.checked.now queues.now.queue }
     requires queues { HasQueues L.requests C.id L.free_tags queues.now.requests queues.now.completions queues.now.free_tags }
     requires start { IsAt J.script J.queue 0 submitter }
+    requires points { submitter.points ≡ none_passed }
     requires ends { AreNewEnds L.requests C.id 0 ends.source ends.collector }
     requires tags { ends.taker ≡ none_counted L.free_tags }
     requires room { inputs.now.config.workers ≤ ends.source.room }
@@ -76,7 +78,7 @@ fn run_in<
         inputs.rt,
         inputs.alloc,
         inputs.checked,
-        inputs.stall,
+        &inputs.points,
         queues,
         &uniform,
     );
@@ -89,16 +91,17 @@ fn run_in<
 
 // Makes the queues of requests and of free tags, and goes on. The types name the run's queue of completions by now.
 fn run_on<J: Run + Send + Sync, C: QueueName + Send + Sync, R: Threads + Wait + Sync, S: Stall>(
-    inputs: &Inputs<'_, R, S>,
+    inputs: &Inputs<'_, J, R, S>,
     queue: BlockQueue,
     tags: Vec<Tag>,
     completions: CompletionQueue<Completion<J>>,
     collector: Collector<Completion<J>>,
-    submitter: Submitter,
+    submitter: Submitter<J>,
 ) -> Result<Ran, RunFault>
     requires own { (inputs.now.checked.now ≡ J.script) × (queue ≡ J.queue) × Suits J.script inputs.now.config.slots J.queue }
     requires completions { AreNewCompletions (length tags.items) C.id completions.room completions.id collector }
     requires start { IsAt J.script J.queue 0 submitter }
+    requires points { submitter.points ≡ none_passed }
     requires tags { AreFreeTags J.queue tags.items }
     ensures ran { IfOk result (IsRanBy J.script inputs.now.config.workers) }
 {
@@ -119,22 +122,24 @@ fn run_on<J: Run + Send + Sync, C: QueueName + Send + Sync, R: Threads + Wait + 
     run_in::<J, C, Brand, _, _>(inputs, &queues, submitter, ends)
 }
 
-// Makes the queue of completions and the submitter, and goes on: `parts` are the new queue, its freezer and its tags. The types
-// name the run's script and its queue by now.
+// Makes the queue of completions and the submitter, and goes on: `parts` are the new queue, its freezer and its tags, and no drain
+// has been passed. The types name the run's script and its queue by now.
 fn run_as<J: Run + Send + Sync, R: Threads + Wait + Sync, S: Stall>(
-    inputs: &Inputs<'_, R, S>,
+    inputs: &Inputs<'_, J, R, S>,
     parts: NewQueue,
+    points: DrainPoints<J>,
 ) -> Result<Ran, RunFault>
     requires script { inputs.now.checked.now ≡ J.script }
     requires queue { parts.0 ≡ J.queue }
     requires new { IsNewQueue J.script inputs.now.config J.queue parts.1 parts.2.items }
+    requires points { points ≡ none_passed }
     ensures ran { IfOk result (IsRanBy J.script inputs.now.config.workers) }
 {
     let (queue, freezer, tags) = parts;
     // No more completions than this are to come at a time (`hand_over`), so no thread waits to report one.
     let room = tags.len() + 1;
     let (completions, collector) = CompletionQueue::new(inputs.alloc, room)?;
-    let submitter = Submitter::new(inputs.alloc, inputs.checked.script(), freezer)?;
+    let submitter = Submitter::new(inputs.alloc, inputs.checked.script(), freezer, points)?;
     run_on::<J, Brand, _, _>(inputs, queue, tags, completions, collector, submitter)
 }
 
@@ -170,9 +175,9 @@ pub fn run_checked<R: Threads + Wait + Sync, S: Stall>(
         alloc,
         checked,
         config,
-        stall,
+        points: RunPoints::new(stall),
     };
-    run_as::<Brand, _, _>(&inputs, parts)
+    run_as::<Brand, _, _>(&inputs, parts, DrainPoints::new())
 }
 
 /// Runs a script in which no two requests overlap, as [`check`](script_overlap::check) reports. Checks the script, and returns what

@@ -1,12 +1,12 @@
 //! The thread that submits and collects.
 ghost use Rattle.std.specs.Prelude.{◌≡◌, ◌+◌, ◌<◌, ◌≤◌, ◌⊎◌, true, IfErr, IfOk, None, OnErr, OnOk, length};
-ghost use Rattle.script_meaning.specs.Script.{Meant};
+ghost use Rattle.script_meaning.specs.Queue.{start_queue};
 ghost use Rattle.script_meaning.specs.Requests.{accepted_at, accepted_in_all, drains_at};
 ghost use Rattle.script_overlap.specs.Ordered.{IsOrdered};
 ghost use Rattle.blk_script.specs.Texts.{reply_line};
-ghost use Rattle.blk_workers.specs.Progress.{HasCollected, HasCounted, HasDrained, HasPassed, HasReplied, HasTaken, IsAt, IsAtStartWith, IsCollecting, IsEnd, IsFollowing, IsReplyNext, IsRequestNext, IsRun, IsBeforeLine, KillsToDrain};
+ghost use Rattle.blk_workers.specs.Progress.{HasCollected, HasCounted, HasDrained, HasPassed, HasReplied, HasTaken, IsAt, IsCollecting, IsEnd, IsFollowing, IsReplyNext, IsRequestNext, IsRun, IsBeforeLine, KillsToDrain};
 ghost use Rattle.blk_workers.specs.Following.{IsInStep};
-ghost use Rattle.blk_workers.specs.Points.{AddsOne, MayPassAt, PassesAll, PassesAt, PassesIfOrdered, PassesToFault};
+ghost use Rattle.blk_workers.specs.Points.{AddsOne, MayPassAt, PassesAll, PassesAt, PassesIfOrdered, PassesToFault, none_passed};
 ghost use Rattle.in_flight.specs.Table.{MayJoin, MayPass, MayTakeReply, Stands, owed_count};
 
 use crate::context::RunContext;
@@ -29,14 +29,14 @@ use std::sync::Wait;
 /// What only the thread that submits and collects has, beside its ends: the disk and the replies, the script's queue without its
 /// disk, and the freezer of the queue that requests enter.
 #[derive(Drop)]
-pub(crate) struct Submitter {
+pub(crate) struct Submitter<J: Run> {
     pub(crate) table: InFlightTable,
     pub(crate) state: QueueState,
     pub(crate) freezer: Freezer,
     /// The number of requests accepted so far.
     pub(crate) accepted: u32,
     /// The drains whose points were passed so far.
-    pub(crate) points: DrainPoints,
+    pub(crate) points: DrainPoints<J>,
 }
 
 // Makes the line of a reply, and takes the script's next line with it.
@@ -58,15 +58,19 @@ fn reply_now(
     Ok(())
 }
 
-impl Submitter {
-    /// Makes a run's submitter, before the first line. It isn't given the run, so the contract holds for whichever queue this
-    /// freezer follows.
+impl<J: Run> Submitter<J> {
+    /// Makes a run's submitter, before the first line.
     pub(crate) fn new(
         alloc: Global,
         script: &Script,
         freezer: Freezer,
-    ) -> Result<Submitter, RunFault>
-        ensures { IfOk result (IsAtStartWith script.now freezer) }
+        points: DrainPoints<J>,
+    ) -> Result<Submitter<J>, RunFault>
+        requires script { script.now ≡ J.script }
+        requires follows { IsFollowing J.queue 0 freezer }
+        requires in_step { IsInStep (start_queue J.script) freezer }
+        ensures at { IfOk result (IsAt J.script J.queue 0) }
+        ensures points { IfOk result (λ s. s.points ≡ points) }
     {
         // `Disk::new` fails only if memory is refused (`only_memory`).
         let disk = Disk::new(alloc, script.disk()).map_err(|_| RunFault::Memory)?;
@@ -76,13 +80,16 @@ impl Submitter {
             state: QueueState::new(script),
             freezer,
             accepted: 0,
-            points: DrainPoints::new(),
+            points,
         })
     }
 
-    /// Returns the result of the run, once every line is taken and nothing is owed. `drawn` is what the workers drew.
+    /// Returns the result of the run, once every line is taken, nothing is owed, and the point of each drain is passed. `drawn` is
+    /// what the workers drew.
     pub(crate) fn into_ran(self, drawn: Vec<Vec<u32>>) -> Result<Ran, RunFault>
-        ensures run { (script : Meant) → IsEnd script self → IfOk result (λ ran. IsRun script ran.replies.items ran.disk) }
+        requires end { IsEnd J.script self }
+        requires points { PassesAll J.script self.accepted none_passed self.points }
+        ensures run { IfOk result (λ ran. IsRun J.script ran.replies.items ran.disk) }
         ensures drawn { IfOk result (λ ran. ran.drawn ≡ drawn) }
     {
         let InFlightTable { disk, replies } = self.table;
@@ -96,7 +103,7 @@ impl Submitter {
 
     // Collects the completions that have arrived, if at least as many replies are owed as there are tags. Before an ordered request
     // it drains the queue, and thaws it again.
-    fn make_way<J: Run, C: QueueName, L: QueueNames, R: Wait, S: Stall>(
+    fn make_way<C: QueueName, L: QueueNames, R: Wait, S: Stall>(
         &mut self,
         context: &RunContext<'_, J, C, L, R, S>,
         collector: &mut Collector<Completion<J>>,
@@ -123,7 +130,7 @@ impl Submitter {
 
     // Hands over the accepted request of the next line, and takes one tag for it (`tags`). Even if this fails, the right to push
     // changes only in how many requests were pushed (`source`), so `lead` can still push end marks.
-    fn submit<J: Run, C: QueueName, L: QueueNames, R: Wait, S: Stall>(
+    fn submit<C: QueueName, L: QueueNames, R: Wait, S: Stall>(
         &mut self,
         context: &RunContext<'_, J, C, L, R, S>,
         ends: &mut Ends<J, C>,
@@ -155,7 +162,7 @@ impl Submitter {
 
     // Drains the queue, which it freezes if it isn't frozen, and collects all completions. The queue is frozen even if memory is
     // refused.
-    fn drain<J: Run, C: QueueName, L: QueueNames, R: Wait, S: Stall>(
+    fn drain<C: QueueName, L: QueueNames, R: Wait, S: Stall>(
         &mut self,
         context: &RunContext<'_, J, C, L, R, S>,
         collector: &mut Collector<Completion<J>>,
@@ -169,12 +176,12 @@ impl Submitter {
     {
         let accepted = self.accepted;
         freeze(context.rt, &mut self.freezer, context.queue);
-        self.points.pass(context.stall, &self.freezer, accepted);
+        self.points.pass(context.points, &self.freezer, accepted);
         collect_until(context, collector, &mut self.table, 0)
     }
 
     // Takes the next line, which has this reply and leaves the script's queue as `next`.
-    fn reply_and_follow<J: Run, C: QueueName, L: QueueNames, R, S>(
+    fn reply_and_follow<C: QueueName, L: QueueNames, R, S>(
         &mut self,
         context: &RunContext<'_, J, C, L, R, S>,
         next: QueueState,
@@ -203,7 +210,7 @@ impl Submitter {
     }
 
     // Takes the next line, which isn't a request that the queue accepts.
-    fn reply_to<J: Run, C: QueueName, L: QueueNames, R: Wait, S: Stall>(
+    fn reply_to<C: QueueName, L: QueueNames, R: Wait, S: Stall>(
         &mut self,
         context: &RunContext<'_, J, C, L, R, S>,
         ends: &mut Ends<J, C>,
@@ -236,7 +243,7 @@ impl Submitter {
 
     // Takes the next line. By `source`, the right to push changes only in how many requests were pushed. So `lead` can push end
     // marks even if this fails, and if it doesn't, `gather` finds the parts, the lists and their room unchanged.
-    fn take_next<J: Run, C: QueueName, L: QueueNames, R: Wait, S: Stall>(
+    fn take_next<C: QueueName, L: QueueNames, R: Wait, S: Stall>(
         &mut self,
         context: &RunContext<'_, J, C, L, R, S>,
         ends: &mut Ends<J, C>,
@@ -261,7 +268,7 @@ impl Submitter {
 
     /// Takes all lines, and drains the queue at the end. If a line fails, it takes no more lines and drains the queue too. `source`
     /// is as at `submit`.
-    pub(crate) fn submit_all<J: Run, C: QueueName, L: QueueNames, R: Wait, S: Stall>(
+    pub(crate) fn submit_all<C: QueueName, L: QueueNames, R: Wait, S: Stall>(
         &mut self,
         context: &RunContext<'_, J, C, L, R, S>,
         ends: &mut Ends<J, C>,
@@ -283,7 +290,7 @@ impl Submitter {
                 // brings no answer.
                 freeze(context.rt, &mut self.freezer, context.queue);
                 self.points
-                    .pass(context.stall, &self.freezer, self.accepted);
+                    .pass(context.points, &self.freezer, self.accepted);
                 return Err(why);
             }
         }

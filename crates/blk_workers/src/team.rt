@@ -3,6 +3,7 @@ ghost use Rattle.std.specs.Prelude.{◌≡◌, ◌+◌, ◌<◌, ◌^◌, true, 
 ghost use Rattle.script_meaning.specs.Requests.{accepted_in_all};
 ghost use Rattle.in_flight.specs.Requests.{IsAcceptedAt};
 ghost use Rattle.run_queues.specs.Parts.{one_more, none_counted};
+ghost use Rattle.blk_workers.specs.Points.{PassesAll};
 ghost use Rattle.blk_workers.specs.Progress.{HasCounted, IsNewConsumer, AreBack, AreNewEnds, IsAt, IsEnd};
 ghost use Rattle.run_queues.specs.Requests.{all_parts};
 
@@ -11,7 +12,7 @@ use crate::fault::RunFault;
 use crate::handing::Ends;
 use crate::job::{Completion, FreeTag, Job};
 use crate::naming::{QueueName, QueueNames, Run};
-use crate::points::{Stall, pass_answered, pass_drawn};
+use crate::points::Stall;
 use crate::submitter::Submitter;
 use run_queues::{Acknowledgement, Consumer, Numbered, PutCount, Source};
 use std::alloc::AllocError;
@@ -125,7 +126,7 @@ fn serve<J: Run, C: QueueName, L: QueueNames, R: Wait, S: Stall>(
     ensures told { (result.queue ≡ C.id) × (result.number ≡ job.token.number) }
 {
     let number = job.number();
-    let drawn = pass_drawn(context.stall, number, &job);
+    let drawn = context.points.pass_drawn(number, &job);
     let done = job.done(
         drawn,
         context.alloc,
@@ -134,7 +135,7 @@ fn serve<J: Run, C: QueueName, L: QueueNames, R: Wait, S: Stall>(
         context.checked.script(),
     );
     let completed = done.tell(context.rt, context.completions);
-    let answered = pass_answered(context.stall, number, &completed);
+    let answered = context.points.pass_answered(number, &completed);
     let (tag, acknowledgement) = completed.leave(answered, context.queue, slot);
     context.free_tags.put(context.rt, tags, tag);
     acknowledgement
@@ -205,14 +206,15 @@ fn push_end_marks<J: Run, C: QueueName, L: QueueNames, R: Wait, S>(
 // Submits and collects while `workers` workers run, and pushes an end mark for each, even if submitting fails.
 fn lead<J: Run, C: QueueName, L: QueueNames, R: Wait, S: Stall>(
     context: &RunContext<'_, J, C, L, R, S>,
-    mut submitter: Submitter,
+    mut submitter: Submitter<J>,
     ends: &mut Ends<J, C>,
     workers: usize,
-) -> Result<Submitter, RunFault>
+) -> Result<Submitter<J>, RunFault>
     requires ends { AreNewEnds L.requests C.id workers ends.old.source ends.old.collector }
     requires start { IsAt J.script J.queue 0 submitter }
     requires tags { ends.old.taker ≡ none_counted L.free_tags }
     ensures end { IfOk result (IsEnd J.script) }
+    ensures points { IfOk result (λ s. PassesAll J.script s.accepted submitter.points s.points) }
     ensures source { ends.new.source ≡ record ends.old.source { pushed = ends.new.source.pushed; marks = workers } }
     ensures pushed { OnOk result (ends.new.source.pushed ≡ accepted_in_all J.script) }
     ensures tags { OnOk result (HasCounted L.free_tags (accepted_in_all J.script) ends.new.taker) }
@@ -244,7 +246,7 @@ fn join<J: Run, C: QueueName, L: QueueNames, R: Threads, S>(
 }
 
 // How a run ended, and the right to push, with the lists of the workers that are back.
-type Led<J, C> = (Result<Submitter, RunFault>, Source<Job<J, C>>);
+type Led<J, C> = (Result<Submitter<J>, RunFault>, Source<Job<J, C>>);
 
 /// Starts a worker for each of these rights to draw, one per level of recursion. The levels above have started the rest of the
 /// `workers`. The innermost level submits and collects, and ends the workers. Each level joins its worker and takes back what it
@@ -259,7 +261,7 @@ pub(crate) fn with_workers<
     S: Stall,
 >(
     context: &RunContext<'_, J, C, L, R, S>,
-    submitter: Submitter,
+    submitter: Submitter<J>,
     mut ends: Ends<J, C>,
     mut consumers: Vec<Consumer<Job<J, C>>>,
     workers: usize,
@@ -271,6 +273,7 @@ pub(crate) fn with_workers<
     requires left { length consumers.items ≤ workers }
     requires few { workers ≤ 32 }
     ensures end { IfOk result.0 (IsEnd J.script) }
+    ensures points { IfOk result.0 (λ s. PassesAll J.script s.accepted submitter.points s.points) }
     ensures pushed { OnOk result.0 (result.1.pushed ≡ accepted_in_all J.script) }
     ensures back { AreBack workers (length consumers.items) ends.source result.1 }
     ensures thread { IsErrOf result.0 RunFault.Thread ↔ result.1.marks < workers }
@@ -286,6 +289,7 @@ pub(crate) fn with_workers<
             requires left { length consumers.items ≤ workers }
             requires few { workers ≤ 32 }
             ensures end { IfOk result.0 (IsEnd J.script) }
+            ensures points { IfOk result.0 (λ s. PassesAll J.script s.accepted submitter.points s.points) }
             ensures pushed { OnOk result.0 (result.1.pushed ≡ accepted_in_all J.script) }
             ensures back { AreBack workers (length consumers.items) ends.source result.1 }
             ensures thread { IsErrOf result.0 RunFault.Thread ↔ result.1.marks < workers }

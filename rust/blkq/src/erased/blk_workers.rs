@@ -22,12 +22,12 @@
 //! thing.
 //!
 //! Words of this crate:
-//! - *context*: what the threads share, which is the runtime, the allocator, the checked script, the stall, the queue that requests
-//!   enter, and the three queues for requests, completions and free tags.
+//! - *context*: what the threads share, which is the runtime, the allocator, the checked script, the run's points, the queue that
+//!   requests enter, and the three queues for requests, completions and free tags.
 //! - *in-flight table*: the disk and the replies so far, which only the submitter has (`in_flight`). A reply is *owed* from when
 //!   its request is handed over until its completion is collected with an answer; a completion without an answer ends the run. A
 //!   reply is owed for longer than its tag is entered, so more may be owed than there are tags.
-//! - *stall*: holds a run at its points, for a test; it changes neither the replies nor the disk.
+//! - *stall*: holds a run at its points, for a test; it changes neither the replies nor the disk. Only the run's points call it.
 //! - *drained*: a consumer or the right to push is drained once an end mark was taken; the queue is drained once every tag has left
 //!   and none can enter.
 //! - *ends*: the submitter's rights to push requests, to collect completions and to take free tags. A *consumer* is a worker's

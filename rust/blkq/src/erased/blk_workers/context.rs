@@ -3,6 +3,7 @@
 
 use crate::erased::blk_workers::fault::RunFault;
 use crate::erased::blk_workers::job::{Completion, FreeTag, Job};
+use crate::erased::blk_workers::points::RunPoints;
 use crate::erased::fallible::AllocError;
 use crate::erased::freeze_queue::{BlockQueue, Tag};
 use crate::erased::in_flight::UniformSectors;
@@ -59,14 +60,14 @@ impl Queues {
     }
 }
 
-/// What a run's threads share: the runtime, the allocator, the checked script, the stall, and the run's queues. The type names the
+/// What a run's threads share: the runtime, the allocator, the checked script, the run's points, and its queues. The type names the
 /// run, `J`, its queue of completions, `C`, and its queues of requests and free tags, `L`.
 ///
 /// Invariant: the script and the queues are those that the type names. There is room for one completion more than there are tags,
 /// the queue has a slot and the script's hardware, and the script has few enough lines to number them.
 pub(crate) struct RunContext<'a, S> {
     pub(crate) checked: &'a Checked<'a>,
-    pub(crate) stall: &'a S,
+    pub(crate) points: &'a RunPoints<'a, S>,
     pub(crate) queue: &'a BlockQueue,
     pub(crate) requests: &'a RequestQueue<Job>,
     pub(crate) completions: &'a CompletionQueue<Completion>,
@@ -88,13 +89,13 @@ impl<'a, S> RunContext<'a, S> {
     ///   one completion more than for free tags.
     pub(crate) fn new(
         checked: &'a Checked<'a>,
-        stall: &'a S,
+        points: &'a RunPoints<'a, S>,
         queues: &'a Queues,
         uniform: &'a UniformSectors,
     ) -> RunContext<'a, S> {
         RunContext {
             checked,
-            stall,
+            points,
             queue: &queues.queue,
             requests: &queues.requests,
             completions: &queues.completions,

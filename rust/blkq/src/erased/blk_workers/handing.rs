@@ -4,7 +4,7 @@
 use crate::erased::blk_workers::context::RunContext;
 use crate::erased::blk_workers::fault::RunFault;
 use crate::erased::blk_workers::job::{Completion, FreeTag, Job};
-use crate::erased::blk_workers::points::{Stall, pass_entered};
+use crate::erased::blk_workers::points::Stall;
 use crate::erased::freeze_queue::Tag;
 use crate::erased::in_flight::InFlightTable;
 use crate::erased::queue_limits::Limits;
@@ -74,7 +74,7 @@ pub(crate) fn hand_over<S: Stall>(
     let position = table.replies.len();
     let found = table.submit(context.checked.script(), request)?;
     let tag = entered(context, &mut ends.taker, limits);
-    let passed = pass_entered(context.stall, number, &tag);
+    let passed = context.points.pass_entered(number, &tag);
     let token = context.completions.token(&mut ends.collector, number);
     let job = Job::new(passed, token, position, tag, found);
     context.requests.push(&mut ends.source, job);

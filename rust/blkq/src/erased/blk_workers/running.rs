@@ -6,7 +6,7 @@ use crate::erased::blk_workers::context::{Queues, RunContext};
 use crate::erased::blk_workers::fault::RunFault;
 use crate::erased::blk_workers::handing::Ends;
 use crate::erased::blk_workers::job::Completion;
-use crate::erased::blk_workers::points::Stall;
+use crate::erased::blk_workers::points::{DrainPoints, RunPoints, Stall};
 use crate::erased::blk_workers::submitter::Submitter;
 use crate::erased::blk_workers::team::{consumers, with_workers};
 use crate::erased::freeze_queue::{BlockQueue, NewQueue, Tag};
@@ -28,11 +28,11 @@ pub struct Ran {
     pub drawn: Vec<Vec<u32>>,
 }
 
-/// The caller's inputs: the runtime, the allocator, the script, the shape of the run, and the stall.
+/// The caller's inputs: the runtime, the allocator, the script, the shape of the run, and its points, which have the stall.
 struct Inputs<'a, S> {
     checked: &'a Checked<'a>,
     config: Config,
-    stall: &'a S,
+    points: RunPoints<'a, S>,
 }
 
 // Starts the workers and leads them to the end. The types have three names by now, each taken once the thing was made: the run's in
@@ -48,6 +48,7 @@ struct Inputs<'a, S> {
 //   one completion more than for free tags.
 // - `IsAt(run.script, run.queue, 0, submitter)`: the lines before a position are taken, and the freezer is in step
 //   with the script's queue.
+// - `submitter.points` is `none_passed`.
 // - `AreNewEnds(requests.requests, completions.id, 0, ends.source, ends.collector)`: the ends of both queues
 //   before the first request.
 // - `ends.taker` is `none_counted(requests.free_tags)`.
@@ -60,7 +61,7 @@ fn run_in<S: Stall>(
 ) -> Result<Ran, RunFault> {
     let workers = inputs.config.workers();
     let uniform = UniformSectors::of(inputs.checked.script())?;
-    let context = RunContext::new(inputs.checked, inputs.stall, queues, &uniform);
+    let context = RunContext::new(inputs.checked, &inputs.points, queues, &uniform);
     // One place more than there are numbers to draw: a draw reserves a place before it takes an end mark too.
     let numbers_each = inputs.checked.accepted() + 1;
     let consumers = consumers(&context, &mut ends.source, workers, numbers_each)?;
@@ -80,6 +81,7 @@ fn run_in<S: Stall>(
 //   completions, with room for one more than there are tags, and the right to collect them, before the first one.
 // - `IsAt(run.script, run.queue, 0, submitter)`: the lines before a position are taken, and the freezer is in step
 //   with the script's queue.
+// - `submitter.points` is `none_passed`.
 // - `AreFreeTags(run.queue, tags)`: there is at least one tag; all are this queue's, and none is entered.
 fn run_on<S: Stall>(
     inputs: &Inputs<'_, S>,
@@ -95,8 +97,8 @@ fn run_on<S: Stall>(
     run_in(inputs, &queues, submitter, ends)
 }
 
-// Makes the queue of completions and the submitter, and goes on: `parts` are the new queue, its freezer and its tags. The types
-// name the run's script and its queue by now.
+// Makes the queue of completions and the submitter, and goes on: `parts` are the new queue, its freezer and its tags, and no drain
+// has been passed. The types name the run's script and its queue by now.
 //
 // # Preconditions
 //
@@ -105,12 +107,13 @@ fn run_on<S: Stall>(
 // - `IsNewQueue(run.script, inputs.config, run.queue, parts.1, parts.2)`: a new queue for a script and these
 //   sizes: it suits the script, its freezer follows it, in step with the start of the script's queue, and its tags
 //   are free and as many as the sizes say.
-fn run_as<S: Stall>(inputs: &Inputs<'_, S>, parts: NewQueue) -> Result<Ran, RunFault> {
+// - `points` is `none_passed`.
+fn run_as<S: Stall>(inputs: &Inputs<'_, S>, parts: NewQueue, points: DrainPoints) -> Result<Ran, RunFault> {
     let (queue, freezer, tags) = parts;
     // No more completions than this are to come at a time (`hand_over`), so no thread waits to report one.
     let room = tags.len() + 1;
     let (completions, collector) = CompletionQueue::new(room)?;
-    let submitter = Submitter::new(inputs.checked.script(), freezer)?;
+    let submitter = Submitter::new(inputs.checked.script(), freezer, points)?;
     run_on(inputs, queue, tags, completions, collector, submitter)
 }
 
@@ -130,8 +133,8 @@ pub fn run_checked<S: Stall>(checked: &Checked<'_>, config: Config, stall: &S) -
     // A script's hardware is in range. These are the limits that the script's queue starts with.
     let Ok(limits) = Limits::start(script.hw()) else { unreachable!() };
     let parts = BlockQueue::new(limits, config.slots(), config.tags())?;
-    let inputs = Inputs { checked, config, stall };
-    run_as(&inputs, parts)
+    let inputs = Inputs { checked, config, points: RunPoints::new(stall) };
+    run_as(&inputs, parts, DrainPoints::new())
 }
 
 /// Runs a script in which no two requests overlap, as [`check`](script_overlap::check) reports. Checks the script, and returns what

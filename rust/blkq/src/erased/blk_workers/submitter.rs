@@ -41,9 +41,16 @@ fn reply_now(script: &Script, table: &mut InFlightTable, line_number: u32, reply
 }
 
 impl Submitter {
-    /// Makes a run's submitter, before the first line. It isn't given the run, so the contract holds for whichever queue this
-    /// freezer follows.
-    pub(crate) fn new(script: &Script, freezer: Freezer) -> Result<Submitter, RunFault> {
+    /// Makes a run's submitter, before the first line.
+    ///
+    /// # Preconditions
+    ///
+    /// - `script` is `run.script`.
+    /// - `IsFollowing(run.queue, 0, freezer)`: the freezer is the queue's, knows that the queue is drained if it is
+    ///   frozen, and killed its gate at most `most` times.
+    /// - `IsInStep(start_queue(run.script), freezer)`: the freezer has the depth, the limits and the mode of the
+    ///   script's queue: so the gate is live exactly if the script's depth is 0 and the queue isn't removed.
+    pub(crate) fn new(script: &Script, freezer: Freezer, points: DrainPoints) -> Result<Submitter, RunFault> {
         // `Disk::new` fails only if memory is refused (`only_memory`).
         let disk = Disk::new(script.disk()).map_err(|_| RunFault::Memory)?;
         let replies = Replies::new(script.lines().len())?;
@@ -52,11 +59,18 @@ impl Submitter {
             state: QueueState::new(script),
             freezer,
             accepted: 0,
-            points: DrainPoints::new(),
+            points,
         })
     }
 
-    /// Returns the result of the run, once every line is taken and nothing is owed. `drawn` is what the workers drew.
+    /// Returns the result of the run, once every line is taken, nothing is owed, and the point of each drain is passed. `drawn` is
+    /// what the workers drew.
+    ///
+    /// # Preconditions
+    ///
+    /// - `IsEnd(run.script, self)`: every line is taken, nothing is owed, and the queue is frozen and drained.
+    /// - `PassesAll(run.script, self.accepted, none_passed, self.points)`: each line passed its point, and then the end
+    ///   passed one, after this many requests.
     pub(crate) fn into_ran(self, drawn: Vec<Vec<u32>>) -> Result<Ran, RunFault> {
         let InFlightTable { disk, replies } = self.table;
         let replies = replies.into_text()?;
@@ -128,7 +142,7 @@ impl Submitter {
     ) -> Result<(), RunFault> {
         let accepted = self.accepted;
         freeze(&mut self.freezer, context.queue);
-        self.points.pass(context.stall, &self.freezer, accepted);
+        self.points.pass(context.points, &self.freezer, accepted);
         collect_until(context, collector, &mut self.table, 0)
     }
 
@@ -217,7 +231,7 @@ impl Submitter {
                 // Requests in flight end: every tag leaves. Completions aren't awaited, since a reply stays owed if its completion
                 // brings no answer.
                 freeze(&mut self.freezer, context.queue);
-                self.points.pass(context.stall, &self.freezer, self.accepted);
+                self.points.pass(context.points, &self.freezer, self.accepted);
                 return Err(why);
             }
         }

@@ -5,7 +5,7 @@ use crate::erased::blk_workers::context::RunContext;
 use crate::erased::blk_workers::fault::RunFault;
 use crate::erased::blk_workers::handing::Ends;
 use crate::erased::blk_workers::job::{Completion, FreeTag, Job};
-use crate::erased::blk_workers::points::{Stall, pass_answered, pass_drawn};
+use crate::erased::blk_workers::points::Stall;
 use crate::erased::blk_workers::submitter::Submitter;
 use crate::erased::fallible::{AllocError, TryVec};
 use crate::erased::run_queues::{Acknowledgement, Consumer, Numbered, PutCount, Source};
@@ -79,10 +79,10 @@ fn serve<S: Stall>(
     job: Job,
 ) -> Acknowledgement<Completion> {
     let number = job.number();
-    let drawn = pass_drawn(context.stall, number, &job);
+    let drawn = context.points.pass_drawn(number, &job);
     let done = job.done(drawn, context.uniform, context.queue, context.checked.script());
     let completed = done.tell(context.completions);
-    let answered = pass_answered(context.stall, number, &completed);
+    let answered = context.points.pass_answered(number, &completed);
     let (tag, acknowledgement) = completed.leave(answered, context.queue, slot);
     context.free_tags.put(tags, tag);
     acknowledgement
