@@ -3,12 +3,13 @@
 #![allow(unsafe_code)]
 
 use freeze_queue::{EnterError, Queue, Tag};
+use std::any::Any;
 use std::cell::Cell;
 use std::mem;
 use std::panic::{AssertUnwindSafe, catch_unwind, panic_any};
 use std::pin::Pin;
 use std::ptr;
-use std::sync::Arc;
+use std::sync::{Arc, Mutex};
 use std::task::{Context, Poll, RawWaker, RawWakerVTable, Wake, Waker};
 use std::thread;
 use std::time::Duration;
@@ -139,6 +140,59 @@ fn panics_that_carry_panics() {
     let carried = catch_unwind(AssertUnwindSafe(|| drop(frozen))).unwrap_err();
     assert!(carried.is::<PanicsAgain>() && woken.times() == 1 && queue.depth() == 0);
     mem::forget(carried);
+}
+
+/// Notes its number in a list and panics with it.
+struct PanicsBy(usize, Arc<Mutex<Vec<usize>>>);
+
+impl Wake for PanicsBy {
+    fn wake(self: Arc<Self>) {
+        self.1.lock().unwrap().push(self.0);
+        panic_any(self.0);
+    }
+}
+
+/// What goes on where a call wakes futures with these wakers: a thaw, the last request that leaves, or the end of a device.
+fn wakes(way: u32, wakers: &[Waker]) -> Result<(), Box<dyn Any + Send>> {
+    let (queue, mut tags) = with_tags(u32::try_from(wakers.len()).unwrap() + 1);
+    let mut last = tags.pop().unwrap();
+    if way == 0 {
+        let frozen = queue.freeze().unwrap();
+        let mut all: Vec<_> = tags.iter_mut().map(|tag| Box::pin(queue.enter_async(tag))).collect();
+        all_wait(&mut all, wakers);
+        return catch_unwind(AssertUnwindSafe(|| drop(frozen)));
+    }
+    if way == 1 {
+        let request = queue.enter(&mut last).unwrap();
+        let mut all: Vec<_> = wakers.iter().map(|_| Box::pin(queue.begin_freeze().unwrap().drained())).collect();
+        all_wait(&mut all, wakers);
+        return catch_unwind(AssertUnwindSafe(|| drop(request)));
+    }
+    let mut line: Vec<_> = wakers.iter().map(|_| Box::pin(queue.enter_any_async())).collect();
+    all_wait(&mut line, wakers);
+    let frozen = queue.freeze().unwrap().into_owned();
+    catch_unwind(AssertUnwindSafe(|| frozen.mark_dying()))
+}
+
+/// Whichever of up to five wakers panic, each is called once, and the first panic goes on.
+#[test]
+fn the_first_of_several_panics_goes_on() {
+    for (way, count) in (0..3).flat_map(|way| (1..=5).map(move |count| (way, count))) {
+        for panicking in 0..1_u32 << count {
+            let (called, woken) = (Arc::<Mutex<Vec<usize>>>::default(), Arc::<Woken>::default());
+            let waker = |at: usize| match panicking >> at & 1 {
+                0 => Waker::from(Arc::clone(&woken)),
+                _ => Waker::from(Arc::new(PanicsBy(at, Arc::clone(&called)))),
+            };
+            let gone_on = wakes(way, &(0..count).map(waker).collect::<Vec<_>>()).err();
+            let called = called.lock().unwrap();
+            let case = format!("way {way}: {panicking:b} of {count} panic");
+            assert_eq!(gone_on.map(|panic| *panic.downcast::<usize>().unwrap()), called.first().copied(), "{case}");
+            let times = (called.len(), usize::try_from(woken.times()).unwrap());
+            let panics = panicking.count_ones() as usize;
+            assert_eq!(times, (panics, count - panics), "{case}");
+        }
+    }
 }
 
 /// The clone of a waker panics: nothing of the future stays at the queue.

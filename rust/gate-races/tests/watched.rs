@@ -1,10 +1,10 @@
-//! Tests what a watcher learns of a search, also behind a million moments, and when a line of progress is due.
+//! Tests what a watcher learns of a search, also behind a million moments, and when a line of progress is due and what it says.
 
 use gate_races::erased::fallible::AllocError;
 use gate_races::erased::percpu_core::Memory;
 use gate_races::erased::race_search::{Course, SearchFault, Watch, all_moments};
 use gate_races::erased::races_run::{Form, Progress, Request, outcomes_text};
-use std::cell::Cell;
+use std::cell::{Cell, RefCell};
 use std::io::{self, Write};
 use std::thread;
 use std::time::{Duration, Instant};
@@ -210,5 +210,58 @@ fn a_line_is_due_each_second() {
             last = Some((before, after));
         }
         thread::sleep(Duration::from_millis(5));
+    }
+}
+
+/// Keeps what is written here.
+#[derive(Default)]
+struct Written(RefCell<Vec<u8>>);
+
+impl Write for &Written {
+    fn write(&mut self, bytes: &[u8]) -> io::Result<usize> {
+        self.0.borrow_mut().extend_from_slice(bytes);
+        Ok(bytes.len())
+    }
+
+    fn flush(&mut self) -> io::Result<()> {
+        Ok(())
+    }
+}
+
+/// A number with a comma between its groups of three digits.
+fn grouped(number: u64) -> String {
+    if number < 1_000 { number.to_string() } else { format!("{},{:03}", grouped(number / 1_000), number % 1_000) }
+}
+
+/// Numbers of 64 bits: those next to each power of two, and others of each size.
+fn numbers_of_each_size() -> Vec<u64> {
+    let mut last = 1_u64;
+    let mut numbers = vec![0, u64::MAX];
+    for bit in 0..64 {
+        last = last.wrapping_mul(6_364_136_223_846_793_005).wrapping_add(1_442_695_040_888_963_407);
+        let power = 1_u64 << bit;
+        numbers.extend([power - 1, power, power + 1, power | (last % power)]);
+    }
+    numbers
+}
+
+/// A line has the states and the MiB of the report at which it is due, however many there are; the end clears it.
+#[test]
+fn a_line_of_each_size() {
+    let numbers = numbers_of_each_size();
+    let reports: Vec<_> = numbers.iter().zip(numbers.iter().rev()).map(|(one, other)| (*one, other >> 20)).collect();
+    let screens: Vec<_> = reports.iter().map(|_| Written::default()).collect();
+    let mut all: Vec<_> = screens.iter().map(|screen| Progress::new(screen, true)).collect();
+    let looks = |progress: &mut Progress<_>, moments, bytes| (0..=1_000).for_each(|_| progress.keeps(moments, bytes));
+    for progress in &mut all {
+        looks(progress, 7, 7 << 20);
+    }
+    thread::sleep(Duration::from_secs(1));
+    for ((progress, screen), (states, mib)) in all.iter_mut().zip(&screens).zip(reports) {
+        looks(progress, usize::try_from(states).unwrap(), mib << 20);
+        let line = format!("gate_races: {} states, {} MiB", grouped(states), grouped(mib));
+        assert_eq!(String::from_utf8(screen.0.take()).unwrap(), format!("\r{line}"));
+        progress.ended();
+        assert_eq!(String::from_utf8(screen.0.take()).unwrap(), format!("\r{}\r", " ".repeat(line.len())));
     }
 }

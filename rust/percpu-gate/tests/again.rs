@@ -1,5 +1,5 @@
-//! Tests passes that are given out again, counts of several references, and boxed errors.
-use percpu_gate::{Final, Gate, GetError, NextPassError, OnLast, Pass, Start, TryGetError};
+//! Tests passes that are given out again, counts of several references, boxed errors, and releases whose `on_last` panics.
+use percpu_gate::{Final, Gate, GetError, Killed, NextPassError, OnLast, Pass, Start, TryGetError};
 use std::error::Error;
 use std::panic::{AssertUnwindSafe, catch_unwind};
 use std::sync::Arc;
@@ -160,4 +160,58 @@ fn several_are_put_once_where_on_last_panics() {
     drop(many);
     control.retire(pass).unwrap();
     assert_eq!(control.exit().unwrap().releases, 1);
+}
+
+fn panics(call: impl FnOnce()) -> bool {
+    catch_unwind(AssertUnwindSafe(call)).is_err()
+}
+
+/// Kills a gate and has its `on_last` called: by the drop of a reference, the drop of several, a put of the last of them, a thread that
+/// unwinds, or the kill itself. Returns whether a panic went on.
+fn release(way: u64, control: &mut Gate, pass: &Pass) -> bool {
+    if way == 4 {
+        return panics(|| _ = control.kill());
+    }
+    let one = pass.try_get_live().unwrap();
+    let mut many = one.get_many(3).unwrap();
+    assert_eq!(control.kill(), Ok(Killed::WhileHeld));
+    if way == 0 {
+        drop(many);
+        return panics(|| drop(one));
+    }
+    drop(one);
+    if way == 2 {
+        many.put_many(2);
+        return panics(|| many.put_many(1));
+    }
+    panics(move || {
+        let _all = many;
+        assert!(way == 1, "in flight");
+    })
+}
+
+/// Each release is counted once, whichever call made it, and also if `on_last` panicked in that call: one of a pass when it is retired.
+#[test]
+fn a_release_counts_though_on_last_panics() {
+    for ways in 0..5_u64.pow(3) {
+        for panicking in 0..8_u64 {
+            let released = Arc::new(AtomicU64::new(0));
+            let count = Arc::clone(&released);
+            let on_last: OnLast =
+                Arc::new(move || assert!(panicking >> count.fetch_add(1, Ordering::SeqCst) & 1 == 0, "powered off"));
+            let mut control = Gate::new(2, 1, Start::Slots, [0; 8], on_last).unwrap();
+            for life in 0..3_u32 {
+                let (way, case) = (ways / 5_u64.pow(life) % 5, format!("life {life} of {ways}, {panicking:b}"));
+                let pass = control.next_pass(life % 2).unwrap();
+                let is_panic = way == 3 || panicking >> life & 1 == 1;
+                assert_eq!(release(way, &mut control, &pass), is_panic, "{case}");
+                assert_eq!(control.releases(), u64::from(life) + u64::from(way == 4), "{case}");
+                control.retire(pass).unwrap();
+                let all = (control.releases(), released.load(Ordering::SeqCst));
+                assert_eq!(all, (u64::from(life) + 1, u64::from(life) + 1), "{case}");
+                control.reinit().unwrap();
+            }
+            assert_eq!(control.exit().unwrap(), Final { dead: false, kills: 3, releases: 3, words: [0; 8] });
+        }
+    }
 }

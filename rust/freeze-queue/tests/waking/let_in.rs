@@ -1,6 +1,6 @@
 //! Whom an update lets in before it freezes, and what ends its wait for them.
 
-use crate::common::{Woken, until};
+use crate::common::{PATIENCE, Woken, until};
 use crate::errors::UpdateError;
 use crate::limits::Limits;
 use crate::queue::Queue;
@@ -8,7 +8,7 @@ use crate::shared::Shared;
 use crate::sync::tells_its_sleep;
 use std::future::Future;
 use std::pin::Pin;
-use std::sync::{Arc, mpsc};
+use std::sync::{Arc, Mutex, mpsc};
 use std::task::{Context, Poll, Waker};
 use std::thread;
 
@@ -89,5 +89,67 @@ fn a_freeze_wakes_an_update_that_lets_in() {
             drop(frozen);
         });
         drop(waits);
+    }
+}
+
+/// How many limits are set by others, at most, before an update has set its own.
+const MOST_SETS: u32 = 4;
+
+/// An update whose closure is called again, since another freeze set limits meanwhile, lets in those who waited at the thaw of that freeze,
+/// each time. It does so as a task...
+#[test]
+fn a_task_that_updates_again_lets_in_again() {
+    for sets in 0..=MOST_SETS {
+        let (queue, shared) = queue();
+        let (waits, mut calls, woken) = (Mutex::new(None), 0, Arc::new(Woken::default()));
+        let mut update: Update<'_> = Box::pin(queue.update_async(|limits| {
+            calls += 1;
+            if calls <= sets {
+                *waits.lock().unwrap() = Some(shared.waits.begin_to_wait());
+                queue.freeze().unwrap().set(limits.with_chunk(calls)).unwrap();
+            }
+            limits.with_max(5)
+        }));
+        for set in 1..=sets {
+            assert!(polled(&mut update, &woken).is_pending(), "{set} of {sets}");
+            assert_eq!(queue.limits().chunk, set);
+            drop(waits.lock().unwrap().take());
+            assert_eq!(woken.times(), u64::from(set), "of {sets}");
+        }
+        let wanted = Limits::of_hardware(8).with_max(5).with_chunk(sets);
+        assert_eq!(polled(&mut update, &woken), Poll::Ready(Ok(wanted)));
+        drop(update);
+        assert_eq!(calls, sets + 1);
+    }
+}
+
+/// ...and as a thread, which sleeps until the last of them has entered.
+#[test]
+fn a_thread_that_updates_again_lets_in_again() {
+    for (sets, is_timed) in (0..=MOST_SETS).flat_map(|sets| [(sets, false), (sets, true)]) {
+        let ((queue, shared), (sleeps, is_asleep)) = (queue(), mpsc::channel());
+        let (queue, waits) = (&queue, &Mutex::new(None));
+        let shared = &shared;
+        let mut calls = 0;
+        let change = move |limits: Limits| {
+            calls += 1;
+            if calls <= sets {
+                *waits.lock().unwrap() = Some(shared.waits.begin_to_wait());
+                queue.freeze().unwrap().set(limits.with_chunk(calls)).unwrap();
+                tells_its_sleep(sleeps.clone());
+            }
+            limits.with_max(5)
+        };
+        let set = thread::scope(|scope| {
+            let updates = scope
+                .spawn(move || if is_timed { queue.update_timeout(PATIENCE, change) } else { queue.update(change) });
+            for set in 1..=sets {
+                is_asleep.recv().expect("the update lets nobody in");
+                assert_eq!((queue.limits().chunk, queue.depth()), (set, 0));
+                drop(waits.lock().unwrap().take());
+            }
+            updates.join().unwrap()
+        });
+        assert_eq!(set, Ok(Limits::of_hardware(8).with_max(5).with_chunk(sets)));
     }
 }
