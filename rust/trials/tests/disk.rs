@@ -119,15 +119,22 @@ fn each_byte_has_a_sector() {
     assert!((0..256).all(|position| place(position) == place(position + 256)));
 }
 
-// A pattern makes each of its different sectors once: its length by the greatest common divisor with a sector's, and one if it has one byte.
+// A pattern makes each of its different sectors once, however many are asked for: its length by the greatest common divisor with a sector's, and
+// one if it has one byte.
 #[test]
 fn a_pattern_makes_each_sector_once() {
-    for (pattern, made) in
-        [(&[7; 5][..], 1), (&SAMPLE[..2], 1), (&SAMPLE[..3], 3), (&SAMPLE[..12], 3), (&SAMPLE[..63], 63)]
-    {
-        let sectors = patterned(pattern, 200).unwrap();
-        let places: BTreeSet<_> = sectors.iter().map(|sector| sector.bytes().as_ptr()).collect();
-        assert_eq!(places.len(), made, "a pattern of {} bytes", pattern.len());
+    let made = |pattern: &[u8], count| {
+        let sectors = patterned(pattern, count).unwrap();
+        sectors.iter().map(|sector| sector.bytes().as_ptr()).collect::<BTreeSet<_>>().len()
+    };
+    for length in 1..=64_usize {
+        // A sector's length is a power of two, and no pattern is longer.
+        let different = length >> length.trailing_zeros();
+        for count in [0, 1, 2, 3, 31, 62, 63, 64, 200, 1_025, 4_096] {
+            let most = count as usize;
+            assert_eq!(made(&SAMPLE[..length], count), different.min(most), "{count} sectors of {length} bytes");
+            assert_eq!(made(&[7; 64][..length], count), most.min(1), "{count} sectors of {length} equal bytes");
+        }
     }
 }
 

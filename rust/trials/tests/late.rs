@@ -70,9 +70,10 @@ fn all_tags_serve_behind_thousands_of_requests() {
     assert!(!late.is_drained_early.into_inner(), "Drained is told before a tag left");
 }
 
-/// Holds each request but the first and the last at `Drawn` until the last is drawn.
+/// Holds each request between the first and the last at `Drawn` until the last is drawn.
 #[derive(Default)]
 struct Beside {
+    first: u32,
     last: u32,
     is_last_drawn: AtomicBool,
     is_alone: AtomicBool,
@@ -80,7 +81,7 @@ struct Beside {
 
 impl Stall for Beside {
     fn at(&self, number: u32, point: Point) {
-        if point != Point::Drawn || number == 0 {
+        if point != Point::Drawn || number <= self.first {
             return;
         }
         if number == self.last {
@@ -91,14 +92,28 @@ impl Stall for Beside {
     }
 }
 
-/// One request more than there are tags is submitted once the first completes, although all others are held.
+/// One request more than there are tags is submitted once the first completes, although all others are held: whatever the version, what the
+/// requests ask and the lines before.
 #[test]
 fn a_held_request_holds_no_other_up() {
-    for tags in [2, 3, 8, 32] {
-        let script = script(&format!("blkq 1\ndisk 1 hw 1\n{}", "read 0 1\n".repeat(tags as usize + 1)));
-        let beside = Beside { last: tags, ..Beside::default() };
-        run_checked(&Checked::of(&script).unwrap(), Config::new(tags, 3, tags).unwrap(), &beside).unwrap();
-        assert!(!beside.is_alone.into_inner(), "{tags} tags");
+    let (few, many) = ("read 0 1\n".repeat(70), "read 0 1\n".repeat(1_100));
+    let rows = [
+        ("", 0),
+        ("mode atomic\n", 0),
+        ("set max_sectors 1\n", 0),
+        ("freeze\nfreeze\nset chunk_sectors 2\nthaw\nthaw\n", 0),
+        (&format!("{few}stat\nread 99 1\n"), 70),
+        (&format!("{many}mode atomic\nstat\n"), 1_100),
+    ];
+    for ((before, first), tags) in rows.into_iter().flat_map(|row| [2, 3, 8, 32].map(move |tags| (row, tags))) {
+        for (version, ends) in [(1, ""), (2, ""), (1, " 61"), (2, " 6162")] {
+            let word = if ends.is_empty() { "read" } else { "write" };
+            let lines: String = (0..=tags).map(|sector| format!("{word} {sector} 1{ends}\n")).collect();
+            let script = script(&format!("blkq {version}\ndisk 33 hw 8\n{before}{lines}"));
+            let beside = Beside { first, last: first + tags, ..Beside::default() };
+            run_checked(&Checked::of(&script).unwrap(), Config::new(tags, 3, tags).unwrap(), &beside).unwrap();
+            assert!(!beside.is_alone.into_inner(), "blkq {version}, {tags} tags behind {first}: {before:.60}{lines}");
+        }
     }
 }
 

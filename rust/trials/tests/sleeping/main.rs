@@ -5,6 +5,7 @@
 pub mod counting;
 #[allow(dead_code, unused_imports, clippy::all, clippy::pedantic)]
 mod erased;
+mod pushing;
 #[allow(dead_code)]
 pub mod ring;
 #[allow(dead_code)]

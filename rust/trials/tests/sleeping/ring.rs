@@ -1,10 +1,11 @@
-//! The ring of `blkq`. It counts the looks of each thread, and can hold a thread at one of them.
+//! The ring of `blkq`. It counts the looks of each thread, for an item or for room, and can hold a thread at one of them.
 
 use blkq::erased::crossbeam_queue as rings;
 pub use blkq::erased::crossbeam_queue::Pass;
 use blkq::erased::fallible::AllocError;
 use std::cell::Cell;
 use std::ops::Deref;
+use std::thread::LocalKey;
 
 /// What a thread does before each look, which is given by its number.
 type Call = Box<dyn Fn(u64)>;
@@ -12,6 +13,10 @@ type Call = Box<dyn Fn(u64)>;
 thread_local! {
     static LOOKS: Cell<u64> = const { Cell::new(0) };
     static BEFORE: Cell<Option<Call>> = const { Cell::new(None) };
+    /// How often this thread looked for room.
+    static PUSHES: Cell<u64> = const { Cell::new(0) };
+    static BEFORE_PUSH: Cell<Option<Call>> = const { Cell::new(None) };
+    static NO_ROOM: Cell<Option<Call>> = const { Cell::new(None) };
     /// How often this thread looked whether items are left.
     static LOOKS_FOR_MORE: Cell<u64> = const { Cell::new(0) };
 }
@@ -20,6 +25,13 @@ thread_local! {
 pub fn before_looks(call: impl Fn(u64) + 'static) {
     LOOKS.set(0);
     BEFORE.set(Some(Box::new(call)));
+}
+
+/// Calls the first before each look of this thread for room, and the second once it found none; they are counted from 1 on.
+pub fn at_pushes(before: impl Fn(u64) + 'static, no_room: impl Fn(u64) + 'static) {
+    PUSHES.set(0);
+    BEFORE_PUSH.set(Some(Box::new(before)));
+    NO_ROOM.set(Some(Box::new(no_room)));
 }
 
 /// Returns how often this thread looked for an item since the last call of this.
@@ -32,6 +44,19 @@ pub fn looks_for_more() -> u64 {
     LOOKS_FOR_MORE.replace(0)
 }
 
+/// Counts a look of this thread. Returns its number.
+fn next_look(looks: &'static LocalKey<Cell<u64>>) -> u64 {
+    looks.set(looks.get() + 1);
+    looks.get()
+}
+
+fn call(at: &'static LocalKey<Cell<Option<Call>>>, look: u64) {
+    if let Some(call) = at.take() {
+        call(look);
+        at.set(Some(call));
+    }
+}
+
 pub struct RuledArrayQueue<T>(rings::RuledArrayQueue<T>);
 
 impl<T> RuledArrayQueue<T> {
@@ -40,13 +65,18 @@ impl<T> RuledArrayQueue<T> {
         Ok((RuledArrayQueue(ring), pass))
     }
 
-    pub fn pop_as(&self, pass: &mut Pass<T>) -> Option<T> {
-        let look = LOOKS.get() + 1;
-        LOOKS.set(look);
-        if let Some(call) = BEFORE.take() {
-            call(look);
-            BEFORE.set(Some(call));
+    pub fn push_as(&self, pass: &mut Pass<T>, item: T) -> Result<(), T> {
+        let look = next_look(&PUSHES);
+        call(&BEFORE_PUSH, look);
+        let pushed = self.0.push_as(pass, item);
+        if pushed.is_err() {
+            call(&NO_ROOM, look);
         }
+        pushed
+    }
+
+    pub fn pop_as(&self, pass: &mut Pass<T>) -> Option<T> {
+        call(&BEFORE, next_look(&LOOKS));
         self.0.pop_as(pass)
     }
 
