@@ -1,5 +1,11 @@
-//! The steps of a lane and of its freezer, one by one: what the freezer knows of an owner, and what a bias that is over leaves.
+//! The steps of a lane and of its freezer, one by one: what the freezer knows of an owner, and what a bias that is over leaves. Also the freezes
+//! of a queue with any number of biased tags.
 use freeze_queue::erased::bias_lanes::{Freezer, Lane, Lanes, Stage};
+use freeze_queue::erased::biased_queue::{BiasedEntry, BiasedFreezer, BiasedQueue, BiasedTag};
+use freeze_queue::erased::queue_core::{Limits, Put};
+
+mod shared;
+use shared::Chance;
 
 /// So many lanes, their freezer, and an owner that has parked its number in each.
 fn parked(lanes: usize) -> (Lanes<usize>, Freezer<usize>, Vec<Lane<usize>>) {
@@ -99,4 +105,101 @@ fn what_is_reclaimed_is_out_of_reach_until_it_is_restored() {
     assert_eq!(freezer.reclaim(&lanes, 1), None, "its owner has it");
     assert_eq!(owners[1].park(&lanes, 1), Err(1), "nobody parks in an odd epoch");
     assert_eq!((owners[0].stage(), owners[1].stage()), (Stage::Idle, Stage::Unbiased));
+}
+
+/// Where a tag is when a freeze begins.
+#[derive(Clone, Copy, Debug, PartialEq, Eq)]
+enum Place {
+    Out,
+    Parked,
+    InByLane,
+    InByGate,
+}
+
+/// So many parked tags among these, up to three others that are in, and the rest out, in any order.
+fn places(chance: &mut Chance, tags: usize, parked: usize) -> Vec<Place> {
+    let mut places = vec![Place::Parked; parked];
+    for _ in 0..chance.below(4) {
+        places.push(if chance.one_in(2) { Place::InByLane } else { Place::InByGate });
+    }
+    places.resize(tags, Place::Out);
+    for last in (1..tags).rev() {
+        places.swap(last, chance.below(u32::try_from(last).unwrap() + 1) as usize);
+    }
+    places
+}
+
+/// A biased queue, with its freezer and its tags, and the limits in force.
+struct Whole {
+    queue: BiasedQueue,
+    freezer: BiasedFreezer,
+    tags: Vec<BiasedTag>,
+    limits: Limits,
+}
+
+/// The result of a put that leaves so many requests in.
+fn put_before(left: usize) -> Put {
+    if left == 0 { Put::Last } else { Put::NotLast }
+}
+
+impl Whole {
+    fn new(slots: u32, tags: u32) -> Whole {
+        let limits = Limits::new(64, 64, 0).expect("limits");
+        let (queue, freezer, made) = BiasedQueue::new(limits, slots, tags).unwrap_or_else(|_| panic!("memory"));
+        assert_eq!((made.len(), queue.slots()), (tags as usize, slots));
+        Whole { queue, freezer, tags: made, limits }
+    }
+
+    /// Takes a tag that is out to its place.
+    fn takes(&mut self, tag: usize, place: Place, chance: &mut Chance) {
+        let (queue, tag) = (&self.queue, &mut self.tags[tag]);
+        let mut slot = || chance.below(queue.slots());
+        if place != Place::Out {
+            assert_eq!(tag.try_enter(queue, slot()), BiasedEntry::Entered);
+            assert_eq!(tag.limits(), self.limits);
+        }
+        if place == Place::Parked || place == Place::InByLane {
+            assert_eq!(tag.leave(queue, slot(), true), Put::NotLast);
+            assert!(tag.is_biased(), "lane {}", tag.lane());
+        }
+        if place == Place::InByLane {
+            assert_eq!(tag.try_enter(queue, slot()), BiasedEntry::Entered);
+            assert_eq!(tag.limits(), self.limits);
+        }
+    }
+
+    /// A freeze of the queue with its tags in these places is drained by the last request that is in, or at once if none is. No idle tag
+    /// holds it up. Then other limits are set.
+    fn life(&mut self, places: &[Place], chance: &mut Chance) {
+        for (tag, place) in places.iter().enumerate() {
+            self.takes(tag, *place, chance);
+        }
+        let is_in = |place: &Place| matches!(place, Place::InByLane | Place::InByGate);
+        let mut inside: Vec<usize> = (0..places.len()).filter(|tag| is_in(&places[*tag])).collect();
+        let frozen = self.freezer.start_freeze(&self.queue).map(|frozen| (frozen.depth, frozen.put));
+        assert_eq!(frozen, Ok((1, put_before(inside.len()))));
+        while !inside.is_empty() {
+            assert!(!self.freezer.poll_drained(&self.queue));
+            let next = inside.swap_remove(chance.below(u32::try_from(inside.len()).unwrap()) as usize);
+            let put = self.tags[next].leave(&self.queue, chance.below(self.queue.slots()), chance.one_in(2));
+            assert_eq!(put, put_before(inside.len()));
+        }
+        assert!(self.freezer.poll_drained(&self.queue));
+        self.limits = Limits::new(64, 1 + chance.below(64), chance.below(100)).expect("limits");
+        assert_eq!(self.freezer.set(&self.queue, self.limits), Ok(()));
+        assert_eq!(self.freezer.thaw(&self.queue).map(|thawed| thawed.depth), Ok(0));
+    }
+}
+
+/// Each number of idle tags, up to the most, wherever they are and beside requests that are in, holds up no freeze.
+#[test]
+fn any_number_of_idle_tags_holds_up_no_freeze() {
+    let mut chance = Chance(1);
+    for (slots, tags) in [(1, 1), (3, 2), (2, 65), (512, 300), (64, 1_023)] {
+        let mut whole = Whole::new(slots, tags);
+        for parked in 0..=tags as usize {
+            let places = places(&mut chance, tags as usize, parked);
+            whole.life(&places, &mut chance);
+        }
+    }
 }

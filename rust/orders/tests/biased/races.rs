@@ -192,7 +192,7 @@ impl Play for Race {
         }
     }
 
-    /// Each tag is back, none is entered, and each freeze that was waited for had one last put.
+    /// Each tag is back, none is entered or counted as parked, and each freeze that was waited for had one last put.
     fn end(&self, parts: Parts) {
         let Parts { queue, desk, tags, seen, .. } = parts;
         let mut lasts = seen.lasts.load(SeqCst);
@@ -202,6 +202,7 @@ impl Play for Race {
             lasts += u32::from(tag.end_bias(&queue, 0).expect("a reference that no freezer has in hand") == Put::Last);
             back.push(tag.into_tag().expect("a tag that isn't parked"));
         }
+        assert_eq!(queue.biased.load(SeqCst), 0, "tags are counted that aren't parked, or not counted that were");
         let waited = self.freezer.iter().filter(|it| **it != GiveUp).count() as u32;
         assert!((waited..=self.freezer.len() as u32).contains(&lasts), "{lasts} last puts of {:?}", self.freezer);
         let removed = desk.into_inner().unwrap().freezer.remove(queue.queue, back);

@@ -168,6 +168,7 @@ fn a_tag_that_finds_other_limits_yields_when_it_is_out() {
         for slot in [0, slots / 2, slots - 1] {
             let log = Log::begin();
             let (queue, freezer, mut tags) = BlockQueue::new(limits(8, 0), slots, 1).expect("memory");
+            log.steps();
             let world = Rc::new(AtYields { queue, freezer: RefCell::new(freezer), log, slot });
             // Each of the others has the largest request of the wanted limits, or their chunk.
             let wanted = limits(3, 5);
