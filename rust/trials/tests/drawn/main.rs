@@ -1,6 +1,6 @@
 //! Calls that can return Memory, with sizes that are drawn over all their dimensions at once: with memory at hand none of them may give up.
-//! A call that does so above some size keeps its contract. `DRAWN_SIZES` is how many draws each test has, and `DRAWN_FROM` the first of their
-//! seeds.
+//! A call that does so above some size keeps its contract. `DRAWN_TIMES` is how many times its usual number of draws each test has, or
+//! `DRAWN_SIZES` that number; `DRAWN_FROM` is the first of their seeds.
 
 mod disks;
 mod gates;
@@ -71,7 +71,7 @@ fn number_of(name: &str, otherwise: u64) -> u64 {
 /// Makes calls by the sizes of one draw after another.
 fn draw(usual: u64, calls: impl Fn(&mut Sizes)) {
     let first = number_of("DRAWN_FROM", 0);
-    for seed in first..first + number_of("DRAWN_SIZES", usual) {
+    for seed in first..first + number_of("DRAWN_SIZES", usual * number_of("DRAWN_TIMES", 1)) {
         let mut sizes = Sizes { numbers: Numbers::from(seed), seed };
         sizes.bytes(8); // seeds that are close begin alike
         calls(&mut sizes);
