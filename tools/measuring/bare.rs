@@ -9,9 +9,11 @@ use freeze_queue::erased::queue_core as queue;
 use freeze_queue::{Limits, Queue, Tag};
 use std::env;
 use std::error::Error;
+use std::pin::pin;
 use std::process::ExitCode;
 use std::sync::atomic::{AtomicU64, Ordering::SeqCst};
 use std::sync::{Arc, Mutex};
+use std::task::{Context, Poll, Waker};
 use timing::{at_once, go_round};
 
 const HARDWARE: u32 = 64;
@@ -19,6 +21,10 @@ const HARDWARE: u32 = 64;
 /// A word that one thread writes, alone on its 128 bytes.
 #[repr(align(128))]
 struct OwnWord(AtomicU64);
+
+/// The same for the place of a tag.
+#[repr(align(128))]
+struct OwnTag(Option<Tag>);
 
 /// A look and an exchange, as the gate counts on a slot.
 fn step(word: &OwnWord, more: u64) {
@@ -100,6 +106,15 @@ fn tags_of(queue: &Queue, threads: u32) -> Result<Vec<Tag>, Box<dyn Error>> {
     Ok((0..threads).map(|_| queue.tag()).collect::<Result<_, _>>()?)
 }
 
+/// Polls a future of a live queue, which is ready at once.
+#[inline]
+fn ready<F: Future>(entering: F) -> F::Output {
+    match pin!(entering).poll(&mut Context::from_waker(Waker::noop())) {
+        Poll::Ready(done) => done,
+        Poll::Pending => panic!("the queue is live"),
+    }
+}
+
 /// Requests whose tag is borrowed, goes along with the request and comes back, is any free one, or is one of a mutex.
 fn time_requests(threads: u32, count: u32) -> Result<(), Box<dyn Error>> {
     let rounds = Rounds { what: "request", threads, count };
@@ -107,14 +122,25 @@ fn time_requests(threads: u32, count: u32) -> Result<(), Box<dyn Error>> {
     rounds.time("enter and drop", tags_of(&queue, threads)?, |tag| {
         sum_of(queue.enter(tag).expect("it is live").limits())
     });
-    let along = tags_of(&queue, threads)?.into_iter().map(Some);
-    rounds.time("enter_owned and leave", along, |tag: &mut Option<Tag>| {
+    rounds.time("enter_async and drop", tags_of(&queue, threads)?, |tag| {
+        sum_of(ready(queue.enter_async(tag)).expect("it is live").limits())
+    });
+    let of_value = Queue::builder(Limits::of_hardware(HARDWARE)).slots(threads).tags(threads).value([1, 2, 3]).build()?;
+    let tags: Vec<_> = (0..threads).map(|_| of_value.tag()).collect::<Result<_, _>>()?;
+    rounds.time("enter a `Queue<T>` and drop", tags, |tag| {
+        of_value.enter(tag).expect("it is live").iter().sum::<u32>()
+    });
+    let along = tags_of(&queue, threads)?.into_iter().map(|tag| OwnTag(Some(tag)));
+    rounds.time("enter_owned and leave", along, |OwnTag(tag)| {
         let request = queue.enter_owned(tag.take().expect("it came back")).expect("it is live");
         let sum = sum_of(request.limits());
         *tag = Some(request.leave());
         sum
     });
     rounds.time("enter_any and drop", 0..threads, |_| sum_of(queue.enter_any().expect("it is live").limits()));
+    rounds.time("enter_any_async and drop", 0..threads, |_| {
+        sum_of(ready(queue.enter_any_async()).expect("it is live").limits())
+    });
     let shelf = Mutex::new(tags_of(&queue, threads)?);
     rounds.time("enter_owned with a tag of a mutex", 0..threads, |_| {
         let tag = shelf.lock().expect("nobody panics").pop().expect("there is one for each thread");

@@ -1,6 +1,7 @@
 """Builds the programs that tools/measure times."""
 
 import glob
+import os
 import pathlib
 import subprocess
 import sys
@@ -80,6 +81,8 @@ def loops(folder):
     features = 'default = ["others"]\nothers = []' if has_others else "others = []"
     others = "\n".join(f'{name} = "{version}"' for name, version in OTHERS.items()) if has_others else ""
     (package / "Cargo.toml").write_text(PACKAGE.format(root=ROOT, features=features, others=others))
-    run("cargo", "build", "-q", "--offline", "--release", "--target-dir", package / "target", cwd=package)
+    flags = "-Cllvm-args=-x86-branches-within-32B-boundaries" if aligned() else ""
+    words = ("cargo", "build", "-q", "--offline", "--release", "--target-dir", package / "target")
+    run(*words, cwd=package, env=os.environ | {"RUSTFLAGS": flags})
     for name in ("rust-speed", "bare-speed"):
         (package / "target/release" / name).rename(pathlib.Path(folder, name))

@@ -2,10 +2,11 @@
 use crate::body::Body;
 use crate::errors::EnterError;
 use crate::line::{self, Line, Lined};
-use crate::owned::{Entered, OwnedRequest};
+use crate::owned::OwnedRequest;
 use crate::places;
 use crate::shared::Shared;
 use crate::tag::Tag;
+use crate::tasks::EnteringOwned;
 use crate::threads;
 use crate::waits::Held;
 use std::sync::Arc;
@@ -47,14 +48,7 @@ pub(crate) async fn enter_any<T>(queue: &Shared<T>) -> Result<OwnedRequest<T>, E
         Some(tag) => tag,
         None => line::wait_async::<T, AnyTag>(queue).await?,
     };
-    Ok(enter_owned(tag, true).await?)
-}
-
-/// Enters with a tag that goes along, waiting as a task.
-pub(crate) async fn enter_owned<T>(mut tag: Tag<T>, is_of_queue: bool) -> Entered<T> {
-    let (queue, state) = tag.parts_mut();
-    let entered = if is_of_queue { queue.in_as_task(state).await } else { Err(EnterError::OtherQueue) };
-    OwnedRequest::or_handed_back(tag, entered)
+    Ok(EnteringOwned::new(tag, true).await?)
 }
 
 /// A share of a queue that a future has: the queue isn't removed while it is there.

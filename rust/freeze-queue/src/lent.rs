@@ -4,7 +4,8 @@
 //!
 //! Only the step that finds the value at home, and leaves it out, makes a [`Lent`]. The `Lent` is gone before the step that
 //! leaves the value at home. So there is one at a time, and a value that isn't brought back stays out forever. Each step is
-//! sequentially consistent.
+//! sequentially consistent. A home is found only once it has a value, and a `Lent` that takes the value away isn't brought back:
+//! so there is a value as long as there is a `Lent`.
 #![expect(unsafe_code, reason = "the compiler can't know that there is one `Lent` at a time")]
 use crate::sync::AtomicU32;
 use std::cell::UnsafeCell;
@@ -17,8 +18,8 @@ const HERE: u32 = 0;
 const OUT: u32 = 1;
 /// Out, and asked for.
 const ASKED: u32 = 2;
-/// Taken away for good: nobody finds it here again.
-const ENDED: u32 = 3;
+/// There is no value yet, or it was taken away for good.
+const EMPTY: u32 = 3;
 
 /// The place of a value that is lent.
 pub(crate) struct Home<T> {
@@ -41,14 +42,16 @@ unsafe impl<T: Sync> Sync for Lent<T> {}
 impl<T> Home<T> {
     /// A home that has no value yet.
     pub(crate) fn empty() -> Home<T> {
-        Home { state: AtomicU32::new(HERE), value: UnsafeCell::new(None) }
+        Home { state: AtomicU32::new(EMPTY), value: UnsafeCell::new(None) }
     }
 
-    /// Puts a value into a home that has none.
+    /// Puts a value into a home that is empty.
     pub(crate) fn fill(&self, value: T) {
-        let mut lent = self.take().expect("nobody has it");
-        *lent.value() = Some(value);
-        lent.bring();
+        let found = self.state.swap(OUT, SeqCst);
+        assert_eq!(found, EMPTY, "a home is filled once");
+        // SAFETY: this call made the home's only step from empty, so nobody else reaches the value before it is home.
+        unsafe { *self.value.get() = Some(value) };
+        self.state.store(HERE, SeqCst);
     }
 
     /// Whether the value was home at some moment of the call.
@@ -93,25 +96,25 @@ impl<T> Lent<T> {
     }
 
     /// Takes the value away for good, and leaves its home empty.
-    pub(crate) fn end(mut self) -> T {
-        let value = self.value().take();
-        self.home().state.store(ENDED, SeqCst);
-        value.expect(THERE)
+    pub(crate) fn end(self) -> T {
+        let value = self.take_out();
+        self.home().state.store(EMPTY, SeqCst);
+        value
     }
 
     /// Drops the value, whose home counts it as out forever.
-    pub(crate) fn strand(mut self) {
-        drop(self.value().take());
+    pub(crate) fn strand(self) {
+        drop(self.take_out());
     }
 
-    #[inline]
-    fn value(&mut self) -> &mut Option<T> {
-        // SAFETY: there is no other `Lent`, and this one is borrowed alone.
-        unsafe { &mut *self.home().value.get() }
+    /// The value, which is gone from its home. The caller lets this `Lent` go.
+    fn take_out(&self) -> T {
+        // SAFETY: there is no other `Lent`, and this one is used no more.
+        let value = unsafe { &mut *self.home().value.get() };
+        // SAFETY: a home that lends has a value.
+        unsafe { value.take().unwrap_unchecked() }
     }
 }
-
-const THERE: &str = "a value is there until it ends";
 
 impl<T> Deref for Lent<T> {
     type Target = T;
@@ -120,14 +123,18 @@ impl<T> Deref for Lent<T> {
     fn deref(&self) -> &T {
         // SAFETY: there is no other `Lent`, and this one is borrowed.
         let value = unsafe { &*self.home().value.get() };
-        value.as_ref().expect(THERE)
+        // SAFETY: a home that lends has a value.
+        unsafe { value.as_ref().unwrap_unchecked() }
     }
 }
 
 impl<T> DerefMut for Lent<T> {
     #[inline]
     fn deref_mut(&mut self) -> &mut T {
-        self.value().as_mut().expect(THERE)
+        // SAFETY: there is no other `Lent`, and this one is borrowed alone.
+        let value = unsafe { &mut *self.home().value.get() };
+        // SAFETY: a home that lends has a value.
+        unsafe { value.as_mut().unwrap_unchecked() }
     }
 }
 

@@ -1,10 +1,12 @@
 //! A request that takes its tag along.
+use crate::body::{Body, Parts};
 use crate::errors::{EnterError, LimitsError};
 use crate::handed_back::HandedBack;
 use crate::limits::Limits;
 use crate::pieces::Pieces;
 use crate::shared::Shared;
-use crate::tag::Tag;
+use crate::tag::{self, Tag};
+use std::mem::ManuallyDrop;
 
 /// A request that has entered with a tag that it takes along. It borrows nothing, keeps the memory of its queue alive, and
 /// may end on any thread.
@@ -32,17 +34,24 @@ use crate::tag::Tag;
 /// ```
 #[must_use = "an unused request leaves at once"]
 pub struct OwnedRequest<T = ()> {
-    /// None after it was taken.
-    tag: Tag<T>,
+    /// A tag that has entered its queue. None after it was taken.
+    body: Option<Body<T>>,
 }
+
+const THERE: &str = "it is there until it is dropped";
 
 /// The request, or the tag and the reason why it didn't enter.
 pub(crate) type Entered<T> = Result<OwnedRequest<T>, HandedBack<Tag<T>, EnterError>>;
 
 impl<T> OwnedRequest<T> {
     #[inline]
+    fn parts(&self) -> &Parts<T> {
+        self.body.as_ref().expect(THERE)
+    }
+
+    #[inline]
     pub(crate) fn queue(&self) -> &Shared<T> {
-        &self.tag.parts().shared
+        &self.parts().shared
     }
 
     /// Returns the number of its tag ([`Tag::number`]), which [`Queue::in_flight`](crate::Queue::in_flight) lists.
@@ -58,13 +67,13 @@ impl<T> OwnedRequest<T> {
     #[inline]
     #[must_use]
     pub fn tag_number(&self) -> usize {
-        self.tag.number()
+        self.parts().state.number
     }
 
     #[inline]
-    pub(crate) fn or_handed_back(tag: Tag<T>, entered: Result<(), EnterError>) -> Entered<T> {
+    pub(crate) fn or_handed_back(mut tag: Tag<T>, entered: Result<(), EnterError>) -> Entered<T> {
         match entered {
-            Ok(()) => Ok(OwnedRequest { tag }),
+            Ok(()) => Ok(OwnedRequest { body: tag.body.take() }),
             Err(reason) => Err(HandedBack { value: tag, reason }),
         }
     }
@@ -81,8 +90,8 @@ impl<T> OwnedRequest<T> {
     /// ```
     #[inline]
     #[must_use = "to give the tag back, drop the request instead"]
-    pub fn leave(mut self) -> Tag<T> {
-        let mut tag = self.tag.take(); // before a waker is called, which may panic: it leaves once
+    pub fn leave(self) -> Tag<T> {
+        let mut tag = Tag { body: ManuallyDrop::new(self).body.take() }; // so that it leaves once, even if a waker panics
         let (queue, state) = tag.parts_mut();
         queue.leave(state);
         tag
@@ -100,7 +109,7 @@ impl<T> OwnedRequest<T> {
     #[inline]
     #[must_use]
     pub fn limits(&self) -> &Limits {
-        &self.tag.parts().state.limits
+        &self.parts().state.limits
     }
 
     /// Returns the pieces of the `count` sectors from `start` on, in order, by the limits in force. Linux: `get_max_io_size`
@@ -125,11 +134,10 @@ impl<T> OwnedRequest<T> {
 }
 
 impl<T> Drop for OwnedRequest<T> {
-    #[inline]
+    #[inline(always)]
     fn drop(&mut self) {
-        let tag = self.tag.take();
-        if tag.is_there() {
-            tag.leave_and_go_home();
+        if let Some(body) = self.body.take() {
+            tag::leave_and_go_home(body);
         }
     }
 }

@@ -39,6 +39,7 @@ impl<T> Places<T> {
         &self.all
     }
 
+    #[inline]
     pub(crate) fn is_reserved(&self, number: usize) -> bool {
         number < self.reserved
     }
@@ -54,9 +55,15 @@ impl<T> Places<T> {
         &self.all()[..self.reserved]
     }
 
+    /// Returns the tag of this number if it is home and not reserved.
+    #[inline]
+    pub(crate) fn try_take_at(&self, number: usize) -> Option<Body<T>> {
+        let home = &self.all().get(number).filter(|_| !self.is_reserved(number))?.home;
+        if home.is_here() { home.take() } else { None }
+    }
+
     /// Returns a tag that is home and not reserved, searching from this place on, and its number. It may miss a tag that
     /// comes home meanwhile.
-    #[inline]
     pub(crate) fn try_take(&self, from: usize) -> Option<(usize, Body<T>)> {
         let places = self.any();
         let first = from.wrapping_sub(self.reserved);
@@ -112,6 +119,8 @@ mod tests {
                 let found = shared.places.try_take(from).map(|(at, tag)| (at, Tag::of(tag).number()));
                 let is_reserved = number < RESERVED as usize;
                 assert_eq!(found, (!is_reserved).then_some((number, number)), "from {from}");
+                let at_once = shared.places.try_take_at(from).map(|tag| Tag::of(tag).number());
+                assert_eq!(at_once, (from == number && !is_reserved).then_some(number), "at {from}");
             }
             tags.push(queue.tag().unwrap());
         }

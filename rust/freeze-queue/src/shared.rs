@@ -9,12 +9,12 @@ use crate::limits::Limits;
 use crate::line::Notify;
 use crate::pause::Pause;
 use crate::places::{self, Place, Places};
+use crate::request::Request;
 use crate::seats::wake_each;
 use crate::tag::Tag;
 use crate::threads;
 use crate::value::Value;
 use crate::waits::{Held, Waits};
-use std::future;
 use std::iter;
 use std::mem;
 use std::num::NonZeroU64;
@@ -44,7 +44,7 @@ pub(crate) struct Shared<T> {
 impl<T> Shared<T> {
     /// Enters by the tag's bias: by a store and a load. Returns whether it did.
     #[inline(always)]
-    fn in_by_bias(&self, tag: &mut TagState) -> bool {
+    pub(crate) fn in_by_bias(&self, tag: &mut TagState) -> bool {
         !self.is_watched() && tag.erased.try_enter_biased(&self.erased)
     }
 
@@ -60,6 +60,7 @@ impl<T> Shared<T> {
     }
 
     /// Enters with a tag that didn't by its bias, or returns why not.
+    #[cold]
     #[inline(never)]
     fn in_slowly(&self, tag: &mut TagState) -> Result<(), EnterError> {
         self.in_by_gate(tag, EnterError::Frozen, BiasedTag::try_enter)
@@ -140,18 +141,25 @@ impl<T> Shared<T> {
         }
     }
 
-    /// Enters, waiting as a task.
-    #[inline]
-    pub(crate) async fn in_as_task(&self, tag: &mut TagState) -> Result<(), EnterError> {
-        match self.in_at_once(tag) {
-            Err(EnterError::Frozen) => {}
-            done => return done,
-        }
-        let noted = Noted { queue: self, tag };
-        future::poll_fn(|context| noted.queue.in_or_noted(noted.tag, context)).await
+    /// Enters, or returns why not; or the task waits, and the context's waker is noted.
+    #[inline(always)]
+    pub(crate) fn poll_enter(&self, tag: &mut TagState, context: &Context<'_>) -> Poll<Result<(), EnterError>> {
+        if self.in_by_bias(tag) { Poll::Ready(Ok(())) } else { self.poll_enter_slowly(tag, context) }
     }
 
-    /// Enters, or returns why not; or it waits, and the context's waker is noted.
+    #[cold]
+    #[inline(never)]
+    fn poll_enter_slowly(&self, tag: &mut TagState, context: &Context<'_>) -> Poll<Result<(), EnterError>> {
+        let polled = catch_unwind(AssertUnwindSafe(|| self.in_or_noted(tag, context)));
+        if matches!(polled, Ok(Poll::Pending)) {
+            return Poll::Pending;
+        }
+        let noted = self.forget_waker(tag);
+        let request = polled.unwrap_or_else(|panic| resume_unwind(panic)).map_ok(|()| Request::of(self, tag));
+        drop(noted); // may panic: then the request leaves
+        request.map_ok(mem::forget)
+    }
+
     fn in_or_noted(&self, tag: &mut TagState, context: &Context<'_>) -> Poll<Result<(), EnterError>> {
         loop {
             match self.in_at_once(tag) {
@@ -168,7 +176,13 @@ impl<T> Shared<T> {
     /// Removes the waker that a future left for this tag, if it did: no future waits with the tag any more.
     #[inline]
     pub(crate) fn forget_waker(&self, tag: &mut TagState) -> Option<Waker> {
-        if mem::take(&mut tag.is_noted) { self.waits.lock().seats.forget(tag.number) } else { None }
+        if tag.is_noted { self.forget_noted(tag) } else { None }
+    }
+
+    #[cold]
+    fn forget_noted(&self, tag: &mut TagState) -> Option<Waker> {
+        tag.is_noted = false;
+        self.waits.lock().seats.forget(tag.number)
     }
 
     /// Enters by the deadline. At the last try the queue was frozen.
@@ -222,14 +236,21 @@ impl<T> Shared<T> {
     /// A tag of this queue that has entered leaves.
     #[inline(always)]
     pub(crate) fn leave(&self, tag: &mut TagState) {
-        if !tag.erased.leave_biased(&self.erased) {
+        if !self.left_by_bias(tag) {
             self.leave_slowly(tag);
         }
     }
 
+    /// Leaves by the tag's bias: by a store and a load. Returns whether it did.
+    #[inline(always)]
+    pub(crate) fn left_by_bias(&self, tag: &mut TagState) -> bool {
+        tag.erased.leave_biased(&self.erased)
+    }
+
     /// A tag without a bias, or whose bias is over, leaves. If it had none, it becomes biased if it may.
+    #[cold]
     #[inline(never)]
-    fn leave_slowly(&self, tag: &mut TagState) {
+    pub(crate) fn leave_slowly(&self, tag: &mut TagState) {
         let had_bias = tag.erased.is_biased();
         let put = if had_bias {
             tag.erased.end_bias(&self.erased, tag.slot)
@@ -264,16 +285,25 @@ impl<T> Shared<T> {
     #[inline]
     pub(crate) fn try_any(&self) -> Option<Tag<T>> {
         let (thread, from) = threads::hint();
-        let (number, mut tag) = self.places.try_take(from)?;
+        let mut tag = match self.places.try_take_at(from) {
+            Some(tag) => tag,
+            None => self.try_other(thread, from)?,
+        };
         let slot = self.slot_of(thread);
         // Mostly they are equal already, and a store delays the exchange that comes next.
-        if number != from {
-            threads::note(thread, number);
-        }
         if tag.state.slot != slot {
             tag.state.slot = slot;
         }
         Some(Tag::of(tag))
+    }
+
+    /// Returns another tag that is home and not reserved, at which the thread's next search begins.
+    #[cold]
+    #[inline(never)]
+    fn try_other(&self, thread: u32, from: usize) -> Option<Body<T>> {
+        let (number, tag) = self.places.try_take(from)?;
+        threads::note(thread, number);
+        Some(tag)
     }
 
     /// Returns a tag that is home in one of these places, searching under the lock. `None` only if none was home at some
@@ -339,17 +369,4 @@ pub(crate) fn entering<T>(share: Arc<Shared<T>>) -> impl Iterator<Item = Notify>
         }
         waker.map(Notify::Task)
     })
-}
-
-/// A tag with which a future waits. Dropping it removes the noted waker.
-struct Noted<'e, T> {
-    queue: &'e Shared<T>,
-    tag: &'e mut TagState,
-}
-
-impl<T> Drop for Noted<'_, T> {
-    fn drop(&mut self) {
-        let noted = self.queue.forget_waker(self.tag);
-        drop(noted);
-    }
 }

@@ -23,7 +23,7 @@ use std::sync::Arc;
 /// ```
 pub struct Tag<T = ()> {
     /// None after it was given back.
-    body: Option<Body<T>>,
+    pub(crate) body: Option<Body<T>>,
 }
 
 impl<T> Tag<T> {
@@ -47,23 +47,6 @@ impl<T> Tag<T> {
     pub(crate) fn parts_mut(&mut self) -> (&Arc<Shared<T>>, &mut TagState) {
         let Parts { state, shared } = &mut **self.body.as_mut().expect("it is there until it is dropped");
         (shared, state)
-    }
-
-    /// Its request leaves, and the tag goes home, even if a waker panics. (Out of line, so that
-    /// [`OwnedRequest::leave`](crate::OwnedRequest::leave) inlines.)
-    #[inline(never)]
-    pub(crate) fn leave_and_go_home(mut self) {
-        let (queue, state) = self.parts_mut();
-        queue.leave(state);
-        if let Some(body) = self.body.take() {
-            bring(body);
-        }
-    }
-
-    /// Whether it wasn't taken.
-    #[inline]
-    pub(crate) fn is_there(&self) -> bool {
-        self.body.is_some()
     }
 
     /// The part that changes as the tag is used, if it is a tag of this queue.
@@ -115,6 +98,22 @@ impl<T> Drop for Tag<T> {
     }
 }
 
+/// The request of a tag leaves, and the tag goes home.
+#[inline(always)]
+pub(crate) fn leave_and_go_home<T>(mut body: Body<T>) {
+    let Parts { state, shared } = &mut *body;
+    if shared.left_by_bias(state) { bring(body) } else { leave_slowly_and_go_home(body) }
+}
+
+/// The same, even if a waker panics.
+#[cold]
+#[inline(never)]
+fn leave_slowly_and_go_home<T>(body: Body<T>) {
+    let mut tag = Tag::of(body);
+    let (queue, state) = tag.parts_mut();
+    queue.leave_slowly(state);
+}
+
 /// The tag goes home, unless its request was leaked: then it is out forever.
 #[inline(never)]
 fn go_home<T>(body: Body<T>) {
@@ -126,11 +125,20 @@ fn go_home<T>(body: Body<T>) {
 
 /// A tag that has left goes home.
 #[inline]
-fn bring<T>(mut body: Body<T>) {
-    let Parts { state, shared } = &mut *body;
-    let noted = shared.forget_waker(state);
+fn bring<T>(body: Body<T>) {
+    if body.state.is_noted {
+        return bring_noted(body);
+    }
     if let Some(asked_for) = body.bring_unless_asked() {
         shared::hand_over(asked_for);
     }
+}
+
+/// A tag goes home whose waker may still be noted.
+#[cold]
+fn bring_noted<T>(mut body: Body<T>) {
+    let Parts { state, shared } = &mut *body;
+    let noted = shared.forget_waker(state);
+    bring(body);
     drop(noted);
 }

@@ -1,9 +1,80 @@
-//! Tasks that wait at a queue for a condition: that it is drained, or that others have entered.
+//! Tasks that wait at a queue: to enter, or for a condition, that it is drained or that others have entered.
+use crate::body::TagState;
+use crate::errors::EnterError;
 use crate::line::{Line, Notify};
+use crate::owned::{Entered, OwnedRequest};
+use crate::request::Request;
 use crate::shared::Shared;
+use crate::tag::Tag;
 use crate::waits::Held;
 use std::future;
-use std::task::{Context, Poll};
+use std::pin::Pin;
+use std::task::{Context, Poll, ready};
+
+/// Enters with a borrowed tag: at its first poll, unless the queue is frozen. Dropping it removes its waker.
+pub(crate) struct Entering<'e, T> {
+    /// The queue, and the tag unless it is another queue's. None once it is ready.
+    by: Option<(&'e Shared<T>, Option<&'e mut TagState>)>,
+}
+
+impl<'e, T> Entering<'e, T> {
+    #[inline]
+    pub(crate) fn new(queue: &'e Shared<T>, tag: Option<&'e mut TagState>) -> Self {
+        Entering { by: Some((queue, tag)) }
+    }
+}
+
+impl<'e, T> Future for Entering<'e, T> {
+    type Output = Result<Request<'e, T>, EnterError>;
+
+    #[inline(always)]
+    fn poll(mut self: Pin<&mut Self>, context: &mut Context<'_>) -> Poll<Self::Output> {
+        let (queue, tag) = self.by.take().expect("it isn't polled once it is ready");
+        let Some(tag) = tag else { return Poll::Ready(Err(EnterError::OtherQueue)) };
+        match queue.poll_enter(tag, context) {
+            Poll::Ready(entered) => Poll::Ready(entered.map(|()| Request::of(queue, tag))),
+            Poll::Pending => {
+                self.by = Some((queue, Some(tag)));
+                Poll::Pending
+            }
+        }
+    }
+}
+
+impl<T> Drop for Entering<'_, T> {
+    #[inline]
+    fn drop(&mut self) {
+        if let Some((queue, Some(tag))) = &mut self.by {
+            let noted = queue.forget_waker(tag);
+            drop(noted);
+        }
+    }
+}
+
+/// The same with a tag that goes along. Dropping it gives the tag back, which removes its waker.
+pub(crate) struct EnteringOwned<T> {
+    tag: Tag<T>,
+    is_of_queue: bool,
+}
+
+impl<T> EnteringOwned<T> {
+    #[inline]
+    pub(crate) fn new(tag: Tag<T>, is_of_queue: bool) -> Self {
+        EnteringOwned { tag, is_of_queue }
+    }
+}
+
+impl<T> Future for EnteringOwned<T> {
+    type Output = Entered<T>;
+
+    #[inline(always)]
+    fn poll(mut self: Pin<&mut Self>, context: &mut Context<'_>) -> Poll<Self::Output> {
+        let is_of_queue = self.is_of_queue;
+        let (queue, tag) = self.tag.parts_mut();
+        let entered = if is_of_queue { ready!(queue.poll_enter(tag, context)) } else { Err(EnterError::OtherQueue) };
+        Poll::Ready(OwnedRequest::or_handed_back(self.tag.take(), entered))
+    }
+}
 
 /// A waiting task. Dropping it removes its waker.
 struct Noted<'q, T> {

@@ -266,6 +266,38 @@ fn the_drop_of_a_waker_panics() {
     assert!(queue.enter(&mut tag).is_ok());
 }
 
+/// Runs a closure as it is woken.
+struct Runs(Mutex<Option<Box<dyn FnOnce() + Send>>>);
+
+impl Wake for Runs {
+    fn wake(self: Arc<Self>) {
+        let run = self.0.lock().unwrap().take();
+        run.expect("it is woken once")();
+    }
+}
+
+/// A future is polled between the thaw and its own wake, and the drop of its waker panics as it enters: its request leaves.
+#[test]
+fn the_drop_of_a_waker_panics_as_its_future_enters() {
+    let (queue, mut tags) = with_tags(2);
+    let mut first = tags.remove(0);
+    let frozen = queue.freeze().unwrap();
+    let mut second = Box::pin(queue.enter_owned_async(tags.remove(0)));
+    let last = Waker::from(Arc::new(PanicsAtItsEnd));
+    assert!(polled(&mut second, &last).is_pending());
+    drop(last);
+    let is_panicked = Arc::new(Mutex::new(None));
+    let told = Arc::clone(&is_panicked);
+    let polls = move || *told.lock().unwrap() = Some(panics(|| polled(&mut second, Waker::noop())));
+    let mut entering = Box::pin(queue.enter_async(&mut first));
+    let runs = Waker::from(Arc::new(Runs(Mutex::new(Some(Box::new(polls))))));
+    assert!(polled(&mut entering, &runs).is_pending());
+    drop(frozen);
+    assert_eq!(*is_panicked.lock().unwrap(), Some(true));
+    assert!(queue.try_freeze().is_ok(), "the request left");
+    assert!(queue.tag().is_ok(), "and its tag was given back");
+}
+
 /// A waker panics that the drain wakes: the request has left, its tag is home, the others are woken, and the panic goes on.
 #[test]
 fn a_waker_of_the_drain_panics() {

@@ -11,14 +11,21 @@ use super::fallible::AllocError;
 use super::{AtomicU64, fences, past_the_end};
 use alloc::vec::Vec;
 use core::sync::atomic::Ordering::{self, Acquire, Relaxed, Release, SeqCst};
-use core::{cell::UnsafeCell, marker::PhantomData, mem, sync::atomic};
+use core::{cell::UnsafeCell, marker::PhantomData, mem, ptr, ptr::NonNull, sync::atomic};
 
 pub use super::fences::heavy_fence;
 
 /// The right to step on a table. It moves between threads by ownership, and a step borrows it.
 pub struct Seat<S> {
     made_here: PhantomData<S>,
+    /// The word of the lane that the seat claimed, if the heavy fence orders the owners' steps.
+    lane: Option<NonNull<Word>>,
 }
+
+// SAFETY: the word is atomic, and what C keeps beside it isn't reached by a seat. The table outlives the last step of each seat.
+unsafe impl<S: Send> Send for Seat<S> {}
+// SAFETY: the same; each step borrows its seat alone.
+unsafe impl<S: Sync> Sync for Seat<S> {}
 
 /// The epoch, on a line that requests only read.
 #[repr(align(128))]
@@ -84,23 +91,25 @@ impl<S> Shared<S> {
     /// Stores a word before a load that the heavy fence orders with it.
     #[inline(always)]
     #[track_caller]
-    pub fn store_relaxed(&self, _seat: &mut Seat<S>, word: usize, new: u64) {
-        self.store_lightly(word, new, Relaxed);
+    pub fn store_relaxed(&self, seat: &mut Seat<S>, word: usize, new: u64) {
+        self.store_lightly(seat, word, new, Relaxed);
     }
 
     /// Stores a word before such a load, and behind all that this thread did before.
     #[inline(always)]
     #[track_caller]
-    pub fn store_release(&self, _seat: &mut Seat<S>, word: usize, new: u64) {
-        self.store_lightly(word, new, Release);
+    pub fn store_release(&self, seat: &mut Seat<S>, word: usize, new: u64) {
+        self.store_lightly(seat, word, new, Release);
     }
 
-    /// Stores a word, which isn't the epoch, before such a load, in this order if there is a heavy fence.
+    /// Stores the word of the lane that the seat claimed before such a load, in this order if there is a heavy fence.
     #[inline(always)]
     #[track_caller]
-    fn store_lightly(&self, word: usize, new: u64, order: Ordering) {
-        let Some(found) = self.light.get(word - 1) else { return self.store_and_fence(word, new) };
-        found.word.store(new, order);
+    fn store_lightly(&self, seat: &mut Seat<S>, word: usize, new: u64, order: Ordering) {
+        let Some(lane) = seat.lane else { return self.store_and_fence(word, new) };
+        debug_assert!(self.light.get(word - 1).is_some_and(|it| ptr::eq(it, lane.as_ptr())), "a word of another lane");
+        // SAFETY: the seat claimed a lane of this table, which is borrowed meanwhile.
+        unsafe { lane.as_ref() }.word.store(new, order);
         fences::light_fence();
     }
 
@@ -120,6 +129,13 @@ impl<S> Shared<S> {
         self.at(word).compare_exchange(old, new, SeqCst, SeqCst).unwrap_or_else(|found| found)
     }
 
+    /// Stores `new` if the word of a cell is `old`. The seat's lighter steps are on the word of the cell's lane from now on.
+    #[track_caller]
+    pub fn claim(&self, seat: &mut Seat<S>, cell: usize, old: u64, new: u64) -> u64 {
+        seat.lane = self.light.get(cell - 2).map(NonNull::from);
+        self.compare_exchange(seat, cell, old, new)
+    }
+
     /// Puts a value into a cell that this seat took, and returns what lay there.
     #[track_caller]
     pub fn exchange(&self, _seat: &mut Seat<S>, cell: usize, new: S) -> S {
@@ -135,7 +151,7 @@ impl<S> Shared<S> {
     /// Loads a word with a new seat.
     #[track_caller]
     pub fn load_new_seat(&self, word: usize) -> (u64, Seat<S>) {
-        (self.at(word).load(SeqCst), Seat { made_here: PhantomData })
+        (self.at(word).load(SeqCst), Seat { made_here: PhantomData, lane: None })
     }
 }
 
@@ -155,6 +171,6 @@ impl<T> Table<Option<T>> {
         made.resize_with(cells, || UnsafeCell::new(None));
         let (light, heavy) = if fences::has_heavy_fence() { (lines, Vec::new()) } else { (Vec::new(), lines) };
         let shared = Shared { epoch: Epoch(AtomicU64::new(words[0])), light, heavy, cells: made };
-        Ok((Table { shared }, Seat { made_here: PhantomData }))
+        Ok((Table { shared }, Seat { made_here: PhantomData, lane: None }))
     }
 }

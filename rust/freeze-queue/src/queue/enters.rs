@@ -5,6 +5,7 @@ use crate::errors::EnterError;
 use crate::request::Request;
 use crate::shared::Shared;
 use crate::tag::Tag;
+use crate::tasks::Entering;
 use std::time::{Duration, Instant};
 
 impl<T> Queue<T> {
@@ -126,10 +127,12 @@ impl<T> Queue<T> {
     /// # assert_eq!(done, std::task::Poll::Ready(64));
     /// # Ok::<(), Box<dyn std::error::Error>>(())
     /// ```
-    pub async fn enter_async<'e>(&'e self, tag: &'e mut Tag<T>) -> Result<Request<'e, T>, EnterError> {
-        let (queue, tag) = (&*self.shared, tag.state_of(&self.shared).ok_or(EnterError::OtherQueue)?);
-        queue.in_as_task(tag).await?;
-        Ok(Request::of(queue, tag))
+    #[inline]
+    pub fn enter_async<'e>(
+        &'e self,
+        tag: &'e mut Tag<T>,
+    ) -> impl Future<Output = Result<Request<'e, T>, EnterError>> + use<'e, T> {
+        Entering::new(&self.shared, tag.state_of(&self.shared))
     }
 
     #[inline]

@@ -65,11 +65,12 @@ impl<T> Queue<T> {
 
     #[inline]
     fn any_by(&self, deadline: Option<Instant>) -> Result<OwnedRequest<T>, EnterError> {
-        let tag = match self.shared.try_any() {
+        let mut tag = match self.shared.try_any() {
             Some(tag) => tag,
             None => line::wait::<T, AnyTag>(&self.shared, deadline)?,
         };
-        Ok(self.enters_owned(tag, |queue, tag| queue.in_by(tag, || deadline))?)
+        let entered = self.shared.in_by(tag.parts_mut().1, || deadline);
+        Ok(OwnedRequest::or_handed_back(tag, entered)?)
     }
 
     /// Enters with any tag as [`enter_any`](Queue::enter_any) does, or refuses at once. Linux: `blk_mq_alloc_request` with

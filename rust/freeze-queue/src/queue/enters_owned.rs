@@ -1,11 +1,11 @@
 //! Entering with a tag that the request takes along.
 use super::Queue;
 use crate::body::TagState;
-use crate::enter_any;
 use crate::errors::EnterError;
 use crate::owned::{Entered, OwnedRequest};
 use crate::shared::Shared;
 use crate::tag::Tag;
+use crate::tasks::EnteringOwned;
 use std::time::{Duration, Instant};
 
 impl<T> Queue<T> {
@@ -115,9 +115,10 @@ impl<T> Queue<T> {
     /// assert_eq!(request?.limits().max, 64);
     /// # Ok::<(), Box<dyn std::error::Error + Send + Sync>>(())
     /// ```
+    #[inline]
     pub fn enter_owned_async(&self, mut tag: Tag<T>) -> impl Future<Output = Entered<T>> + use<T> {
         let is_of_queue = tag.state_of(&self.shared).is_some();
-        enter_any::enter_owned(tag, is_of_queue)
+        EnteringOwned::new(tag, is_of_queue)
     }
 
     #[inline(always)]
