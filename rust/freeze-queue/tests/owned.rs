@@ -1,7 +1,7 @@
 //! Requests with a tag of their own: what goes from thread to thread, each way to enter, and a refusal with its tag.
 use freeze_queue::{
-    EnterError, FreezeError, Freezing, Frozen, HandedBack, OwnedFreezing, OwnedFrozen, OwnedRequest, Queue, Request,
-    Tag,
+    EnterError, Final, FreezeError, Freezing, Frozen, HandedBack, OwnedFreezing, OwnedFrozen, OwnedRequest, Queue,
+    RemoveError, Request, Tag,
 };
 use std::error::Error;
 use std::pin::Pin;
@@ -110,4 +110,36 @@ fn the_owned_forms() {
     assert_eq!(refused.reason, EnterError::Dying);
     drop(refused.value);
     queue.remove().unwrap();
+}
+
+#[test]
+fn a_request_that_takes_its_tag_along() {
+    let queue = queue(1, 1);
+    let request = queue.enter_owned(queue.tag().unwrap()).unwrap();
+    assert_eq!(request.limits(), &LIMITS);
+    assert_eq!(request.pieces(0, 65).unwrap().map(|piece| piece.sectors).collect::<Vec<_>>(), [32, 32, 1]);
+    assert_eq!(queue.try_freeze().unwrap_err(), FreezeError::NotDrained);
+    let tag = request.leave();
+    let frozen = queue.try_freeze().unwrap();
+    let refused = queue.try_enter_owned(tag).unwrap_err();
+    assert_eq!(refused.reason, EnterError::Frozen);
+    drop(frozen);
+    drop(queue.try_enter_owned(refused.value).unwrap()); // it leaves, and its tag goes home
+    assert!(queue.try_freeze().is_ok());
+    assert_eq!(queue.remove().unwrap().limits, LIMITS);
+}
+
+#[test]
+fn the_question_mark_drops_what_is_handed_back() {
+    fn removes(queue: Queue, _out: Tag) -> Result<Final, RemoveError> {
+        Ok(queue.remove()?)
+    }
+    fn enters(queue: &Queue, tag: Tag) -> Result<(), EnterError> {
+        drop(queue.enter_owned(tag)?);
+        Ok(())
+    }
+    let (here, there) = (queue(1, 2), queue(1, 1));
+    assert_eq!(enters(&there, here.tag().unwrap()), Err(EnterError::OtherQueue));
+    let out = here.tag().unwrap();
+    assert_eq!(removes(here, out), Err(RemoveError::TagsOut));
 }

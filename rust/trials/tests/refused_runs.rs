@@ -1,6 +1,6 @@
-//! Runs whole scripts with each allocation refused in turn. Each run answers `memory` or `thread`, or completes if it didn't need
-//! the memory. It frees its blocks, and has drained the queue after the last request that entered. It isn't begun
-//! again: no request passes a point twice, and the input is read to its end once.
+//! Runs whole scripts with each allocation refused in turn, or every third one of the longest script. Each run answers `memory` or
+//! `thread`, or completes if it didn't need the memory. It frees its blocks, and has drained the queue after the last request that
+//! entered. It isn't begun again: no request passes a point twice, and the input is read to its end once.
 //!
 //! Each run is a process of its own, since std aborts if memory for a thread is refused. The test counts these aborts, and checks
 //! that each is of a size that std asks for: no allocation of the erased code may abort.
@@ -41,8 +41,10 @@ fn is_refused() -> bool {
 static ALLOCATOR: Refusing =
     Refusing { is_refused, count: |blocks, _bytes| _ = BLOCKS.fetch_add(blocks, Ordering::Relaxed) };
 
+/// The number of allocations from which not all are refused.
+const MANY: i64 = 2_000;
 /// Maximum number of requests of an example.
-const REQUESTS: usize = 200;
+const REQUESTS: usize = 1_100;
 
 /// How a run passes its points.
 struct Points {
@@ -191,7 +193,8 @@ fn fault_of(status: Option<i32>, said: &str) -> (Option<String>, bool) {
     }
 }
 
-/// Runs an example with each of its allocations refused. Returns how often std aborted.
+/// Runs an example with each of its allocations refused, or with every third one if there are thousands. Returns how often std
+/// aborted.
 fn each_refused(example: &Path) -> u32 {
     let run = |allowed: i64| {
         let mut command = Command::new(current_exe().unwrap());
@@ -201,7 +204,8 @@ fn each_refused(example: &Path) -> u32 {
     assert_eq!(all.status.code(), Some(0), "{example:?} with nothing refused");
     let asked: i64 = String::from_utf8_lossy(&all.stdout).trim().parse().unwrap();
     let mut aborts = 0;
-    for allowed in 0..asked + 3 {
+    let step = 1 + usize::try_from(asked / MANY).unwrap();
+    for allowed in (0..asked + 3).step_by(step) {
         let done = run(allowed);
         let (fault, is_of_std) = fault_of(done.status.code(), &String::from_utf8_lossy(&done.stderr));
         assert_eq!(fault, None, "{example:?} with allocation {allowed} refused");
