@@ -141,16 +141,26 @@ impl<T> Shared<T> {
         }
     }
 
-    /// Enters, or returns why not; or the task waits, and the context's waker is noted.
+    /// Enters, or returns why not; or the task waits, perhaps for the first time, and the context's waker is noted.
     #[inline(always)]
-    pub(crate) fn poll_enter(&self, tag: &mut TagState, context: &Context<'_>) -> Poll<Result<(), EnterError>> {
-        if self.in_by_bias(tag) { Poll::Ready(Ok(())) } else { self.poll_enter_slowly(tag, context) }
+    pub(crate) fn poll_enter(
+        &self,
+        tag: &mut TagState,
+        context: &Context<'_>,
+        is_first: bool,
+    ) -> Poll<Result<(), EnterError>> {
+        if self.in_by_bias(tag) { Poll::Ready(Ok(())) } else { self.poll_enter_slowly(tag, context, is_first) }
     }
 
     #[cold]
     #[inline(never)]
-    fn poll_enter_slowly(&self, tag: &mut TagState, context: &Context<'_>) -> Poll<Result<(), EnterError>> {
-        let polled = catch_unwind(AssertUnwindSafe(|| self.in_or_noted(tag, context)));
+    fn poll_enter_slowly(
+        &self,
+        tag: &mut TagState,
+        context: &Context<'_>,
+        is_first: bool,
+    ) -> Poll<Result<(), EnterError>> {
+        let polled = catch_unwind(AssertUnwindSafe(|| self.in_or_noted(tag, context, is_first)));
         if matches!(polled, Ok(Poll::Pending)) {
             return Poll::Pending;
         }
@@ -160,14 +170,14 @@ impl<T> Shared<T> {
         request.map_ok(mem::forget)
     }
 
-    fn in_or_noted(&self, tag: &mut TagState, context: &Context<'_>) -> Poll<Result<(), EnterError>> {
+    fn in_or_noted(&self, tag: &mut TagState, context: &Context<'_>, is_first: bool) -> Poll<Result<(), EnterError>> {
         loop {
             match self.in_at_once(tag) {
                 Err(EnterError::Frozen) => {}
                 done => return Poll::Ready(done),
             }
             let mut waker = Some(context.waker().clone()); // before the lock, since it is somebody's code
-            if self.waits.lock().notes(tag, &mut waker) {
+            if self.waits.lock().notes(tag, &mut waker, is_first) {
                 return Poll::Pending; // here the waker that was noted before is dropped, which may panic as well
             }
         }

@@ -8,6 +8,7 @@ use crate::shared::Shared;
 use crate::tag::Tag;
 use crate::waits::Held;
 use std::future;
+use std::mem;
 use std::pin::Pin;
 use std::task::{Context, Poll, ready};
 
@@ -15,12 +16,13 @@ use std::task::{Context, Poll, ready};
 pub(crate) struct Entering<'e, T> {
     /// The queue, and the tag unless it is another queue's. None once it is ready.
     by: Option<(&'e Shared<T>, Option<&'e mut TagState>)>,
+    has_waited: bool,
 }
 
 impl<'e, T> Entering<'e, T> {
     #[inline]
     pub(crate) fn new(queue: &'e Shared<T>, tag: Option<&'e mut TagState>) -> Self {
-        Entering { by: Some((queue, tag)) }
+        Entering { by: Some((queue, tag)), has_waited: false }
     }
 }
 
@@ -31,10 +33,10 @@ impl<'e, T> Future for Entering<'e, T> {
     fn poll(mut self: Pin<&mut Self>, context: &mut Context<'_>) -> Poll<Self::Output> {
         let (queue, tag) = self.by.take().expect("it isn't polled once it is ready");
         let Some(tag) = tag else { return Poll::Ready(Err(EnterError::OtherQueue)) };
-        match queue.poll_enter(tag, context) {
+        match queue.poll_enter(tag, context, !self.has_waited) {
             Poll::Ready(entered) => Poll::Ready(entered.map(|()| Request::of(queue, tag))),
             Poll::Pending => {
-                self.by = Some((queue, Some(tag)));
+                (self.by, self.has_waited) = (Some((queue, Some(tag))), true);
                 Poll::Pending
             }
         }
@@ -55,12 +57,13 @@ impl<T> Drop for Entering<'_, T> {
 pub(crate) struct EnteringOwned<T> {
     tag: Tag<T>,
     is_of_queue: bool,
+    has_waited: bool,
 }
 
 impl<T> EnteringOwned<T> {
     #[inline]
     pub(crate) fn new(tag: Tag<T>, is_of_queue: bool) -> Self {
-        EnteringOwned { tag, is_of_queue }
+        EnteringOwned { tag, is_of_queue, has_waited: false }
     }
 }
 
@@ -69,10 +72,15 @@ impl<T> Future for EnteringOwned<T> {
 
     #[inline(always)]
     fn poll(mut self: Pin<&mut Self>, context: &mut Context<'_>) -> Poll<Self::Output> {
-        let is_of_queue = self.is_of_queue;
-        let (queue, tag) = self.tag.parts_mut();
-        let entered = if is_of_queue { ready!(queue.poll_enter(tag, context)) } else { Err(EnterError::OtherQueue) };
-        Poll::Ready(OwnedRequest::or_handed_back(self.tag.take(), entered))
+        let this = &mut *self;
+        let (queue, tag) = this.tag.parts_mut();
+        let entered = if this.is_of_queue {
+            let is_first = !mem::replace(&mut this.has_waited, true);
+            ready!(queue.poll_enter(tag, context, is_first))
+        } else {
+            Err(EnterError::OtherQueue)
+        };
+        Poll::Ready(OwnedRequest::or_handed_back(this.tag.take(), entered))
     }
 }
 

@@ -165,13 +165,14 @@ impl<T> Held<T> {
     }
 
     /// Notes the waker in the tag's seat, to be called once its caller needn't wait. Leaves the seat's old waker in its
-    /// place: no waker is dropped here, since a drop runs code of the user. Does nothing if the queue is open, and returns
-    /// whether it isn't.
-    pub(crate) fn notes(&mut self, tag: &mut TagState, waker: &mut Option<Waker>) -> bool {
+    /// place: no waker is dropped here, since a drop runs code of the user. Counts the first wait of a future. Does nothing
+    /// if the queue is open, and returns whether it isn't.
+    pub(crate) fn notes(&mut self, tag: &mut TagState, waker: &mut Option<Waker>, is_first: bool) -> bool {
         if self.is_open() {
             return false;
         }
-        self.counts.stats.waited += u64::from(!mem::replace(&mut tag.is_noted, true));
+        self.counts.stats.waited += u64::from(is_first);
+        tag.is_noted = true;
         *waker = waker.take().and_then(|waker| self.seats.note(tag.number, waker));
         true
     }
@@ -366,11 +367,12 @@ impl<T> Shared<T> {
             return;
         }
         let (handed, sent_away) = (held.line.take_handed(), held.line.send_away());
-        drop(held);
+        // Under the lock, so that no tag that was asked for ends meanwhile, whose place would be out again.
         let homes = self.places.all().iter().filter_map(|place| place.home.take_or_ask());
         for tag in homes.chain(handed.into_iter().map(|(_, tag)| tag)) {
             drop(tag.end());
         }
+        drop(held);
         wake_each(sent_away); // futures with a share of the queue
     }
 }

@@ -1,6 +1,9 @@
 //! Entering by futures: which is woken, when, and that a future which is cancelled takes nothing along.
-use freeze_queue::{EnterError, OwnedFrozen, Queue, Tag};
+use freeze_queue::{EnterError, OwnedFreezing, OwnedFrozen, Queue, Tag};
+use std::cmp::Reverse;
+use std::panic::{AssertUnwindSafe, catch_unwind};
 use std::pin::Pin;
+use std::sync::atomic::{AtomicU64, Ordering};
 use std::sync::{Arc, Mutex};
 use std::task::{Context, Poll, Wake, Waker};
 use std::thread;
@@ -208,4 +211,61 @@ fn futures_under_freezes() {
         }
         assert!(all.into_iter().all(|thread| thread.join().unwrap() == rounds));
     });
+}
+
+/// A task unwinds while it waits: its future leaves no waker, as one that is dropped.
+#[test]
+fn a_future_that_unwinds_is_not_woken() {
+    let (queue, mut tags) = queue(1);
+    let (woken, frozen) = (never_woken(), queue.freeze().unwrap());
+    let unwinds = catch_unwind(AssertUnwindSafe(|| {
+        let mut entering = Box::pin(queue.enter_async(&mut tags[0]));
+        assert!(polled(&mut entering, &woken).is_pending());
+        panic!("as the test wants");
+    }));
+    assert!(unwinds.is_err());
+    assert_eq!(Arc::strong_count(&woken), 1);
+    drop(frozen);
+    assert_eq!(woken.times(), 0);
+}
+
+/// Begins a freeze as it is woken first, and polls its future again.
+struct Freezes {
+    queue: Arc<Queue>,
+    entering: Mutex<Option<Pin<Box<dyn Future<Output = bool> + Send>>>>,
+    frozen: Mutex<Option<OwnedFreezing>>,
+    times: AtomicU64,
+}
+
+impl Wake for Freezes {
+    fn wake(self: Arc<Self>) {
+        if self.times.fetch_add(1, Ordering::SeqCst) == 0 {
+            *self.frozen.lock().unwrap() = Some(self.queue.begin_freeze().unwrap().into_owned());
+            let mut entering = self.entering.lock().unwrap().take().unwrap();
+            assert!(entering.as_mut().poll(&mut Context::from_waker(&Waker::from(Arc::clone(&self)))).is_pending());
+            *self.entering.lock().unwrap() = Some(entering);
+        }
+    }
+}
+
+/// A task freezes the queue again as a thaw wakes it, and waits again: that thaw wakes it no second time.
+#[test]
+fn a_thaw_wakes_each_future_once() {
+    let (queue, mut tags) = queue(2);
+    let queue = Arc::new(queue);
+    tags.sort_by_key(|tag| Reverse(tag.number()));
+    let (first, other) = (tags.pop().unwrap(), tags.pop().unwrap());
+    let frozen = queue.freeze().unwrap();
+    let (entering, woken) = (queue.enter_owned_async(first), never_woken());
+    let mut entering: Pin<Box<dyn Future<Output = bool> + Send>> = Box::pin(async { entering.await.is_ok() });
+    let (none, times) = (Mutex::new(None), AtomicU64::new(0));
+    let freezes = Arc::new(Freezes { queue: Arc::clone(&queue), entering: none, frozen: Mutex::new(None), times });
+    assert!(entering.as_mut().poll(&mut Context::from_waker(&Waker::from(Arc::clone(&freezes)))).is_pending());
+    *freezes.entering.lock().unwrap() = Some(entering);
+    let mut waits = Box::pin(queue.enter_owned_async(other));
+    assert!(polled(&mut waits, &woken).is_pending());
+    drop(frozen);
+    assert_eq!((freezes.times.load(Ordering::SeqCst), woken.times()), (1, 1));
+    drop(freezes.frozen.lock().unwrap().take());
+    drop(freezes.entering.lock().unwrap().take());
 }

@@ -3,9 +3,10 @@ use freeze_queue::{FreezeError, InFlight, Limits, Queue};
 use std::future::Future;
 use std::mem;
 use std::pin::pin;
-use std::sync::atomic::{AtomicBool, Ordering};
+use std::sync::Arc;
+use std::sync::atomic::{AtomicBool, AtomicUsize, Ordering};
 use std::sync::mpsc;
-use std::task::{Context, Poll, Waker};
+use std::task::{Context, Poll, Wake, Waker};
 use std::thread;
 use std::time::{Duration, Instant};
 
@@ -184,5 +185,61 @@ fn the_next_queue_lists_its_own() {
         assert_eq!(tags, (0..1_023).collect::<Vec<_>>());
         drop(all);
         queue.remove().unwrap();
+    }
+}
+
+/// A watch begins between two requests of a tag that is biased: the next one is listed, by each form of a future.
+#[test]
+fn a_future_of_a_biased_tag_is_listed() {
+    let queue = Queue::builder(LIMITS).slots(1).tags(1).build().unwrap();
+    let context = &mut Context::from_waker(Waker::noop());
+    for form in 0..6 {
+        queue.watch(false);
+        until("the tag is biased", || {
+            drop(queue.enter_any().unwrap());
+            queue.stats().biased == 1
+        });
+        queue.watch(true);
+        match form % 3 {
+            0 => {
+                let mut tag = queue.tag().unwrap();
+                let Poll::Ready(Ok(_request)) = pin!(queue.enter_async(&mut tag)).poll(context) else { panic!() };
+                only(&queue);
+            }
+            1 => {
+                let entering = pin!(queue.enter_owned_async(queue.tag().unwrap()));
+                let Poll::Ready(Ok(_request)) = entering.poll(context) else { panic!("it is live") };
+                only(&queue);
+            }
+            _ => {
+                let Poll::Ready(Ok(_request)) = pin!(queue.enter_any_async()).poll(context) else { panic!() };
+                only(&queue);
+            }
+        }
+        assert_eq!(listed(&queue), []);
+    }
+}
+
+/// Counts the requests that are listed as it is woken.
+struct Counts(Arc<Queue>, AtomicUsize);
+
+impl Wake for Counts {
+    fn wake(self: Arc<Self>) {
+        self.1.store(listed(&self.0).len(), Ordering::SeqCst);
+    }
+}
+
+/// Whoever is woken by the drain doesn't find the request that left last.
+#[test]
+fn a_request_that_left_is_not_listed_at_the_drain() {
+    let queue = Arc::new(watched(1));
+    for _ in 0..3 {
+        let request = queue.enter_any().unwrap();
+        let counts = Arc::new(Counts(Arc::clone(&queue), AtomicUsize::new(9)));
+        let mut drained = Box::pin(queue.begin_freeze().unwrap().drained());
+        assert!(drained.as_mut().poll(&mut Context::from_waker(&Waker::from(Arc::clone(&counts)))).is_pending());
+        drop(request);
+        assert_eq!(counts.1.load(Ordering::SeqCst), 0);
+        drop(drained);
     }
 }

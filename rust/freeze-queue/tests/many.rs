@@ -1,9 +1,11 @@
 //! Thousands of futures wait at a queue: each is woken once, by a thaw, by the end of the device, by the update before it, and within
 //! another's wake.
 use freeze_queue::{Limits, Queue};
+use std::cell::Cell;
 use std::future::Future;
 use std::pin::Pin;
 use std::sync::Arc;
+use std::sync::atomic::{AtomicU64, Ordering};
 use std::task::{Context, Wake, Waker};
 
 mod shared;
@@ -70,26 +72,48 @@ fn each_update_passes_its_turn_on() {
     assert_eq!(queue.stats().updates, UPDATES);
 }
 
+thread_local! {
+    /// Whether a waker of this thread is ending a device.
+    static IS_ENDING: Cell<bool> = const { Cell::new(false) };
+}
+
 /// Ends a device when it is woken.
 struct Ends(Arc<Queue>);
 
 impl Wake for Ends {
     fn wake(self: Arc<Self>) {
+        IS_ENDING.set(true);
         self.0.mark_dying();
+        IS_ENDING.set(false);
     }
 }
 
-/// A waker ends another device, at which thousands wait in line: each is woken.
+/// Counts its wakes, and those within another's.
+#[derive(Default)]
+struct Within(Woken, AtomicU64);
+
+impl Wake for Within {
+    fn wake(self: Arc<Self>) {
+        self.1.fetch_add(u64::from(IS_ENDING.get()), Ordering::SeqCst);
+        self.0.count();
+    }
+}
+
+/// A waker ends another device, at which thousands wait in line: each is woken, once that waker has returned.
 #[test]
 fn each_wake_within_a_wake_comes() {
     let (first, second) = (with_tags(1), Arc::new(with_tags(1)));
     let _request = second.enter_any().unwrap();
     let mut futures: Vec<_> = (0..2_000).map(|_| Box::pin(second.enter_any_async())).collect();
-    let woken = all_wait(&mut futures);
+    let woken: Arc<Within> = Arc::default();
+    for future in &mut futures {
+        assert!(future.as_mut().poll(&mut Context::from_waker(&Waker::from(Arc::clone(&woken)))).is_pending());
+    }
     let request = first.enter_any().unwrap();
     let mut waits = Box::pin(first.enter_any_async());
     let ends = Waker::from(Arc::new(Ends(Arc::clone(&second))));
     assert!(waits.as_mut().poll(&mut Context::from_waker(&ends)).is_pending());
     drop(request);
-    assert!(second.is_dying() && each_was_woken(&woken, 1));
+    assert!(second.is_dying());
+    assert_eq!((woken.0.times(), woken.1.load(Ordering::SeqCst)), (2_000, 0));
 }

@@ -5,12 +5,14 @@
 use freeze_queue::Queue;
 use std::env;
 use std::ffi::{c_int, c_long, c_ulong};
+use std::mem;
+use std::panic::{AssertUnwindSafe, catch_unwind};
 use std::process::Command;
 use std::sync::atomic::{AtomicU64, Ordering::Relaxed};
 use std::thread;
 
 mod shared;
-use shared::{LIMITS, number_of, queue};
+use shared::{LIMITS, number_of, queue, until};
 
 unsafe extern "C" {
     fn prctl(option: c_int, ...) -> c_int;
@@ -29,16 +31,22 @@ struct Program {
     instructions: *const Instruction,
 }
 
-/// Refuses `membarrier` from now on, on this thread and those that it starts.
-fn refuse_membarrier() {
+/// The commands of `membarrier` by which a freeze makes its fence, and by which a process asks for it.
+const FENCE: u32 = 8;
+const REGISTER: u32 = 16;
+
+/// Refuses a command of `membarrier` from now on, on this thread and those that it starts.
+fn refuse(command: u32) {
     let number = if cfg!(target_arch = "x86_64") { 324 } else { 283 };
     let filter = [
         Instruction(0x20, 0, 0, 0), // loads the number of the system call
-        Instruction(0x15, 0, 1, number),
+        Instruction(0x15, 0, 3, number),
+        Instruction(0x20, 0, 0, 16), // loads its first argument
+        Instruction(0x15, 0, 1, command),
         Instruction(0x06, 0, 0, 0x0005_0001), // EPERM
         Instruction(0x06, 0, 0, 0x7fff_0000), // allowed
     ];
-    let program = Program { length: 4, instructions: filter.as_ptr() };
+    let program = Program { length: 6, instructions: filter.as_ptr() };
     let (no_new_privileges, seccomp, by_filter) = (38, 22, 2 as c_ulong);
     let none = 0 as c_long;
     // SAFETY: the call reads no memory.
@@ -87,7 +95,8 @@ fn is_own_process(test: &str) -> bool {
 #[test]
 fn a_filter_refuses_the_fence() {
     if is_own_process("a_filter_refuses_the_fence") {
-        refuse_membarrier();
+        refuse(FENCE);
+        refuse(REGISTER);
         let queue = queue(2, 2);
         assert!(!queue.stats().membarrier);
         storm(&queue);
@@ -121,5 +130,26 @@ fn a_forked_process_has_the_fence() {
         let ended = unsafe { waitpid(child, &raw mut status, 0) };
         assert_eq!((ended, status), (child, 0), "the child ran to its end");
         storm(&queue);
+    }
+}
+
+/// The fence is refused that was allowed when the first queue was made: a freeze of a queue with a biased tag panics, as its page says. (A
+/// filter binds its thread alone.)
+#[test]
+fn a_fence_that_is_refused_later_panics() {
+    for refused in [&[FENCE][..], &[FENCE, REGISTER][..]] {
+        let freezes = move || {
+            let queue = queue(1, 1);
+            until("a tag is biased", || {
+                drop(queue.enter_any().unwrap());
+                queue.stats().biased == 1
+            });
+            for command in refused {
+                refuse(*command);
+            }
+            assert!(catch_unwind(AssertUnwindSafe(|| drop(queue.freeze()))).is_err());
+            mem::forget(queue);
+        };
+        thread::spawn(freezes).join().unwrap();
     }
 }

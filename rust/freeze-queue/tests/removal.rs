@@ -1,6 +1,7 @@
 //! The removal of a queue within a waker: by a task that its waker polls, on the thread that wakes it. Each such call ends.
 use freeze_queue::{EnterError, Final, Queue, RemoveError, Tag};
 use std::future::Future;
+use std::mem;
 use std::pin::Pin;
 use std::sync::{Arc, Mutex};
 use std::task::{Context, Poll, Wake, Waker};
@@ -181,4 +182,18 @@ fn a_future_has_a_share() {
     assert_eq!(refused.reason, RemoveError::Shared);
     drop(in_line);
     assert_eq!(refused.value.remove().unwrap().kills, 1);
+}
+
+/// A tag that was handed to a forgotten future ends with its queue, and the value with them.
+#[test]
+fn a_tag_of_a_forgotten_future_ends() {
+    let value = Arc::new(());
+    let queue = Queue::builder(LIMITS).slots(1).tags(1).value(Arc::clone(&value)).build().unwrap();
+    let request = queue.enter_any().unwrap();
+    let mut waits = Box::pin(queue.enter_any_async());
+    assert!(waits.as_mut().poll(&mut Context::from_waker(Waker::noop())).is_pending());
+    drop(request);
+    mem::forget(waits);
+    drop(queue);
+    assert_eq!(Arc::strong_count(&value), 1);
 }

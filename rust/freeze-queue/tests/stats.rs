@@ -2,6 +2,7 @@
 //! machine takes. Each wait counts once.
 use freeze_queue::{EnterError, Freezing, Limits, OwnedRequest, Queue, Stats};
 use std::future::Future;
+use std::mem;
 use std::pin::Pin;
 use std::task::{Context, Poll, Waker};
 use std::thread;
@@ -272,5 +273,22 @@ fn waits_of_threads() {
             drop(request);
             first.join().unwrap();
         });
+    }
+}
+
+/// A future that is forgotten while it waits counts, and so does the next one with its tag.
+#[test]
+fn waits_of_forgotten_tasks() {
+    let (queue, chance) = (queue(), &mut Context::from_waker(Waker::noop()));
+    let mut tag = queue.tag().unwrap();
+    for waited in 1..=5 {
+        let frozen = queue.freeze().unwrap();
+        let mut entering = Box::pin(queue.enter_async(&mut tag));
+        assert!(entering.as_mut().poll(chance).is_pending());
+        assert!(entering.as_mut().poll(chance).is_pending());
+        mem::forget(entering);
+        drop(frozen);
+        drop(queue.enter(&mut tag).unwrap());
+        assert_eq!(queue.stats().waited, waited);
     }
 }

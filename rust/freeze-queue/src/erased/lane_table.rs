@@ -22,7 +22,7 @@ pub struct Seat<S> {
     lane: Option<NonNull<Word>>,
 }
 
-// SAFETY: the word is atomic, and what C keeps beside it isn't reached by a seat. The table outlives the last step of each seat.
+// SAFETY: the word is atomic, and a seat doesn't reach what C keeps beside it.
 unsafe impl<S: Send> Send for Seat<S> {}
 // SAFETY: the same; each step borrows its seat alone.
 unsafe impl<S: Sync> Sync for Seat<S> {}
@@ -108,7 +108,7 @@ impl<S> Shared<S> {
     fn store_lightly(&self, seat: &mut Seat<S>, word: usize, new: u64, order: Ordering) {
         let Some(lane) = seat.lane else { return self.store_and_fence(word, new) };
         debug_assert!(self.light.get(word - 1).is_some_and(|it| ptr::eq(it, lane.as_ptr())), "a word of another lane");
-        // SAFETY: the seat claimed a lane of this table, which is borrowed meanwhile.
+        // SAFETY: the seat claimed a lane of this table, by the precondition of each call of a lane's owner, and the table is borrowed.
         unsafe { lane.as_ref() }.word.store(new, order);
         fences::light_fence();
     }

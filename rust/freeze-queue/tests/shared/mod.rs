@@ -73,11 +73,15 @@ impl Woken {
     pub fn times(&self) -> u64 {
         self.0.load(Ordering::SeqCst)
     }
+
+    pub fn count(&self) {
+        self.0.fetch_add(1, Ordering::SeqCst);
+    }
 }
 
 impl Wake for Woken {
     fn wake(self: Arc<Self>) {
-        self.0.fetch_add(1, Ordering::SeqCst);
+        self.count();
     }
 }
 

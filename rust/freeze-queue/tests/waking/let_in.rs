@@ -50,6 +50,23 @@ fn an_update_lets_in_who_waited_at_the_thaw() {
     }
 }
 
+/// A thread that waits over several thaws is let in once.
+#[test]
+fn an_update_lets_in_once_who_waited_at_each_thaw() {
+    let (queue, shared) = queue();
+    for thaws in 1..6 {
+        let waits = shared.waits.begin_to_wait();
+        for _ in 0..thaws {
+            drop(queue.freeze().unwrap());
+        }
+        let (mut update, woken) = (update(&queue), Arc::new(Woken::default()));
+        assert!(polled(&mut update, &woken).is_pending(), "{thaws} thaws");
+        drop(waits);
+        assert_eq!(woken.times(), 1, "{thaws} thaws");
+        assert!(polled(&mut update, &woken).is_ready(), "{thaws} thaws");
+    }
+}
+
 /// Under a freeze an update lets nobody in, since nobody can enter.
 #[test]
 fn an_update_under_a_freeze_waits_for_nobody() {

@@ -120,3 +120,63 @@ fn a_request_whose_tag_is_in_hand_counts_on_its_slot() {
         assert_eq!(by_owner.first(), Some(&Refused(slot)), "{by_owner:?}");
     }
 }
+
+/// Threads that live together take one tag in turns, often: each counts on its own slot each time.
+#[test]
+fn each_request_of_any_tag_counts_on_the_slot_of_its_thread() {
+    let log = Log::begin();
+    let queue = queue(1);
+    queue.watch(true);
+    let threads: [_; 3] = std::array::from_fn(|_| mpsc::channel::<()>());
+    let (done, is_done) = mpsc::channel();
+    let [(first, a), (second, b), (third, c)] = threads;
+    thread::scope(|scope| {
+        for turns in [a, b, c] {
+            let (done, queue) = (done.clone(), &queue);
+            scope.spawn(move || {
+                let slot = threads::hint().0 % SLOTS;
+                for () in turns {
+                    drop(queue.enter_any().unwrap());
+                    done.send(slot).unwrap();
+                }
+            });
+        }
+        let turns = [first, second, third];
+        for turn in 0..12 {
+            turns[turn % 3].send(()).unwrap();
+            let slot = is_done.recv().unwrap();
+            assert_eq!(counted(&log), [Taken(slot), Dropped(slot)], "turn {turn}");
+        }
+    });
+}
+
+/// A tag that is handed to a thread in line counts on that thread's slot.
+#[test]
+fn a_request_that_waited_for_its_tag_counts_on_the_slot_of_its_thread() {
+    let log = Log::begin();
+    let queue = queue(1);
+    queue.watch(true);
+    let request = queue.enter_any().unwrap();
+    let mine = threads::hint().0 % SLOTS;
+    counted(&log);
+    let slots: Vec<_> = thread::scope(|scope| {
+        let enters = || {
+            let slot = threads::hint().0 % SLOTS;
+            drop(queue.enter_any().unwrap());
+            (thread::current().id(), slot)
+        };
+        let all = [0; 3].map(|_| scope.spawn(enters));
+        while queue.stats().waited < 3 {
+            thread::yield_now();
+        }
+        drop(request);
+        all.map(|thread| thread.join().unwrap()).into()
+    });
+    assert!(slots.iter().any(|(_, slot)| *slot != mine), "threads that live together have slots of their own");
+    let steps = log.by_thread();
+    for (thread, slot) in slots {
+        let of_thread = steps.iter().filter(|(by, _)| *by == thread).map(|(_, step)| step);
+        let mut on_slots = of_thread.filter(|step| matches!(step, Taken(_) | Dropped(_)));
+        assert!(on_slots.all(|step| [Taken(slot), Dropped(slot)].contains(step)), "{steps:?}");
+    }
+}

@@ -21,7 +21,8 @@ use crate::erased::bias_lanes::{Freezer, Lane, Lanes};
 use crate::erased::biased_queue::{BiasedEntry, BiasedFreezer, BiasedQueue, BiasedTag};
 use crate::erased::percpu_gate::{Control, Gate, Pass, Put, Revived, Start, Tried};
 use crate::erased::queue_core::{FreezeFault, Limits, Mode};
-use crate::words::steps;
+use crate::words::{behind_the_next_store, steps};
+use std::sync::mpsc;
 
 /// Whether a call returns this and takes these steps.
 #[track_caller]
@@ -130,6 +131,29 @@ fn a_lane_takes_few_steps() {
         }
         assert_eq!(freezer.epoch(), 2 * life + 4);
     }
+}
+
+/// A cell is filled before its word says so: whoever finds the word finds the reference, the freezer as an owner parks, and an owner as the
+/// freezer puts it back.
+#[test]
+fn a_reference_is_in_its_cell_before_its_word_says_so() {
+    let (sender, found) = mpsc::channel();
+    let (lanes, mut freezer) = Lanes::new(1).expect("memory");
+    let lanes: &'static Lanes<u32> = Box::leak(Box::new(lanes));
+    let mut owner = lanes.owner(0).expect("an owner");
+    let by_freezer = sender.clone();
+    behind_the_next_store(move || {
+        freezer.freeze(lanes);
+        assert!(!freezer.look(lanes, 0));
+        by_freezer.send((freezer.reclaim(lanes, 0), freezer)).unwrap();
+    });
+    assert_eq!(owner.park(lanes, 7), Ok(false), "a freeze came between");
+    let (reclaimed, mut freezer) = found.recv().unwrap();
+    assert_eq!(reclaimed, Some(7));
+    let (sender, found) = mpsc::channel();
+    behind_the_next_store(move || sender.send(owner.take_back(lanes)).unwrap());
+    freezer.restore(lanes, 0, 9);
+    assert_eq!(found.recv().unwrap(), Some(9));
 }
 
 /// The fewest slots, the most, and some between.

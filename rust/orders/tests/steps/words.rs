@@ -1,8 +1,18 @@
 //! Atomic numbers and fences that note each step of this thread.
-use std::cell::RefCell;
+use std::cell::{Cell, RefCell};
 use std::sync::atomic::{self, Ordering};
 
 thread_local!(static STEPS: RefCell<String> = const { RefCell::new(String::new()) });
+
+thread_local! {
+    /// What runs behind the next store of this thread.
+    static BEHIND_STORE: Cell<Option<Box<dyn FnOnce()>>> = const { Cell::new(None) };
+}
+
+/// Runs a closure behind the next store of this thread, as another thread might.
+pub fn behind_the_next_store(run: impl FnOnce() + 'static) {
+    BEHIND_STORE.set(Some(Box::new(run)));
+}
 
 fn note(step: char) {
     STEPS.with_borrow_mut(|steps| steps.push(step));
@@ -30,6 +40,9 @@ impl AtomicU64 {
     pub fn store(&self, value: u64, order: Ordering) {
         note('s');
         self.0.store(value, order);
+        if let Some(run) = BEHIND_STORE.take() {
+            run();
+        }
     }
 
     pub fn swap(&self, value: u64, order: Ordering) -> u64 {

@@ -202,3 +202,32 @@ fn a_removal_beside_a_thaw_that_wakes() {
     let acts: [fn(&Parts); 3] = [|it| removes(&it.0), thaws, gives_up];
     race("a removal beside a thaw that wakes", 5, parts, &acts, |it| is_removed(it.0));
 }
+
+/// The handle is dropped beside a request whose tag was asked for: its place isn't out afterwards, so the places are freed.
+#[test]
+fn the_handle_is_dropped_beside_a_request_that_is_asked_for() {
+    struct Parts {
+        queue: std::sync::Mutex<Option<Queue>>,
+        request: std::sync::Mutex<Option<crate::OwnedRequest>>,
+        shared: std::sync::Arc<crate::shared::Shared<()>>,
+    }
+    fn parts() -> Parts {
+        let queue = one_tag();
+        let shared = std::sync::Arc::clone(&queue.tag().unwrap().parts().shared);
+        let request = queue.enter_any().unwrap();
+        assert_eq!(queue.try_enter_any().unwrap_err(), EnterError::NoTag);
+        Parts { queue: std::sync::Mutex::new(Some(queue)), request: std::sync::Mutex::new(Some(request)), shared }
+    }
+    fn drops_the_handle(parts: &Parts) {
+        let queue = parts.queue.lock().unwrap().take();
+        drop(queue);
+    }
+    fn drops_the_request(parts: &Parts) {
+        let request = parts.request.lock().unwrap().take();
+        drop(request);
+    }
+    fn is_freed(parts: Parts) {
+        assert!(!parts.shared.places.all()[0].home.is_out());
+    }
+    race("a handle beside a tag that is asked for", 8, parts, &[drops_the_handle, drops_the_request], is_freed);
+}
