@@ -70,7 +70,7 @@ def cut_what_is_handed_on(sources, gone, ghosts):
         held.cut(s)
     for s in sources:
         found.cut(s)
-        parameters.name_lane_steps(s)
+        parameters.name_ordered_steps(s)
         parameters.cut_rule_arguments(s, ghosts | kit.BRANDS)
         clauses.cut_calls_of_laws(s, gone)
         clauses.cut_reads(s)

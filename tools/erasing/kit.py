@@ -13,8 +13,8 @@ TABLES = {"bias_lanes": "lane_table"}
 CELL_PARAMETERS = {"Table": {1, 2, 3, 4}, "Seat": {1}, "Shared": {1, 2, 3, 4}}
 # Crates whose atomic numbers are those of the table: rust/orders compiles them over its own.
 OWN_ATOMICS = {"biased_queue"}
-# Steps of owners of lanes, which claim a lane or are ordered by a heavy fence: by their rules, what the stand-in names them.
-LANE_STEPS = {"Claims": "claim", "SaysBusy": "store_relaxed", "SaysIdle": "store_release", "Confirms": "load_acquire", "Stays": "load_acquire"}
+# Steps of owners of lanes, which are ordered by a heavy fence: by their rules, what the stand-in names them.
+ORDERED_STEPS = {"SaysBusy": "store_relaxed", "SaysIdle": "store_release", "Confirms": "load_acquire", "Stays": "load_acquire"}
 # Traits without a method whose types are values all the same.
 VALUE_TRAITS = {"Reference"}
 KIT_CRATES = {"atomic_table", "crossbeam_queue", "crossbeam_utils", "hex", "itoa", "memchr"}

@@ -182,13 +182,13 @@ def origins(s):
     return {alias or path[-1]: path[0] for i, end in uses(s) for path, alias in leaves(s, i, end)}
 
 
-def name_lane_steps(s):
+def name_ordered_steps(s):
     """`shared.store::<SaysBusy>(..)` is `shared.store_relaxed(..)`: the step says its order."""
-    for rule, step in kit.LANE_STEPS.items():
+    for rule, step in kit.ORDERED_STEPS.items():
         for i in s.words(rule):
             p = s.before(i)
             if s.crate in kit.TABLES and s.at(p, "<") and s.at(s.before(p), ":"):
-                s.write(s.before(s.before(s.before(p))), step, "a step of a lane")
+                s.write(s.before(s.before(s.before(p))), step, "a step with an order")
 
 
 def cut_rule_arguments(s, ghosts):

@@ -127,7 +127,7 @@ fn time_requests(threads: u32, count: u32) -> Result<(), Box<dyn Error>> {
     });
     let of_value = Queue::builder(Limits::of_hardware(HARDWARE)).slots(threads).tags(threads).value([1, 2, 3]).build()?;
     let tags: Vec<_> = (0..threads).map(|_| of_value.tag()).collect::<Result<_, _>>()?;
-    rounds.time("enter a `Queue<T>` and drop", tags, |tag| {
+    rounds.time("enter with a value and drop", tags, |tag| {
         of_value.enter(tag).expect("it is live").iter().sum::<u32>()
     });
     let along = tags_of(&queue, threads)?.into_iter().map(|tag| OwnTag(Some(tag)));

@@ -3,29 +3,21 @@
 //!
 //! In the sources each call is one atomic step, sequentially consistent. Here an owner's stores to its lane and its loads of the epoch are
 //! weaker, and the freezer's heavy fence orders them with its own steps. Without a heavy fence the stores are sequentially consistent too.
-//! Other crates compile this file as well: the module around it has the atomic number, and the fences. In the library for C, C code steps on
-//! the words of lanes too (`include/freeze_queue/lane.h`).
+//! Other crates compile this file over their own atomic number and fences. C code steps on lanes too (`include/freeze_queue/lane.h`).
 #![allow(unsafe_code)] // a cell is reached by whoever took it
 
 use super::fallible::AllocError;
+pub use super::fences::heavy_fence;
 use super::{AtomicU64, fences, past_the_end};
 use alloc::vec::Vec;
 use core::sync::atomic::Ordering::{self, Acquire, Relaxed, Release, SeqCst};
-use core::{cell::UnsafeCell, marker::PhantomData, mem, ptr, ptr::NonNull, sync::atomic};
+use core::{cell::UnsafeCell, marker::PhantomData, mem, ptr, sync::atomic};
 
-pub use super::fences::heavy_fence;
-
-/// The right to step on a table. It moves between threads by ownership, and a step borrows it.
+/// The right to step on a table, which moves between threads by ownership. An owner's has the word of its lane, if that is a light one.
 pub struct Seat<S> {
     made_here: PhantomData<S>,
-    /// The word of the lane that the seat claimed, if the heavy fence orders the owners' steps.
-    lane: Option<NonNull<Word>>,
+    lane: atomic::AtomicPtr<Word>,
 }
-
-// SAFETY: the word is atomic, and a seat doesn't reach what C keeps beside it.
-unsafe impl<S: Send> Send for Seat<S> {}
-// SAFETY: the same; each step borrows its seat alone.
-unsafe impl<S: Sync> Sync for Seat<S> {}
 
 /// The epoch, on a line that requests only read.
 #[repr(align(128))]
@@ -49,8 +41,7 @@ pub struct Shared<S> {
     cells: Vec<UnsafeCell<S>>,
 }
 
-// SAFETY: a cell is reached by one thread at a time: the one that took it by a step on its word, until it gives it back by another. What C
-// keeps of a lane is reached by the lane's owner alone.
+// SAFETY: the thread that took a cell by a step on its word reaches it until it gives it back; a lane's owner reaches what C keeps of it.
 unsafe impl<S: Send> Sync for Shared<S> {}
 
 impl<S> Shared<S> {
@@ -102,14 +93,13 @@ impl<S> Shared<S> {
         self.store_lightly(seat, word, new, Release);
     }
 
-    /// Stores the word of the lane that the seat claimed before such a load, in this order if there is a heavy fence.
+    /// Stores the word of an owner's lane before such a load, in this order if there is a heavy fence.
     #[inline(always)]
     #[track_caller]
     fn store_lightly(&self, seat: &mut Seat<S>, word: usize, new: u64, order: Ordering) {
-        let Some(lane) = seat.lane else { return self.store_and_fence(word, new) };
-        debug_assert!(self.light.get(word - 1).is_some_and(|it| ptr::eq(it, lane.as_ptr())), "a word of another lane");
-        // SAFETY: the seat claimed a lane of this table, by the precondition of each call of a lane's owner, and the table is borrowed.
-        unsafe { lane.as_ref() }.word.store(new, order);
+        // SAFETY: the owner of a lane of this table has parked in it, and the table is borrowed.
+        let Some(lane) = (unsafe { seat.lane.get_mut().as_ref() }) else { return self.store_and_fence(word, new) };
+        lane.word.store(new, order);
         fences::light_fence();
     }
 
@@ -129,16 +119,10 @@ impl<S> Shared<S> {
         self.at(word).compare_exchange(old, new, SeqCst, SeqCst).unwrap_or_else(|found| found)
     }
 
-    /// Stores `new` if the word of a cell is `old`. The seat's lighter steps are on the word of the cell's lane from now on.
-    #[track_caller]
-    pub fn claim(&self, seat: &mut Seat<S>, cell: usize, old: u64, new: u64) -> u64 {
-        seat.lane = self.light.get(cell - 2).map(NonNull::from);
-        self.compare_exchange(seat, cell, old, new)
-    }
-
     /// Puts a value into a cell that this seat took, and returns what lay there.
     #[track_caller]
-    pub fn exchange(&self, _seat: &mut Seat<S>, cell: usize, new: S) -> S {
+    pub fn exchange(&self, seat: &mut Seat<S>, cell: usize, new: S) -> S {
+        *seat.lane.get_mut() = self.light.get(cell * 2).map_or(ptr::null_mut(), |it| ptr::from_ref(it).cast_mut());
         // SAFETY: the seat took the cell by a step on its word, so no other thread reaches it until this one gives it back.
         mem::replace(unsafe { &mut *self.cells[cell].get() }, new)
     }
@@ -151,7 +135,7 @@ impl<S> Shared<S> {
     /// Loads a word with a new seat.
     #[track_caller]
     pub fn load_new_seat(&self, word: usize) -> (u64, Seat<S>) {
-        (self.at(word).load(SeqCst), Seat { made_here: PhantomData, lane: None })
+        (self.at(word).load(SeqCst), Seat { made_here: PhantomData, lane: atomic::AtomicPtr::default() })
     }
 }
 
@@ -171,6 +155,6 @@ impl<T> Table<Option<T>> {
         made.resize_with(cells, || UnsafeCell::new(None));
         let (light, heavy) = if fences::has_heavy_fence() { (lines, Vec::new()) } else { (Vec::new(), lines) };
         let shared = Shared { epoch: Epoch(AtomicU64::new(words[0])), light, heavy, cells: made };
-        Ok((Table { shared }, Seat { made_here: PhantomData, lane: None }))
+        Ok((Table { shared }, Seat { made_here: PhantomData, lane: atomic::AtomicPtr::default() }))
     }
 }

@@ -77,7 +77,7 @@ impl<T> Lanes<T> {
         let shared = &self.table.shared;
         let (_, mut seat) = shared.load_new_seat(EPOCH);
         let cell = lane * 2 + 2;
-        if shared.claim(&mut seat, cell, VACANT, TAKEN) != VACANT {
+        if shared.compare_exchange(&mut seat, cell, VACANT, TAKEN) != VACANT {
             return None;
         }
         Some(Lane::new(seat, lane))
