@@ -34,9 +34,8 @@ pub struct Word {
 /// The words and cells, as threads share them.
 pub struct Shared<S> {
     epoch: Epoch,
-    /// Each word but the first, if the heavy fence orders the owners' steps.
+    /// Each word but the first is in `light` if the heavy fence orders the owners' steps, else in `heavy`.
     light: Vec<Word>,
-    /// Else they are here.
     heavy: Vec<Word>,
     cells: Vec<UnsafeCell<S>>,
 }
@@ -99,6 +98,7 @@ impl<S> Shared<S> {
     fn store_lightly(&self, seat: &mut Seat<S>, word: usize, new: u64, order: Ordering) {
         // SAFETY: the owner of a lane of this table has parked in it, and the table is borrowed.
         let Some(lane) = (unsafe { seat.lane.get_mut().as_ref() }) else { return self.store_and_fence(word, new) };
+        debug_assert!(self.light.get(word - 1).is_some_and(|it| ptr::eq(it, lane)), "another word");
         lane.word.store(new, order);
         fences::light_fence();
     }
