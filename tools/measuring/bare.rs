@@ -22,7 +22,7 @@ const HARDWARE: u32 = 64;
 #[repr(align(128))]
 struct OwnWord(AtomicU64);
 
-/// The same for the place of a tag.
+/// The place of a tag, alone on its 128 bytes.
 #[repr(align(128))]
 struct OwnTag(Option<Tag>);
 

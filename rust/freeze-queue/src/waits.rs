@@ -367,7 +367,7 @@ impl<T> Shared<T> {
             return;
         }
         let (handed, sent_away) = (held.line.take_handed(), held.line.send_away());
-        // Under the lock, so that no tag that was asked for ends meanwhile, whose place would be out again.
+        // Under the lock: if a tag that was asked for ended meanwhile, the search would mark its place as out forever.
         let homes = self.places.all().iter().filter_map(|place| place.home.take_or_ask());
         for tag in homes.chain(handed.into_iter().map(|(_, tag)| tag)) {
             drop(tag.end());

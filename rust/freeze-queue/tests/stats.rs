@@ -279,13 +279,13 @@ fn waits_of_threads() {
 /// A future that is forgotten while it waits counts, and so does the next one with its tag.
 #[test]
 fn waits_of_forgotten_tasks() {
-    let (queue, chance) = (queue(), &mut Context::from_waker(Waker::noop()));
+    let (queue, context) = (queue(), &mut Context::from_waker(Waker::noop()));
     let mut tag = queue.tag().unwrap();
     for waited in 1..=5 {
         let frozen = queue.freeze().unwrap();
         let mut entering = Box::pin(queue.enter_async(&mut tag));
-        assert!(entering.as_mut().poll(chance).is_pending());
-        assert!(entering.as_mut().poll(chance).is_pending());
+        assert!(entering.as_mut().poll(context).is_pending());
+        assert!(entering.as_mut().poll(context).is_pending());
         mem::forget(entering);
         drop(frozen);
         drop(queue.enter(&mut tag).unwrap());

@@ -13,7 +13,7 @@ use alloc::vec::Vec;
 use core::sync::atomic::Ordering::{self, Acquire, Relaxed, Release, SeqCst};
 use core::{cell::UnsafeCell, marker::PhantomData, mem, ptr, sync::atomic};
 
-/// The right to step on a table, which moves between threads by ownership. An owner's has the word of its lane, if that is a light one.
+/// The right to step on a table, which moves between threads by ownership. An owner's seat knows the word of its lane, if that is a light one.
 pub struct Seat<S> {
     made_here: PhantomData<S>,
     lane: atomic::AtomicPtr<Word>,

@@ -141,11 +141,10 @@ fn a_reference_is_in_its_cell_before_its_word_says_so() {
     let (lanes, mut freezer) = Lanes::new(1).expect("memory");
     let lanes: &'static Lanes<u32> = Box::leak(Box::new(lanes));
     let mut owner = lanes.owner(0).expect("an owner");
-    let by_freezer = sender.clone();
     behind_the_next_store(move || {
         freezer.freeze(lanes);
         assert!(!freezer.look(lanes, 0));
-        by_freezer.send((freezer.reclaim(lanes, 0), freezer)).unwrap();
+        sender.send((freezer.reclaim(lanes, 0), freezer)).unwrap();
     });
     assert_eq!(owner.park(lanes, 7), Ok(false), "a freeze came between");
     let (reclaimed, mut freezer) = found.recv().unwrap();
