@@ -1,5 +1,5 @@
 # Builds, tests and installs the programs blkq and gate_races with their manuals, and the libraries for C by c/Makefile. Section 5 of the
-# manuals is made from docs/FORMATS.md and docs/races/FORMATS.md.
+# manuals is made from docs/FORMATS.md and docs/races/README.md.
 #
 #   make                               builds the programs with cargo in some 15 s, unless there is a proved build of this tree
 #   make check                         tests what cargo builds, without the Rattle kit; .ci/Makefile has all tests, including the longer ones
@@ -31,10 +31,9 @@ all:
 OVER_LIBRARIES = tests/nbd/run c/tests/run 'COMPILER=clang c/tests/run' tests/pages/run
 OVER_BOTH = tests/sizes/run tests/sweeps/devices tests/switches/run tests/examples tests/rows/run tests/rows/calls
 OVER_PROGRAMS = $(OVER_BOTH) tests/install
-OVER_TREE = tests/packages tests/tap tests/contracts tests/pictures/run 'tools/erase --check' 'tools/version --check'
+OVER_TREE = tests/packages 'tests/planted/run --fit' tests/tap tests/contracts tests/pictures/run 'tools/erase --check' 'tools/version --check'
 RACES_OVER_BOTH = tests/races/sizes tests/races/devices 'tests/rows/run races' 'tests/examples races'
-OVER_GATE_RACES = $(addprefix tests/races/,random_races large program watched beside replayed longest_on_linux most_asked asked_lines) \
-	$(RACES_OVER_BOTH)
+OVER_GATE_RACES = $(addprefix tests/races/,random_races large program watched) $(RACES_OVER_BOTH)
 OF_RACES = $(OVER_GATE_RACES) tests/races/run tests/races/lanes 'tests/rust/run races'
 
 HAS_CARGO = $(and $(shell command -v $(CARGO)),$(shell command -v cc))
@@ -74,7 +73,7 @@ install-programs:
 	install -m 755 $(PROGRAMS) $(AT)/bin
 	install -m 644 docs/blkq.1 docs/races/gate_races.1 $(AT)/share/man/man1
 	$(AWK) -f tools/formats_page docs/FORMATS.md >$(AT)/share/man/man5/blkq.5
-	$(AWK) -v of=gate_races -f tools/formats_page docs/races/FORMATS.md >$(AT)/share/man/man5/gate_races.5
+	$(AWK) -v of=gate_races -f tools/formats_page docs/races/README.md >$(AT)/share/man/man5/gate_races.5
 	@echo "installed: $(PROGRAMS)"
 
 install-c:

@@ -133,7 +133,7 @@ typedef enum freeze_queue_answer FREEZE_QUEUE_OF_32_BITS {
     FREEZE_QUEUE_OK = 0,               /* done; the tag is entered; a leave that isn't the last */
     FREEZE_QUEUE_LAST = 1,             /* of leave, and of give_tag_back: the queue is drained by this call */
     FREEZE_QUEUE_NOT_ENTERED = 2,      /* the tag isn't entered: the queue is frozen (or, for try_enter_frozen, drained) */
-    FREEZE_QUEUE_NOT_ENTERED_LAST = 3, /* the same, and the queue is drained (or, for a biased tag, may be: see poll_drained) */
+    FREEZE_QUEUE_NOT_ENTERED_LAST = 3, /* the same, and the queue is drained by this call */
     FREEZE_QUEUE_DRAINED = 4,          /* of start_freeze: the queue is drained already */
     FREEZE_QUEUE_LIVE_AGAIN = 5,       /* of thaw: requests enter again */
     /* the queue's own refusals */
@@ -239,8 +239,7 @@ FREEZE_QUEUE_MUST_USE freeze_queue_answer freeze_queue_try_enter_frozen(freeze_q
 FREEZE_QUEUE_MUST_USE freeze_queue_answer freeze_queue_leave(freeze_queue_tag *tag, uint32_t slot);
 
 /* Leaves in the same way, and biases the tag unless the queue is frozen: its next requests enter and leave by a store and a
- * load, until a freeze takes the bias away. The first try that doesn't enter then returns NOT_ENTERED_LAST, since it may hide
- * the drain briefly. freeze_queue_waits_leave biases tags by this call. */
+ * load, until a freeze takes the bias away. freeze_queue_waits_leave biases tags by this call. */
 FREEZE_QUEUE_MUST_USE freeze_queue_answer freeze_queue_leave_biased(freeze_queue_tag *tag, uint32_t slot);
 
 /* Writes the limits in force, which stay the same until the tag leaves. ERR_CLOSED, ERR_TAG_NOT_ENTERED. */

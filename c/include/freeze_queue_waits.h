@@ -99,8 +99,8 @@ FREEZE_QUEUE_MUST_USE FREEZE_QUEUE_CALL freeze_queue_answer freeze_queue_waits_b
 FREEZE_QUEUE_CALL bool freeze_queue_waits_is_drained(freeze_queue_waits *waits);
 
 /* Freezes the queue, and waits until it is drained: OK. ERR_BAD_DEADLINE, ERR_CLOSED, ERR_DEPTH_FULL, ERR_WORN_OUT,
- * ERR_TIMED_OUT, after which the freeze is thawed. Linux: blk_mq_freeze_queue; blk_mq_freeze_queue_wait_timeout leaves the
- * queue frozen. */
+ * ERR_TIMED_OUT, after which the freeze is thawed, ERR_NOT_FROZEN if another thread has thawed it meanwhile. Linux: blk_mq_freeze_queue;
+ * blk_mq_freeze_queue_wait_timeout leaves the queue frozen. */
 FREEZE_QUEUE_MUST_USE FREEZE_QUEUE_CALL freeze_queue_answer freeze_queue_waits_freeze(freeze_queue_waits *waits,
                                                                                       const struct timespec *deadline);
 
@@ -110,8 +110,9 @@ FREEZE_QUEUE_MUST_USE FREEZE_QUEUE_CALL freeze_queue_answer freeze_queue_waits_s
                                                                                    const freeze_queue_limits *limits);
 
 /* Ends a freeze, drained or not: OK, or LIVE_AGAIN if it was the last, and the threads that wait to enter wake. Any thread may
- * thaw, once for each freeze. ERR_CLOSED, ERR_NOT_FROZEN if there is no freeze. The freeze of freeze_queue_waits_mark_dying
- * doesn't count and can't be thawed. Linux: blk_mq_unfreeze_queue. */
+ * thaw, once for each freeze. If there is a freeze whose call has returned, it ends that; otherwise the one of the oldest freeze, change or
+ * update that hasn't returned, which returns ERR_NOT_FROZEN. ERR_CLOSED, ERR_NOT_FROZEN if there is no freeze. The freeze of
+ * freeze_queue_waits_mark_dying doesn't count and can't be thawed. Linux: blk_mq_unfreeze_queue. */
 FREEZE_QUEUE_MUST_USE FREEZE_QUEUE_CALL freeze_queue_answer freeze_queue_waits_thaw(freeze_queue_waits *waits);
 
 /* Sets the mode of counting, as freeze_queue_mode does. ERR_CLOSED, ERR_BAD_MODE. */
@@ -124,7 +125,8 @@ FREEZE_QUEUE_CALL freeze_queue_answer freeze_queue_waits_limits(freeze_queue_wai
 
 /* Freezes the queue, sets its limits once it is drained, and thaws it: OK if they are set, also in a dying queue. It checks
  * the limits first, so no thread waits for limits that are refused. Changes and updates run one at a time.
- * ERR_BAD_DEADLINE, ERR_CLOSED, the refusals of limits, ERR_IN_UPDATE, ERR_DEPTH_FULL, ERR_WORN_OUT, ERR_TIMED_OUT. */
+ * ERR_BAD_DEADLINE, ERR_CLOSED, the refusals of limits, ERR_OTHER_HARDWARE, ERR_IN_UPDATE, ERR_DEPTH_FULL, ERR_WORN_OUT, ERR_TIMED_OUT,
+ * ERR_NOT_FROZEN if another thread has thawed its freeze. */
 FREEZE_QUEUE_MUST_USE FREEZE_QUEUE_CALL freeze_queue_answer freeze_queue_waits_change(freeze_queue_waits *waits,
                                                                                       const freeze_queue_limits *limits,
                                                                                       const struct timespec *deadline);
@@ -140,10 +142,11 @@ FREEZE_QUEUE_MUST_USE FREEZE_QUEUE_CALL freeze_queue_answer freeze_queue_waits_c
  *
  * The function may read the depth and the limits. If it calls set, change, update or end, that call returns ERR_IN_UPDATE.
  * Don't enter in it: the queue stays frozen until the function has returned, so freeze_queue_waits_enter never returns. Don't
- * thaw in it, except to end a freeze that it began: any other thaw ends the freeze of the update. A freeze in it finds the
- * queue drained, and lasts beyond the update until it is thawed.
+ * thaw in it, except to end a freeze that it began: any other thaw may end the freeze of the update, after which nothing is set. A freeze in
+ * it finds the queue drained, and lasts beyond the update until it is thawed. The function has to return: if its thread ends in it, or an
+ * exception leaves it, the program aborts with a message. No thread is cancelled while it waits in a call, or in this function.
  *
- * ERR_BAD_DEADLINE, ERR_CLOSED, ERR_DEPTH_FULL, ERR_WORN_OUT, ERR_TIMED_OUT, and the refusals of set. Linux:
+ * ERR_BAD_DEADLINE, ERR_CLOSED, ERR_DEPTH_FULL, ERR_WORN_OUT, ERR_TIMED_OUT, ERR_NOT_FROZEN as freeze_queue_waits_change, and the refusals of set. Linux:
  * queue_limits_start_update and queue_limits_commit_update_frozen. */
 FREEZE_QUEUE_MUST_USE FREEZE_QUEUE_CALL freeze_queue_answer
 freeze_queue_waits_update(freeze_queue_waits *waits, uint32_t (*function)(freeze_queue_limits *limits, void *argument),
@@ -178,8 +181,8 @@ FREEZE_QUEUE_MUST_USE FREEZE_QUEUE_CALL freeze_queue_answer freeze_queue_waits_m
  * the queue stays dying; other calls are allowed until the next freeze_queue_waits_end, and a thread that holds a freeze may
  * thaw it.
  *
- * ERR_BAD_DEADLINE, ERR_IN_UPDATE, ERR_CLOSED, ERR_DEPTH_FULL, ERR_WORN_OUT, ERR_TIMED_OUT, and the refusals of remove except
- * ERR_TAGS_OUT. Linux: blk_mq_destroy_queue. */
+ * ERR_BAD_DEADLINE, ERR_CLOSED, ERR_IN_UPDATE, ERR_IN_USE while another call of freeze_queue_waits_end waits, ERR_DEPTH_FULL, ERR_WORN_OUT,
+ * ERR_TIMED_OUT, and the refusals of remove except ERR_TAGS_OUT. Linux: blk_mq_destroy_queue. */
 FREEZE_QUEUE_MUST_USE FREEZE_QUEUE_CALL freeze_queue_answer freeze_queue_waits_end(freeze_queue_waits *waits,
                                                                                    freeze_queue_final *last,
                                                                                    const struct timespec *deadline);

@@ -18,7 +18,7 @@
  *         return killed.error();
  *
  * A gate must outlive its passes, and a pass its references. A move assignment first takes the new value, and then ends the old
- * value as its destructor does.
+ * value as its destructor does. A call of an owner that was moved from ends the program with a message.
  */
 #ifndef PERCPU_GATE_HPP
 #define PERCPU_GATE_HPP
@@ -26,6 +26,8 @@
 #include "percpu_gate.h"
 
 #include <cstdint>
+#include <cstdio>
+#include <cstdlib>
 #include <memory>
 #include <new>
 #include <optional>
@@ -102,6 +104,15 @@ struct alignas(128) Handle {
     Core *core = nullptr;
 };
 
+/* Ends the program with a message unless a condition holds. */
+inline void needs(bool holds, const char *misuse) noexcept
+{
+    if (holds)
+        return;
+    std::fprintf(stderr, "percpu_gate: %s\n", misuse);
+    std::abort();
+}
+
 /* Calls the function for the release if this answer is LAST or NOT_GIVEN_LAST. */
 inline percpu_gate_answer released(Core &core, percpu_gate_answer answer)
 {
@@ -138,6 +149,7 @@ class [[nodiscard]] Reference {
     Result<std::uint64_t> word(std::uint32_t k) const noexcept
     {
         std::uint64_t word = 0;
+        internal::needs(handle_ != nullptr, "a reference that was moved from is used");
         const percpu_gate_answer answer = percpu_gate_word(&handle_->pass, k, &word);
         if (answer != PERCPU_GATE_OK)
             return static_cast<Error>(answer);
@@ -168,15 +180,20 @@ class [[nodiscard]] Pass {
     }
 
     /* Takes a reference unless the gate was killed: not_given, bad_slot, held_full. */
-    Result<Reference> try_get_live(std::uint32_t slot) { return given(percpu_gate_try_get_live(&handle_->pass, slot), slot); }
+    Result<Reference> try_get_live(std::uint32_t slot) { return given(percpu_gate_try_get_live(pass(), slot), slot); }
     /* Takes a reference unless the gate has reached zero: not_given, bad_slot, held_full. */
-    Result<Reference> try_get(std::uint32_t slot) { return given(percpu_gate_try_get(&handle_->pass, slot), slot); }
-    bool is_dying() const noexcept { return percpu_gate_is_dying(&handle_->pass); }
-    bool is_zero() const noexcept { return percpu_gate_is_zero(&handle_->pass); }
+    Result<Reference> try_get(std::uint32_t slot) { return given(percpu_gate_try_get(pass(), slot), slot); }
+    bool is_dying() const noexcept { return percpu_gate_is_dying(pass()); }
+    bool is_zero() const noexcept { return percpu_gate_is_zero(pass()); }
 
   private:
     friend class Gate;
     explicit Pass(std::unique_ptr<internal::Handle> handle) noexcept : handle_(std::move(handle)) {}
+    percpu_gate_pass *pass() const noexcept
+    {
+        internal::needs(handle_ != nullptr, "a pass that was moved from is used");
+        return &handle_->pass;
+    }
     Result<Reference> given(percpu_gate_answer answer, std::uint32_t slot)
     {
         if (answer == PERCPU_GATE_OK)
@@ -224,7 +241,7 @@ class [[nodiscard]] Gate {
         std::unique_ptr<internal::Handle> handle(new (std::nothrow) internal::Handle);
         if (!handle)
             return Error::no_memory;
-        const percpu_gate_answer answer = percpu_gate_next_pass(&core_->control, &handle->pass);
+        const percpu_gate_answer answer = percpu_gate_next_pass(control(), &handle->pass);
         if (answer != PERCPU_GATE_OK)
             return static_cast<Error>(answer);
         handle->core = core_.get();
@@ -233,23 +250,28 @@ class [[nodiscard]] Gate {
     /* Ends a pass that holds nothing: closed, other_gate, still_held. */
     Result<void> retire(Pass &pass) noexcept
     {
-        return internal::done(percpu_gate_retire(&core_->control, &pass.handle_->pass));
+        return internal::done(percpu_gate_retire(control(), pass.pass()));
     }
     /* Kills the gate: already_dead, mid_switch, worn_out. */
-    Result<void> kill() { return internal::done(internal::released(*core_, percpu_gate_kill(&core_->control))); }
+    Result<void> kill() { return internal::done(internal::released(core(), percpu_gate_kill(control()))); }
     /* Revives a dead gate that has reached zero: not_dead, not_zero, mid_switch. */
-    Result<void> reinit() noexcept { return internal::done(percpu_gate_reinit(&core_->control)); }
-    bool is_zero() const noexcept { return percpu_gate_control_is_zero(&core_->control); }
+    Result<void> reinit() noexcept { return internal::done(percpu_gate_reinit(control())); }
+    bool is_zero() const noexcept { return percpu_gate_control_is_zero(&core().control); }
     /* Stores the guarded word k of a gate that is dead and at zero: bad_word, not_dead, not_zero, mid_switch. */
     Result<void> store_word(std::uint32_t k, std::uint64_t word) noexcept
     {
-        return internal::done(percpu_gate_store_word(&core_->control, k, word));
+        return internal::done(percpu_gate_store_word(control(), k, word));
     }
     /* The control, for calls of the C header. */
-    percpu_gate_control *control() noexcept { return &core_->control; }
+    percpu_gate_control *control() noexcept { return &core().control; }
 
   private:
     explicit Gate(std::unique_ptr<internal::Core> core) noexcept : core_(std::move(core)) {}
+    internal::Core &core() const noexcept
+    {
+        internal::needs(core_ != nullptr, "a gate that was moved from is used");
+        return *core_;
+    }
     std::unique_ptr<internal::Core> core_;
 };
 

@@ -8,6 +8,7 @@
 #include <cstdlib>
 #include <cstring>
 #include <fcntl.h>
+#include <thread>
 
 using namespace std::chrono_literals;
 using blkq::Error;
@@ -90,7 +91,25 @@ static void what_moves_ends_in_its_own_queue()
     IS(pool->in_flight(nullptr, 0) == 0 && others->in_flight(nullptr, 0) == 0);
     IS(bool(pool->enter(1, 0ns)) && bool(others->enter(0, 0ns)));
     *others = std::move(*pool);
-    IS(bool(other->next_tag()));
+    IS(bool(other->next_tag()) && bool(others->enter(1, 0ns)));
+}
+
+/* ---- Threads ---- */
+
+/* A tag ends here while its request ends on another thread. The last of the two gives the tag back, after the other one is done with it. */
+static void a_tag_and_its_request_end_on_two_threads()
+{
+    auto queue = Queue::make({64, 0, 0, 0}, 1, 1);
+    for (int i = 0; i < 500; i++) {
+        std::thread ends;
+        {
+            auto tag = queue->next_tag();
+            auto request = tag->enter(0);
+            ends = std::thread([moved = std::move(*request)] { (void)moved.limits(); });
+        }
+        ends.join();
+    }
+    IS(bool(queue->next_tag()));
 }
 
 /* ---- Refusals ---- */
@@ -155,6 +174,7 @@ int main()
     a_plain_struct_is_zero<freeze_queue_pool>();
     a_request_moves_with_its_pool();
     what_moves_ends_in_its_own_queue();
+    a_tag_and_its_request_end_on_two_threads();
     a_queue_whose_end_is_refused_is_freed();
     std::printf("each field with its owner\n");
     return 0;

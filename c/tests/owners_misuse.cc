@@ -57,6 +57,29 @@ static void a_tag_ends_before_its_request()
     IS(queue.end() && queue.end().error() == blkq::Error::closed);
 }
 
+/* The gate, its pass and its reference. */
+static void a_gate_is_used_that_was_moved_from()
+{
+    IS(ends_with("a gate that was moved from is used", [] {
+        auto gate = percpu_gate::Gate::make(1, 1, nullptr);
+        auto moved = std::move(*gate);
+        (void)gate->kill();
+    }));
+    IS(ends_with("a pass that was moved from is used", [] {
+        auto gate = percpu_gate::Gate::make(1, 1, nullptr);
+        auto pass = gate->next_pass();
+        auto moved = std::move(*pass);
+        (void)pass->try_get(0);
+    }));
+    IS(ends_with("a reference that was moved from is used", [] {
+        auto gate = percpu_gate::Gate::make(1, 1, nullptr);
+        auto pass = gate->next_pass();
+        auto reference = pass->try_get(0);
+        auto moved = std::move(*reference);
+        (void)reference->word(0);
+    }));
+}
+
 static void owners_are_used_that_were_moved_from()
 {
     auto queue = a_queue();
@@ -170,6 +193,7 @@ static void results_without_a_value()
 int main()
 {
     a_tag_ends_before_its_request();
+    a_gate_is_used_that_was_moved_from();
     owners_are_used_that_were_moved_from();
     events_are_opened();
     a_request_leaves_on_another_slot();

@@ -26,13 +26,6 @@ const MEANINGS = {
   "waits for dead": "a deadlock: this call waits until the gate is killed, and no call is left that kills it",
 };
 
-// Results with a different meaning on Linux's percpu_ref.
-const MEANINGS_ON_LINUX = {
-  refused: "the try took none: the count was zero, or DEAD was set",
-  last: "this call dropped the last reference: it is the release",
-  "not zero": "refused: the count isn't zero; a callback that is still to come holds a reference too",
-};
-
 function clipped(text) {
   return text.length <= MOST_LETTERS ? text : `${text.slice(0, MOST_LETTERS)} .. (${text.length} letters)`;
 }
@@ -60,17 +53,15 @@ function rowElements(rows, refused) {
 function callsOf(text) {
   const calls = new Map();
   for (const { words } of saidIn(text).slice(2)) {
-    if (words[0] === "world" || words[0] === "ask") continue;
     const actor = words[0] === "c" ? "c" : String(Number(words[0]));
     calls.set(actor, [...(calls.get(actor) ?? []), words.slice(1).join(" ")]);
   }
   return calls;
 }
 
-// The final state of each gate: its line, without the leading words.
+// The final state of the gate: its line, without the leading words.
 function endOf({ schedule, isDeadlock }) {
-  const ends = linesOf(schedule).filter((line) => /^# (@\d+ )?end /.test(line));
-  const end = ends.map((line) => withBias(line.replace(/^# /, "").replace(/end /, ""))).join("; ");
+  const end = withBias(linesOf(schedule).find((line) => line.startsWith("# end ")).slice(6));
   return isDeadlock ? `deadlock: ${end}` : end;
 }
 
@@ -120,8 +111,7 @@ function hasWord({ actors }, word) {
 
 // The meanings of the words in these outcomes, each with a button that selects the first outcome with that word.
 function glossaryOf(outcomes, onChoice) {
-  const isLinux = outcomes[0]?.schedule.startsWith("linux 1\n");
-  return Object.entries(isLinux ? { ...MEANINGS, ...MEANINGS_ON_LINUX } : MEANINGS).flatMap(([word, meaning]) => {
+  return Object.entries(MEANINGS).flatMap(([word, meaning]) => {
     const having = outcomes.filter((outcome) => hasWord(outcome, word));
     if (having.length === 0) return [];
     const first = element("button", { type: "button", textContent: `outcome ${having[0].number}` });

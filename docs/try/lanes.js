@@ -1,14 +1,11 @@
 // Draws a schedule as lanes; a port of tools/races_pictures/lanes.py that draws the same elements: a lane per actor with its steps in order
-// and their replies, shaded while the actor holds references or has a step pending, and the words of each gate next to the lanes.
+// and their replies, shaded while the actor holds references or has a step pending, and the words of the gate next to the lanes.
 
 const [SIZE, SMALL] = [13, 12];
 const [ROW, BOX] = [44, 26];
 const [TOP, EDGE, GAP, INNER] = [64, 16, 10, 12];
-const END = 18;
-// The kinds of words that have marks, and whether a mark precedes another value in such a word.
-const MARKED = { shared: true, flags: false };
 
-// A column of the picture, starting at x: a lane or a word of a gate.
+// A column of the picture, starting at x: a lane or a word.
 function column(name, x, wide) {
   return { name, x, wide, middle: x + wide / 2, end: x + wide };
 }
@@ -24,16 +21,7 @@ function replyOf(row) {
 }
 
 function actorName(actor) {
-  if (actor === "c") return "control";
-  return String(actor).startsWith("rcu ") ? actor : `pass ${actor}`;
-}
-
-// Text for what an actor holds and has pending at each gate. Gates with equal text are listed together.
-function standingOf(actor, moment) {
-  const said = moment.map((state) => state.standing(actor).words);
-  if (said.length === 1) return said[0];
-  const gates = (words) => said.flatMap((it, index) => (it === words ? [`@${index + 1}`] : []));
-  return [...new Set(said)].filter((words) => words !== "").map((words) => [...gates(words), words].join(" ")).join("; ");
+  return actor === "c" ? "control" : `pass ${actor}`;
 }
 
 class Lanes {
@@ -48,7 +36,7 @@ class Lanes {
     const steps = this.schedule.rows.map(({ step, reply }) => {
       return `${step.actor === "c" ? "the control" : actorName(step.actor)}: ${step.text}, ${reply}`;
     });
-    return `${steps.join("; ")}; ${this.schedule.ends.join("; ")}`;
+    return `${steps.join("; ")}; ${this.schedule.end}`;
   }
 
   // The columns, each as wide as its longest text.
@@ -60,25 +48,23 @@ class Lanes {
       this.lanes.set(actor, column(actorName(actor), x, wide));
       x += wide + GAP;
     }
-    this.words = this.moments[0].flatMap((_, gate) => {
-      x += GAP;
-      return this.shownWords(gate).map((held) => {
-        const [{ kind, at, name }] = held;
-        const wide = Math.max(...[...this.textsOf(held), name].map((text) => widthOf(text, SMALL))) + 14;
-        const placed = { gate, kind, at, held, ...column(name, x, wide) };
-        x = placed.end + GAP;
-        return placed;
-      });
+    x += GAP;
+    this.words = this.shownWords().map((held) => {
+      const [{ kind, at, name }] = held;
+      const wide = Math.max(...[...this.textsOf(held), name].map((text) => widthOf(text, SMALL))) + 14;
+      const placed = { kind, at, held, ...column(name, x, wide) };
+      x = placed.end + GAP;
+      return placed;
     });
-    const ends = this.schedule.ends.map((end) => EDGE + widthOf(withBias(end), SIZE));
-    this.wide = Math.max(x - GAP, EDGE + widthOf(this.title, 15) + 14 + widthOf(this.name, SMALL), ...ends) + EDGE;
+    const [head, end] = [widthOf(this.title, 15) + 14 + widthOf(this.name, SMALL), widthOf(withBias(this.schedule.end), SIZE)];
+    this.wide = Math.max(x - GAP, EDGE + head, EDGE + end) + EDGE;
   }
 
   // The width of the longest text in a lane.
   wideOf(actor) {
     const rows = this.schedule.rows.filter((row) => this.laneOf(row.step) === actor);
     const steps = rows.map((row) => widthOf(`${row.step.text}   ${replyOf(row)}`, SIZE));
-    const small = this.moments.map((moment) => widthOf(standingOf(actor, moment), SMALL));
+    const small = this.moments.map((moment) => widthOf(moment.standing(actor).words, SMALL));
     return Math.max(...steps, ...small, 90);
   }
 
@@ -87,10 +73,10 @@ class Lanes {
     return this.schedule.actors.includes(step.actor) ? step.actor : "c";
   }
 
-  // The words of a gate to draw, each with the values that it holds over time. Kinds whose words never show anything, such as slots that
+  // The words to draw, each with the values that it holds over time. Kinds whose words never show anything, such as slots that
   // were never open, are left out.
-  shownWords(gate) {
-    const words = this.moments[0][gate].words.map((_, index) => this.moments.map((moment) => moment[gate].words[index]));
+  shownWords() {
+    const words = this.moments[0].words.map((_, index) => this.moments.map((moment) => moment.words[index]));
     const seen = new Set(words.flat().flatMap(({ kind, isIdle }) => (isIdle ? [] : [kind])));
     return words.filter(([{ kind }]) => seen.has(kind));
   }
@@ -98,8 +84,7 @@ class Lanes {
   // The texts of a word, with room for its marks.
   textsOf(held) {
     const [texts, room] = [held.map(({ text }) => text), " ".repeat(Math.max(...held.map(({ marks }) => marks.join(" ").length)) + 3)];
-    if (!isOwn(MARKED, held[0].kind)) return texts;
-    return MARKED[held[0].kind] ? texts.map((text) => room + text) : [...texts, room];
+    return held[0].kind === "shared" ? texts.map((text) => room + text) : texts;
   }
 
   // The vertical middle of a step's row. The initial state is between rows -1 and 0.
@@ -110,15 +95,13 @@ class Lanes {
   drawn() {
     const last = this.yOf(this.schedule.rows.length) + 6;
     this.drawHeads(last);
-    this.drawNumbers();
     this.lanes.forEach((_, actor) => this.drawShades(actor));
     this.words.forEach((word) => this.drawWord(word, last));
     this.schedule.rows.forEach((row, index) => this.drawStep(index, row));
     this.lanes.forEach((_, actor) => this.drawStanding(actor));
-    this.schedule.ends.forEach((end, at) => this.picture.text(EDGE, last + 14 + END * at, withBias(end), { size: SIZE, isBold: true }));
-    const low = last + END * (this.schedule.ends.length - 1);
-    this.drawLegend(low + 34);
-    return this.picture.made(this.wide, low + 58);
+    this.picture.text(EDGE, last + 14, withBias(this.schedule.end), { size: SIZE, isBold: true });
+    this.drawLegend(last + 34);
+    return this.picture.made(this.wide, last + 58);
   }
 
   drawHeads(last) {
@@ -133,28 +116,9 @@ class Lanes {
     });
   }
 
-  // If there are several gates: the number of each, above its words.
-  drawNumbers() {
-    if (this.moments[0].length === 1) return;
-    this.moments[0].forEach((_, gate) => {
-      const columns = this.words.filter((word) => word.gate === gate);
-      const [x, end] = [columns[0].x, columns[columns.length - 1].end];
-      this.picture.text((x + end) / 2, TOP - 26, `gate ${gate + 1}`, { size: SMALL, anchor: "middle", isBold: true });
-      this.picture.line([[x, TOP - 20], [end, TOP - 20]], "rule");
-    });
-  }
-
-  // What an actor holds and has pending, each gate in its own part of the lane.
+  // What an actor holds and has pending, from one step that changes it to the next.
   drawShades(actor) {
-    const [lane, gates] = [this.lanes.get(actor), this.moments[0].length];
-    const wide = lane.wide / gates;
-    for (let gate = 0; gate < gates; gate += 1) {
-      this.drawShade(lane.x + gate * wide, wide, this.moments.map((moment) => moment[gate].standing(actor)));
-    }
-  }
-
-  // What an actor holds and has pending at a gate, from one step that changes it to the next.
-  drawShade(x, wide, parts) {
+    const [{ x, wide, end }, parts] = [this.lanes.get(actor), this.moments.map((moment) => moment.standing(actor))];
     let since = 0;
     for (let index = 1; index <= parts.length; index += 1) {
       if (index < parts.length && parts[index].words === parts[since].words) continue;
@@ -162,7 +126,7 @@ class Lanes {
       const below = this.yOf(index - 1) - (index < parts.length ? 0 : 14);
       const { holds, pending } = parts[since];
       if (holds || pending) this.picture.box(x, above, wide, below - above, holds ? "hold" : "owe");
-      if (holds && pending) this.picture.box(x + wide - INNER, above, INNER, below - above, "owe");
+      if (holds && pending) this.picture.box(end - INNER, above, INNER, below - above, "owe");
       since = index;
     }
   }
@@ -171,7 +135,7 @@ class Lanes {
   drawStanding(actor) {
     let before;
     this.moments.forEach((moment, index) => {
-      const words = standingOf(actor, moment);
+      const { words } = moment.standing(actor);
       const y = index ? this.yOf(index - 1) + ROW / 2 + 4 : TOP + ROW / 2 - 2;
       if (words !== before) this.picture.text(this.lanes.get(actor).middle, y, words, { size: SMALL, anchor: "middle" });
       before = words;
@@ -197,16 +161,14 @@ class Lanes {
     return answer === "last" ? "done" : "plain";
   }
 
-  // The line to the words that a step accesses, with a dot on each.
+  // The line to the word that a step accesses, with a dot on it.
   drawReach(index, row, lane, y) {
-    const isTarget = (word) => row.targets.some(({ gate, kind, at }) => gate === word.gate && kind === word.kind && at === word.at);
-    const reached = this.words.filter(isTarget);
-    if (reached.length === 0 || row.isStuck) return;
-    const changed = reached.map(({ held }) => held[index].value !== held[index + 1].value);
+    const word = this.words.find(({ kind, at }) => kind === row.target?.kind && at === row.target.at);
+    if (word === undefined || row.isStuck) return;
+    const isChanged = word.held[index].value !== word.held[index + 1].value;
     const kind = this.kindOf(row) === "done" ? "done" : "dim";
-    const furthest = Math.max(...reached.map(({ middle }) => middle));
-    this.picture.line([[lane.end - 4, y], [furthest, y]], kind, !changed.includes(true));
-    reached.forEach(({ middle }, at) => this.picture.dot(middle, y, kind, !changed[at]));
+    this.picture.line([[lane.end - 4, y], [word.middle, y]], kind, !isChanged);
+    this.picture.dot(word.middle, y, kind, !isChanged);
   }
 
   // The value of a word after each step that changes it.
@@ -221,7 +183,7 @@ class Lanes {
 
   drawChip(word, now, y) {
     this.picture.box(word.x, y - 10, word.wide, 20, "ground", { line: "rule", roundBy: 4 });
-    if (now.marks.length === 0 && !MARKED[word.kind]) {
+    if (word.kind !== "shared") {
       this.picture.text(word.middle, y + 4, now.text, { size: SMALL, anchor: "middle" });
       return;
     }
@@ -237,7 +199,7 @@ class Lanes {
 
   drawLegend(y) {
     let x = EDGE;
-    for (const [fill, words] of [["hold", "holds"], ["owe", this.moments[0][0].pendingShown], ["done", "the release"]]) {
+    for (const [fill, words] of [["hold", "holds"], ["owe", "a step is pending"], ["done", "the release"]]) {
       this.picture.box(x, y - 9, 14, 12, fill, { roundBy: 2 });
       this.picture.text(x + 20, y + 1, words, { kind: "dim", size: SMALL });
       x += 20 + widthOf(words, SMALL) + 18;

@@ -85,7 +85,6 @@ async function runInput(chosen = {}) {
   page.asked = Object.fromEntries(Object.entries({ outcome, step }).filter(([, it]) => Number.isInteger(it)));
   page.turn += 1;
   const { turn } = page;
-  if (notReplayed(text)) return showPrinted(text, chosen);
   markStale(true);
   keepLink();
   startClock();
@@ -98,22 +97,6 @@ async function runInput(chosen = {}) {
   find("notice").textContent = chosen.notice ?? (isRight ? missing(chosen) : undefined) ?? "";
   keepLink();
   return undefined;
-}
-
-// Shows a schedule that the page can't replay: which program does, and its lanes if the text contains the replies.
-function showPrinted(text, chosen) {
-  page.runner.stop();
-  stopClock();
-  clear();
-  const replies = repliesIn(text);
-  say(`not replayed here${replies ? ", but drawn by the replies that are printed in it" : ""}`);
-  Object.assign(find("reason"), { textContent: notReplayed(text), className: "dim" });
-  find("outcomes").hidden = true;
-  find("rows").hidden = false;
-  find("rows").replaceChildren(...rowElements(rowsOfPrinted(text)));
-  if (replies) showSchedule(page.name ?? "schedule", "", text, replies, chosen.step);
-  find("notice").textContent = chosen.notice ?? missing(chosen) ?? "";
-  keepLink();
 }
 
 // The message for a run without an answer, or undefined if it has one.

@@ -1,4 +1,4 @@
-// What the page shows of a gate, or of Linux's percpu_ref, between two steps: its words, and what each actor holds and has pending.
+// What the page shows of a gate between two steps: its words, and what each actor holds and has pending.
 // A port of tools/races_pictures/states.py.
 
 // A word: its kind, its number within the kind, its name, its value, the marks set in it, and whether it has nothing to show.
@@ -29,8 +29,6 @@ function slotShown(slot) {
 
 // The state of a gate between two steps.
 class GateState {
-  pendingShown = "a step is pending";
-
   constructor(gate) {
     Object.assign(this, { hasBase: gate.hasBase(), owes: gate.control.owes, passes: gate.passes.map((seat) => ({ ...seat })) });
     this.words = this.wordsOf(gate);
@@ -51,38 +49,5 @@ class GateState {
     if (seat.joined) return { holds: false, pending: false, words: "joined" };
     const held = seat.held === 0 ? [] : [actor === "c" ? "the initial reference" : `holds ${seat.held}`];
     return standingWith(held, seat.owes ? [`${seat.owes} pending`] : []);
-  }
-}
-
-// The state of a percpu_ref between two steps.
-class RefState {
-  pendingShown = "a section, a lock, a grace period";
-
-  constructor(ref) {
-    this.words = this.wordsOf(ref.counter, ref.switching);
-    this.standings = new Map([...ref.seats].map(([actor, seat]) => [actor, this.standingIn(ref, actor, seat)]));
-  }
-
-  // The words, in column order.
-  wordsOf(counter, switching) {
-    const marks = [...(counter.isAtomic ? ["ATOMIC"] : []), ...(counter.isDead ? ["DEAD"] : [])];
-    const isUnused = !counter.isPercpu();
-    const counters = counter.counters.map((value, at) => {
-      return new Word("counter", at, `counter ${at}`, slotShown(value), { isIdle: isUnused && value === 0 });
-    });
-    const flags = new Word("flags", null, "flags", marks.length > 0 ? "" : "percpu", { marks });
-    const count = new Word("count", null, "count", counter.shown());
-    return [flags, ...counters, count, new Word("switch", null, "switch", switching ?? "none", { isIdle: switching === null })];
-  }
-
-  standingIn(ref, actor, seat) {
-    if (actor === "c") return standingWith(ref.hasBase ? ["the initial reference"] : [], ref.isLocked() ? ["the lock"] : []);
-    const waits = seat.next?.waitsFor === "grace period" ? ["in a grace period"] : [];
-    return standingWith(seat.held ? [`holds ${seat.held}`] : [], seat.isInSection ? ["in a section"] : waits);
-  }
-
-  // What an actor holds and has pending; empty for a callback that doesn't exist yet.
-  standing(actor) {
-    return this.standings.get(actor) ?? standingWith([], []);
   }
 }

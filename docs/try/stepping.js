@@ -107,7 +107,7 @@ class Stepping {
     find("next").disabled = find("last").disabled = this.step === this.count;
     find("caption").textContent = this.caption();
     find("caption").className = this.step > 0 && this.schedule.rows[this.step - 1].isStuck ? "fault" : "";
-    this.showGates();
+    this.showGate();
     if (this.drawing) this.markRow();
     this.onStep(this.step);
   }
@@ -118,18 +118,14 @@ class Stepping {
     return `Step ${this.step} of ${this.count}: ${step.actor === "c" ? "the control" : actorName(step.actor)}: ${step.text} → ${withBias(reply)}`;
   }
 
-  // The table of the gate, or of each gate below its number.
-  showGates() {
+  // The table of the gate.
+  showGate() {
     const [{ schedule, step }, table] = [this, this.find("state")];
     const [before, now] = [schedule.momentAfter(Math.max(0, step - 1)), schedule.momentAfter(step)];
-    const bodies = now.map((state, gate) => {
-      const old = gateShown(before[gate], schedule.actors);
-      const rows = gateShown(state, schedule.actors).map((row, index) => rowOfGate(row, old[index][1]));
-      const number = element("th", { scope: "rowgroup", colSpan: 3, textContent: `gate ${gate + 1}` });
-      return element("tbody", {}, now.length > 1 ? [element("tr", { className: "gate" }, [number]), ...rows] : rows);
-    });
+    const old = gateShown(before, schedule.actors);
+    const rows = gateShown(now, schedule.actors).map((row, index) => rowOfGate(row, old[index][1]));
     [...table.tBodies].forEach((body) => body.remove());
-    table.append(...bodies);
+    table.append(element("tbody", {}, rows));
   }
 
   // Frames the step's row in the lanes and fades later rows.

@@ -1,13 +1,6 @@
 // Parses texts: lines, the kind of an input, replies per line, the outcomes of a race, and the fragment of a link.
 
-const HEADS = { __proto__: null, blkq: "script", gate: "schedule", gates: "schedule", linux: "schedule", races: "race" };
-const HEADS_OF_SCHEDULES = ["gate 1", "gates 1", "linux 1"];
-// The message for a schedule that the page can't replay, by the first word of its text.
-const NOT_REPLAYED = {
-  __proto__: null,
-  gates: "This page replays schedules of one gate. In a terminal blkq replay takes the part of each gate: races/FORMATS.md tells how to cut it out.",
-  linux: "This page replays schedules of a gate, and none on Linux's percpu_ref. In a terminal ./gate_races --replay < FILE does.",
-};
+const HEADS = { __proto__: null, blkq: "script", gate: "schedule", races: "race" };
 const BESIDE = 28;
 
 function linesOf(text) {
@@ -30,11 +23,6 @@ function saidIn(text) {
 // The kind of an input by its first word, or undefined if it is none of the three.
 function kindOf(text) {
   return HEADS[saidIn(text)[0]?.words[0]];
-}
-
-// Why the page can't replay this text and what can, or undefined if it can.
-function notReplayed(text) {
-  return NOT_REPLAYED[saidIn(text)[0]?.words[0]];
 }
 
 // A script's replies by line number, and the disk's line.
@@ -66,14 +54,6 @@ function rowsBeside(kind, text, answer) {
   return rows;
 }
 
-// A row per line of a schedule whose text has the replies below the steps.
-function rowsOfPrinted(text) {
-  return linesOf(text).map((line, index, lines) => {
-    const hasReply = line !== "" && !line.startsWith("#") && lines[index + 1]?.startsWith("# ");
-    return { number: index + 1, line, reply: hasReply ? lines[index + 1].slice(2) : undefined };
-  });
-}
-
 // The rows of a race's answer: each step with the reply below it.
 function rowsOfRace(answer) {
   const rows = [];
@@ -99,7 +79,7 @@ function outcomesOf(answer) {
     const [, number, steps, deadlock] = /^outcome (\d+) steps (\d+)( deadlock)?$/.exec(line) ?? [];
     if (number) outcomes.push({ number: Number(number), steps: Number(steps), isDeadlock: deadlock !== undefined, actors: [], schedule: "" });
     else if (!now || /^outcomes \d+$/.test(line)) continue;
-    else if (now.schedule || HEADS_OF_SCHEDULES.includes(line)) now.schedule += `${line}\n`;
+    else if (now.schedule || line === "gate 1") now.schedule += `${line}\n`;
     else now.actors.push({ actor: line.split(" ", 1)[0], answers: line.split(" ").slice(1).join(" ") });
   }
   return outcomes;

@@ -10,6 +10,9 @@
 typedef struct connection {
     nbdkit_next *next;
     uint64_t export;  /* the number of the export through which it reads, bypassing the queue; 0: none */
+    char *name;       /* of an export's connection: its name for the backend */
+    bool is_of_snapshot; /* its export is a snapshot's, */
+    struct snapshot *keeps; /* which it keeps, unless NULL */
     uint32_t minimum; /* bytes of the backend's smallest block; 1 if the backend names none */
     int fua;          /* an NBDKIT_FUA_.. */
     bool flushes, is_listed;

@@ -5,9 +5,13 @@
 #include <stdio.h>
 #include <string.h>
 
-static uint64_t numbers; /* of freezes, up to the last one */
-
 control_counts controlled = {.mode = FREEZE_QUEUE_MODE_SLOTS};
+
+uint64_t next_number(void)
+{
+    static uint64_t numbers;
+    return ++numbers;
+}
 
 uint64_t now(void)
 {
@@ -76,6 +80,8 @@ void forget_controller(controller *from)
 {
     give_up(from, "its connection's end");
     forget_holds(from);
+    if (blkq.snapshots != NULL)
+        blkq.snapshots->forget(from);
 }
 
 /* Gives up lines whose drain or flush takes longer than the server allows. Returns when the next line will. */
@@ -100,8 +106,11 @@ static uint64_t end_late_lines(uint64_t at)
 int end_late(void)
 {
     uint64_t at = now(), lines = end_late_lines(at), next = end_late_holds(at);
+    uint64_t snapshot = blkq.snapshots != NULL ? blkq.snapshots->end_old(at) : UINT64_MAX;
     if (lines < next)
         next = lines;
+    if (snapshot < next)
+        next = snapshot;
     if (next == UINT64_MAX)
         return -1;
     uint64_t milliseconds = (next - at) / 1000000 + 1;
@@ -126,16 +135,6 @@ static void hold_on(controller *from)
     add_hold(from);
     from->stage = IDLE;
     say_depth(from);
-}
-
-/* One more than the place of the last freeze that a controller holds. If it holds none, replies and returns 0. */
-static uint32_t needed_hold(controller *from)
-{
-    uint32_t depth = 0, place = last_hold(from);
-    freeze_queue_waits_depth(&blkq.waits, &depth);
-    if (place == 0)
-        say(from, depth > 0 ? "not yours" : "not frozen");
-    return place;
 }
 
 /* The limits that a line sets, and the limits in force for the fields that it doesn't name. */
@@ -235,7 +234,7 @@ static void begin_freeze(controller *from)
     count_freeze(); /* the time frozen includes the drain */
     from->stage = DRAINING;
     from->since = now();
-    from->number = ++numbers;
+    from->number = next_number();
     go_on(from);
 }
 
@@ -287,19 +286,13 @@ static void flush(controller *from)
         begin_flush(from);
 }
 
-/* Opens an export for the last freeze that the controller holds, and closes the export that the freeze had. */
-static void export(controller *from)
+/* A line about a snapshot. */
+static void snapshot(controller *from)
 {
-    char name[EXPORT_NAME], address[256], text[sizeof name + sizeof address + 16];
-    uint32_t place = needed_hold(from);
-    if (place == 0)
-        return;
-    uint64_t *number = export_of(place - 1);
-    close_export(*number);
-    *number = blkq.exports ? open_export(name) : 0;
-    tell_address(address, sizeof address);
-    snprintf(text, sizeof text, "export %s %s", name, address);
-    say(from, *number != 0 ? text : blkq.exports ? "too many exports" : "no backend");
+    if (blkq.snapshots != NULL)
+        blkq.snapshots->run(from);
+    else
+        say(from, blkq.exports ? "one connection at a time" : "no backend");
 }
 
 /* Ends every freeze, and each line that still drains or flushes. */
@@ -311,6 +304,16 @@ static void thaw_all(controller *from)
     while (holds_now() > 0)
         end_hold(holds_now() - 1, why);
     say_depth(from);
+}
+
+/* Tells the number of the newest freeze that the controller holds. */
+static void say_number(controller *to)
+{
+    char text[32];
+    uint32_t place = needed_hold(to);
+    snprintf(text, sizeof text, "number %" PRIu64, to->number);
+    if (place > 0)
+        say(to, text);
 }
 
 static void take_label(controller *from)
@@ -364,7 +367,7 @@ void run_line(controller *from, char *line)
         say(from, fault);
         return;
     }
-    if (!may_freeze(from) && (from->asked.verb == FREEZE || from->asked.verb == QUIESCE || from->asked.verb == SET)) {
+    if (!may_freeze(from) && (from->asked.verb == FREEZE || from->asked.verb == QUIESCE || from->asked.verb == SET || from->asked.verb == SNAPSHOT)) {
         note("refused: busy, " WHO, WHOSE(from->who));
         say(from, "busy");
         return;
@@ -374,12 +377,17 @@ void run_line(controller *from, char *line)
     case FREEZE:
     case QUIESCE: begin_freeze(from); break;
     case FLUSH_NOW: flush(from); break;
-    case EXPORT: export(from); break;
+    case EXPORT: export_hold(from); break;
+    case COPIED_NOW: tell_copied(from); break;
+    case ADDRESS_NOW: say_address(from); break;
+    case SNAPSHOT: snapshot(from); break;
     case THAW: thaw(from); break;
     case LABEL: take_label(from); break;
     case THAW_ONE: thaw_one(from); break;
     case THAW_ALL: thaw_all(from); break;
     case HOLDERS: tell(from, tell_holders); break;
+    case REQUESTS: tell(from, tell_requests); break;
+    case NUMBER: say_number(from); break;
     case SET: set(from); break;
     case WHY: say_why(from); break;
     case MODE: count_by(from); break;

@@ -38,7 +38,7 @@ static const char *text_of(int failed, bool has_export)
 {
     if (failed != ESHUTDOWN)
         return strerror(failed);
-    return has_export ? "the freeze of its export has ended" : "the server ends, or the client has gone";
+    return has_export ? "the freeze or the snapshot of its export has ended" : "the server ends, or the client has gone";
 }
 
 void log_failure(const request *wanted, int failed, bool has_export)

@@ -1,6 +1,7 @@
 /* nbdkit-blkq-filter: the queue before any backend of nbdkit. Each request passes the queue (request.c), and its pieces go
  * to the backend; a quiesce flushes the backend while the queue is drained. */
 #include "connections.h"
+#include "snapshot.h"
 #include <errno.h>
 #include <stdlib.h>
 #include <string.h>
@@ -22,7 +23,8 @@ static int filter_config(nbdkit_next_config *next, nbdkit_backend *nxdata, const
     for (char *at = name; *at != '\0'; at++)
         if (*at == '-')
             *at = '_';
-    return configure_queue(key, name, value);
+    int taken = configure_snapshots(key, name, value);
+    return taken > 0 ? configure_queue(key, name, value) : taken;
 }
 
 static const char help[] =
@@ -39,6 +41,10 @@ static const char help[] =
     "blkq-max-hold=S             a freeze ends at the latest S seconds after its drain (a quiesce: after its flush)\n"
     "blkq-name=NAME              the disk in metrics and in the journal\n"
     "blkq-audit=journal          notes freezes, thaws, settings and refusals\n"
+    "blkq-snapshot-dir=DIR       where a live copy keeps what clients overwrite (/var/tmp)\n"
+    "blkq-snapshot-max=SIZE      maximum size of what is kept there (1G)\n"
+    "blkq-snapshot-block=SIZE    what is kept at once: a power of two from 4k to 1M (16k)\n"
+    "blkq-snapshot-age=S         a live copy is given up S seconds after its beginning\n"
     "blkq-nowait=true            a request to a frozen queue is refused";
 
 static int filter_get_ready(int thread_model)
@@ -46,19 +52,30 @@ static int filter_get_ready(int thread_model)
     is_serial = thread_model != NBDKIT_THREAD_MODEL_PARALLEL;
     blkq.flush = flush_backend;
     blkq.exports = true;
+    make_snapshot_locks();
+    if (thread_model > NBDKIT_THREAD_MODEL_SERIALIZE_CONNECTIONS) /* else no connection comes beside a client's */
+        blkq.snapshots = &of_filter;
     return make_queue();
 }
 
 static int filter_after_fork(nbdkit_backend *backend)
 {
     (void)backend;
-    return start_threads();
+    int failed = start_sweeping();
+    return failed == 0 ? start_threads() : refuse("thread", strerror(failed));
 }
 
 static void filter_cleanup(nbdkit_backend *backend)
 {
     (void)backend;
     end_queue();
+    end_sweeping();
+}
+
+static void filter_unload(void)
+{
+    unload_queue();
+    unload_snapshots();
 }
 
 /* ---- A client comes and goes ---- */
@@ -71,8 +88,8 @@ static void *filter_open(nbdkit_next_open *next, nbdkit_context *context, int re
         refuse("open", strerror(errno));
         return NULL;
     }
-    if (is_export_name(name) && (opened->export = find_export(name, &name)) == 0) {
-        refuse("blkq", "no current freeze has an export of this name");
+    if (is_export_name(name) && ((opened->export = find_export(name, &name)) == 0 || (opened->name = strdup(name)) == NULL)) {
+        refuse("blkq", opened->export == 0 ? "no current freeze has an export of this name" : strerror(errno));
         free(opened);
         return NULL;
     }
@@ -80,6 +97,7 @@ static void *filter_open(nbdkit_next_open *next, nbdkit_context *context, int re
     int failed = next(context, readonly || opened->export != 0, name); /* nbdkit refuses writes on a read-only connection */
     end_call();
     if (failed != 0) {
+        free(opened->name);
         free(opened);
         return NULL;
     }
@@ -94,17 +112,21 @@ static int filter_prepare(nbdkit_next *next, void *handle, int readonly)
     uint32_t preferred, maximum;
     (void)readonly;
     int writes = next->can_write(next), flushes = next->can_flush(next), fua = next->can_fua(next);
-    int sized = next->block_size(next, &opened->minimum, &preferred, &maximum);
-    if (next->get_size(next) < 0 || writes < 0 || flushes < 0 || fua < 0 || sized < 0)
+    int sized = next->block_size(next, &opened->minimum, &preferred, &maximum), are_alike = next->can_multi_conn(next);
+    int64_t size = next->get_size(next);
+    if (size < 0 || writes < 0 || flushes < 0 || fua < 0 || sized < 0 || are_alike < 0)
         return -1;
     opened->next = next;
     opened->fua = fua;
     opened->flushes = writes && flushes;
     if (opened->minimum == 0)
         opened->minimum = 1;
-    if (opened->export == 0) /* an export writes nothing that a quiesce could flush */
+    if (opened->export == 0) { /* an export writes nothing that a quiesce could flush */
         list_connection(opened);
-    return 0;
+        return 0;
+    }
+    note_export(opened->export, (uint64_t)size, are_alike);
+    return join_snapshot(opened);
 }
 
 /* Flushes before the connection goes, since no later quiesce may reach its writes. */
@@ -113,6 +135,7 @@ static int filter_finalize(nbdkit_next *next, void *handle)
     connection *leaving = handle;
     (void)next;
     int failed = flush_connection(leaving, true);
+    leave_snapshot(leaving);
     unlist_connection(leaving);
     return failed == 0 ? 0 : -1;
 }
@@ -121,8 +144,10 @@ static int filter_finalize(nbdkit_next *next, void *handle)
 static void filter_close(void *handle)
 {
     connection *closed = handle;
+    leave_snapshot(closed);
     unlist_connection(closed);
     pthread_mutex_destroy(&closed->flushing);
+    free(closed->name);
     free(closed);
 }
 
@@ -188,6 +213,8 @@ static int do_piece(const request *wanted, uint64_t offset, uint32_t count, bool
     int failed = 0;
     bool writes = wanted->operation == WRITE || wanted->operation == TRIM || wanted->operation == ZERO;
     bool was_written = wanted->operation == FLUSH && atomic_exchange(&by->from->is_written, false);
+    if (writes)
+        change(offset, count);
     begin_call();
     bool done = call(wanted, offset, count, flags_of(wanted, is_last), &failed) == 0;
     end_call();
@@ -198,17 +225,45 @@ static int do_piece(const request *wanted, uint64_t offset, uint32_t count, bool
     return done ? 0 : failed != 0 ? failed : EIO;
 }
 
-/* Reads the backend, bypassing the queue, for the owner of a freeze: 0, or an errno. A read during which the freeze ended fails. */
-static int read_past(const request *wanted)
+/* The bytes that a request to an export has told: those that were read, or are known to be zeroes, or unchanged since the copy before. */
+static uint64_t told_by(const request *wanted)
+{
+    const passage *by = wanted->backend;
+    uint64_t told = wanted->operation == READ ? wanted->count : 0, end = wanted->offset + wanted->count;
+    for (size_t i = 0; wanted->operation == EXTENTS && i < nbdkit_extents_count(by->extents); i++) {
+        const struct nbdkit_extent one = nbdkit_get_extent(by->extents, i);
+        uint64_t to = one.offset + one.length < end ? one.offset + one.length : end;
+        bool is_told = (one.type & NBDKIT_EXTENT_ZERO) != 0 || (by->from->is_of_snapshot && one.type == NBDKIT_EXTENT_HOLE);
+        told += is_told && one.offset < to ? to - one.offset : 0;
+    }
+    return told;
+}
+
+/* Calls the backend, or reads the snapshot, for a connection to an export: 0, or an errno. */
+static int call_past(const request *wanted)
 {
     const passage *by = wanted->backend;
     int failed = 0;
+    if (by->from->is_of_snapshot && wanted->operation == READ)
+        return read_snapshot(by->from, by->next, wanted->bytes, wanted->count, wanted->offset);
+    if (by->from->is_of_snapshot && wanted->operation == EXTENTS)
+        return extents_of_snapshot(by->from, by->next, wanted->count, wanted->offset, by->extents);
     begin_call();
     bool done = call(wanted, wanted->offset, wanted->count, wanted->flags, &failed) == 0;
     end_call();
+    return done ? 0 : failed != 0 ? failed : EIO;
+}
+
+/* Reads the backend or a snapshot, bypassing the queue: 0, or an errno. A read during which the freeze or the snapshot ended fails. */
+static int read_past(const request *wanted)
+{
+    const passage *by = wanted->backend;
+    int failed = call_past(wanted);
     if (!is_export_open(by->from->export))
         return ESHUTDOWN;
-    return done ? 0 : failed != 0 ? failed : EIO;
+    if (failed == 0)
+        count_export(by->from->export, told_by(wanted));
+    return failed;
 }
 
 /* Serves a request, and returns what nbdkit expects. */
@@ -271,7 +326,7 @@ static struct nbdkit_filter filter = {
     .get_ready = filter_get_ready,
     .after_fork = filter_after_fork,
     .cleanup = filter_cleanup,
-    .unload = unload_queue,
+    .unload = filter_unload,
     .open = filter_open,
     .prepare = filter_prepare,
     .finalize = filter_finalize,

@@ -68,13 +68,22 @@ void end_hold(uint32_t place, const char *why)
     note("freeze %" PRIu64 ": ended by %s, after %.3f s, " WHO, ending.number, why, seconds_since(ending.since), WHOSE(ending.who));
 }
 
-bool holds_any(const controller *from) { return last_hold(from) > 0 || from->stage != IDLE; }
+bool holds_any(const controller *from) { return last_hold(from) > 0 || from->stage != IDLE || from->has_snapshot; }
 
 uint32_t last_hold(const controller *from)
 {
     uint32_t place = held;
     while (place > 0 && holds[place - 1].owner != from)
         place--;
+    return place;
+}
+
+uint32_t needed_hold(controller *from)
+{
+    uint32_t depth = 0, place = last_hold(from);
+    freeze_queue_waits_depth(&blkq.waits, &depth);
+    if (place == 0)
+        say(from, depth > 0 ? "not yours" : "not frozen");
     return place;
 }
 
@@ -118,8 +127,7 @@ uint64_t end_late_holds(uint64_t at)
     return next;
 }
 
-/* Writes a line of `holders`, with - for the end of a hold that has no time. */
-static void list_one(FILE *file, uint64_t number, const char *verb, const char *stage, uint64_t since, const who *who, uint64_t ends_at)
+void list_holder(FILE *file, uint64_t number, const char *verb, const char *stage, uint64_t since, const who *who, uint64_t ends_at)
 {
     fprintf(file, "%" PRIu64 " %s %s %.3f pid %d uid %u ends ", number, verb, stage, seconds_since(since), who->pid, who->uid);
     if (ends_at == UINT64_MAX)
@@ -134,10 +142,12 @@ void list_holds(FILE *file)
     static const char *const stages[] = {[DRAINING] = "draining", [FLUSHING] = "flushing"};
     for (uint32_t place = 0; place < held; place++) {
         const hold *one = &holds[place];
-        list_one(file, one->number, verbs[one->verb], "held", one->since, &one->who, one->ends_at);
+        list_holder(file, one->number, verbs[one->verb], "held", one->since, &one->who, one->ends_at);
     }
     for (controller *one = next_controller(NULL); one != NULL; one = next_controller(one))
         if (one->stage != IDLE && one->asked.verb != FLUSH_NOW)
-            list_one(file, one->number, verbs[one->asked.verb], stages[one->stage], one->since, &one->who, UINT64_MAX);
+            list_holder(file, one->number, verbs[one->asked.verb], stages[one->stage], one->since, &one->who, UINT64_MAX);
+    if (blkq.snapshots != NULL)
+        blkq.snapshots->list(file);
     fprintf(file, "# EOF\n");
 }

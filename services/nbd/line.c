@@ -109,11 +109,31 @@ static const char *parse_set(char *const words[], size_t count, command *parsed)
     return fault;
 }
 
+/* snapshot prepare [once] [track] | on [COPY] | off [whole] */
+static const char *parse_snapshot(char *const words[], size_t count, command *parsed)
+{
+    static const char *const steps[] = {[PREPARE] = "prepare", [TAKE] = "on", [END] = "off"};
+    size_t next = 2;
+    if (count < 2)
+        return "missing word";
+    while (parsed->step <= END && strcmp(words[1], steps[parsed->step]) != 0)
+        parsed->step++;
+    if (parsed->step > END)
+        return "unknown word";
+    parsed->since = parsed->step == TAKE && count > next ? words[next++] : "";
+    parsed->is_whole = parsed->step == END && count > next && strcmp(words[next], "whole") == 0 && next++ > 0;
+    parsed->is_once = parsed->step == PREPARE && count > next && strcmp(words[next], "once") == 0 && next++ > 0;
+    parsed->is_tracked = parsed->step == PREPARE && count > next && strcmp(words[next], "track") == 0 && next++ > 0;
+    return count > next ? "extra word" : NULL;
+}
+
 static const struct { const char *first; verb verb; form *parse; } forms[] = {
     {"freeze", FREEZE, parse_freeze}, {"quiesce", QUIESCE, parse_freeze},  {"flush", FLUSH_NOW, parse_alone},
     {"thaw", THAW, parse_thaw},       {"set", SET, parse_set},             {"why", WHY, parse_alone},
     {"mode", MODE, parse_mode},       {"stat", STAT, parse_alone},         {"metrics", METRICS, parse_alone},
-    {"export", EXPORT, parse_alone},  {"holders", HOLDERS, parse_alone},
+    {"export", EXPORT, parse_alone},  {"holders", HOLDERS, parse_alone},   {"copied", COPIED_NOW, parse_alone},
+    {"snapshot", SNAPSHOT, parse_snapshot}, {"address", ADDRESS_NOW, parse_alone},
+    {"requests", REQUESTS, parse_alone},   {"number", NUMBER, parse_alone},
 };
 
 /* Cuts a line at spaces and tabs, and counts its words, up to MOST_WORDS. */

@@ -78,6 +78,35 @@ static void write_stat(FILE *file)
 char *tell_stat(size_t *length) { return text_of(write_stat, length); }
 char *tell_holders(size_t *length) { return text_of(list_holds, length); }
 
+/* ---- requests ---- */
+
+/* Finds the oldest request in flight that arrived after a time; NULL if there is none. */
+static const counts *oldest_after(uint64_t time)
+{
+    const counts *oldest = NULL;
+    for (uint32_t tag = 0; tag < blkq.tags; tag++) {
+        uint64_t since = atomic_load_explicit(&blkq.counts[tag].since, memory_order_relaxed);
+        if (since > time && (oldest == NULL || since < atomic_load_explicit(&oldest->since, memory_order_relaxed)))
+            oldest = &blkq.counts[tag];
+    }
+    return oldest;
+}
+
+/* Writes the requests in flight, the oldest first. */
+static void write_requests_now(FILE *file)
+{
+    uint64_t since = 0;
+    for (const counts *one = oldest_after(0); one != NULL; one = oldest_after(since)) {
+        since = atomic_load_explicit(&one->since, memory_order_relaxed);
+        if (since != 0)
+            fprintf(file, "%s %u at %" PRIu64 " %.3f\n", operations[atomic_load(&one->operation)], atomic_load(&one->length),
+                    atomic_load(&one->offset), seconds_since(since));
+    }
+    fprintf(file, "# EOF\n");
+}
+
+char *tell_requests(size_t *length) { return text_of(write_requests_now, length); }
+
 /* ---- metrics ---- */
 
 /* In OpenMetrics the name of a counter lacks the _total of its sample. */
@@ -187,12 +216,17 @@ static void write_freezes(FILE *file)
     write_number(file, "flush_lost", "gauge", "1 if a flush of the backend has failed since the start: data may be lost.",
                  atomic_load(&blkq.flush_lost));
     write_number(file, "settings_total", "counter", "Changes of the limits.", controlled.settings);
+    write_number(file, "audit_lost_total", "counter", "Notes that the journal didn't take.", lost_notes());
     write_number(file, "refused_total", "counter", "Lines that the queue refused, and drains and flushes that failed or were given up.", controlled.refused);
 }
 
 static void write_queue(FILE *file)
 {
     freeze_queue_limits limits = {0};
+    const counts *oldest = oldest_after(0);
+    uint64_t since = oldest == NULL ? 0 : atomic_load(&oldest->since);
+    write_seconds(file, "oldest_request_seconds", "gauge", "How long the oldest request has been in flight; 0 if there is none.",
+                  since == 0 ? 0 : seconds_since(since));
     freeze_queue_waits_limits(&blkq.waits, &limits);
     write_number(file, "waiting", "gauge", "Requests that wait now.", atomic_load(&blkq.waiting));
     write_number(file, "tags", "gauge", "Maximum number of requests in flight.", blkq.tags);
@@ -205,12 +239,24 @@ static void write_queue(FILE *file)
     write_labelled(file, "limit_sectors", "limit", "hardware", limits.hardware);
 }
 
+static void write_snapshots(FILE *file)
+{
+    snapshot_counts found = blkq.snapshots->count();
+    write_number(file, "snapshots_total", "counter", "Snapshots that were taken.", found.taken);
+    write_number(file, "snapshots_lost_total", "counter", "Snapshots that broke, or were too old: their copies are worth nothing.", found.lost);
+    write_number(file, "snapshot_blocks_total", "counter", "Blocks that were kept for snapshots before a client changed them.", found.kept);
+    write_number(file, "snapshot_bytes", "gauge", "Room that the snapshot takes now.", found.bytes);
+    write_seconds(file, "snapshot_seconds", "gauge", "Age of the snapshot; 0 if there is none.", found.seconds);
+}
+
 static void write_metrics(FILE *file)
 {
     write_requests(file);
     write_state(file);
     write_freezes(file);
     write_queue(file);
+    if (blkq.snapshots != NULL)
+        write_snapshots(file);
     fprintf(file, "# EOF\n");
 }
 

@@ -39,7 +39,7 @@ static int parse_nowait(const char *text)
     return yes < 0 ? -1 : 0;
 }
 
-static int parse_time(const char *key, const char *text, uint64_t *nanoseconds)
+int parse_time(const char *key, const char *text, uint64_t *nanoseconds)
 {
     char word[32] = "";
     strncpy(word, text, sizeof word - 1);
@@ -215,7 +215,7 @@ static void place_tags(void)
 
 int make_queue(void)
 {
-    if (take_control() != 0 || name_disk() != 0)
+    if (take_control() != 0 || name_disk() != 0 || find_journal() != 0)
         return -1;
     if (blkq.slots == 0)
         blkq.slots = processors();

@@ -171,6 +171,15 @@ static void count_request(operation_counts *mine, const request *wanted, uint32_
     count_duration(&mine->latency, now() - began);
 }
 
+/* Notes what a tag is doing, for `requests`. A reader that comes between two stores may see a part of the request before. */
+static void note_request(counts *counted, const request *wanted, uint64_t began)
+{
+    atomic_store_explicit(&counted->operation, (unsigned)wanted->operation, memory_order_relaxed);
+    atomic_store_explicit(&counted->offset, wanted->offset, memory_order_relaxed);
+    atomic_store_explicit(&counted->length, wanted->count, memory_order_relaxed);
+    atomic_store_explicit(&counted->since, began, memory_order_relaxed);
+}
+
 /* Enters, does the request, and leaves. */
 static int pass_queue(freeze_queue_tag *tag, const request *wanted, uint32_t slot, uint64_t began, bool has_waited)
 {
@@ -190,8 +199,10 @@ static int pass_queue(freeze_queue_tag *tag, const request *wanted, uint32_t slo
     }
     if (has_waited)
         count_duration(&mine->waiting, now() - began);
+    note_request(counted, wanted, began);
     int failed = do_request(tag, wanted, &pieces);
     count_request(mine, wanted, pieces, failed, began);
+    atomic_store_explicit(&counted->since, 0, memory_order_relaxed);
     return freeze_queue_waits_leave(&blkq.waits, tag, slot) == FREEZE_QUEUE_OK ? failed : EIO;
 }
 

@@ -34,7 +34,28 @@ typedef struct operation_counts {
 typedef struct counts {
     _Alignas(128) operation_counts of[OPERATIONS];
     atomic_uint_fast64_t again; /* requests refused because of a frozen queue and nowait */
+    atomic_uint_fast64_t since, offset; /* of its request in flight: when it arrived, in nanoseconds; 0: there is none */
+    atomic_uint operation, length;
 } counts;
+
+typedef struct controller controller;
+
+/* The snapshots that were taken, those that were lost, and the blocks that were kept for all of them; of the one that there is now, the bytes in its overlay
+ * and its age. */
+typedef struct snapshot_counts {
+    uint64_t taken, lost, kept, bytes;
+    double seconds;
+} snapshot_counts;
+
+/* What the control's thread asks of the filter's snapshots. */
+typedef struct snapshots {
+    void (*run)(controller *from);          /* runs a line */
+    void (*forget)(const controller *from); /* its connection has ended */
+    uint64_t (*end_old)(uint64_t at);      /* ends what is too old. Returns when the next one will be; UINT64_MAX: there is none */
+    void (*list)(FILE *file);               /* writes a line of `holders` */
+    snapshot_counts (*count)(void);
+    uint64_t (*export)(void);               /* its number, if a controller has a snapshot */
+} snapshots;
 
 typedef struct service {
     freeze_queue_limits limits; /* at the start, from the command line */
@@ -52,6 +73,7 @@ typedef struct service {
     char *audit;         /* the journal's socket, or NULL */
     uint64_t drain_timeout, max_hold; /* in nanoseconds; 0: none */
     bool exports;        /* the backend can be read bypassing the queue */
+    const snapshots *snapshots; /* NULL: there are none */
     int (*flush)(void);  /* flushes the backend: 0, or an errno; NULL if nothing can be lost */
     freeze_queue freezer;
     freeze_queue_waits waits;
@@ -100,6 +122,9 @@ const char *disk_name(void);
 /* Logs the reason of a refusal. Returns -1. */
 int refuse(const char *subject, const char *why);
 
+/* Reads the seconds of a parameter, or 0. -1: refused, and the reason is logged. */
+int parse_time(const char *key, const char *text, uint64_t *nanoseconds);
+
 /* Wakes the thread that looks for nbdkit's end, since a request waits. */
 void watch_for_the_end(void);
 
@@ -134,7 +159,10 @@ void log_failure(const request *wanted, int failed, bool has_export);
 
 /* ---- line.c ---- */
 
-typedef enum verb { NOTHING, FREEZE, QUIESCE, FLUSH_NOW, EXPORT, LABEL, THAW, THAW_ONE, THAW_ALL, HOLDERS, SET, WHY, MODE, STAT, METRICS } verb;
+typedef enum verb {
+    NOTHING, FREEZE, QUIESCE, FLUSH_NOW, EXPORT, COPIED_NOW, ADDRESS_NOW, SNAPSHOT, LABEL, THAW, THAW_ONE, THAW_ALL, HOLDERS, REQUESTS, NUMBER, SET, WHY, MODE, STAT, METRICS
+} verb;
+typedef enum snapshot_step { PREPARE, TAKE, END } snapshot_step;
 /* How long a freeze lasts: as long as its connection; the same, but no longer than a time (HELD); for a time (LEASED); until it is
  * thawed by its number or by `thaw all`, or until blkq-max-hold (KEPT). */
 typedef enum holding { WHILE_CONNECTED, HELD, LEASED, KEPT } holding;
@@ -149,6 +177,10 @@ typedef struct command {
     uint64_t lasts;        /* nanoseconds of HELD and LEASED */
     uint32_t number;       /* of THAW_ONE: a freeze's */
     const char *label;     /* of LABEL: the rest of its line */
+    snapshot_step step;    /* of SNAPSHOT */
+    bool is_once, is_tracked; /* of PREPARE */
+    const char *since;     /* of TAKE: the name of the copy before; "" */
+    bool is_whole;         /* of END */
     uint32_t mode;         /* FREEZE_QUEUE_MODE_SLOTS or FREEZE_QUEUE_MODE_ATOMIC */
     bool sets[FIELDS];     /* of SET: the fields that it names */
     uint32_t to[FIELDS];   /* the values of these fields, in sectors */
@@ -176,7 +208,7 @@ typedef struct who {
 #define WHOSE(who) (who).pid, (who).uid, (who).label
 
 /* A connection to the control. */
-typedef struct controller {
+struct controller {
     int at; /* -1: nobody */
     who who;
     uint64_t number; /* of its last freeze, even if that isn't answered yet */
@@ -192,7 +224,11 @@ typedef struct controller {
     char line[LINE_MOST];
     char *reply; /* bytes from sent to length aren't sent yet */
     size_t length, sent;
-} controller;
+    bool has_snapshot;
+};
+
+/* The number of a freeze or a snapshot that begins. */
+uint64_t next_number(void);
 
 /* Runs a line, and replies to it or leaves it pending. */
 void run_line(controller *from, char *line);
@@ -226,12 +262,15 @@ void end_hold(uint32_t place, const char *why);
 
 uint32_t holds_now(void);
 
-/* Whether a controller holds a freeze. */
+/* Whether a controller holds a freeze or a snapshot, or will. */
 bool holds_any(const controller *from);
 
 /* One more than the place of the last freeze that a controller holds, or of the freeze with a number; 0: there is none. */
 uint32_t last_hold(const controller *from);
 uint32_t hold_numbered(uint64_t number);
+
+/* The same for the last freeze; if there is none, replies to the controller. */
+uint32_t needed_hold(controller *from);
 
 /* The number of a hold's export, for reading and changing. */
 uint64_t *export_of(uint32_t place);
@@ -242,8 +281,9 @@ void forget_holds(const controller *from);
 /* Ends each hold whose time has come. Returns when the next one ends; UINT64_MAX: there is none. */
 uint64_t end_late_holds(uint64_t at);
 
-/* Writes a line for each freeze, and a last line. */
+/* Writes a line for each freeze and snapshot, and a last line; one line, with - for an end at UINT64_MAX. */
 void list_holds(FILE *file);
+void list_holder(FILE *file, uint64_t number, const char *verb, const char *stage, uint64_t since, const who *who, uint64_t ends_at);
 
 /* The seconds since the queue was last running, 0 if it runs; the seconds since a time. */
 double seconds_frozen(void);
@@ -253,6 +293,10 @@ double seconds_since(uint64_t at);
 
 /* Notes what was done, in nbdkit's debug log and, with blkq-audit, in the journal. */
 void note(const char *format, ...) __attribute__((format(printf, 1, 2)));
+
+/* Whether a journal that was asked for is there; -1: it isn't, and the reason is logged. The notes that it didn't take. */
+int find_journal(void);
+uint64_t lost_notes(void);
 
 /* ---- flush.c: a thread that flushes, so that the control goes on meanwhile ---- */
 
@@ -269,9 +313,9 @@ bool is_flushed(uint64_t ticket, int *failed);
 
 /* ---- exports.c ---- */
 
-enum { EXPORT_NAME = 48 /* bytes of a name, with its end */ };
+enum { EXPORT_NAME = 48, ADDRESS = 256 /* bytes of a name, and of a server's address, with their ends */ };
 
-/* Open an export for a freeze, with a random name, and return its number, or 0 if there are too many; close it, which has to come before
+/* Open an export for a freeze or a snapshot, with a random name, and return its number, or 0 if there are too many; close it, which has to come before
  * the thaw (0: no export). Called only by the control's thread. */
 uint64_t open_export(char name[EXPORT_NAME]);
 void close_export(uint64_t number);
@@ -281,6 +325,23 @@ void close_export(uint64_t number);
 bool is_export_open(uint64_t number);
 bool is_export_name(const char *name);
 uint64_t find_export(const char *name, const char **rest);
+
+/* Note the size of the disk behind an export, and whether all connections to it see the same; bytes that were told through it. Tell the sums, and whether
+ * they see the same. */
+void note_export(uint64_t number, uint64_t size, bool are_alike);
+void count_export(uint64_t number, uint64_t bytes);
+bool told_by_export(uint64_t number, uint64_t *read, uint64_t *size);
+
+/* Run lines. The first opens an export for the last freeze that the controller holds, and closes the export that the freeze had. The second tells how much
+ * was read through the controller's export: that of its snapshot, or of that freeze. */
+void export_hold(controller *from);
+void tell_copied(controller *from);
+
+/* ---- address.c ---- */
+
+/* Write where nbdkit listens for clients: unix:PATH, tcp:HOST:PORT, or none; reply with it. */
+void tell_address(char *text, size_t most);
+void say_address(controller *to);
 
 /* ---- metrics.c ---- */
 
@@ -296,10 +357,11 @@ extern control_counts controlled;
 /* The nanoseconds for which the queue has been frozen in all. */
 uint64_t time_frozen(void);
 
-/* Write the line of `stat`, the lines of `holders`, and the metrics in the OpenMetrics format, into an allocation of length bytes; NULL: out of
- * memory. */
+/* Write the line of `stat`, the lines of `holders` and of `requests`, and the metrics in the OpenMetrics format, into an allocation of length bytes; NULL:
+ * out of memory. */
 char *tell_stat(size_t *length);
 char *tell_holders(size_t *length);
+char *tell_requests(size_t *length);
 char *tell_metrics(size_t *length);
 
 /* ---- socket.c ---- */
@@ -315,8 +377,8 @@ void end_control(void);
 /* The next connected controller; NULL begins and ends the list. */
 controller *next_controller(controller *after);
 
-/* Writes where nbdkit listens for clients: unix:PATH, tcp:PORT, or none. */
-void tell_address(char *text, size_t most);
+/* Whether a descriptor is the control's socket. */
+bool is_of_control(int at);
 
 /* Whether a controller may begin a freeze: those in the last places may not. */
 bool may_freeze(const controller *from);

@@ -4,13 +4,14 @@
 #include "service.h"
 #include <errno.h>
 #include <fcntl.h>
+#include <libgen.h>
 #include <nbdkit-plugin.h>
-#include <netinet/in.h>
 #include <poll.h>
 #include <stdio.h>
 #include <stdlib.h>
 #include <string.h>
 #include <sys/eventfd.h>
+#include <sys/file.h>
 #include <sys/socket.h>
 #include <sys/stat.h>
 #include <sys/un.h>
@@ -30,6 +31,8 @@ static int refuse_control(const char *what)
     nbdkit_error("%s=%s: %s: %s", blkq.control_key, blkq.control, what, strerror(errno));
     return -1;
 }
+
+bool is_of_control(int at) { return at == listening; }
 
 controller *next_controller(controller *after)
 {
@@ -80,34 +83,6 @@ static bool send_reply(controller *to)
     to->reply = NULL;
     to->length = to->sent = 0;
     return true;
-}
-
-/* ---- Where nbdkit listens ---- */
-
-static bool tell_name(int at, char *text, size_t most)
-{
-    union { struct sockaddr any; struct sockaddr_un local; struct sockaddr_in v4; struct sockaddr_in6 v6; } name = {0};
-    socklen_t length = sizeof name - 1;
-    int listens = 0;
-    socklen_t size = sizeof listens;
-    if (at == listening || getsockopt(at, SOL_SOCKET, SO_ACCEPTCONN, &listens, &size) != 0 || !listens ||
-        getsockname(at, &name.any, &length) != 0)
-        return false;
-    if (name.any.sa_family == AF_UNIX && name.local.sun_path[0] == '/')
-        return snprintf(text, most, "unix:%s", name.local.sun_path) > 0;
-    if (name.any.sa_family == AF_INET || name.any.sa_family == AF_INET6)
-        return snprintf(text, most, "tcp:%d", ntohs(name.v4.sin_port)) > 0; /* the port is at the same place in both */
-    return false;
-}
-
-/* nbdkit doesn't tell a filter where it listens. Its sockets are among the first descriptors of this process. */
-void tell_address(char *text, size_t most)
-{
-    enum { DESCRIPTORS = 256 };
-    for (int at = 0; at < DESCRIPTORS; at++)
-        if (tell_name(at, text, most))
-            return;
-    snprintf(text, most, "none");
 }
 
 /* ---- Controllers ---- */
@@ -267,6 +242,18 @@ static bool is_answered(const struct sockaddr_un *address)
     return !is_refused;
 }
 
+/* Locks the folder of the control: no other server takes the socket for a dead one's before it listens. Returns the descriptor, or -1: the folder isn't
+ * there, or can't be locked, as on some network's file systems. */
+static int lock_folder(void)
+{
+    char folder[sizeof((struct sockaddr_un *)0)->sun_path];
+    strcpy(folder, blkq.control);
+    int at = open(dirname(folder), O_RDONLY | O_DIRECTORY | O_CLOEXEC);
+    if (at >= 0)
+        (void)flock(at, LOCK_EX);
+    return at;
+}
+
 /* Binds the socket; nobody can connect before it listens. Removes a socket that a dead server left. */
 static int bind_at(int at, const struct sockaddr_un *address)
 {
@@ -305,6 +292,25 @@ static int open_to_others(void)
     return chmod(blkq.control, blkq.control_mode) == 0 ? 0 : refuse_control("chmod");
 }
 
+/* Makes the socket, and lets controllers connect. -1: refused, and the reason is logged. */
+static int listen_at(const struct sockaddr_un *address)
+{
+    int at = socket(AF_UNIX, SOCK_STREAM | SOCK_CLOEXEC | SOCK_NONBLOCK, 0);
+    if (at < 0)
+        return refuse_control("socket");
+    if (bind_at(at, address) != 0) {
+        refuse_control("bind");
+        close(at);
+        return -1;
+    }
+    listening = at;
+    if (open_to_others() != 0)
+        return -1;
+    if (stat(blkq.control, &bound) != 0)
+        return refuse_control("stat");
+    return listen(at, CONTROLLERS) == 0 ? 0 : refuse_control("listen");
+}
+
 int bind_control(void)
 {
     struct sockaddr_un address = {.sun_family = AF_UNIX};
@@ -318,20 +324,10 @@ int bind_control(void)
         return refuse_control("path");
     }
     strcpy(address.sun_path, blkq.control);
-    int at = socket(AF_UNIX, SOCK_STREAM | SOCK_CLOEXEC | SOCK_NONBLOCK, 0);
-    if (at < 0)
-        return refuse_control("socket");
-    if (bind_at(at, &address) != 0) {
-        refuse_control("bind");
-        close(at);
-        return -1;
-    }
-    listening = at;
-    if (open_to_others() != 0)
-        return -1;
-    if (stat(blkq.control, &bound) != 0)
-        return refuse_control("stat");
-    return listen(at, CONTROLLERS) == 0 ? 0 : refuse_control("listen");
+    int folder = lock_folder(), failed = listen_at(&address);
+    if (folder >= 0)
+        close(folder);
+    return failed;
 }
 
 int start_control(void)

@@ -1,13 +1,13 @@
-"""The calls of a race on one gate or several, each as the sequence of steps of gate.py that docs/GATE.md gives for it.
+"""The calls of a race, each as the sequence of steps of gate.py that docs/GATE.md gives for it.
 
-A moment of a race is the state of each gate, and how far each actor is in its calls. An actor is in one call at a time, at the gate that the
-call names, and begins it once the call before has its answer. No gate knows of later calls.
+A moment of a race is the state of the gate, and how far each actor is in its calls. An actor is in one call at a time, and begins it once the
+call before has its answer. The gate doesn't know of later calls.
 """
 
 from typing import NamedTuple
 
 from machines.gate import DELTA, KILLS, ROOM, Gate
-from machines.race import Gates, calls_of, line_of, moments_from, replaced
+from machines.race import calls_of, line_of, moments_from, replaced
 
 # The step by which a call asks, and what a call is answered that counts and finds nothing.
 ASKED = {"front": "front", "dying": "shared", "zero": "shared", "word": "word"}
@@ -16,12 +16,12 @@ COUNTED = {"try": "given", "live": "given", "get": "ok", "put": "not last"}
 
 class Place(NamedTuple):
     """How far an actor is: what its calls were answered, the step that comes next, if any, what the call under way is to be answered
-    already, and of the control the mode that is wanted at each gate."""
+    already, and of the control the mode that it wants."""
 
     told: tuple = ()
     step: tuple = ()
     found: str = ""
-    wants: tuple = ()
+    wants: str = ""
 
 
 # The calls of a pass. Each function returns the next step of a call, as a tuple, or its answer.
@@ -160,25 +160,17 @@ def after_control(call, gate, step, reply, found, wants):
 # A race.
 
 
-def of_gates(race):
-    """The race as one of several gates."""
-    if isinstance(race, Gates):
-        return race
-    *passes, control = calls_of(race).values()
-    return Gates((race,), tuple(passes), control)
-
-
-def begun(race, gates, actor, place):
+def begun(race, gate, actor, place):
     """An actor that begins its next call, once those before it have their answers."""
     calls = race.control if actor == "c" else race.passes[actor]
     while len(place.told) < len(calls):
-        at, call = calls[len(place.told)]
+        call = calls[len(place.told)]
         if actor != "c":
-            begins = pass_begins(call, gates[at], gates[at].passes[actor].held)
+            begins = pass_begins(call, gate, gate.passes[actor].held)
         else:
-            if call[0] in ("atomic", "slots") and not is_mid_switch(gates[at]):
-                place = place._replace(wants=replaced(place.wants, at, call[0]))
-            begins = control_begins(call, gates[at])
+            if call[0] in ("atomic", "slots") and not is_mid_switch(gate):
+                place = place._replace(wants=call[0])
+            begins = control_begins(call, gate)
         if isinstance(begins, tuple):
             return place._replace(step=begins, found="")
         place = place._replace(told=(*place.told, begins))
@@ -187,32 +179,30 @@ def begun(race, gates, actor, place):
 
 def first(race):
     """The moment at which the race begins."""
-    race = of_gates(race)
-    gates = [Gate(it.slots, len(it.passes), it.start, it.kills, it.words) for it in race.gates]
-    wants = tuple("atomic" if it.start == "atomic" else "slots" for it in race.gates)
-    places = [begun(race, gates, at, Place()) for at, _ in enumerate(race.passes)]
-    return tuple(it.key() for it in gates), (*places, begun(race, gates, "c", Place(wants=wants)))
+    gate = Gate(race.slots, len(race.passes), race.start, race.kills, race.words)
+    wants = "atomic" if race.start == "atomic" else "slots"
+    places = [begun(race, gate, at, Place()) for at, _ in enumerate(race.passes)]
+    return gate.key(), (*places, begun(race, gate, "c", Place(wants=wants)))
 
 
 def call_of(race, actor, place):
-    """The gate of the call under way, and its words."""
+    """The words of the call under way."""
     return (race.control if actor == "c" else race.passes[actor])[len(place.told)]
 
 
-def may_go(race, moment, actor, place):
-    """Whether the actor may take its next step. A flag is set once a call that sets it has ended."""
+def may_go(race, moment, place):
+    """Whether an actor here may take its next step. A flag is set once a call that sets it has ended."""
     if not place.step or place.step[0] != "await":
         return bool(place.step)
-    gate, flag = Gate.of(moment[0][call_of(race, actor, place)[0]]), place.step[1]
-    made = [call for calls, it in zip((*race.passes, race.control), moment[1]) for _, call in calls[: len(it.told)]]
+    gate, flag = Gate.of(moment[0]), place.step[1]
+    made = [call for calls, it in zip((*race.passes, race.control), moment[1]) for call in calls[: len(it.told)]]
     return {"zero": gate.zero, "dead": gate.dead}.get(flag, ("set", flag) in made)
 
 
 def goes(race, moment, index, actor):
     """The moment after an actor's next step."""
-    gates, place = [Gate.of(it) for it in moment[0]], moment[1][index]
-    at, call = call_of(race, actor, place)
-    gate, step, found = gates[at], place.step, place.found
+    gate, place = Gate.of(moment[0]), moment[1][index]
+    call, step, found = call_of(race, actor, place), place.step, place.found
     name, *numbers = step
     if actor != "c":
         after = after_pass(call, step, "" if name == "await" else gate.take_of_pass(actor, name, numbers))
@@ -222,41 +212,37 @@ def goes(race, moment, index, actor):
         reply = gate.take_of_control(name, numbers)
         if call[0] == "resurrect" and name == "take":
             found = "at zero" if gate.zero else "held"
-        after = after_control(call, gate, step, reply, found, place.wants[at])
+        after = after_control(call, gate, step, reply, found, place.wants)
     if isinstance(after, tuple):
         place = place._replace(step=after, found=found)
     else:
-        place = begun(race, gates, actor, place._replace(told=(*place.told, after)))
-    return replaced(moment[0], at, gate.key()), replaced(moment[1], index, place)
+        place = begun(race, gate, actor, place._replace(told=(*place.told, after)))
+    return gate.key(), replaced(moment[1], index, place)
 
 
 def turns(race, moment):
     """The actors that may go, each with the moment after its step: the number of a pass, or `c`."""
-    race = of_gates(race)
     for index, place in enumerate(moment[1]):
         actor = index if index < len(race.passes) else "c"
-        if may_go(race, moment, actor, place):
+        if may_go(race, moment, place):
             yield str(actor), goes(race, moment, index, actor)
 
 
 def moments(race):
     """Each moment, with how many steps lead to it at least, and whether nothing may come next."""
-    race = of_gates(race)
     return moments_from(first(race), lambda moment: turns(race, moment))
 
 
 def told(moment, race):
-    """What an end tells: a line for each actor, and the figures of each gate."""
+    """What an end tells: a line for each actor, and the figures of the gate."""
     lines = [
         line_of(actor, it.told, it.step[1] if it.step and it.step[0] == "await" else "") for actor, it in zip(calls_of(race), moment[1])
     ]
-    return (*lines, *(Gate.of(it).figures() for it in moment[0]))
+    return (*lines, Gate.of(moment[0]).figures())
 
 
 def kept(moment, race):
-    """What all moments have alike that differ by an exchange of passes with equal calls. Nothing changes places at several gates."""
-    if isinstance(race, Gates):
-        return moment
-    ((*gate, seats),), (*places, control) = moment
+    """What all moments have alike that differ by an exchange of passes with equal calls."""
+    (*gate, seats), (*places, control) = moment
     *seats, own = seats
     return (*gate, own, control), tuple(sorted(zip(race.passes, places, seats), key=repr))

@@ -270,6 +270,59 @@ def backs_up(soak, draws):
         time.sleep(draws.random() * 2)
 
 
+def backs_up_live(soak, draws):
+    """Makes copies while clients write, whole ones and by changes. Each has to be whole, or reported as lost."""
+    copy = soak.server.path("live")
+    while not soak.enough.is_set():
+        told = subprocess.run([sys.executable, BLKQCTL, soak.server.control_path, "backup", "--live", "--deadline", "60s",
+                               *draws.choice(([], ["--incremental"])), "--to", copy], stderr=subprocess.PIPE, timeout=HANGS, check=False)
+        if told.returncode == 125:  # by a `thaw all`, or since the group has the snapshot
+            soak.count("lost_live")
+            time.sleep(draws.random())
+            continue
+        assert told.returncode == 0, told
+        copied = read(copy)
+        for writer in range(WRITERS):
+            if is_torn(copied, writer):
+                raise Torn(f"a live copy of writer {writer}'s")
+        soak.count("live_copies")
+        time.sleep(draws.random() * 2)
+
+
+READS_PLACES = """
+import nbd, os, sys
+for name, path in zip(("disk", "log"), sys.argv[3:]):
+    reading = nbd.NBD()
+    reading.connect_uri(os.environ[f"BLKQ_COPY_{name}"])
+    with open(path, "wb") as file:
+        file.write(reading.pread(int(sys.argv[1]), int(sys.argv[2])))
+"""
+
+
+def takes_groups(soak, draws):
+    """Copies the committers' places from snapshots of both disks, the disk that is written first before the other."""
+    disks = soak.server, soak.log
+    copies = [disk.path("taken") for disk in disks]
+    command = [sys.executable, BLKQCTL, "group", "--live", "--deadline", "60s", f"disk={disks[0].control_path}", f"log={disks[1].control_path}",
+               "--", sys.executable, "-c", READS_PLACES, str(BLOCK * COMMITTERS), str(COMMITS_AT), *copies]
+    while not soak.enough.is_set():
+        told = subprocess.run(command, stderr=subprocess.PIPE, timeout=HANGS, check=False)
+        if told.returncode == 125:
+            soak.count("lost_live")
+            time.sleep(draws.random())
+            continue
+        assert told.returncode == 0, told
+        need_one_moment(copies)
+        soak.count("live_groups")
+        time.sleep(draws.random())
+
+
+def need_one_moment(copies):
+    first, second = ([struct.unpack_from("<Q", read(copy), number * BLOCK)[0] for number in range(COMMITTERS)] for copy in copies)
+    if not all(one - 1 <= other <= one for one, other in zip(first, second)):
+        raise Torn(f"disks of two moments: {first}, {second}")
+
+
 def freezes_groups(soak, draws):
     """Copies the committers' places on both disks, the disk that is written first before the other. Each copy has to be of one moment, or reported as lost."""
     disks = soak.server, soak.log
@@ -285,9 +338,7 @@ def freezes_groups(soak, draws):
             soak.count("lost_groups")
             continue
         assert not any(statuses), statuses
-        first, second = ([struct.unpack_from("<Q", read(copy), number * BLOCK)[0] for number in range(COMMITTERS)] for copy in copies)
-        if not all(one - 1 <= other <= one for one, other in zip(first, second)):
-            raise Torn(f"disks of two moments: {first}, {second}")
+        need_one_moment(copies)
         soak.count("groups")
         time.sleep(draws.random() * 2)
 
@@ -315,5 +366,5 @@ def start_clients(soak):
 def start_controllers(soak):
     for number in range(CHANGERS):
         soak.start(changes, number)
-    for act in (freezes, breaks, backs_up, freezes_groups):
+    for act in (freezes, breaks, backs_up, backs_up_live, freezes_groups, takes_groups):
         soak.start(act)

@@ -34,9 +34,14 @@ def backed_up(server, *words, status=0, **more):
     except subprocess.TimeoutExpired:
         raise AssertionError("the backup hangs") from None
     assert found.returncode == status and not found.stdout, found
-    assert not os.path.exists(server.path("copy.new")), "half a copy stays"
+    assert not left(server), "half a copy stays"
     assert depth_of(server) == 0
     return read(server.path("copy")), found.stderr.decode()
+
+
+def left(server):
+    """The files of copies that aren't whole."""
+    return [name for name in os.listdir(server.folder.name) if name.endswith(".new")]
 
 
 def read(path):
@@ -188,7 +193,7 @@ def kept(served):
         write(server, "held")
         write(server, "full", "pread 0")
         copy, told = backed_up(server, status=125)
-        assert copy == b"the last one\n" and "blkqctl: nbdcopy ended with status 1\n" in told, told
+        assert copy == b"the last one\n" and ": backup: nbdcopy ended with status 1\n" in told, told
         write(server, "full")
         write(server, "held", "pread")
         before = server.path("done")
@@ -199,9 +204,70 @@ def kept(served):
             write(server, "held")
             told = losing.communicate(timeout=WITHIN)[1].decode()
         assert losing.returncode == 125 and ": backup: not frozen\n" in told, told
-        assert read(server.path("copy")) == b"the last one\n" and not os.path.exists(server.path("copy.new"))
+        assert read(server.path("copy")) == b"the last one\n" and not left(server)
         copy, told = backed_up(server)
         assert copy == bytes(MIB)
+
+
+def another_answers(served):
+    """If it isn't the filter that answers at its address, nothing is replaced, and the line says so."""
+    with Server(served, outer=["tls-fallback"]) as server:
+        write(server, "copy", "the last one")
+        for how in ((), ("--live", "--deadline", "4m")):
+            copy, told = backed_up(server, *how, status=125)
+            assert copy == b"the last one\n", told
+            assert "0 of the disk's 0 were read through its export: another server answers there" in told or "connection to its export" in told, told
+
+
+def certificates(folder):
+    """Makes the certificates of a server, and of who signed it, in a folder."""
+    ask = ["openssl", "req", "-newkey", "rsa:2048", "-nodes"]
+    with open(f"{folder}/names", "w", encoding="ascii") as file:
+        file.write("subjectAltName=DNS:localhost,IP:127.0.0.1")
+    for line in ([*ask, "-x509", "-keyout", "ca-key.pem", "-out", "ca-cert.pem", "-subj", "/CN=ca", "-days", "9"],
+                 [*ask, "-keyout", "server-key.pem", "-out", "server.csr", "-subj", "/CN=localhost"],
+                 ["openssl", "x509", "-req", "-in", "server.csr", "-CA", "ca-cert.pem", "-CAkey", "ca-key.pem", "-CAcreateserial", "-out",
+                  "server-cert.pem", "-days", "9", "-extfile", "names"]):
+        subprocess.run(line, cwd=folder, check=True, stderr=subprocess.DEVNULL)
+
+
+def tls(served):
+    """A server that asks for TLS is copied with its certificates. Without them nothing is frozen."""
+    with tempfile.TemporaryDirectory() as folder:
+        certificates(folder)
+        backend = ["--tls=require", f"--tls-certificates={folder}", "file", "{folder}/disk"]
+        with Server(served, "size=1M", backend=backend) as server, closing(server.control()) as control:
+            for how in ((), ("--live", "--deadline", "4m")):
+                _, told = backed_up(server, *how, status=125)
+                assert "TLS" in told and metrics_of(control)["blkq_frozen_seconds_total"] == 0, told
+            for how in ((), ("--live", "--deadline", "4m")):
+                copy, told = backed_up(server, *how, "--tls-certificates", folder)
+                assert copy == bytes(MIB), told
+
+
+def at_once(served):
+    """Of two backups to one file at once each is whole, and the file is one of them."""
+    with Server(served) as server:
+        server.client().pwrite(DATA * 1024, 0)
+        with subprocess.Popen(backing_up(server)) as one, subprocess.Popen(backing_up(server)) as other:
+            assert (one.wait(WITHIN), other.wait(WITHIN)) == (0, 0)
+        assert read(server.path("copy")) == read(server.disk) and not left(server)
+
+
+def modes(served):
+    """Only its owner may read a new copy. One that replaces a file has that file's mode, and a symlink is followed."""
+    with Server(served, "size=1M") as server:
+        copy = server.path("copy")
+        backed_up(server)
+        assert os.stat(copy).st_mode & 0o777 == 0o600
+        os.chmod(copy, 0o640)
+        backed_up(server)
+        assert os.stat(copy).st_mode & 0o777 == 0o640
+        os.rename(copy, server.path("real"))
+        os.symlink("real", copy)
+        backed_up(server)
+        assert os.path.islink(copy) and os.path.getsize(server.path("real")) == MIB
+        assert os.stat(copy).st_mode & 0o777 == 0o640
 
 
 def another_connects(served):

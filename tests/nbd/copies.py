@@ -15,7 +15,7 @@ from controls import Busy, busy_at, depth_of, held_up, in_force, soon
 from server import WITHIN, Server, in_memory, run_test
 from tries import MIB
 
-BLKQCTL = os.path.join(os.path.dirname(__file__), "..", "..", "services", "nbd", "blkqctl")
+BLKQCTL = os.environ.get("BLKQCTL") or os.path.join(os.path.dirname(__file__), "..", "..", "services", "nbd", "blkqctl")
 WRITERS, TRIES, BLOCK, SIZE = 4, 20, 4096, 32 * MIB
 
 
@@ -150,16 +150,24 @@ def commands(served):
         assert blkqctl(server, "metrics").endswith("# EOF\n")
         assert len(blkqctl(server, "watch", "-n", "0.1", "-c", "2").splitlines()) == 3
         assert on_a_terminal(server, "watch", "-n", "0.1", "-c", "3").count(b"\x1b[H\x1b[2Jtime ") == 3
-        assert blkqctl(server, "quiesce", "--keep") == "depth 1\n"
-        assert blkqctl(server, "freeze", "--lease", "3000") == "depth 2\n"
-        assert depth_of(server) == 2
+        first = int(re.fullmatch(r"depth 1 number (\d+)\n", blkqctl(server, "quiesce", "--keep"))[1])
+        assert blkqctl(server, "freeze", "--lease", "3000") == f"depth 2 number {first + 1}\n"
+        assert json.loads(blkqctl(server, "--json", "freeze", "--hold", "90m"))["number"] == first + 2
+        assert blkqctl(server, "thaw", str(first + 1)) == "depth 2\n"
+        assert refusal(server, "thaw", str(first + 1)).endswith("thaw: no such freeze\n")
         assert blkqctl(server, "thaw", "all") == "depth 0\n"
         for words in (["freeze"], ["thaw"], ["freeze", "--lease", "1", "--keep"], ["freeze", "--keep", "--", "true"], ["stat", "--", "true"], ["freeze", "--"],
-                      ["mode", "quick"], ["set", "sectors", "8"], ["freeze", "--lease", "0"], []):
+                      ["mode", "quick"], ["set", "sectors", "8"], ["freeze", "--lease", "0"], ["watch", "-n", "-1"], ["watch", "-n", "nan"], []):
             blkqctl(server, *words, status=2)
         assert "exit status" in blkqctl(server, "--help")
         shown = blkqctl(server, "backup", "--help")
         assert shown.startswith("usage: blkqctl SOCKET backup [-h]") and "limit for the copy" in shown, shown
+        with open("/dev/full", "wb") as full:
+            for words in ("stat", "metrics", "watch -c 1 -n 0.01"):
+                told = subprocess.run([sys.executable, BLKQCTL, server.control_path, *words.split()], stdout=full, stderr=subprocess.PIPE, check=False)
+                assert (told.returncode, told.stderr) == (125, b"blkqctl: No space left on device\n"), told
+        told = subprocess.run(f"{sys.executable} {BLKQCTL} {server.control_path} stat >&-", shell=True, stderr=subprocess.PIPE, check=False)
+        assert (told.returncode, told.stderr) == (125, b"blkqctl: standard output is closed\n"), told
     gone = subprocess.run([sys.executable, BLKQCTL, "/nowhere", "stat"], stderr=subprocess.PIPE, check=False)
     assert gone.returncode == 3 and gone.stderr == b"blkqctl: /nowhere: No such file or directory\n"
 
@@ -205,7 +213,9 @@ def around(served):
             control.need("thaw all", "depth 0")
             losing.process.terminate()
             assert losing.process.wait(WITHIN) == 125
-        for number, status, more in ((signal.SIGTERM, 143, ()), (signal.SIGKILL, -9, ()), (signal.SIGKILL, -9, ("--lease", "3000"))):
+        asking[2] = asking[2].replace(" stat", " holders")
+        assert re.search(r" ends in [1-6]\d?s\n$", blkqctl(server, "quiesce", "--", *asking)), "a freeze around a command has no end"
+        for number, status, more in ((signal.SIGTERM, 143, ()), (signal.SIGINT, 130, ()), (signal.SIGKILL, -9, ()), (signal.SIGKILL, -9, ("--lease", "3000"))):
             with Sleeping(server, *more) as ended:
                 ended.process.send_signal(number)
                 assert ended.process.wait(WITHIN) == status
@@ -300,9 +310,8 @@ def server_goes(served):
     with Sleeping.around(served) as (server, losing):
         server.process.kill()
         server.process.wait()
-        losing.terminate()
         told = losing.communicate(timeout=WITHIN)[1].decode()
-        assert losing.returncode == 125 and "the freeze ended before sh did (the server has gone)" in told, told
+        assert losing.returncode == 125 and "the server has gone: sh was killed\n" in told, told
     server = Server(served, "size=1M")
     with subprocess.Popen([sys.executable, BLKQCTL, server.control_path, "watch", "-n", "0.05"], stdout=subprocess.PIPE,
                           stderr=subprocess.PIPE) as watching:

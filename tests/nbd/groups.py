@@ -185,6 +185,22 @@ def all_before_any(served):
             assert metrics_of(control)["blkq_freezes_total"] == 1
 
 
+def of_named_exports(served):
+    """NAME=SOCKET#EXPORT names one of the backend's exports."""
+    with tempfile.TemporaryDirectory() as disks:
+        for name in ("a", "b c"):
+            with open(os.path.join(disks, name), "wb") as file:
+                file.write(name[:1].encode() * BLOCK)
+        with Server(served, backend=["file", f"dir={disks}"]) as server, Hosts(data=server) as hosts:
+            for live in ((), ("--live",)):
+                for name in ("a", "b c"):
+                    command = [hosts.path("blkqctl"), "group", *live, f"data={server.control_path}#{name}", "--", "sh", "-c",
+                               f'nbdcopy "$BLKQ_COPY_data" {server.path("copy")}']
+                    assert subprocess.run(command, env=hosts.given, check=False).returncode == 0
+                    with open(server.path("copy"), "rb") as file:
+                        assert file.read() == name[:1].encode() * BLOCK
+
+
 # ---- Rolled back ----
 
 
@@ -376,8 +392,10 @@ def told(served):
         assert found["status"] == 0 and found["rolled_back"] is None and found["lost"] == {"data": None, "log": None}
         assert found["freeze_seconds"] >= 0 <= found["flush_seconds"]
         assert found["held_seconds"] >= found["freeze_seconds"] + found["flush_seconds"] + 0.299  # each is rounded
+        told, _ = hosts.group("--json", "--hold", "0.2", "--", "sleep", "3", status=125)
+        assert json.loads(told)["held_seconds"] < 3, told  # clients waited until the hold ended
         write(hosts, "go")
-        for words in (["--"], ["--deadline", "0", "--", "true"], ["--hold", "1h", "--", "true"], ["data=/twice", "--", "true"], ["a.b=/x", "a-b=/y", "--", "true"],
+        for words in (["--"], ["--deadline", "0", "--", "true"], ["--hold", "1d", "--", "true"], ["data=/twice", "--", "true"], ["a.b=/x", "a-b=/y", "--", "true"],
                       ["nameless", "--", "true"], ["far=ssh://-x/p", "--", "true"], ["far=ssh://host", "--", "true"]):
             hosts.group(*words, status=2)
         hosts.need_thawed()

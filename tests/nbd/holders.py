@@ -7,12 +7,17 @@ import select
 import socket
 import subprocess
 import sys
+import tempfile
 from contextlib import closing
+
+import nbd
 
 from controls import Busy, depth_of, held_up, in_force, metrics_of, soon
 from copies import BLKQCTL, blkqctl, refusal
+from flushes import begun
 from gates import Paused, is_answered, shell, write
 from server import WITHIN, Server, run_test
+from tries import done
 
 
 def listed_of(server):
@@ -152,6 +157,41 @@ def noted(served):
             with closing(server.control()) as leaving:
                 leaving.need("freeze", "depth 1")
             assert "freeze 4: freeze, " in noted_in(journal) and "freeze 4: ended by its connection's end, " in noted_in(journal)
+
+
+def in_flight(served):
+    """Each request in flight has a line, the oldest first, and the metrics have the oldest one's age."""
+    with Server(served, backend=shell()) as server, closing(server.control()) as control:
+        assert blkqctl(server, "requests") == "" and metrics_of(control)["blkq_oldest_request_seconds"] == 0
+        write(server, "held", "pwrite", "pread")
+        clients = [server.client(), server.client()]
+        cookies = [clients[0].aio_pwrite(nbd.Buffer.from_bytearray(bytearray(1024)), 4096)]
+        begun(server, "pwrite")
+        cookies.append(clients[1].aio_pread(nbd.Buffer(512), 8192))
+        begun(server, "pread")
+        told = blkqctl(server, "requests")
+        assert re.fullmatch(r"write 1024 at 4096 \d+\.\d{3}\nread 512 at 8192 \d+\.\d{3}\n", told), told
+        found = json.loads(blkqctl(server, "--json", "requests"))
+        assert [it["operation"] for it in found] == ["write", "read"] and found[0]["length"] == 1024
+        assert metrics_of(control)["blkq_oldest_request_seconds"] > 0
+        write(server, "held")
+        assert done(clients, cookies) == [0, 0] and blkqctl(server, "requests") == ""
+
+
+def no_journal(served):
+    """A journal that isn't there is refused at the start; notes that one doesn't take are counted."""
+    with tempfile.TemporaryDirectory() as folder:
+        refused = subprocess.run(["nbdkit", "-f", "-U", f"{folder}/nbd", f"--filter={served}", "memory", "1M", f"blkq-control={folder}/control",
+                                  f"blkq-audit={folder}/journal"], stderr=subprocess.PIPE, timeout=WITHIN, check=False)
+        assert refused.returncode == 1 and f"{folder}/journal: No such file or directory".encode() in refused.stderr, refused
+        with closing(socket.socket(socket.AF_UNIX, socket.SOCK_DGRAM)) as journal:
+            journal.bind(f"{folder}/journal")
+            with Server(served, f"audit={folder}/journal") as server, closing(server.control()) as control:
+                control.need("freeze", "depth 1")
+                assert metrics_of(control)["blkq_audit_lost_total"] == 0
+                os.unlink(f"{folder}/journal")
+                control.need("thaw", "depth 0")
+                assert metrics_of(control)["blkq_audit_lost_total"] == 1
 
 
 if __name__ == "__main__":

@@ -8,12 +8,15 @@ import signal
 import socket
 import stat
 import subprocess
+import sys
 import tempfile
+import time
 from contextlib import ExitStack, closing, suppress
 
 import nbd
 
 from controls import busy_at, depth_of, metrics_of, soon
+from copies import BLKQCTL
 from gates import Paused, is_answered
 from server import WITHIN, Control, Server, run_test
 from tries import done
@@ -60,9 +63,13 @@ def activated(served):
     """The command of the systemd unit takes over the sockets of the disk and the control. Connections from before its start are served. Both sockets stay."""
     unit = os.path.join(os.path.dirname(__file__), "..", "..", "services", "nbd", "systemd", "blkq-nbd@.service")
     [start] = [line for line in read(unit).replace("\\\n", "").splitlines() if line.startswith("ExecStart=")]
-    with tempfile.TemporaryDirectory() as folder, listening(f"{folder}/nbd") as disk, listening(f"{folder}/control") as control:
+    with ExitStack() as open_ones:
+        folder = open_ones.enter_context(tempfile.TemporaryDirectory())
+        disk, control = (open_ones.enter_context(listening(f"{folder}/{name}")) for name in ("nbd", "control"))
+        open_ones.enter_context(socket.socket(socket.AF_UNIX, socket.SOCK_DGRAM)).bind(f"{folder}/journal")
         subprocess.run(["truncate", "-s", "1M", f"{folder}/disk"], check=True)
         command = start.split("=", 1)[1].replace("--filter=blkq", f"--filter={served}").replace("/var/lib/blkq-%i/disk.img", f"{folder}/disk")
+        command = command.replace("blkq-audit=journal", f"blkq-audit={folder}/journal")
         given = [fcntl.fcntl(at, fcntl.F_DUPFD, 20) for at in (disk, control)]
         early = Control(f"{folder}/control")
         begin = f'exec env LISTEN_PID=$$ LISTEN_FDS=2 "$@" 3<&{given[0]} 4<&{given[1]}'
@@ -198,6 +205,31 @@ def in_background(served):
         finally:
             os.kill(process, signal.SIGTERM)
         soon(lambda: not os.path.exists(f"{folder}/control"), "the server doesn't end")
+
+
+def crowded(served):
+    """A connection to a server whose backlog is full waits, within --timeout."""
+    with Server(served) as server, ExitStack() as many:
+        os.kill(server.process.pid, signal.SIGSTOP)
+        os.waitid(os.P_PID, server.process.pid, os.WSTOPPED)
+        try:
+            while True:
+                waiting = many.enter_context(closing(socket.socket(socket.AF_UNIX)))
+                waiting.setblocking(False)
+                waiting.connect(server.control_path)
+        except BlockingIOError:
+            pass
+        command = [sys.executable, BLKQCTL, "--timeout", "0.3", server.control_path, "stat"]
+        began = time.monotonic()
+        told = subprocess.run(command, stderr=subprocess.PIPE, check=False)
+        took = time.monotonic() - began
+        assert told.returncode == 3 and b": no connection within 0.3 s\n" in told.stderr, told
+        command[3] = "4m"
+        with subprocess.Popen(command, stdout=subprocess.PIPE) as asking:
+            time.sleep(3 * took)  # on a slow machine, too, it has tried by then
+            many.close()
+            os.kill(server.process.pid, signal.SIGCONT)
+            assert asking.communicate(timeout=WITHIN)[0].startswith(b"stat ")
 
 
 if __name__ == "__main__":

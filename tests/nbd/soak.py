@@ -2,7 +2,7 @@
 """Runs the filter before the file plugin on a tmpfs for a long time: soak.py FILTER [SECONDS [SEED [apart]]]. The default is an hour.
 
 All actors of actors.py run at the same time: clients that compare each read with what they wrote, fio, clients that come and go, settings,
-freezes that are owned, leased, kept and left behind by killed controllers, backups, and groups of two servers. With `apart` the two servers are
+freezes that are owned, leased, kept and left behind by killed controllers, backups and groups of two servers, live ones too. With `apart` the two servers are
 frozen one after another, and the run has to fail. At the end, memory and descriptors have to be
 as at the beginning, and SIGTERM has to end the server while it is loaded and frozen. It prints a line each minute, and a last line of
 figures. The status is 0 if nothing was wrong."""
@@ -24,8 +24,8 @@ from controls import metrics_of, soon
 from server import Control, Server, in_memory
 
 COUNTED = ("reads", "writes", "zeros", "trims", "flushes", "fio_runs", "fio_requests", "ordered_writes", "connections", "settings",
-           "refused_settings", "owned", "left", "leased", "kept", "killed", "garbage", "given_up", "copies", "lost_copies",
-           "commits", "groups", "lost_groups", "data_errors", "hangs", "faults")
+           "refused_settings", "owned", "left", "leased", "kept", "killed", "garbage", "given_up", "copies",
+           "live_copies", "lost_copies", "commits", "groups", "live_groups", "lost_groups", "lost_live", "data_errors", "hangs", "faults")
 WRONG = ("data_errors", "hangs", "faults")
 GROWTH, ROUNDS = 16384, 4  # KiB of memory in a round; how many are made until one grows by less
 

@@ -50,7 +50,6 @@ GREATEST = {
     "many lines": ("script", "blkq 1\ndisk 4096 hw 7\n", "stat\n", 200_000),
     "many steps": ("schedule", "gate 1\nworld 64 64 slots 0\n", "0 look 0\n", 116_000),
     "many calls": ("race", "races 1\nworld 1 1 atomic 0\n", "0 zero\n", 149_000),
-    "many calls on Linux's percpu_ref": ("race", "races 1\nworld 1 1 slots 0 linux\n", "0 dying\n", 131_000),
     "many runs": ("script", f"blkq 1\ndisk 4096 hw 7\nwrite 0 4096 {'0102' * 32}\nstat\n", "read 0 4096\n", 8),
 }
 SUM_OF = """(async () => {{

@@ -102,7 +102,7 @@ class Programs:
     """The native programs."""
 
     def __init__(self, queue, races):
-        self.words = {"script": [queue, "run"], "schedule": [queue, "replay"], "race": [races, "--outcomes"], "linux": [races, "--replay"]}
+        self.words = {"script": [queue, "run"], "schedule": [queue, "replay"], "race": [races]}
 
     def answer(self, given):
         done = subprocess.run(self.words[given.kind], input=given.text, capture_output=True, timeout=SECONDS, check=False)

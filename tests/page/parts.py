@@ -6,7 +6,6 @@ from typing import NamedTuple
 import answering
 import inputs
 import linked
-import printed
 import raced
 import reading
 import runs
@@ -33,7 +32,6 @@ class Setting(NamedTuple):
 PARTS = {
     "stepping": lambda page, counts, _: stepping.stepping(page, counts),
     "tables": lambda page, counts, on: tables.of_tables(page, counts, on.programs, inputs.Input),
-    "printed": lambda page, counts, on: printed.of_printed(page, counts, on.programs, inputs.Input),
     "refusals": lambda page, counts, _: stepping.refusals(page, counts),
     "typed": lambda page, counts, _: typed.of_input(page, counts),
     "linked": lambda page, counts, on: linked.of_links(page, counts, on.url),

@@ -10,8 +10,8 @@ from looks import LOOKS, OF_STEPS, fits_and_reads, shoot
 from tables import ROWS, outcomes_in
 
 ROOT = pathlib.Path(__file__).resolve().parents[2]
-RACES = ("removal", "killed_twice", "another_slot", "kill_and_switch", "freeze", "two_queues", "linux_reinit")
-LOOKED_AT = ("another_slot", "two_queues", "linux_reinit")
+RACES = ("removal", "killed_twice", "another_slot", "kill_and_switch", "freeze")
+LOOKED_AT = ("another_slot", "kill_and_switch")
 SHOWN = "[race.outcome, race.stepping.step, find('steps-head').textContent, location.hash]"
 CONTROLS = [*OF_STEPS, ["region", "Outcomes"], ["region", "The race"], ["button", "outcome 2: draw its schedule"]]
 

@@ -1,4 +1,4 @@
-"""Computes what the page has to show for a schedule, with tools/races_pictures: the gates between its steps, and its lanes."""
+"""Computes what the page has to show for a schedule, with tools/races_pictures: the gate between its steps, and its lanes."""
 
 import pathlib
 import re
@@ -10,25 +10,21 @@ sys.path[:0] = [str(ROOT / "tools"), str(ROOT / "tests")]
 from races_pictures import lanes
 from races_pictures.schedule import Schedule, schedules_in
 
-# The rows of the table of the gates, as elements of the page.
+# The rows of the table of the gate, as elements of the page.
 TABLE = "[...find('state').querySelectorAll('tbody tr')]"
-# The name and the value in each row; a row with the number of a gate has only that.
+# The name and the value in each row.
 STATE = f"{TABLE}.map((row) => [...row.cells].slice(0, 2).map((cell) => cell.textContent))"
 
 
 def gates(text, answer):
-    """The rows of the table of the gates, before the first step and after each one."""
+    """The rows of the table of the gate, before the first step and after each one."""
     schedule = Schedule(text, answer)
     return [rows(moment, schedule.actors) for moment in [schedule.start, *(row.moment for row in schedule.rows)]]
 
 
-def rows(moment, actors):
-    found = []
-    for number, state in enumerate(moment, 1):
-        found += [[f"gate {number}"]] if len(moment) > 1 else []
-        found += [[word.name, word.told()] for word in sorted(state.words, key=lambda it: it.at is not None)]
-        found += [[lanes.name_of(actor), state.standing(actor).told or "holds nothing"] for actor in actors]
-    return found
+def rows(state, actors):
+    words = [[word.name, word.told()] for word in sorted(state.words, key=lambda it: it.at is not None)]
+    return words + [[lanes.name_of(actor), state.standing(actor).told or "holds nothing"] for actor in actors]
 
 
 def captions(text, answer):

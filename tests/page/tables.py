@@ -4,7 +4,6 @@ import pathlib
 import re
 
 import shown
-from races_pictures.schedule import HEAD
 
 ROOT = pathlib.Path(__file__).resolve().parents[2]
 # The cells of the table of outcomes, row by row, and the words of its glossary.
@@ -55,8 +54,8 @@ def outcomes_in(answer):
     """The cells of the table: for each outcome its number, the answers of each actor, the steps and the end."""
     for part in re.split(r"^(?=outcome )", answer, flags=re.MULTILINE)[1:]:
         number, steps, deadlock = re.match(r"outcome (\d+) steps (\d+)( deadlock)?\n", part).groups()
-        said = [line.partition(" ")[2] for line in part[: HEAD.search(part).start()].splitlines()[1:]]
-        end = "; ".join("".join(it) for it in re.findall(r"^# (@[0-9]+ )?end (.*)$", part, re.MULTILINE))
+        said = [line.partition(" ")[2] for line in part[: part.index("\ngate 1\n")].splitlines()[1:]]
+        end = re.search(r"^# end (.*)$", part, re.MULTILINE)[1]
         yield [number, *said, steps, f"deadlock: {end}" if deadlock else end]
 
 
@@ -116,7 +115,7 @@ def slots(page, counts, answer):
 
 
 def walked(page, counts, name, text, answer):
-    """A schedule step by step: its gates and their previous values, the marked rows, the captions, the frame and the buttons."""
+    """A schedule step by step: its gate and the previous values, the marked rows, the captions, the frame and the buttons."""
     wanted, captions = shown.gates(text, answer), shown.captions(text, answer)
     table = f"{shown.TABLE}.map((row) => [row.className, ...[...row.cells].map((cell) => cell.textContent)])"
     for step, now in enumerate(wanted):
@@ -130,9 +129,7 @@ def walked(page, counts, name, text, answer):
 
 
 def marked(now, before):
-    """A row of the table with its class: the number of a gate, a changed row, or another."""
-    if len(now) == 1:
-        return ["gate", *now]
+    """A row of the table with its class: a changed row, or another."""
     return ["changed", *now, before[1]] if now != before else ["", *now, ""]
 
 

@@ -35,6 +35,7 @@ TESTS = [
     ("mixed_up", [], []),
     ("last_try", [], []),
     ("deadlines", [], []),
+    ("cancelled", [], []),
     ("waits", ["300"], []),
     ("pool", ["300", "6"], []),
     ("callers", ["1000"], []),

@@ -15,7 +15,7 @@ from kernel.comparing import compare, kinds_of
 from kernel.orders import Orders
 from kernel.races import races
 from kernel.source import FILES, Source, archives, source_of
-from mistakes import Bad
+from sources.mistakes import Bad
 
 CALLS, MOST_LINES = 100_000, 10
 

@@ -11,7 +11,7 @@ import shutil
 import signal
 import subprocess
 
-from mistakes import Bad
+from sources.mistakes import Bad
 
 ROOT = pathlib.Path(__file__).resolve().parents[2]
 SERVICE, TRIES = ROOT / "services/nbd", ROOT / "tests/nbd"
@@ -20,7 +20,7 @@ TIMES = 3
 
 def fails(served, file, name):
     """Whether a try fails, by what it looks for, and by which."""
-    given = {**os.environ, "PYTHONDONTWRITEBYTECODE": "1", "WITHIN": "20"}
+    given = {**os.environ, "PYTHONDONTWRITEBYTECODE": "1", "WITHIN": "20", "BLKQCTL": os.path.join(os.path.dirname(served), "blkqctl")}
     # Only Debian's Python has the bindings of libnbd.
     command = ["/usr/bin/python3", TRIES / f"{file}.py", served, name]
     with subprocess.Popen(command, env=given, stderr=subprocess.PIPE, start_new_session=True) as run:
@@ -47,24 +47,25 @@ class Kind:
         """tests/nbd/run tries what is right."""
         return []
 
-    def built(self, mistake):
+    def built(self, mistake, source):
         """Builds the wrong filter or plugin, and gives its path."""
         is_plugin = mistake.words.get("of") == "plugin"
-        source, built = f"{self.work}/{mistake.name}", "plugin.so" if is_plugin else "nbdkit-blkq-filter.so"
-        shutil.copytree(SERVICE, source, ignore=shutil.ignore_patterns("*.so"))
+        built = "plugin.so" if is_plugin else "nbdkit-blkq-filter.so"
         target, library = "PLUGIN" if is_plugin else "FILTER", f"{self.queue}/lib/libfreeze_queue.a"
         words = [f"{target}={source}/{built}", f"{source}/{built}", f"HEADERS={self.queue}/include", f"ARCHIVE={library}", "MORE=-O0 -Wno-error"]
-        with mistake.planted(source):
-            run = subprocess.run(["make", "-s", "-C", source, *words], stderr=subprocess.PIPE, check=False)
+        run = subprocess.run(["make", "-s", "-C", source, *words], stderr=subprocess.PIPE, check=False)
         if run.returncode:
             raise Bad(run.stderr.decode())
         return f"{source}/{built}"
 
     def found_by(self, mistake):
         """How its try fails, of so many times once: on a slow machine the mistake may come too late to be seen."""
-        served, why = self.built(mistake), ""
-        for _ in range(TIMES):
-            found, why = fails(served, mistake.kind, mistake.words["try"])
-            if found:
-                return why[:200]
+        source, why = f"{self.work}/{mistake.name}", ""
+        shutil.copytree(SERVICE, source, ignore=shutil.ignore_patterns("*.so"))
+        with mistake.planted(source):
+            served = self.built(mistake, source)
+            for _ in range(TIMES):
+                found, why = fails(served, mistake.kind, mistake.words["try"])
+                if found:
+                    return why[:200]
         raise Bad(why or "nothing finds it")

@@ -6,7 +6,7 @@ import re
 import shutil
 import subprocess
 
-from mistakes import Bad
+from sources.mistakes import Bad
 from running import by_cargo
 
 ROOT = pathlib.Path(__file__).resolve().parents[2]

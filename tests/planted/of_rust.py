@@ -5,13 +5,13 @@ import pathlib
 import shutil
 import subprocess
 
-from mistakes import Bad
+from sources.mistakes import Bad
 from running import Tests, by_cargo
 
 ROOT = pathlib.Path(__file__).resolve().parents[2]
 HOST = "x86_64-unknown-linux-gnu"
 # The tests of each crate, the quickest first.
-OF_QUEUE = ["life", "errors", "owned", "lanes", "biased", "slots", "waking", "many", "attacks", "values", "updates", "panics", "futures", "pool", "freezes", "waits", "moments", "in_flight", "removal", "wakers",
+OF_QUEUE = ["life", "errors", "owned", "lanes", "biased", "slots", "waking", "many", "attacks", "values", "updates", "panics", "futures", "pool", "freezes", "waits", "moments", "in_flight", "frozen_by", "removal", "wakers",
             "thread_ends", "refused_fence", "storm", "stats", "drawn_sizes"]
 OF_GATE = ["life", "again", "values", "attacks", "drawn_sizes"]
 REST = ["refused_memory", "guarded", "hammer", "model"]

@@ -1,7 +1,7 @@
-"""Draws random races (docs/races/FORMATS.md)."""
+"""Draws random races (docs/races/README.md)."""
 
 from machines.gate import KILLS, ROOM
-from machines.race import Gates, LinuxRace, Race, calls_of
+from machines.race import Race, calls_of
 
 
 def pass_calls(draw, slots, words):
@@ -79,81 +79,9 @@ def random_race(draw):
     return Race(slots, start, kills, words, tuple(passes), tuple(control_calls(draw, slots, len(words))))
 
 
-def placed(draw, calls, gates):
-    """These calls, each at one of this many gates."""
-    return tuple((draw.randrange(gates), call) for call in calls)
-
-
-def random_gates(draw):
-    """A race of two gates, at times of three. The calls are those of a race of one gate."""
-    race, count = random_race(draw), draw.choice((2, 2, 2, 3))
-    gates = tuple(random_race(draw)._replace(passes=((),) * len(race.passes), control=()) for _ in range(count))
-    return Gates(gates, tuple(placed(draw, calls, count) for calls in race.passes), placed(draw, race.control, count))
-
-
-# The calls of a pass and of the control that the kernel's code has. The first ones are drawn most often: the others mostly need a reference,
-# and most calls of the control a gate that was killed.
-LINUX_CALLS = ("put", "put", "live", "try", "get", "dying", "zero")
-LINUX_CONTROL = ("kill", "reinit", "resurrect", "atomic", "slots", "kill", "kill", "zero")
-
-
-def linux_call(draw, slots):
-    what = draw.choice(LINUX_CALLS)
-    if what in ("dying", "zero"):
-        return (what,)
-    slot = draw.randrange(slots)
-    return (what, slot, draw.choice((0, 1, 1, 1, 2))) if what in ("get", "put") else (what, slot)
-
-
-def linux_pass(draw, slots):
-    """Some calls of a pass, of which mostly the first is a try."""
-    first = [(draw.choice(("try", "live")), draw.randrange(slots))] if draw.random() < 0.9 else []
-    return tuple(first + [linux_call(draw, slots) for _ in range(draw.randrange(1 - len(first), 4))])
-
-
-def kernel_race(draw):
-    """A race of calls that the kernel's code has."""
-    slots = draw.choice((1, 2))
-    passes = tuple(linux_pass(draw, slots) for _ in range(draw.choice((1, 2, 2, 3))))
-    control = tuple((draw.choice(LINUX_CONTROL),) for _ in range(draw.randrange(1, 5)))
-    return LinuxRace(slots, draw.choice(("atomic", "slots", "dead")), 0, (), passes, control)
-
-
-def with_call(draw, calls, call):
-    """The same calls, mostly with this one inserted."""
-    at = draw.randrange(len(calls) + 1)
-    return (*calls[:at], call, *calls[at:]) if draw.random() < 0.7 else calls
-
-
-def linux_race(draw):
-    """A race on Linux's percpu_ref. In half of them there are calls that wait, or that Linux doesn't have."""
-    race = kernel_race(draw)
-    if draw.random() < 0.5:
-        passes = tuple(with_call(draw, calls, pass_call(draw, race.slots, 1)) for calls in race.passes)
-        control = with_call(draw, race.control, control_call(draw, draw.choice(("wait", "wait", "store", *PARTS))))
-        race = race._replace(passes=passes, control=control)
-    return race._replace(start=draw.choice(("slots", "slots", "slots", "atomic", "dead")), kills=draw.choice((0, 0, 0, 3, KILLS)))
-
-
-def any_race(draw):
-    kind = draw.random()
-    if kind < 0.4:
-        return (random_gates if kind < 0.2 else linux_race)(draw)
-    return random_race(draw)
-
-
-def world_of(gate):
-    words = ("linux",) if isinstance(gate, LinuxRace) else gate.words
-    return " ".join(map(str, ("world", gate.slots, len(gate.passes), gate.start, gate.kills, *words)))
-
-
-def call_text(gate, call):
-    return " ".join(map(str, (*([f"@{gate + 1}"] if gate else []), *call)))
-
-
 def text_of(race):
-    lines = ["races 1", *map(world_of, race.gates if isinstance(race, Gates) else [race])]
+    lines = ["races 1", " ".join(map(str, ("world", race.slots, len(race.passes), race.start, race.kills, *race.words)))]
     for actor, calls in calls_of(race).items():
         if calls:
-            lines.append(f"{actor} " + " / ".join(call_text(*it) for it in calls))
+            lines.append(f"{actor} " + " / ".join(" ".join(map(str, it)) for it in calls))
     return "\n".join(lines) + "\n"

@@ -1,10 +1,10 @@
 #!/usr/bin/env python3
-"""Finds all outcomes of a race by exhaustive search; written only from docs/GATE.md, docs/LINUX.md and docs/races/FORMATS.md.
+"""Finds all outcomes of a race by exhaustive search; written only from docs/GATE.md and docs/races/README.md.
 
 usage: tests/races/searched.py [--outcomes] FILE ..
 
 It prints a line for each race: its file, the number of its outcomes, and the sum of the steps of their shortest schedules. With --outcomes it
-prints each outcome, as in docs/races/FORMATS.md, without its schedule. FILE has to be a correct race. The search goes through every moment, even
+prints each outcome, as in docs/races/README.md, without its schedule. FILE has to be a correct race. The search goes through every moment, even
 those that differ only by an exchange of passes with equal calls. An outcome is the answers of the calls at an end, with the figures of the last
 line of a replay except the value. tests/races/rows/races.rows has these numbers for some races.
 """
@@ -15,39 +15,18 @@ import sys
 sys.dont_write_bytecode = True
 sys.path.insert(0, str(pathlib.Path(__file__).resolve().parents[1]))
 
-from machines import gate_calls, percpu_ref
-from machines.race import Gates, LinuxRace, Race, calls_of, race_of
-
-
-def search_of(race):
-    """The machine that knows the steps of the race's calls."""
-    return percpu_ref if isinstance(race, LinuxRace) else gate_calls
-
-
-def moments(race):
-    """Each moment, with the fewest steps that lead to it, and whether nothing may come next."""
-    return search_of(race).moments(race)
-
-
-def told(moment, race):
-    """The account of an end: a line for each actor, and the figures of each gate."""
-    return search_of(race).told(moment, race)
-
-
-def lines_and_figures(told):
-    """The lines of the actors, and the figures of the gates."""
-    return [it for it in told if isinstance(it, str)], [it for it in told if not isinstance(it, str)]
+from machines.gate_calls import kept, moments, told
+from machines.race import race_of
 
 
 def summary_of(told):
     """The line of --summary for an outcome, after its number."""
-    lines, figures = lines_and_figures(told)
-    return "; ".join([*lines, *(f"{mark}, held {held}" for mark, *_, held in figures)])
+    *lines, (mark, *_, held) = told
+    return "; ".join([*lines, f"{mark}, held {held}"])
 
 
 def states_of(race):
-    """The number of states that the program keeps of a race: on Linux's percpu_ref nothing is exchanged."""
-    kept = gate_calls.kept if search_of(race) is gate_calls else lambda moment, _: moment
+    """The number of states that the program keeps of a race."""
     return len({kept(moment, race) for moment, _, _ in moments(race)})
 
 
@@ -63,8 +42,7 @@ def all_outcomes(race, most=None):
 
 
 def show(found):
-    for number, (lines, steps) in enumerate(found.items(), 1):
-        lines, _ = lines_and_figures(lines)
+    for number, ((*lines, _), steps) in enumerate(found.items(), 1):
         deadlock = " deadlock" if any("waits for " in line for line in lines) else ""
         print(f"outcome {number} steps {steps}{deadlock}", *lines, sep="\n")
     print(f"outcomes {len(found)}")

@@ -5,13 +5,13 @@ A step is a switch if the step before it was taken by another actor.
 
 from collections import deque
 
-import searched
+from machines.gate_calls import first, told, turns
 from printed import outcomes_of, steps_of
 
 
 def all_switches(race):
     """The account of each outcome, with the fewest steps that lead to it, and the fewest switches among that many steps."""
-    turns, begin = searched.search_of(race).turns, searched.search_of(race).first(race)
+    begin = first(race)
     # For each moment: the fewest steps that lead to it, and the fewest switches, by the actor of the last step.
     steps, fewest, left, found = {begin: 0}, {begin: {"": 0}}, deque([begin]), {}
     while left:
@@ -25,21 +25,14 @@ def all_switches(race):
                 least = min(count + (last not in ("", actor)) for last, count in known.items())
                 fewest[it][actor] = min(least, fewest[it].get(actor, least))
         if not after:
-            told, best = searched.told(moment, race), (steps[moment], min(known.values()))
-            found[told] = min(best, found.get(told, best))
+            it, best = told(moment, race), (steps[moment], min(known.values()))
+            found[it] = min(best, found.get(it, best))
     return found
-
-
-def actor_of(line):
-    """The actor of a line of a schedule; on Linux's percpu_ref it may be a callback."""
-    words = line.split()
-    return words[:2] if words[0] == "rcu" else words[1] if words[0].startswith("@") else words[0]
 
 
 def switches_of(schedule):
     """The number of switches in a printed schedule."""
-    begin = schedule.index("steps") + 1 if schedule[0] == "linux 1" else 1
-    actors = [actor_of(line) for line in schedule[begin:] if not line.startswith(("#", "world"))]
+    actors = [line.split()[0] for line in schedule[1:] if not line.startswith(("#", "world"))]
     return sum(one != other for one, other in zip(actors, actors[1:]))
 
 

@@ -4,7 +4,7 @@ from erasing.shape import functions, impls, item_start
 
 # Rattle's `drop` is handed the value; Rust's borrows it, and the types below can't be taken apart then.
 ITEMS = {
-    ("race_calls", "answers", "Drop", "End"): """impl Drop for End {
+    ("race_world", "answers", "Drop", "End"): """impl Drop for End {
     fn drop(&mut self) {
         let mut rest = self.taken();
         while let Some(mut end) = rest {
@@ -25,7 +25,7 @@ impl End {
 }
 # Functions that do nothing where each step is sequentially consistent, and what they do in Rust: a call of a stand-in.
 BODIES = {("bias_lanes", "fence", "heavy_fence"): ("lane_table", "heavy_fence")}
-IMPORTS = {("race_calls", "answers"): {("std", "mem")}}
+IMPORTS = {("race_world", "answers"): {("std", "mem")}}
 
 
 def write_by_hand(s):

@@ -71,7 +71,7 @@ def cut_what_is_handed_on(sources, gone, ghosts):
     for s in sources:
         found.cut(s)
         parameters.name_ordered_steps(s)
-        parameters.cut_rule_arguments(s, ghosts | kit.BRANDS)
+        parameters.cut_rule_arguments(s, found, ghosts | kit.BRANDS)
         clauses.cut_calls_of_laws(s, gone)
         clauses.cut_reads(s)
 

@@ -12,7 +12,7 @@ RULE_PARAMETERS = {"Box": {1}, "Table": {0, 1, 2, 3, 4}, "Seat": {0, 1}, "Shared
 TABLES = {"bias_lanes": "lane_table"}
 CELL_PARAMETERS = {"Table": {1, 2, 3, 4}, "Seat": {1}, "Shared": {1, 2, 3, 4}}
 # Crates whose atomic numbers are those of the table: rust/orders compiles them over its own.
-OWN_ATOMICS = {"biased_queue"}
+OWN_ATOMICS = {"queue_core"}
 # Steps of owners of lanes, which are ordered by a heavy fence: by their rules, what the stand-in names them.
 ORDERED_STEPS = {"SaysBusy": "store_relaxed", "SaysIdle": "store_release", "Confirms": "load_acquire", "Stays": "load_acquire"}
 # Traits without a method whose types are values all the same.
@@ -31,6 +31,7 @@ REFUSABLE = {
     ("push", 1): "try_push",
     ("resize", 2): "try_resize",
     ("extend_from_slice", 1): "try_extend_from_slice",
+    ("extend", 1): "try_extend",
     ("insert", 2): "try_put",
     ("reserve", 1): "try_make_room",
     ("reserve_exact", 1): "try_make_exact_room",
@@ -53,6 +54,7 @@ TRAIT_OF = {
     "try_push": ("fallible", "TryVec"),
     "try_resize": ("fallible", "TryVec"),
     "try_extend_from_slice": ("fallible", "TryVec"),
+    "try_extend": ("fallible", "TryVec"),
     "try_with_room": ("fallible", "TryVec"),
     "try_from_slice": ("fallible", "TryVec"),
     "try_from_elem": ("fallible", "TryVec"),
@@ -76,6 +78,7 @@ STAND_INS = {
     ("std", "sync", "Mutex"): ("sync", "Mutex"),
     ("std", "sync", "MutexGuard"): ("sync", "MutexGuard"),
     ("std", "thread"): ("thread",),
+    ("std", "thread", "Parker"): ("sync", "Parker"),
     ("std", "thread", "JoinHandle"): ("thread", "JoinHandle"),
     ("std", "thread", "Scope"): ("thread", "Scope"),
     ("std", "env"): ("env",),
@@ -101,16 +104,15 @@ NAMELESS = HANDLE_TRAITS | GHOST_TRAITS | BRANDS | {ALLOCATOR_TYPE, ALLOCATOR_TR
 # Files in which each call of this name is of a method of the project, so that no trait is imported for it.
 OF_THE_PROJECT = {
     ("in_flight", "table", "try_push"),
-    ("linux_world", "told", "try_to_vec"),
     ("race_outcomes", "race_account", "try_to_vec"),
 }
 # Fields that only proofs read: (crate, type, field).
 READ_BY_PROOFS = {
-    ("queue_core", "Tag", "hardware"),
+    ("bias_lanes", "Fenced", "epoch"),
     ("blk_workers", "FinishedWorker", "acknowledgements"),
     ("blk_workers", "FinishedWorker", "tags"),
     ("blk_workers", "Passed", "point"),
-    ("race_search", "Placed", "number"),
+    ("race_outcomes", "Placed", "number"),
     ("run_queues", "Acknowledgement", "seat"),
     ("run_queues", "Acknowledgement", "number"),
     ("script_overlap", "Touched", "sectors"),

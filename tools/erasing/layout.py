@@ -8,15 +8,12 @@ import tempfile
 # The crates of each package of rust/, the lowest first. `main` files become programs of their package.
 PACKAGES = {
     "percpu-gate": ["percpu_words", "percpu_core", "percpu_gate"],
-    "freeze-queue": ["queue_limits", "queue_core", "bias_lanes", "biased_queue"],
+    "freeze-queue": ["queue_limits", "bias_lanes", "queue_core"],
     "blkq": [
         "wait_queue", "freeze_queue", "line_text", "ram_disk", "script_meaning", "script_overlap", "blk_script", "run_queues",
         "in_flight", "blk_workers", "gate_replay", "counted_io", "blkq_run", "blkq",
     ],
-    "gate-races": [
-        "race_calls", "race_world", "race_search", "race_outcomes", "linux_world", "gates_world", "races_text", "races_run",
-        "gate_races",
-    ],
+    "gate-races": ["race_world", "race_outcomes", "races_run", "gate_races"],
     "trials": ["uses", "play_calls"],
     "c-memory": ["loose_box", "c_answers"],
     "percpu-gate-c": ["percpu_gate_c"],
@@ -41,7 +38,7 @@ PROGRAMS = {"play_calls"}
 ERASED_LINE = "// Erased from"
 STAND_IN_LINE = "// A stand-in for"
 # Crates of crates.txt that aren't erased: rust/ has no use for them.
-LEFT_OUT = {"bench", "browser", "race_laws", "trials_rows", "trials_calls"}
+LEFT_OUT = {"bench", "browser", "trials_rows", "trials_calls"}
 
 
 def package_of(crate, name):

@@ -90,7 +90,7 @@ def conjuncts(tree, keeps_ranges=False):
 
 # The names of a run, of its queue of completions and of its queue of requests, which the types of blk_workers have.
 OF_A_RUN = {"J": "run", "C": "completions", "L": "requests"}
-# What a course of race_search has.
+# What a course of race_world has.
 OF_A_COURSE = {"C.rules": "rules", "C.number_of": "number_of"}
 
 

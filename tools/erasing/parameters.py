@@ -91,14 +91,13 @@ class Parameters:
 
     def type_of(self, s, name):
         """The place of a type that a file names: of its own crate, of the one it imports it from, or of the kit."""
-        crate = self.origin[id(s)].get(name)
+        crate, name = self.origin[id(s)].get(name, (None, name))
         if crate in kit.KIT_CRATES or name == "Box":
             return ("type", "cells" if s.crate in kit.TABLES and crate == "atomic_table" else "kit", name)
         crates = self.types.get(name, ())
-        if s.crate in crates:
-            return ("type", s.crate, name)
-        if crate in crates:
-            return ("type", crate, name)
+        for it in (crate, s.crate):
+            if it in crates:
+                return ("type", it, name)
         return ("type", min(crates), name) if len(crates) == 1 else None
 
     def mentions(self, s):
@@ -178,8 +177,8 @@ def cut_parts(s, opening, ghosts, parts):
 
 
 def origins(s):
-    """The crate from which a file imports each name."""
-    return {alias or path[-1]: path[0] for i, end in uses(s) for path, alias in leaves(s, i, end)}
+    """The crate from which a file imports each name, and the name there."""
+    return {alias or path[-1]: (path[0], path[-1]) for i, end in uses(s) for path, alias in leaves(s, i, end)}
 
 
 def name_ordered_steps(s):
@@ -191,9 +190,9 @@ def name_ordered_steps(s):
                 s.write(s.before(s.before(s.before(p))), step, "a step with an order")
 
 
-def cut_rule_arguments(s, ghosts):
-    """`shared.fetch_or::<SetsDead>(..)`: the rule's event goes."""
+def cut_rule_arguments(s, found, ghosts):
+    """`shared.fetch_or::<SetsDead>(..)`: the rule's event goes, and a ghost parameter beside it."""
     for i in range(len(s)):
         if s.at(i, "<") and s.at(s.before(i), ":") and (end := s.angle(i)):
             parts = s.parts(i, end)
-            cut_parts(s, i, [part for part in parts if s.code(*part[:2]) in ghosts], parts)
+            cut_parts(s, i, [part for part in parts if s.code(*part[:2]) in ghosts | found.ghost_names(s, i)], parts)

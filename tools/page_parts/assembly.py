@@ -13,7 +13,7 @@ from races_pictures.svg import FONT, rules
 ROOT = os.path.dirname(os.path.dirname(os.path.dirname(os.path.realpath(__file__))))
 SOURCES, EXAMPLES = f"{ROOT}/docs/try", f"{ROOT}/examples"
 # Each uses those before it.
-DRAWING = ("texts", "gate", "linux", "states", "schedule", "svg", "lanes", "legend", "stepping", "answers")
+DRAWING = ("texts", "gate", "states", "schedule", "svg", "lanes", "legend", "stepping", "answers")
 SCRIPTS = (*DRAWING, "running", "address", "page")
 SCRIPTS_OF_RACE = (*DRAWING, "race")
 

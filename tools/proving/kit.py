@@ -29,6 +29,15 @@ FLAGS = {
     "build": ("--statements", "--incremental", "--toolchain", "--backend"),
 }
 TARGET = "x86_64-unknown-linux-gnu"
+# Prints each crate below a folder with the stamp by which rt knows that its library is current.
+STAMPS = """
+import functools, sys
+sys.path.insert(0, sys.argv[1])
+import rtlib
+rtlib.Crate.stamp = functools.cache(rtlib.Crate.stamp)
+for it in rtlib.crates_below(sys.argv[2]):
+    print(it.name, it.stamp())
+"""
 
 
 @functools.lru_cache(maxsize=None)
@@ -80,6 +89,11 @@ class Kit:
         """The sum of the kit's logic alone, which other kits share; or the kit's whole name if it shows no such sum."""
         found = re.search(r"\blogic ([0-9a-f]+)$", self.name)
         return found[1] if found else self.name
+
+    def stamps(self, crates):
+        """The stamps of rt for the crates in a folder, by name; none if this kit's rt can't be asked."""
+        said = asked(sys.executable, "-B", "-c", STAMPS, f"{self.folder}/bin", crates)
+        return dict(line.split() for line in said.splitlines())
 
     def sources_of(self, library):
         """The folder of one of the kit's libraries, or None if the kit has no sources of it."""

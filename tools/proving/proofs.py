@@ -2,7 +2,8 @@
 an archive in out/.
 
 A library is built from statements only, as rt ci builds it. A check above it then reads the statements and not the proofs,
-which are some thirty times as large. rt check and rt lib keep the proofs too, so that an edit proves again only what changed.
+which are some thirty times as large. It gets the stamp by which rt knows it as current, so the first rt check of a changed crate proves
+that crate alone. rt check and rt lib keep the proofs too, so that an edit proves again only what changed.
 Libraries that rt has built are used after rt lib has brought them up to date.
 """
 
@@ -35,8 +36,15 @@ class Proofs:
         return f"{self.read_by(crate)} {sum_of(made_of(crate))}"
 
     def note(self, crate):
-        """The file with the sums. A library's replaces the stamp of rt lib, which has one word: so each sees that the other built it."""
-        return f"{os.path.dirname(crate.rlib)}/stamp" if crate.makes_rlib() else f"{made_of(crate)}.sums"
+        """The file with the sums. A library's stands in the folder that rt empties before it builds the library itself."""
+        return f"{os.path.dirname(crate.rlib)}/sums" if crate.makes_rlib() else f"{made_of(crate)}.sums"
+
+    def tell_rt(self, crates):
+        """Gives rt's stamps to the libraries that are proved from the sources that are there now, so that rt doesn't build them again."""
+        stamps = self.kit.stamps(os.path.dirname(crates[0].folder)) if crates else {}
+        for crate in crates:
+            if crate.makes_rlib() and crate.name in stamps and text_of(self.note(crate)) and self.has(crate):
+                write(stamp_of(crate), stamps[crate.name])
 
     def has(self, crate):
         """Whether the library, archive or program that is there was proved and built of these sources, over the libraries that
@@ -55,7 +63,7 @@ class Proofs:
                 self.by_rt |= {*top.below(), top}
 
     def is_of_rt(self, crate):
-        return len(text_of(self.note(crate)).split()) == 1
+        return os.path.isfile(stamp_of(crate)) and not os.path.isfile(self.note(crate))
 
     def prove(self, crate, jobs):
         """Proves and builds a crate from nothing (an archive over the proofs that are kept) and over the libraries below it. The
@@ -77,6 +85,7 @@ class Proofs:
         there = [it for it in crates if not it.is_static and os.path.isfile(made_of(it)) and not text_of(self.note(it))]
         for crate in there:
             write(self.note(crate), self.noted(crate))
+        self.tell_rt(crates)
         return [it.name for it in there]
 
 
@@ -85,6 +94,11 @@ def made_of(crate):
     if crate.is_program:
         return f"{crate.folder}/out/{crate.name}"
     return f"{out_of(crate)}/lib{crate.name}.a" if crate.is_static else f"{crate.rlib}/format"
+
+
+def stamp_of(crate):
+    """The file by which rt knows whether a library is current."""
+    return f"{os.path.dirname(crate.rlib)}/stamp"
 
 
 def out_of(crate):

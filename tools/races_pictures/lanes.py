@@ -1,5 +1,5 @@
 """Draws a schedule as lanes, one for each actor, with its steps and their replies. Shading shows what an actor holds and owes. Next to
-the lanes are the words of each gate, with their values between the steps. The release is marked."""
+the lanes are the words of the gate, with their values between the steps. The release is marked."""
 
 import re
 
@@ -10,13 +10,10 @@ from races_pictures.svg import Page, width_of
 SIZE, SMALL = 13, 12
 ROW, BOX = 44, 26
 TOP, EDGE, GAP, INNER = 64, 16, 10, 12
-END = 18
-# The kinds of words that have marks, and whether these stand in front of something else that such a word holds.
-MARKED = {"shared": True, "flags": False}
 
 
 class Column:
-    """A lane, or a word of a gate with all that it holds in turn, from x on."""
+    """A lane, or a word with all that it holds in turn, from x on."""
 
     def __init__(self, name, x, wide, held=()):
         self.name, self.x, self.wide, self.held = name, x, wide, held
@@ -25,8 +22,8 @@ class Column:
 
 def with_bias(text):
     """A reply or an end with the bias of the shared word by its name."""
-    found = re.match(r"(@[0-9]+ )?(end )?(zero|dead|live) ([0-9]{15,})\b", text)
-    return text[: found.start(4)] + bias_told(int(found[4]) - BIAS) + text[found.end() :] if found else text
+    found = re.match(r"(end )?(zero|dead|live) ([0-9]{15,})\b", text)
+    return text[: found.start(3)] + bias_told(int(found[3]) - BIAS) + text[found.end() :] if found else text
 
 
 def reply_of(row):
@@ -35,16 +32,7 @@ def reply_of(row):
 
 
 def name_of(actor):
-    return "control" if actor == "c" else f"pass {actor}" if isinstance(actor, int) else actor
-
-
-def standing_of(actor, moment):
-    """The words for what an actor holds and owes at each gate. Of several gates those at which they are the same are named in front."""
-    said = [state.standing(actor).told for state in moment]
-    if len(said) == 1:
-        return said[0]
-    at = {told: [f"@{gate}" for gate, it in enumerate(said, 1) if it == told] for told in said if told}
-    return "; ".join(" ".join([*gates, told]) for told, gates in at.items())
+    return "control" if actor == "c" else f"pass {actor}"
 
 
 class Lanes:
@@ -58,7 +46,7 @@ class Lanes:
         """The picture in words."""
         who = {"c": "the control"}
         steps = [f"{who.get(row.step.actor, name_of(row.step.actor))}: {row.step.text}, {row.reply}" for row in self.schedule.rows]
-        return f"{'; '.join(steps)}; {'; '.join(self.schedule.ends)}"
+        return f"{'; '.join(steps)}; {self.schedule.end}"
 
     def place(self):
         """The columns, each as wide as the longest of its texts."""
@@ -67,38 +55,35 @@ class Lanes:
         for actor in self.schedule.actors:
             self.lanes[actor] = Column(name_of(actor), x, self.wide_of(actor) + 2 * INNER)
             x = self.lanes[actor].end + GAP
-        for gate in range(len(self.moments[0])):
-            x += GAP
-            for held in self.shown_words(gate):
-                wide = max(width_of(text, SMALL) for text in [*self.texts_of(held), held[0].name]) + 14
-                self.words[gate, held[0].kind, held[0].at] = column = Column(held[0].name, x, wide, held)
-                x = column.end + GAP
-        ends = [width_of(with_bias(end), SIZE) for end in self.schedule.ends]
-        self.wide = max(x - GAP, EDGE + width_of(self.title, 15) + 14 + width_of(self.name, SMALL), *(EDGE + it for it in ends)) + EDGE
+        x += GAP
+        for held in self.shown_words():
+            wide = max(width_of(text, SMALL) for text in [*self.texts_of(held), held[0].name]) + 14
+            self.words[held[0].kind, held[0].at] = column = Column(held[0].name, x, wide, held)
+            x = column.end + GAP
+        head, end = width_of(self.title, 15) + 14 + width_of(self.name, SMALL), width_of(with_bias(self.schedule.end), SIZE)
+        self.wide = max(x - GAP, EDGE + head, EDGE + end) + EDGE
 
     def wide_of(self, actor):
         """How wide the longest text of a lane is."""
         steps = [f"{row.step.text}   {reply_of(row)}" for row in self.schedule.rows if self.lane_of(row.step) == actor]
-        small = [standing_of(actor, moment) for moment in self.moments]
+        small = [moment.standing(actor).told for moment in self.moments]
         return max([width_of(text, SIZE) for text in steps] + [width_of(text, SMALL) for text in small] + [90])
 
     def lane_of(self, step):
         """The lane of a step's actor; where there is no such actor, the control's."""
         return step.actor if step.actor in self.schedule.actors else "c"
 
-    def shown_words(self, gate):
-        """The words of a gate that the picture has, each with all that it holds in turn. Where there is nothing to be seen in any word
-        of a kind, as in slots that were never open, these are left out."""
-        words = list(zip(*(moment[gate].words for moment in self.moments)))
+    def shown_words(self):
+        """The words that the picture has, each with all that it holds in turn. Where there is nothing to be seen in any word of a kind,
+        as in slots that were never open, these are left out."""
+        words = list(zip(*(moment.words for moment in self.moments)))
         seen = {word.kind for held in words for word in held if not word.is_idle}
         return [held for held in words if held[0].kind in seen]
 
     def texts_of(self, held):
-        """The texts of a word, with room for its marks: in front, or alone."""
-        texts, room = [word.text for word in held], " " * (max(len(" ".join(word.marks)) for word in held) + 3)
-        if held[0].kind not in MARKED:
-            return texts
-        return [room + text for text in texts] if MARKED[held[0].kind] else [*texts, room]
+        """The texts of a word, with room for its marks in front if it has any."""
+        room = " " * (max(len(" ".join(word.marks)) for word in held) + 3) if held[0].kind == "shared" else ""
+        return [room + word.text for word in held]
 
     def y_of(self, row):
         """The middle of a step's row; the gate stands between -1 and 0 as it starts."""
@@ -107,7 +92,6 @@ class Lanes:
     def drawn(self):
         last = self.y_of(len(self.schedule.rows)) + 6
         self.draw_heads(last)
-        self.draw_numbers()
         for actor in self.lanes:
             self.draw_shades(actor)
         for column in self.words.values():
@@ -116,11 +100,9 @@ class Lanes:
             self.draw_step(index, row)
         for actor in self.lanes:
             self.draw_standing(actor)
-        for at, end in enumerate(self.schedule.ends):
-            self.page.text(EDGE, last + 14 + END * at, with_bias(end), "ink", SIZE, bold=True)
-        low = last + END * (len(self.schedule.ends) - 1)
-        self.draw_legend(low + 34)
-        return self.page.made(self.wide, low + 58)
+        self.page.text(EDGE, last + 14, with_bias(self.schedule.end), "ink", SIZE, bold=True)
+        self.draw_legend(last + 34)
+        return self.page.made(self.wide, last + 58)
 
     def draw_heads(self, last):
         self.page.text(EDGE, 24, self.title, "ink", 15, bold=True)
@@ -131,25 +113,9 @@ class Lanes:
         for column in self.words.values():
             self.page.text(column.middle, TOP - 6, column.name, "dim", SMALL, "middle")
 
-    def draw_numbers(self):
-        """The number of each of several gates, above its words."""
-        gates = range(len(self.moments[0]))
-        for gate in gates if len(gates) > 1 else ():
-            columns = [column for key, column in self.words.items() if key[0] == gate]
-            x, end = columns[0].x, columns[-1].end
-            self.page.text((x + end) / 2, TOP - 26, f"gate {gate + 1}", "ink", SMALL, "middle", True)
-            self.page.line([(x, TOP - 20), (end, TOP - 20)], "rule")
-
     def draw_shades(self, actor):
-        """What an actor holds and owes at each gate, each gate in its part of the lane."""
-        column, gates = self.lanes[actor], len(self.moments[0])
-        wide = column.wide / gates
-        for gate in range(gates):
-            self.draw_shade(column.x + gate * wide, wide, [moment[gate].standing(actor) for moment in self.moments])
-
-    def draw_shade(self, x, wide, parts):
-        """What an actor holds and owes at a gate, from the step that changes it to the next that does."""
-        since = 0
+        """What an actor holds and owes, from the step that changes it to the next that does."""
+        column, parts, since = self.lanes[actor], [moment.standing(actor) for moment in self.moments], 0
         for index in range(1, len(parts) + 1):
             if index < len(parts) and parts[index] == parts[since]:
                 continue
@@ -157,16 +123,16 @@ class Lanes:
             below = self.y_of(index - 1) if index < len(parts) else self.y_of(index - 1) - 14
             holds, owes, _ = parts[since]
             if holds or owes:
-                self.page.box(x, above, wide, below - above, "hold" if holds else "owe")
+                self.page.box(column.x, above, column.wide, below - above, "hold" if holds else "owe")
                 if holds and owes:
-                    self.page.box(x + wide - INNER, above, INNER, below - above, "owe")
+                    self.page.box(column.end - INNER, above, INNER, below - above, "owe")
             since = index
 
     def draw_standing(self, actor):
         """The words for what an actor holds and owes, under the step that changed it."""
         column, before = self.lanes[actor], None
         for index, moment in enumerate(self.moments):
-            told = standing_of(actor, moment)
+            told = moment.standing(actor).told
             if told != before and told:
                 y = self.y_of(index - 1) + ROW / 2 + 4 if index else TOP + ROW / 2 - 2
                 self.page.text(column.middle, y, told, "ink", SMALL, "middle")
@@ -194,18 +160,17 @@ class Lanes:
         return "done" if answer == "last" else "plain"
 
     def draw_reach(self, index, row, column, y):
-        """The line to the words that a step is taken on, with a dot on each."""
-        reached = [column for key, column in self.words.items() if key in row.targets]
-        if not reached or row.is_stuck:
+        """The line to the word that a step is taken on, with a dot on it."""
+        word = self.words.get(row.target)
+        if word is None or row.is_stuck:
             return
-        changed = [it.held[index].told() != it.held[index + 1].told() for it in reached]
+        is_changed = word.held[index].told() != word.held[index + 1].told()
         kind = "done" if self.kind_of(row) == "done" else "dim"
-        self.page.line([(column.end - 4, y), (max(it.middle for it in reached), y)], kind, dashed=not any(changed))
-        for word, is_changed in zip(reached, changed):
-            self.page.dot(word.middle, y, kind, hollow=not is_changed)
+        self.page.line([(column.end - 4, y), (word.middle, y)], kind, dashed=not is_changed)
+        self.page.dot(word.middle, y, kind, hollow=not is_changed)
 
     def draw_word(self, column, last):
-        """What a word of a gate holds: told after each step that changes it."""
+        """What a word holds: told after each step that changes it."""
         self.page.line([(column.middle, TOP + ROW / 2 - 6), (column.middle, last - 14)], "rule")
         before = None
         for index, word in enumerate(column.held):
@@ -215,7 +180,7 @@ class Lanes:
 
     def draw_chip(self, column, word, y):
         self.page.box(column.x, y - 10, column.wide, 20, "ground", "rule", 4)
-        if not word.marks and not MARKED.get(word.kind):
+        if word.kind != "shared":
             self.page.text(column.middle, y + 4, word.text, "ink", SMALL, "middle")
             return
         x = column.x + 3
@@ -228,7 +193,7 @@ class Lanes:
 
     def draw_legend(self, y):
         x = EDGE
-        for fill, words in (("hold", "holds"), ("owe", self.moments[0][0].owing), ("done", "the release")):
+        for fill, words in (("hold", "holds"), ("owe", "a step is pending"), ("done", "the release")):
             self.page.box(x, y - 9, 14, 12, fill, round_by=2)
             self.page.text(x + 20, y + 1, words, "dim", SMALL)
             x += 20 + width_of(words, SMALL) + 18

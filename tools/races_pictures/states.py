@@ -1,4 +1,4 @@
-"""Computes what a picture shows between two steps of a gate or of Linux's percpu_ref: its words, and what each actor holds and owes."""
+"""Computes what a picture shows between two steps of a gate: its words, and what each actor holds and owes."""
 
 from typing import NamedTuple
 
@@ -46,8 +46,6 @@ def slot_told(slot):
 class GateState:
     """A gate between two steps."""
 
-    owing = "a step is pending"
-
     def __init__(self, gate):
         self.has_base, self.owes = gate.has_base(), gate.control.owes
         self.passes = [(seat.held, seat.owes, seat.joined) for seat in gate.passes]
@@ -70,30 +68,3 @@ class GateState:
                 return Standing(False, False, "joined")
             held = [f"holds {count}"] if count else []
         return standing_with(held, [f"{owes} pending"] if owes else [])
-
-
-class RefState:
-    """A percpu_ref between two steps."""
-
-    owing = "a section, a lock, a grace period"
-
-    def __init__(self, ref):
-        self.words = self.words_of(ref)
-        self.standings = {int(it) if it.isdecimal() else it: self.standing_in(it, *ref.standing(it)) for it in ref.names()}
-
-    def words_of(self, ref):
-        """The words in the order of their columns."""
-        marks, switching = ref.marks(), ref.switching()
-        counters = [
-            Word("counter", at, f"counter {at}", slot_told(value), is_idle=not value and not ref.is_percpu())
-            for at, value in enumerate(ref.counters())
-        ]
-        switch = Word("switch", None, "switch", switching or "none", is_idle=not switching)
-        return [Word("flags", None, "flags", "" if marks else "percpu", marks), *counters, Word("count", None, "count", ref.count()), switch]
-
-    def standing_in(self, actor, held, owed):
-        return standing_with(([] if not held else ["the initial reference"] if actor == "c" else [f"holds {held}"]), owed)
-
-    def standing(self, actor):
-        """The standing of an actor; nothing of a callback that isn't there yet."""
-        return self.standings.get(actor, standing_with([], []))

@@ -14,6 +14,7 @@ CONSTANT_FUNCTION = re.compile(r'(pub(\([a-z ]+\))? )?((ghost|unsafe|extern "C")
 RUST_COMMENT = re.compile(
     r"""(?P<text>r(#+)".*?"\2|r".*?"|"(?:\\.|[^"\\])*"|'(?:\\.|[^'\\\n])')|//[^\n]*|/\*.*?\*/""", re.DOTALL
 )
+ERROR_TEXT = re.compile(r'#\[error\("(?:\\.|[^"\\])*"\)\]')
 NAMED = re.compile(r"\b(?:struct|enum|union|type|const|static|macro_rules!) (?:mut )?(\w+)")
 
 
@@ -37,9 +38,11 @@ def indent_of(line):
 
 
 def without_comments(path, text):
-    """The lines of a .rt or .antt text that aren't empty, without its comments. What a string of Rust has is no comment."""
+    """The lines of a .rt or .antt text that aren't empty, without its comments and the texts of errors. What a string of Rust has is no
+    comment."""
     if path.endswith(".rt"):
         text = RUST_COMMENT.sub(lambda it: it[0] if it["text"] else "", text)
+        text = ERROR_TEXT.sub("#[error]", text)
     else:
         text = re.sub(r"(?m)(^|[ \t])--([ \t].*)?$", "", text)
     return [it.rstrip() for it in text.split("\n") if it.strip()]

@@ -1,23 +1,18 @@
-"""Reads the files of edits, and applies edits to the texts of a crate."""
+"""Reads wrong bodies, from tables and from the files of the kit, and applies them to the texts of a crate."""
 
 import os
 import re
+
+from sources.mistakes import Pair, mistakes_of
+
 
 class CannotApply(Exception):
     """Why an edit doesn't fit the texts that it is for."""
 
 
-class Pair:
-    """A text that stands once in a file, and what is to stand in its place."""
-
-    def __init__(self, path, old, new):
-        self.path, self.old, self.new = path, old, new
-
-
 class Edit:
-    def __init__(self, crate, name, text):
-        self.crate, self.name = crate, name
-        self.pairs = list(pairs_of(text))
+    def __init__(self, crate, name, pairs):
+        self.crate, self.name, self.pairs = crate, name, list(pairs)
 
     @property
     def label(self):
@@ -25,7 +20,7 @@ class Edit:
 
 
 def pairs_of(text):
-    """The pairs of an edit's file: its other lines are comments."""
+    """The pairs of one of the kit's files: its other lines are comments."""
     path, old = "", None
     for line in text.split("\n"):
         if line.startswith("file: "):
@@ -37,14 +32,18 @@ def pairs_of(text):
             old = None
 
 
-def edits_in(folder, crate):
-    """The edits of a crate that stand in a folder, by name."""
-    if not os.path.isdir(folder):
-        return
-    for file in sorted(os.listdir(folder)):
+def edits_of_kit(folder, crate):
+    """The edits of a crate that stand in a folder, each in a file of the kit's, by name."""
+    for file in sorted(os.listdir(folder)) if os.path.isdir(folder) else ():
         if file.endswith(".edit"):
             with open(f"{folder}/{file}", encoding="utf-8") as it:
-                yield Edit(crate, file.removesuffix(".edit"), it.read())
+                yield Edit(crate, file.removesuffix(".edit"), pairs_of(it.read()))
+
+
+def edits_in(table, crate):
+    """The edits of a crate that a table has, by name."""
+    for it in sorted(mistakes_of(table)) if os.path.isfile(table) else ():
+        yield Edit(crate, it.name, it.pairs)
 
 
 class Texts:
@@ -66,15 +65,15 @@ class Texts:
 
     def row(self, pair):
         """The line of the old text of a pair."""
-        text = self.read(pair.path)
+        text = self.read(pair.file)
         if text.count(pair.old) != 1:
-            raise CannotApply(f"an old text is {text.count(pair.old)} times in {pair.path}: {pair.old}")
+            raise CannotApply(f"an old text is {text.count(pair.old)} times in {pair.file}: {pair.old}")
         return text.count("\n", 0, text.index(pair.old)) + 1
 
     def with_pair(self, pair):
         self.row(pair)
-        text = self.read(pair.path).replace(pair.old, pair.new)
-        return Texts(self.crate_folder, {**self.changed, pair.path: text})
+        text = self.read(pair.file).replace(pair.old, pair.new)
+        return Texts(self.crate_folder, {**self.changed, pair.file: text})
 
     def with_edit(self, edit):
         """These texts with an edit made in them."""

@@ -1,5 +1,5 @@
 """Computes the sum for which the wrong bodies of a crate are refused: over everything that decides what the prover says about them, except
-the machine. Comments and empty lines of sources and edits don't change it, and neither do comments and docstrings of the code that judges,
+the machine. Comments, empty lines and the texts of errors of sources and edits don't change it, and neither do comments and docstrings of the code that judges,
 or another kit with the same logic and statements."""
 
 import functools
@@ -71,7 +71,7 @@ def items_of_kit(kit, name):
 
 
 def texts_of(folder):
-    """The path and the text of each file that a proof of the crate reads, without comments."""
+    """The path and the text of each file that a proof of the crate reads, without comments and texts of errors."""
     for part in PARTS:
         for path in files_in(f"{folder}/{part}", (".rt", ".antt")):
             with open(path, encoding="utf-8") as it:
@@ -86,7 +86,7 @@ def kind_of(crate):
 
 def words_in(pair):
     """The file of an edit's pair, and both its texts without comments."""
-    return pair.path, *("\n".join(without_comments(pair.path, text)) for text in (pair.old, pair.new))
+    return pair.file, *("\n".join(without_comments(pair.file, text)) for text in (pair.old, pair.new))
 
 
 @functools.lru_cache(maxsize=None)

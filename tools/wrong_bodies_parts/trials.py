@@ -25,9 +25,9 @@ class Placed:
             texts = texts.with_pair(pair)
 
     def put(self, pair, row, functions):
-        inside = [it for it in functions if it.file == pair.path and it.has_row(row)]
+        inside = [it for it in functions if it.file == pair.file and it.has_row(row)]
         bodies = [it for it in inside if it.has_in_body(row) and not it.is_alone]
-        self.rows.add((pair.path, row))
+        self.rows.add((pair.file, row))
         self.functions += [it for it in inside if it not in self.functions]
         self.is_alone = self.is_alone or not bodies
         self.is_anywhere = self.is_anywhere or not inside

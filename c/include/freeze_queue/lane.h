@@ -22,8 +22,8 @@
  *
  * If an enter finds another epoch, it stores the bias again, and the library tries. If a leave finds another epoch before its store, the
  * library leaves. If it finds one after its store, the word stays at the bias, the lane is no longer lent, and the library leaves. That leave
- * must not make the word busy again: a freeze may have found the lane idle and taken the tag's reference. The next freeze would then wait for
- * a busy lane, and the leave wouldn't report that drain.
+ * must not make the word busy again: a freeze may have found the lane idle and taken the tag's reference, and a busy lane says that its tag
+ * has one.
  */
 typedef struct freeze_queue_lane {
     uint64_t word;

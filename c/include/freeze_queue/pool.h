@@ -201,6 +201,7 @@ static inline bool freeze_queue_pool_sleep(freeze_queue_pool_state *pool, const 
 FREEZE_QUEUE_APART freeze_queue_answer freeze_queue_pool_waits_for_tag(freeze_queue_pool_state *pool, uint32_t hint,
                                                             const struct timespec *deadline, freeze_queue_tag **taken)
 {
+    const int cancelled = freeze_queue_isnt_cancelled();
     freeze_queue_locks(&pool->lock);
     pool->waiting++;
     bool in_time = true;
@@ -210,6 +211,7 @@ FREEZE_QUEUE_APART freeze_queue_answer freeze_queue_pool_waits_for_tag(freeze_qu
     if (--pool->waiting == 0 && is_ending)
         pthread_cond_broadcast(&pool->given_back);
     pthread_mutex_unlock(&pool->lock);
+    freeze_queue_may_be_cancelled(cancelled);
     if (*taken != NULL)
         return FREEZE_QUEUE_OK;
     return is_ending ? FREEZE_QUEUE_ERR_CLOSED : FREEZE_QUEUE_ERR_TIMED_OUT;

@@ -10,8 +10,8 @@
 
 /* ---- Internal: under the lock ---- */
 
-/* Whether another try to enter is worthwhile, because the queue is live or dying; and whether the queue is drained. Call both
- * under the lock. */
+/* Whether another try to enter is worthwhile, because the queue is live or dying; whether the queue is drained; and the same, or whether a freeze was
+ * thawed. Call them under the lock. */
 static inline bool freeze_queue_waits_sees_live(freeze_queue_waits_state *waits)
 {
     uint32_t depth = 1;
@@ -21,6 +21,15 @@ static inline bool freeze_queue_waits_sees_live(freeze_queue_waits_state *waits)
 static inline bool freeze_queue_waits_sees_drained(freeze_queue_waits_state *waits)
 {
     return freeze_queue_poll_drained(waits->queue);
+}
+static inline bool freeze_queue_waits_sees_live_for(freeze_queue_waits_state *waits, const freeze_queue_waits_frozen *own)
+{
+    (void)own;
+    return freeze_queue_waits_sees_live(waits);
+}
+static inline bool freeze_queue_waits_sees_end(freeze_queue_waits_state *waits, const freeze_queue_waits_frozen *own)
+{
+    return own->is_thawed || freeze_queue_waits_sees_drained(waits);
 }
 
 /* Makes an event readable, or not. A process that was forked after the event was opened leaves its parent's event alone. */
@@ -51,6 +60,9 @@ static inline void freeze_queue_waits_show(freeze_queue_waits_state *waits)
     freeze_queue_raise(waits->drained_event, waits->events_of, drained);
 }
 
+/* What a call waits for. */
+typedef bool freeze_queue_waits_sees(freeze_queue_waits_state *waits, const freeze_queue_waits_frozen *own);
+
 /* Ends a call that was counted in inside. Call it under the lock. */
 static inline void freeze_queue_waits_goes_out(freeze_queue_waits_state *waits)
 {
@@ -60,18 +72,20 @@ static inline void freeze_queue_waits_goes_out(freeze_queue_waits_state *waits)
 
 /* Sleeps until sees returns true, and returns false if the deadline passed first. Call it under the lock, which it releases while
  * it sleeps. Meanwhile the call is counted in inside, so that freeze_queue_waits_end waits for it. */
-static inline bool freeze_queue_waits_sleep(freeze_queue_waits_state *waits, bool (*sees)(freeze_queue_waits_state *),
+static inline bool freeze_queue_waits_sleep(freeze_queue_waits_state *waits, freeze_queue_waits_sees *sees, const freeze_queue_waits_frozen *own,
                                             pthread_cond_t *condition, const struct timespec *deadline)
 {
-    bool seen = sees(waits);
+    const int cancelled = freeze_queue_isnt_cancelled();
+    bool seen = sees(waits, own);
     waits->inside++;
-    for (bool in_time = true; !seen && in_time; seen = sees(waits)) {
+    for (bool in_time = true; !seen && in_time; seen = sees(waits, own)) {
         if (deadline)
             in_time = pthread_cond_timedwait(condition, &waits->lock, deadline) == 0;
         else
             pthread_cond_wait(condition, &waits->lock);
     }
     freeze_queue_waits_goes_out(waits);
+    freeze_queue_may_be_cancelled(cancelled);
     return seen;
 }
 
@@ -119,8 +133,7 @@ static inline void freeze_queue_waits_checks(freeze_queue_waits *of, freeze_queu
     (void)of, (void)tag;
 }
 
-/* What freeze_queue_waits_try_enter returns after a try that didn't enter. A biased tag's try may have hidden the drain from a call
- * that looked. */
+/* What freeze_queue_waits_try_enter returns after a try that didn't enter. */
 FREEZE_QUEUE_APART freeze_queue_answer freeze_queue_waits_isnt_entered(freeze_queue_waits *of, freeze_queue_tag *tag,
                                                                        freeze_queue_answer answer)
 {
@@ -140,7 +153,8 @@ FREEZE_QUEUE_APART freeze_queue_answer freeze_queue_waits_was_last(freeze_queue_
     return FREEZE_QUEUE_OK;
 }
 
-/* Waits for the thaw and tries again. Returns as freeze_queue_waits_enter does. */
+/* Waits for the thaw and tries again, also past a thaw that another freeze followed at once, but not past the deadline. Returns as
+ * freeze_queue_waits_enter does. */
 FREEZE_QUEUE_APART freeze_queue_answer freeze_queue_waits_enters_later(freeze_queue_waits *of, freeze_queue_tag *tag,
                                                                        uint32_t slot, const struct timespec *deadline)
 {
@@ -148,11 +162,13 @@ FREEZE_QUEUE_APART freeze_queue_answer freeze_queue_waits_enters_later(freeze_qu
     freeze_queue_answer answer = FREEZE_QUEUE_NOT_ENTERED;
     while (answer == FREEZE_QUEUE_NOT_ENTERED) {
         freeze_queue_waits_lock(waits);
-        bool live = freeze_queue_waits_sleep(waits, freeze_queue_waits_sees_live, &waits->live, deadline);
+        bool live = freeze_queue_waits_sleep(waits, freeze_queue_waits_sees_live_for, NULL, &waits->live, deadline);
         pthread_mutex_unlock(&waits->lock);
         if (!live)
             return FREEZE_QUEUE_ERR_TIMED_OUT;
         answer = freeze_queue_waits_try_enter(of, tag, slot);
+        if (answer == FREEZE_QUEUE_NOT_ENTERED && deadline != NULL && !freeze_queue_waits_goes_on(deadline))
+            return FREEZE_QUEUE_ERR_TIMED_OUT;
     }
     return answer;
 }
@@ -169,18 +185,16 @@ FREEZE_QUEUE_CALL freeze_queue_answer freeze_queue_waits_try_enter(freeze_queue_
     return freeze_queue_waits_isnt_entered(of, tag, answer);
 }
 
-FREEZE_QUEUE_CALL freeze_queue_answer freeze_queue_waits_enter(freeze_queue_waits *of, freeze_queue_tag *tag, uint32_t slot,
-                                                               const struct timespec *deadline)
+/* Entering and leaving without the lane: functions of their own, so that entering and leaving by the lane saves no registers. */
+__attribute__((noinline, unused)) static freeze_queue_answer
+freeze_queue_waits_enters_apart(freeze_queue_waits *of, freeze_queue_tag *tag, uint32_t slot, const struct timespec *deadline)
 {
-    if (!freeze_queue_is_deadline(deadline))
-        return FREEZE_QUEUE_ERR_BAD_DEADLINE;
     freeze_queue_answer answer = freeze_queue_waits_try_enter(of, tag, slot);
     return answer == FREEZE_QUEUE_NOT_ENTERED ? freeze_queue_waits_enters_later(of, tag, slot, deadline) : answer;
 }
-
-FREEZE_QUEUE_CALL freeze_queue_answer freeze_queue_waits_leave(freeze_queue_waits *of, freeze_queue_tag *tag, uint32_t slot)
+__attribute__((noinline, unused)) static freeze_queue_answer
+freeze_queue_waits_leaves_apart(freeze_queue_waits *of, freeze_queue_tag *tag, uint32_t slot)
 {
-    freeze_queue_waits_checks(of, tag);
     freeze_queue_waits_state *waits = freeze_queue_waits_state_of(of);
     freeze_queue_answer answer;
     if (__builtin_expect(freeze_queue_is_biased(waits, tag), 1))
@@ -188,6 +202,29 @@ FREEZE_QUEUE_CALL freeze_queue_answer freeze_queue_waits_leave(freeze_queue_wait
     else
         answer = freeze_queue_leaves_and_may_be_biased(waits, tag, slot);
     return answer == FREEZE_QUEUE_LAST ? freeze_queue_waits_was_last(of, tag) : answer;
+}
+
+FREEZE_QUEUE_CALL freeze_queue_answer freeze_queue_waits_enter(freeze_queue_waits *of, freeze_queue_tag *tag, uint32_t slot,
+                                                               const struct timespec *deadline)
+{
+    if (__builtin_expect(!freeze_queue_is_deadline(deadline), 0))
+        return FREEZE_QUEUE_ERR_BAD_DEADLINE;
+    freeze_queue_waits_checks(of, tag);
+#ifdef FREEZE_QUEUE_LANE_H
+    if (__builtin_expect(freeze_queue_lane_enters(tag, slot), 1))
+        return FREEZE_QUEUE_OK;
+#endif
+    return freeze_queue_waits_enters_apart(of, tag, slot, deadline);
+}
+
+FREEZE_QUEUE_CALL freeze_queue_answer freeze_queue_waits_leave(freeze_queue_waits *of, freeze_queue_tag *tag, uint32_t slot)
+{
+    freeze_queue_waits_checks(of, tag);
+#ifdef FREEZE_QUEUE_LANE_H
+    if (__builtin_expect(freeze_queue_lane_leaves(tag, slot), 1))
+        return FREEZE_QUEUE_OK;
+#endif
+    return freeze_queue_waits_leaves_apart(of, tag, slot);
 }
 
 #include "waits_control.h"

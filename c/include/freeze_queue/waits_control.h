@@ -5,6 +5,8 @@
 #ifndef FREEZE_QUEUE_WAITS_CONTROL_H
 #define FREEZE_QUEUE_WAITS_CONTROL_H
 
+#include <stdio.h>
+
 /* ---- Internal: a freeze and a change, under the lock ---- */
 
 /* Polls for the drain for a moment, and returns whether it saw the drain. It keeps the lock: the last leave tries to take the lock
@@ -22,28 +24,69 @@ static inline bool freeze_queue_waits_looks(freeze_queue_waits_state *waits)
     return false;
 }
 
-/* Freezes the queue, and polls and then sleeps until it is drained. Returns as freeze_queue_waits_freeze does. Call it under the
- * lock, which it releases only while it sleeps. A call without a tag must keep the lock from beginning to end: between two
+/* Append the freeze of a call that hasn't returned to the list, and remove it. Call both under the lock. */
+static inline void freeze_queue_waits_comes(freeze_queue_waits_state *waits, freeze_queue_waits_frozen *own)
+{
+    freeze_queue_waits_frozen **end = &waits->frozen;
+    while (*end != NULL)
+        end = &(*end)->after;
+    own->after = NULL;
+    own->is_thawed = false;
+    *end = own;
+}
+static inline void freeze_queue_waits_leaves_list(freeze_queue_waits_state *waits, freeze_queue_waits_frozen *own)
+{
+    freeze_queue_waits_frozen **at = &waits->frozen;
+    while (*at != own)
+        at = &(*at)->after;
+    *at = own->after;
+}
+
+/* Thaws the call's own freeze, and returns an answer, or the refusal of the thaw, or ERR_NOT_FROZEN if another thread has thawed it. Call it under the
+ * lock. */
+static inline freeze_queue_answer freeze_queue_waits_thaws_own(freeze_queue_waits_state *waits, freeze_queue_waits_frozen *own, freeze_queue_answer answer)
+{
+    if (own->is_thawed)
+        return FREEZE_QUEUE_ERR_NOT_FROZEN;
+    freeze_queue_waits_leaves_list(waits, own);
+    const freeze_queue_answer thawed = freeze_queue_waits_thaw_one(waits);
+    return freeze_queue_is_refused(thawed) ? thawed : answer;
+}
+
+/* Freezes the queue, and polls and then sleeps until it is drained. Returns as freeze_queue_waits_freeze does; after OK the freeze is in the list. Call it
+ * under the lock, which it releases only while it sleeps. A call without a tag must keep the lock from beginning to end: between two
  * locks freeze_queue_waits_end could remove the queue. */
-static inline freeze_queue_answer freeze_queue_waits_freeze_one(freeze_queue_waits_state *waits, const struct timespec *deadline)
+static inline freeze_queue_answer freeze_queue_waits_freeze_one(freeze_queue_waits_state *waits, freeze_queue_waits_frozen *own,
+                                                                const struct timespec *deadline)
 {
     uint32_t depth;
-    freeze_queue_answer answer = freeze_queue_waits_starts(waits, &depth);
+    const freeze_queue_answer begun = freeze_queue_waits_starts(waits, &depth);
     freeze_queue_waits_show(waits);
-    if (!freeze_queue_is_refused(answer)) {
-        answer = FREEZE_QUEUE_OK;
-        if (!freeze_queue_waits_looks(waits) &&
-            !freeze_queue_waits_sleep(waits, freeze_queue_waits_sees_drained, &waits->drained, deadline)) {
-            answer = freeze_queue_waits_thaw_one(waits);
-            if (!freeze_queue_is_refused(answer))
-                answer = FREEZE_QUEUE_ERR_TIMED_OUT;
-        }
-    }
-    return answer;
+    if (freeze_queue_is_refused(begun))
+        return begun;
+    freeze_queue_waits_comes(waits, own);
+    if (!freeze_queue_waits_looks(waits) && !freeze_queue_waits_sleep(waits, freeze_queue_waits_sees_end, own, &waits->drained, deadline))
+        return freeze_queue_waits_thaws_own(waits, own, FREEZE_QUEUE_ERR_TIMED_OUT);
+    return own->is_thawed ? FREEZE_QUEUE_ERR_NOT_FROZEN : FREEZE_QUEUE_OK;
+}
+
+/* How many freezes there are whose calls have returned. Call it under the lock. */
+static inline uint32_t freeze_queue_waits_count_returned(freeze_queue_waits_state *waits)
+{
+    uint32_t depth = 0;
+    (void)freeze_queue_depth(waits->queue, &depth);
+    depth -= waits->is_dying && depth > 0;
+    for (const freeze_queue_waits_frozen *one = waits->frozen; one != NULL && depth > 0; one = one->after)
+        depth--;
+    return depth;
 }
 
 /* Whether no call has the turn to change the limits. Call it under the lock. */
-static inline bool freeze_queue_waits_sees_turn(freeze_queue_waits_state *waits) { return !waits->is_changing; }
+static inline bool freeze_queue_waits_sees_turn(freeze_queue_waits_state *waits, const freeze_queue_waits_frozen *own)
+{
+    (void)own;
+    return !waits->is_changing;
+}
 
 /* Whether the function of an update made this call. Call it under the lock. */
 static inline bool freeze_queue_waits_is_in_update(freeze_queue_waits_state *waits)
@@ -56,7 +99,7 @@ static inline freeze_queue_answer freeze_queue_waits_takes_turn(freeze_queue_wai
 {
     if (freeze_queue_waits_is_in_update(waits))
         return FREEZE_QUEUE_ERR_IN_UPDATE;
-    if (!freeze_queue_waits_sleep(waits, freeze_queue_waits_sees_turn, &waits->turn, deadline))
+    if (!freeze_queue_waits_sleep(waits, freeze_queue_waits_sees_turn, NULL, &waits->turn, deadline))
         return FREEZE_QUEUE_ERR_TIMED_OUT;
     waits->is_changing = true;
     return FREEZE_QUEUE_OK;
@@ -65,13 +108,6 @@ static inline void freeze_queue_waits_ends_turn(freeze_queue_waits_state *waits)
 {
     waits->is_changing = false;
     pthread_cond_signal(&waits->turn);
-}
-
-/* Thaws after a change, and returns the answer of the change, or of the thaw if that was refused. Call it under the lock. */
-static inline freeze_queue_answer freeze_queue_waits_end_change(freeze_queue_waits_state *waits, freeze_queue_answer answer)
-{
-    freeze_queue_answer thawed = freeze_queue_waits_thaw_one(waits);
-    return freeze_queue_is_refused(thawed) ? thawed : answer;
 }
 
 /* ---- Freezes ---- */
@@ -103,8 +139,11 @@ FREEZE_QUEUE_CALL freeze_queue_answer freeze_queue_waits_freeze(freeze_queue_wai
     freeze_queue_waits_state *waits = freeze_queue_waits_state_of(of);
     if (!freeze_queue_is_deadline(deadline))
         return FREEZE_QUEUE_ERR_BAD_DEADLINE;
+    freeze_queue_waits_frozen own;
     freeze_queue_waits_lock(waits);
-    freeze_queue_answer answer = freeze_queue_waits_freeze_one(waits, deadline);
+    freeze_queue_answer answer = freeze_queue_waits_freeze_one(waits, &own, deadline);
+    if (answer == FREEZE_QUEUE_OK)
+        freeze_queue_waits_leaves_list(waits, &own);
     pthread_mutex_unlock(&waits->lock);
     return answer;
 }
@@ -125,7 +164,13 @@ FREEZE_QUEUE_CALL freeze_queue_answer freeze_queue_waits_thaw(freeze_queue_waits
 {
     freeze_queue_waits_state *waits = freeze_queue_waits_state_of(of);
     freeze_queue_waits_lock(waits);
+    freeze_queue_waits_frozen *oldest = freeze_queue_waits_count_returned(waits) == 0 ? waits->frozen : NULL;
     freeze_queue_answer answer = freeze_queue_waits_thaw_one(waits);
+    if (oldest != NULL && !freeze_queue_is_refused(answer)) {
+        oldest->is_thawed = true;
+        waits->frozen = oldest->after;
+        pthread_cond_broadcast(&waits->drained);
+    }
     pthread_mutex_unlock(&waits->lock);
     return answer;
 }
@@ -173,9 +218,10 @@ FREEZE_QUEUE_CALL freeze_queue_answer freeze_queue_waits_change(freeze_queue_wai
     if (answer == FREEZE_QUEUE_OK)
         answer = freeze_queue_waits_takes_turn(waits, deadline);
     if (answer == FREEZE_QUEUE_OK) {
-        answer = freeze_queue_waits_freeze_one(waits, deadline);
+        freeze_queue_waits_frozen own;
+        answer = freeze_queue_waits_freeze_one(waits, &own, deadline);
         if (answer == FREEZE_QUEUE_OK)
-            answer = freeze_queue_waits_end_change(waits, freeze_queue_set(waits->queue, limits));
+            answer = freeze_queue_waits_thaws_own(waits, &own, freeze_queue_set(waits->queue, limits));
         freeze_queue_waits_ends_turn(waits);
     }
     pthread_mutex_unlock(&waits->lock);
@@ -183,6 +229,27 @@ FREEZE_QUEUE_CALL freeze_queue_answer freeze_queue_waits_change(freeze_queue_wai
 }
 
 /* ---- Internal: an update ---- */
+
+/* A thread that ends in the function of an update, or an exception that leaves it, would leave the queue frozen. */
+static inline void freeze_queue_update_is_left(void *nothing)
+{
+    (void)nothing;
+    fputs("freeze_queue: the function of an update didn't return\n", stderr);
+    abort();
+}
+
+/* Runs the function: a function of its own, since the cleanup may use setjmp. */
+FREEZE_QUEUE_APART freeze_queue_answer freeze_queue_runs(uint32_t (*function)(freeze_queue_limits *limits, void *argument),
+                                                         freeze_queue_limits *limits, void *argument)
+{
+    volatile freeze_queue_answer answer;
+    const int cancelled = freeze_queue_isnt_cancelled();
+    pthread_cleanup_push(freeze_queue_update_is_left, NULL);
+    answer = (freeze_queue_answer)function(limits, argument);
+    pthread_cleanup_pop(0);
+    freeze_queue_may_be_cancelled(cancelled);
+    return answer;
+}
 
 /* Releases the lock, calls the function of an update, and takes the lock again. */
 static inline freeze_queue_answer freeze_queue_waits_calls(freeze_queue_waits_state *waits,
@@ -193,16 +260,16 @@ static inline freeze_queue_answer freeze_queue_waits_calls(freeze_queue_waits_st
     waits->is_calling = true;
     waits->caller = pthread_self();
     pthread_mutex_unlock(&waits->lock);
-    freeze_queue_answer answer = (freeze_queue_answer)function(limits, argument);
+    freeze_queue_answer answer = freeze_queue_runs(function, limits, argument);
     freeze_queue_waits_lock(waits);
     waits->is_calling = false;
     freeze_queue_waits_goes_out(waits);
     return answer == FREEZE_QUEUE_OK || freeze_queue_is_refused(answer) ? answer : FREEZE_QUEUE_ERR_BAD_RETURN;
 }
 
-/* Lets the function change a copy of the limits in force, and sets the copy. Calls the function again if another thread has set
- * limits meanwhile. Call it under the lock. */
-static inline freeze_queue_answer freeze_queue_waits_sets_by(freeze_queue_waits_state *waits,
+/* Lets the function change a copy of the limits in force, and sets the copy, unless another thread has thawed the freeze. Calls the function again if
+ * another thread has set limits meanwhile. Call it under the lock. */
+static inline freeze_queue_answer freeze_queue_waits_sets_by(freeze_queue_waits_state *waits, const freeze_queue_waits_frozen *own,
                                                   uint32_t (*function)(freeze_queue_limits *limits, void *argument),
                                                   void *argument, const struct timespec *deadline)
 {
@@ -212,7 +279,7 @@ static inline freeze_queue_answer freeze_queue_waits_sets_by(freeze_queue_waits_
         freeze_queue_answer answer = freeze_queue_limits_in_force(waits->queue, &limits);
         if (answer == FREEZE_QUEUE_OK)
             answer = freeze_queue_waits_calls(waits, function, &limits, argument);
-        if (answer != FREEZE_QUEUE_OK)
+        if (answer != FREEZE_QUEUE_OK || own->is_thawed)
             return answer;
         if (sets == waits->sets)
             return freeze_queue_set(waits->queue, &limits);
@@ -233,9 +300,10 @@ freeze_queue_waits_update(freeze_queue_waits *of, uint32_t (*function)(freeze_qu
     freeze_queue_waits_lock(waits);
     freeze_queue_answer answer = freeze_queue_waits_takes_turn(waits, deadline);
     if (answer == FREEZE_QUEUE_OK) {
-        answer = freeze_queue_waits_freeze_one(waits, deadline);
+        freeze_queue_waits_frozen own;
+        answer = freeze_queue_waits_freeze_one(waits, &own, deadline);
         if (answer == FREEZE_QUEUE_OK)
-            answer = freeze_queue_waits_end_change(waits, freeze_queue_waits_sets_by(waits, function, argument, deadline));
+            answer = freeze_queue_waits_thaws_own(waits, &own, freeze_queue_waits_sets_by(waits, &own, function, argument, deadline));
         freeze_queue_waits_ends_turn(waits);
     }
     pthread_mutex_unlock(&waits->lock);
@@ -269,7 +337,7 @@ FREEZE_QUEUE_CALL freeze_queue_answer freeze_queue_waits_give_tag_back(freeze_qu
     return answer;
 }
 
-/* ---- Internal: the mark ---- */
+/* ---- Internal: the mark, and the removal ---- */
 
 /* Marks the queue dying, unless it is dying already. Call it under the lock. */
 static inline freeze_queue_answer freeze_queue_waits_die(freeze_queue_waits_state *waits)
@@ -283,6 +351,27 @@ static inline freeze_queue_answer freeze_queue_waits_die(freeze_queue_waits_stat
     __atomic_store_n(&waits->is_dying, 1, __ATOMIC_SEQ_CST);
     freeze_queue_waits_show(waits);
     return FREEZE_QUEUE_OK;
+}
+
+/* Waits until each tag is back and no call is inside, and removes the queue. Call it under the lock. */
+static inline freeze_queue_answer freeze_queue_waits_removes(freeze_queue_waits_state *waits, freeze_queue_final *last,
+                                                             const struct timespec *deadline)
+{
+    freeze_queue_answer answer = FREEZE_QUEUE_OK;
+    bool in_time = true, is_over = false;
+    const int cancelled = freeze_queue_isnt_cancelled();
+    while (!is_over) {
+        answer = waits->inside > 0 ? FREEZE_QUEUE_ERR_TAGS_OUT : freeze_queue_remove(waits->queue, last);
+        is_over = answer != FREEZE_QUEUE_ERR_TAGS_OUT || !in_time;
+        if (!is_over && deadline)
+            in_time = pthread_cond_timedwait(&waits->out, &waits->lock, deadline) == 0;
+        else if (!is_over)
+            pthread_cond_wait(&waits->out, &waits->lock);
+    }
+    freeze_queue_may_be_cancelled(cancelled);
+    if (answer == FREEZE_QUEUE_ERR_TAGS_OUT)
+        answer = FREEZE_QUEUE_ERR_TIMED_OUT;
+    return answer;
 }
 
 /* ---- A dying queue, and its end ---- */
@@ -305,18 +394,14 @@ FREEZE_QUEUE_CALL freeze_queue_answer freeze_queue_waits_end(freeze_queue_waits 
     if (waits->self != of)
         return FREEZE_QUEUE_ERR_CLOSED;
     freeze_queue_waits_lock(waits);
-    freeze_queue_answer answer = freeze_queue_waits_is_in_update(waits) ? FREEZE_QUEUE_ERR_IN_UPDATE : freeze_queue_waits_die(waits);
-    bool in_time = true, is_over = answer != FREEZE_QUEUE_OK;
-    while (!is_over) {
-        answer = waits->inside > 0 ? FREEZE_QUEUE_ERR_TAGS_OUT : freeze_queue_remove(waits->queue, last);
-        is_over = answer != FREEZE_QUEUE_ERR_TAGS_OUT || !in_time;
-        if (!is_over && deadline)
-            in_time = pthread_cond_timedwait(&waits->out, &waits->lock, deadline) == 0;
-        else if (!is_over)
-            pthread_cond_wait(&waits->out, &waits->lock);
+    freeze_queue_answer answer = freeze_queue_waits_is_in_update(waits) ? FREEZE_QUEUE_ERR_IN_UPDATE
+                                 : waits->is_ending                     ? FREEZE_QUEUE_ERR_IN_USE
+                                                                        : freeze_queue_waits_die(waits);
+    if (answer == FREEZE_QUEUE_OK) {
+        waits->is_ending = true;
+        answer = freeze_queue_waits_removes(waits, last, deadline);
+        waits->is_ending = answer == FREEZE_QUEUE_OK;
     }
-    if (answer == FREEZE_QUEUE_ERR_TAGS_OUT)
-        answer = FREEZE_QUEUE_ERR_TIMED_OUT;
     pthread_mutex_unlock(&waits->lock);
     if (answer == FREEZE_QUEUE_OK)
         freeze_queue_waits_goes(waits);

@@ -23,13 +23,20 @@
 #endif
 #define FREEZE_QUEUE_APART __attribute__((noinline, cold, unused)) static
 
+/* A call that has begun a freeze and hasn't returned: it waits for the drain, or changes the limits. Another thread may thaw that freeze. */
+typedef struct freeze_queue_waits_frozen {
+    struct freeze_queue_waits_frozen *after;
+    bool is_thawed;
+} freeze_queue_waits_frozen;
+
 /* The state in a freeze_queue_waits, whose address is self. The queue is called under lock. Calls sleep on drained, on live (for
  * the thaw), on turn (for the end of another change) and on out (in freeze_queue_waits_end, for tags and for calls that return).
  * The events are -1 if they aren't open, and events_of is the process that opened them. inside counts the calls that sleep or
  * run a function. is_changing is true while a change or an update has its turn, is_calling while a function runs, on thread
- * caller. number is the queue's, and sets counts successful calls of freeze_queue_waits_set.
+ * caller, and is_ending while freeze_queue_waits_end waits. number is the queue's, and sets counts successful calls of
+ * freeze_queue_waits_set. frozen is the list of calls that have begun a freeze, the oldest first, without those whose freeze was thawed.
  *
- * Requests read freezes and unbiased_until, which lie 128 bytes after what other calls write under the lock. freezes counts the
+ * Requests read freezes and unbiased_until, which lie some 128 bytes after what other calls write under the lock. freezes counts the
  * freezes that take biases away, starting at 1; a tag has the count that was read when it was biased. No tag is biased until the
  * time unbiased_until, in nanoseconds; 0 means that tags may be biased now. has_biased is 1 once a tag may have a bias. The lock
  * protects the pause in which no tag is biased: when it ends, its length, and its length in times of what taking the biases took. */
@@ -41,17 +48,19 @@ typedef struct freeze_queue_waits_state {
     pthread_cond_t live;
     pthread_cond_t turn;
     pthread_cond_t out;
-    int drained_event;
-    int live_event;
-    int64_t events_of;
     uint32_t inside;
     uint32_t is_dying;
-    uint64_t number;
     uint64_t sets;
+    freeze_queue_waits_frozen *frozen;
     pthread_t caller;
     bool is_changing;
     bool is_calling;
-    char apart[128];
+    bool is_ending;
+    char apart[96];
+    uint64_t number; /* these four stay as they are from before the first request on */
+    int64_t events_of;
+    int drained_event;
+    int live_event;
     uint64_t freezes;
     uint64_t unbiased_until;
     uint8_t has_biased;
@@ -123,6 +132,20 @@ static inline void freeze_queue_waits_lock(freeze_queue_waits_state *waits)
 {
     if (FREEZE_QUEUE_LOOK == 0 || !freeze_queue_waits_tries_lock(waits))
         freeze_queue_locks(&waits->lock);
+}
+
+/* ---- Internal: cancellation. A thread isn't cancelled in a call that waits: it would leave its freeze, its turn or the lock behind. ---- */
+
+static inline int freeze_queue_isnt_cancelled(void)
+{
+    int before = 0;
+    pthread_setcancelstate(PTHREAD_CANCEL_DISABLE, &before);
+    return before;
+}
+static inline void freeze_queue_may_be_cancelled(int before)
+{
+    int now;
+    pthread_setcancelstate(before, &now);
 }
 
 /* ---- Internal: conditions ---- */
@@ -211,10 +234,11 @@ FREEZE_QUEUE_CALL freeze_queue_answer freeze_queue_waits_init(freeze_queue_waits
     waits->queue = queue;
     waits->drained_event = waits->live_event = -1;
     waits->inside = waits->is_dying = 0;
-    waits->is_changing = waits->is_calling = false;
+    waits->is_changing = waits->is_calling = waits->is_ending = false;
     waits->events_of = 0;
     waits->number = number;
     waits->sets = 0;
+    waits->frozen = NULL;
     waits->freezes = 1;
     waits->unbiased_until = 0;
     waits->has_biased = 0;
@@ -229,7 +253,7 @@ FREEZE_QUEUE_CALL freeze_queue_answer freeze_queue_waits_destroy(freeze_queue_wa
     if (waits->self != of)
         return FREEZE_QUEUE_ERR_CLOSED;
     freeze_queue_waits_lock(waits);
-    const bool is_in_use = waits->inside > 0;
+    const bool is_in_use = waits->inside > 0 || waits->is_ending;
     pthread_mutex_unlock(&waits->lock);
     if (is_in_use)
         return FREEZE_QUEUE_ERR_IN_USE;

@@ -67,7 +67,7 @@ static void enter(int t, uint32_t slot, bool here)
     freeze_queue_answer want = misuse(t, slot, false);
     const bool by_lane = tags[t].had_bias && tags[t].life == epoch;
     if (want == FREEZE_QUEUE_OK && depth > 0)
-        want = tags[t].had_bias ? FREEZE_QUEUE_NOT_ENTERED_LAST : FREEZE_QUEUE_NOT_ENTERED;
+        want = FREEZE_QUEUE_NOT_ENTERED;
     if (!freeze_queue_is_refused(want)) {
         tags[t].in = want == FREEZE_QUEUE_OK;
         tags[t].had_bias = by_lane && tags[t].in;

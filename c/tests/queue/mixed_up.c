@@ -84,6 +84,23 @@ static void deadlines_out_of_range(void)
     IS(freeze_queue_pool_free(pool), OK);
 }
 
+/* A slot that the queue doesn't have is refused, whether the tag is biased or not, and the tag stays as it is. */
+static void slots_out_of_range(void)
+{
+    const uint32_t wrong[] = {1, 2, UINT32_MAX};
+    for (int i = 0; i < 9; i++) {
+        IS(freeze_queue_waits_enter(&waits[0], &tag, wrong[i / 3], NULL), ERR_BAD_SLOT);
+        IS(freeze_queue_waits_leave(&waits[0], &tag, 0), ERR_TAG_NOT_ENTERED);
+        IS(freeze_queue_waits_enter(&waits[0], &tag, 0, NULL), OK);
+        IS(freeze_queue_waits_leave(&waits[0], &tag, wrong[i / 3]), ERR_BAD_SLOT);
+        IS(freeze_queue_waits_leave(&waits[0], &tag, 0), OK);
+        if (i % 3 == 2) {
+            IS(freeze_queue_waits_freeze(&waits[0], NULL), OK); /* it takes the bias */
+            IS(freeze_queue_waits_thaw(&waits[0]), LIVE_AGAIN);
+        }
+    }
+}
+
 /* Waits and their queue: each queue has waits once, and isn't freed beside them. */
 static void waits_of_a_queue(void)
 {
@@ -107,7 +124,7 @@ static void waits_of_a_queue(void)
 #endif
     IS(freeze_queue_waits_destroy(&one), OK);
     IS(freeze_queue_waits_destroy(&one), ERR_CLOSED);
-    freeze_queue_waits *made = freeze_queue_waits_new(&queue);
+    freeze_queue_waits *volatile made = freeze_queue_waits_new(&queue); /* volatile: a refused free frees nothing, which gcc may not see */
     if (made == NULL)
         exit(1);
     IS(freeze_queue_waits_free(made), ERR_OPEN);
@@ -151,6 +168,7 @@ int main(void)
         return 1;
     a_tag_of_another_queue();
     deadlines_out_of_range();
+    slots_out_of_range();
     waits_of_a_queue();
     tags_that_are_waited_for();
     IS(freeze_queue_waits_give_tag_back(&waits[0], &tag), OK);

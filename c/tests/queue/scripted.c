@@ -14,6 +14,7 @@ static long freezes;        /* how often one was begun */
 static uint32_t set_refuses; /* what the next set answers, in place of setting; 0: it sets */
 static bool is_last;        /* the next try that is refused lets the first tag leave before it answers */
 static uint32_t tried_on;   /* the slot of the last try */
+static uint32_t in_vain;    /* how many tries are refused while the queue is live, as of a tag whose own queue is frozen */
 
 /* The freezer's calls, under the lock alone. */
 static freeze_queue *under_lock(freeze_queue *of, long freeze)
@@ -33,6 +34,10 @@ static uint32_t sets_or_not(freeze_queue *of, const freeze_queue_limits *limits)
 /* What of both is told LAST is told to the try. */
 static uint32_t tries(freeze_queue_tag *tag, uint32_t slot)
 {
+    if (in_vain > 0) {
+        in_vain--;
+        return FREEZE_QUEUE_NOT_ENTERED;
+    }
     uint32_t answer = freeze_queue_try_enter(tag, slot);
     tried_on = slot;
     if (answer != FREEZE_QUEUE_NOT_ENTERED || !is_last)
@@ -242,6 +247,13 @@ static void deadlines_pass(void)
     acts(first_leaves_untold, NULL, NULL);
     IS(freeze_queue_waits_freeze(&waits, &soon), OK);
     thaws();
+    acts(NULL, NULL, NULL);
+    in_vain = 5;
+    IS(freeze_queue_waits_enter(&waits, &tags[0], 0, &soon), ERR_TIMED_OUT);
+    TELLS(in_vain, 3); /* a look at the deadline after each look at the queue */
+    IS(freeze_queue_waits_enter(&waits, &tags[0], 0, NULL), OK);
+    TELLS(in_vain, 0);
+    leaves(0, false);
     IS(freeze_queue_waits_enter(&waits, &tags[0], 0, NULL), OK);
     acts(NULL, NULL, NULL);
     long before = broadcasts;
@@ -313,6 +325,63 @@ static void changes_while_frozen(void)
     thaws();
 }
 
+/* ---- Thaws of a freeze whose call waits ---- */
+
+static void second_freezes_and_waits(void) { IS(freeze_queue_waits_freeze(&waits, NULL), OK); }
+static void thaws_one_while_it_waits(void)
+{
+    IS(freeze_queue_waits_thaw(&waits), OK);
+    SHOWS(false, false);
+}
+static void begins_a_freeze_before_the_drain(void) { IS(freeze_queue_waits_begin_freeze(&waits), OK); }
+static void thaws_and_freezes_before_the_drain(void)
+{
+    thaws();
+    begins_a_freeze_before_the_drain();
+}
+static uint32_t is_thawed_inside(freeze_queue_limits *now, void *nothing)
+{
+    now->max = 9;
+    thaws();
+    if (nothing != NULL)
+        begins_a_freeze();
+    return FREEZE_QUEUE_OK;
+}
+
+/* A thaw ends a freeze whose call has returned, if there is one; otherwise the oldest whose call waits, which returns at once. */
+static void thaws_what_waits(void)
+{
+    freeze_queue_limits next = limits;
+    const uint32_t max = max_now();
+    next.max = 9;
+    IS(freeze_queue_waits_enter(&waits, &tags[0], 0, NULL), OK);
+    acts(thaws, NULL, NULL);
+    IS(freeze_queue_waits_freeze(&waits, NULL), ERR_NOT_FROZEN);
+    SHOWS(true, false);
+    acts(thaws, NULL, NULL);
+    IS(freeze_queue_waits_change(&waits, &next, NULL), ERR_NOT_FROZEN);
+    acts(thaws, NULL, NULL);
+    IS(freeze_queue_waits_update(&waits, is_thawed_inside, NULL, NULL), ERR_NOT_FROZEN);
+    acts(thaws_and_freezes_before_the_drain, NULL, NULL); /* the time passes beside another's freeze, which stays */
+    IS(freeze_queue_waits_freeze(&waits, &soon), ERR_NOT_FROZEN);
+    TELLS(depth_now(), 1);
+    acts(thaws_one_while_it_waits, first_leaves_last, NULL);
+    IS(freeze_queue_waits_freeze(&waits, NULL), OK);
+    thaws();
+    IS(freeze_queue_waits_enter(&waits, &tags[0], 0, NULL), OK);
+    acts(second_freezes_and_waits, thaws_one_while_it_waits, first_leaves_last);
+    IS(freeze_queue_waits_freeze(&waits, NULL), ERR_NOT_FROZEN);
+    TELLS(depth_now(), 1);
+    thaws();
+    acts(NULL, NULL, NULL);
+    IS(freeze_queue_waits_update(&waits, is_thawed_inside, NULL, NULL), ERR_NOT_FROZEN);
+    IS(freeze_queue_waits_update(&waits, is_thawed_inside, &next, NULL), ERR_NOT_FROZEN); /* and nothing is set under another's freeze */
+    TELLS(depth_now(), 1);
+    thaws();
+    TELLS(max_now(), max);
+    IS(freeze_queue_waits_thaw(&waits), ERR_NOT_FROZEN);
+}
+
 /* A freeze that is refused, with as many under way as there may be, ends none of them. */
 static void the_greatest_depth(void)
 {
@@ -366,6 +435,7 @@ int main(void)
     deadlines_pass();
     changes();
     changes_while_frozen();
+    thaws_what_waits();
     the_greatest_depth();
     another_queue();
     for (int i = 0; i < 3; i++)

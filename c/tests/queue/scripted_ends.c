@@ -103,13 +103,20 @@ static void stays_frozen(void)
     IS(freeze_queue_waits_enter(&waits, &tags[0], 0, NULL), ERR_DYING);
 }
 
+/* Another end, while one waits. */
+static void ends_too(void)
+{
+    IS(freeze_queue_waits_end(&waits, &last, NULL), ERR_IN_USE);
+    IS(freeze_queue_waits_destroy(&waits), ERR_IN_USE);
+}
+
 /* The end comes back when the last tag is back, not before. */
 static void ends_with_the_last_tag(void)
 {
     acts(first_is_back, second_is_back, NULL);
     IS(freeze_queue_waits_end(&waits, &last, &soon), ERR_TIMED_OUT);
     TELLS(have_acted() && freezer.is_open, true);
-    acts(wakes_by_itself, third_is_back, NULL);
+    acts(wakes_by_itself, ends_too, third_is_back);
     IS(freeze_queue_waits_end(&waits, &last, NULL), OK);
     TELLS(have_acted() && !freezer.is_open && locked == NULL, true);
     TELLS(last.dead && last.kills == 1 && last.releases == 1, true);

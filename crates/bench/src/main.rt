@@ -1,7 +1,7 @@
 //! Times rounds of the gate and of the queue, and changes of the queue's limits beside them, from Rattle.
 //!
-//! `bench THREADS ROUNDS CHANGES` prints a line `gate,ROUNDS,NANOSECONDS,0`. For a queue that its threads leave after each request,
-//! and then for a queue in which they stay, it prints a line `WHAT,ROUNDS,NANOSECONDS,SUM` without changes, a line
+//! `bench THREADS ROUNDS CHANGES` prints a line `gate,ROUNDS,NANOSECONDS,0`. For a queue whose threads enter by the gate (`leaves`),
+//! and then for a queue whose tags are biased (`lanes`), it prints a line `WHAT,ROUNDS,NANOSECONDS,SUM` without changes, a line
 //! `change,NANOSECONDS` for each change, and a line `WHAT,ROUNDS,NANOSECONDS,SUM` for the requests during the changes. All threads
 //! begin at once. The nanoseconds are from when the first thread begins until the last one ends. SUM adds up the limits of the
 //! requests, so that they are read.
@@ -9,9 +9,11 @@
 
 ghost use Rattle.std.specs.Prelude.{◌≡◌, ◌<◌, ◌≤◌, All, IfSome, false};
 ghost use Rattle.percpu_gate.specs.Calls.{holding};
+ghost use Rattle.freeze_queue.specs.BiasedTags.{queue_of, in_now};
 ghost use Rattle.bench.specs.declared.TheConstants.{HARDWARE};
+ghost use Rattle.bench.specs.Own.{IsOwn};
 
-use freeze_queue::{BlockQueue, Freezer, Memory, Stay, Tag};
+use freeze_queue::{BiasedTag, BlockQueue, Freezer, Memory, Tag};
 use percpu_core::Start;
 use percpu_gate::{Gate, Pass, Tried};
 use queue_limits::Limits;
@@ -159,58 +161,88 @@ fn leave_each(rt: &impl Host, queue: &BlockQueue, tag: &mut Tag, slot: u32, roun
     sum
 }
 
-/// Makes requests with a tag that stays entered between them. The limits are read once, and again each time that the tag has
-/// entered again. Returns the sum of all limits.
+/// Makes requests that each enter, read the limits and leave by the tag's lane. Returns the sum of all limits.
 #[inline(never)]
-fn stay_for_each(rt: &impl Host, queue: &BlockQueue, tag: &mut Tag, slot: u32, rounds: u32) -> u64
-    requires own { tag.old.queue ≡ queue.now }
+fn leave_by_lanes(
+    rt: &impl Host,
+    queue: &BlockQueue,
+    tag: &mut BiasedTag,
+    slot: u32,
+    rounds: u32,
+) -> u64
+    requires own { queue_of tag.old ≡ queue.now }
     requires slot { slot < queue.now.gate.slots }
-    requires out { tag.old.entered ≡ false }
-    ensures out { (tag.new.queue ≡ queue.now) × (tag.new.entered ≡ false) }
+    requires out { in_now tag.old ≡ false }
+    ensures out { (queue_of tag.new ≡ queue.now) × (in_now tag.new ≡ false) }
 {
-    queue.enter(rt, tag, slot);
-    let (mut sum, mut known) = (0u64, sum_of(queue.limits(tag)));
+    let mut sum = 0u64;
     for _ in 0..rounds {
-        sum = sum.wrapping_add(known);
-        if let Stay::Left(_) = queue.stay(tag, slot) {
-            queue.enter(rt, tag, slot);
-            known = sum_of(queue.limits(tag));
-        }
+        queue.enter_by_lane(rt, tag, slot);
+        sum = sum.wrapping_add(sum_of(tag.limits()));
+        queue.leave_by_lane(tag, slot, true);
     }
-    queue.leave(tag, slot);
     sum
+}
+
+/// The tag of a thread, which is biased or not.
+#[derive(Drop)]
+enum Own {
+    Plain(Tag),
+    Biased(BiasedTag),
+}
+
+impl Own {
+    /// Returns a tag as it is, or as one that can be biased.
+    fn of(tag: Tag, course: &Course) -> Own
+        requires out { tag.entered ≡ false }
+        ensures { IsOwn tag.queue result }
+    {
+        if course.lanes {
+            return Own::Biased(tag.into_biased(course.limits));
+        }
+        Own::Plain(tag)
+    }
 }
 
 /// How threads make requests to a queue: in batches, until the changes are over.
 #[derive(Drop)]
 struct Course {
-    stays: bool,
+    /// Whether the tags are biased. Until they enter, their limits are these.
+    lanes: bool,
+    limits: Limits,
     batch: u32,
     all_there: Barrier,
     is_over: AtomicBool,
+}
+
+/// Makes requests with a thread's tag.
+fn through(rt: &impl Host, queue: &BlockQueue, own: &mut Own, slot: u32, rounds: u32) -> u64
+    requires own { IsOwn queue.now own.old }
+    requires slot { slot < queue.now.gate.slots }
+    ensures own { IsOwn queue.now own.new }
+{
+    match own {
+        Own::Plain(tag) => leave_each(rt, queue, tag, slot, rounds),
+        Own::Biased(tag) => leave_by_lanes(rt, queue, tag, slot, rounds),
+    }
 }
 
 /// Makes the batches of one thread.
 fn through_queue(
     rt: &impl Host,
     queue: &BlockQueue,
-    mut tag: Tag,
+    mut own: Own,
     slot: u32,
     course: &Course,
 ) -> io::Result<Rounds>
-    requires own { tag.queue ≡ queue.now }
+    requires own { IsOwn queue.now own }
     requires slot { slot < queue.now.gate.slots }
-    requires out { tag.entered ≡ false }
 {
     course.all_there.wait(rt);
     let began = Instant::now(rt)?;
     let (mut count, mut sum) = (0u64, 0u64);
     for _ in rt.forever() {
-        let read = if course.stays {
-            stay_for_each(rt, queue, &mut tag, slot, course.batch)
-        } else {
-            leave_each(rt, queue, &mut tag, slot, course.batch)
-        };
+        let read = through(rt, queue, &mut own, slot, course.batch);
         count = count.saturating_add(u64::from(course.batch));
         sum = sum.wrapping_add(read);
         if course.is_over.load(Ordering::SeqCst) {
@@ -262,7 +294,7 @@ fn through_all(
         requires { (tag.queue ≡ queue.now) × (tag.entered ≡ false) }
     {
         let slot = next.fetch_add(1, Ordering::SeqCst) % queue.slots();
-        through_queue(rt, queue, tag, slot, course)
+        through_queue(rt, queue, Own::of(tag, course), slot, course)
     };
     thread::map_vec(rt, tags, &run)
 }
@@ -270,7 +302,7 @@ fn through_all(
 /// Times batches of requests on each thread, and the changes beside them. Without changes there is one batch.
 fn time_queue(
     rt: &impl Host,
-    stays: bool,
+    lanes: bool,
     threads: u32,
     batch: u32,
     changes: u32,
@@ -282,7 +314,8 @@ fn time_queue(
     };
     let (queue, freezer, tags) = BlockQueue::new(rt.alloc(), limits, threads, threads)?;
     let course = Course {
-        stays,
+        lanes,
+        limits,
         batch,
         all_there: Barrier::new(threads as usize),
         is_over: AtomicBool::new(changes == 0),
@@ -303,7 +336,7 @@ fn time_queue(
         { through_all(rt, queue, tags, course) },
     );
     made?;
-    print_rounds(rt, if stays { "stays" } else { "leaves" }, went?)
+    print_rounds(rt, if lanes { "lanes" } else { "leaves" }, went?)
 }
 
 /// Returns a number from 1 to `most`.
@@ -324,9 +357,9 @@ fn run(rt: &impl Host) -> Result<(), Fault> {
     let rounds = number(rounds, u32::MAX).ok_or(Fault::Usage)?;
     let changes = number(changes, u32::MAX).ok_or(Fault::Usage)?;
     time_gate(rt, threads, rounds)?;
-    for stays in [false, true] {
-        time_queue(rt, stays, threads, rounds, 0)?;
-        time_queue(rt, stays, threads, BATCH, changes)?;
+    for lanes in [false, true] {
+        time_queue(rt, lanes, threads, rounds, 0)?;
+        time_queue(rt, lanes, threads, BATCH, changes)?;
     }
     Ok(())
 }

@@ -1,18 +1,15 @@
 -- The laws at a moment.
-use Rattle.std.proofs.Common.{◌≡◌, ◌≢◌, ℕ, ◌%◌, ◌≤◌, length, get_or, ap, sym, ◌∙◌, subst, arith}
+use Rattle.std.proofs.Common.{◌≡◌, ◌≢◌, ℕ, ◌%◌, ◌≤◌, get_or, sym, ◌∙◌, subst, arith}
 use Rattle.bias_lanes.specs.declared.views.Stage.{Stage}
 use Rattle.bias_lanes.specs.declared.views.Stage.TheVariants.{Unbiased, Idle, Entered}
 use Rattle.bias_lanes.specs.declared.views.Mark.TheVariants.{Watched, Out}
 use Rattle.bias_lanes.specs.declared.views.LaneView.{LaneView}
-use Rattle.bias_lanes.specs.declared.views.FreezerView.{FreezerView}
-use Rattle.bias_lanes.specs.declared.views.Part.TheVariants.{OfFreezer}
 use Rattle.bias_lanes.specs.declared.views.View.{View}
 use Rattle.bias_lanes.specs.Lanes.{lane_place, IsParked, LaneFits}
 use Rattle.bias_lanes.specs.Rule.{OwnerFits, mark_at}
 use Rattle.bias_lanes.specs.Steps.{Moment}
-use Rattle.bias_lanes.specs.Laws.{IsThere, AllOutIsEmpty}
+use Rattle.bias_lanes.specs.Laws.{IsThere}
 use Rattle.bias_lanes.proofs.Stages as stages
-use Rattle.bias_lanes.proofs.Keeps.{freezer_is}
 
 module _ {T K : Type 0} (Fits : K → T → Type 0) where
   module _ (v : View T K) (m : Moment Fits v) (o : LaneView T) (h : IsThere Fits m o) where
@@ -45,11 +42,3 @@ module _ {T K : Type 0} (Fits : K → T → Type 0) where
 
     pub watched_is_not_at_rest : mark_at m.ruled.freezer o.lane ≡ Watched → (o.stage ≢ Idle) × (o.stage ≢ Unbiased → o.bias ≢ get_or m.state.words 0 0)
     watched_is_not_at_rest is = let told = stages.watched_of_mark (mark_at m.ruled.freezer o.lane) e o.stage is known.mark in (told.1, odd_apart told.0)
-
-  pub all_out_is_empty : AllOutIsEmpty Fits
-  all_out_is_empty key f odd all m o h is = let v : View T K = record { key = key; part = OfFreezer f } in
-      let same = freezer_is Fits key m.state m.ruled m.seat f m.sees in
-      let marks : length f.marks ≡ length m.state.homes = subst (λ (x : FreezerView). x.epoch % 2 ≡ 1 → length x.marks ≡ length m.state.homes) same m.ruled.marks odd in
-      let there = m.ruled.within h.0 h.1 o h.2 h.3 in
-      let marked : mark_at m.ruled.freezer o.lane ≡ Out = ap (λ (x : FreezerView). mark_at x o.lane) same ∙ all o.lane (omega arith) in
-      (out_stays_out v m o h marked).0 is

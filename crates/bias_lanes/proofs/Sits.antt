@@ -1,11 +1,6 @@
 -- What an owner's fields and the freezer's say of their seats, and what a step tells them.
-use Rattle.std.proofs.Common.{◌≡◌, ◌≢◌, ℕ, ◌+◌, ◌<◌, nat_eq, true, false, Option, Some, None, List, [], ◌∷◌, get_or, refl, ap, sym, ◌∙◌, subst, arith, ◌%◌, length, ◌⊎◌, inl, inr}
+use Rattle.std.proofs.Common.{◌≡◌, ◌≢◌, ℕ, nat_eq, true, false, Option, Some, None, List, [], ◌∷◌, get_or, refl, ap, sym, ◌∙◌, subst, arith, ◌%◌}
 use Rattle.std.proofs.lemmas.Bool.Decides.{nat_tests}
-use Rattle.std.proofs.Math.ListN.{length-set}
-use Rattle.std.proofs.lemmas.Bool.{cases_eq}
-use Rattle.std.proofs.lemmas.List.{get_or-set_other}
-use Rattle.bias_lanes.specs.declared.views.Mark.{Mark}
-use Rattle.bias_lanes.specs.declared.views.Mark.TheVariants.{Unseen, Out}
 use Rattle.atomic_table.specs.Table.{Me, rest}
 use Rattle.atomic_table.specs.Seated.{TableId}
 use Rattle.bias_lanes.specs.declared.views.Stage.{Stage}
@@ -14,8 +9,8 @@ use Rattle.bias_lanes.specs.declared.views.LaneView.{LaneView}
 use Rattle.bias_lanes.specs.declared.views.FreezerView.{FreezerView}
 use Rattle.bias_lanes.specs.declared.views.Part.TheVariants.{OfFreezer, OfLane}
 use Rattle.bias_lanes.specs.declared.views.View.{View}
-use Rattle.bias_lanes.specs.Lanes.{found_mark, lane_place, cell_place, parked, vacant, IsParked, LaneFits}
-use Rattle.bias_lanes.specs.Rule.{mark_at, on_lane, at_stage, on_freezer, looked, nobody}
+use Rattle.bias_lanes.specs.Lanes.{lane_place, cell_place, parked, vacant, IsParked, LaneFits}
+use Rattle.bias_lanes.specs.Rule.{on_lane, at_stage, on_freezer, looked, nobody}
 use Rattle.bias_lanes.specs.Steps.{Found, Stored, Took, Claimed, lane_of_word, in_hand}
 use Rattle.bias_lanes.specs.Seats.{LaneFacts, FreezerFacts, at, CanRest, lane_of, freezer_of, lane_me, in_hand_at, owner_view, IsOwner, IsFreezer, LooksAtEpoch, FindsParked, LoadsEpoch, TakesIfParked, ClaimsIfVacant, LooksAt, FindsBusy}
 use Rattle.bias_lanes.proofs.LaneSteps.{lane_is, cell_is}
@@ -170,7 +165,7 @@ module _ {T K : Type 0} (Fits : K → T → Type 0) (id : TableId) (me : Me (Opt
   pub cell_in_hand : n ≡ parked → (y : Option T) × (new.1 ≡ (number, y) ∷ rest new.1)
   cell_in_hand is = let told = took_some Fits id me seen (in_hand_at o.stage o.lane) own.sits after number n new h is in (Some told.0, hand_is new.1 (in_hand_at o.stage o.lane) number (Some told.0) told.1)
 
-module _ {T K : Type 0} (Fits : K → T → Type 0) (id : TableId) (me : Me (Option T) (View T K)) (now : ℕ) (noted : List Mark) (own : IsFreezer id me now noted) where
+module _ {T K : Type 0} (Fits : K → T → Type 0) (id : TableId) (me : Me (Option T) (View T K)) (now : ℕ) (own : IsFreezer id me now) where
   abbrev pub freezer_known : FreezerView
   freezer_known = record { epoch = now; marks = (freezer_of me.0.part).marks }
 
@@ -227,33 +222,6 @@ module _ {T K : Type 0} (Fits : K → T → Type 0) (id : TableId) (me : Me (Opt
   pub refilled : (key : K) → me.0.key ≡ key → (lane : ℕ) (y : Option T) (it : Me (Option T) (View T K)) → me.1 ≡ (lane, None) ∷ [] → it ≡ (me.0, (lane, y) ∷ rest me.1)
       → it ≡ (record { key = key; part = OfFreezer freezer_known }, (lane, y) ∷ [])
   refilled key same lane y it out e = e ∙ (λ i. ((freezer_sat key same i).0, (lane, y) ∷ rest (out i)))
-
--- the owners of the lanes before this one are out
-abbrev pub OutBefore : ℕ → FreezerView → Type 0
-OutBefore n f = (lane : ℕ) → lane < n → mark_at f lane ≡ Out
-
--- and so is the next, after a step that changes no other mark
-module _ (n : ℕ) (old new : FreezerView) (others : (lane : ℕ) → lane ≢ n → mark_at new lane ≡ mark_at old lane) where
-  out_by : (lane : ℕ) → OutBefore n old → mark_at new n ≡ Out → lane < n + 1 → (lane ≡ n) ⊎ (lane ≢ n) → mark_at new lane ≡ Out
-  out_by lane before here lt (inl e) = ap (mark_at new) e ∙ here
-  out_by lane before here lt (inr m) = others lane m ∙ before lane (omega arith)
-
-  pub out_after : OutBefore n old → mark_at new n ≡ Out → OutBefore (n + 1) new
-  out_after before here lane lt = out_by lane before here lt (cases_eq lane n)
-
--- what a look leaves
-module _ {T K : Type 0} (Fits : K → T → Type 0) (n : ℕ) (old new : FreezerFacts T K) (look : LooksAt Fits n old new) where
-  abbrev found : ℕ
-  found = get_or look.moment.state.words (lane_place n) 0
-
-  pub looks_same : (new.lanes ≡ old.lanes) × (new.view.epoch ≡ old.view.epoch) × (new.out ≡ old.out)
-  looks_same = (ap (λ (f : FreezerFacts T K). f.lanes) look.leaves, ap (λ (f : FreezerFacts T K). f.view.epoch) look.leaves, ap (λ (f : FreezerFacts T K). f.out) look.leaves)
-
-  pub looks_many : length new.view.marks ≡ length old.view.marks
-  looks_many = ap (λ (f : FreezerFacts T K). length f.view.marks) look.leaves ∙ length-set old.view.marks n (found_mark found)
-
-  pub looks_others : (other : ℕ) → other ≢ n → mark_at new.view other ≡ mark_at old.view other
-  looks_others other apart = ap (λ (f : FreezerFacts T K). mark_at f.view other) look.leaves ∙ get_or-set_other old.view.marks n other (found_mark found) Unseen apart
 
 -- who can rest has nothing in hand
 pub rests_empty : {T : Type 0} (s : Stage) (lane : ℕ) → CanRest s → in_hand_at {T = T} s lane ≡ in_hand_at Leaving lane

@@ -5,13 +5,11 @@ use lib.ListN.{get_elem?}
 use Rattle.bias_lanes.specs.declared.views.Stage.TheVariants.{Unbiased, Idle, Entered}
 use Rattle.bias_lanes.specs.declared.views.Mark.TheVariants.{Watched, Out}
 use Rattle.bias_lanes.specs.declared.views.LaneView.{LaneView}
-use Rattle.bias_lanes.specs.declared.views.FreezerView.{FreezerView}
-use Rattle.bias_lanes.specs.declared.views.Part.TheVariants.{OfLane, OfFreezer}
+use Rattle.bias_lanes.specs.declared.views.Part.TheVariants.{OfLane}
 use Rattle.bias_lanes.specs.declared.views.View.{View}
 use Rattle.bias_lanes.specs.Lanes.{IsParked}
 use Rattle.bias_lanes.specs.Rule.{mark_at}
 use Rattle.bias_lanes.specs.Steps.{Moment}
-use Rattle.bias_lanes.specs.Seats.{AllOut}
 
 module _ {T K : Type 0} (Fits : K → T → Type 0) where
   -- an owner with this view is there at the moment, whichever seat sees it
@@ -33,7 +31,3 @@ module _ {T K : Type 0} (Fits : K → T → Type 0) where
   -- a bias is of an even epoch that is no later than the word, which is the freezer's
   abbrev pub BiasIsEven : Type 0
   BiasIsEven = (v : View T K) (m : Moment Fits v) (o : LaneView T) → IsThere m o → (o.stage ≢ Unbiased → o.bias % 2 ≡ 0) × (o.bias ≤ slice_index m.state.words 0) × (m.ruled.freezer.epoch ≡ slice_index m.state.words 0)
-
-  -- if a frozen freezer knows that the owner of each lane is out, no request is in, at each moment at which the freezer's state is this one
-  abbrev pub AllOutIsEmpty : Type 0
-  AllOutIsEmpty = (key : K) (f : FreezerView) → f.epoch % 2 ≡ 1 → AllOut f → (m : Moment Fits (record { key = key; part = OfFreezer f })) (o : LaneView T) → IsThere m o → o.stage ≢ Entered

@@ -4,15 +4,13 @@ use Rattle.atomic_table.specs.Table.{Me}
 use Rattle.atomic_table.specs.Seated.{TableId}
 use Rattle.bias_lanes.specs.declared.views.Stage.{Stage}
 use Rattle.bias_lanes.specs.declared.views.Stage.TheVariants.{Unbiased, Parked, Idle, Trying, Entered, Leaving, Over}
-use Rattle.bias_lanes.specs.declared.views.Mark.{Mark}
-use Rattle.bias_lanes.specs.declared.views.Mark.TheVariants.{Out}
 use Rattle.bias_lanes.specs.declared.views.LaneView.{LaneView}
 use Rattle.bias_lanes.specs.declared.views.FreezerView.{FreezerView}
 use Rattle.bias_lanes.specs.declared.views.Part.{Part}
 use Rattle.bias_lanes.specs.declared.views.Part.TheVariants.{OfFreezer, OfLane, OfNobody}
 use Rattle.bias_lanes.specs.declared.views.View.{View}
 use Rattle.bias_lanes.specs.Lanes.{lane_place, cell_place, parked, vacant, IsParked}
-use Rattle.bias_lanes.specs.Rule.{at_stage, has_parked, mark_at, new_freezer, new_owner, nobody, looked}
+use Rattle.bias_lanes.specs.Rule.{at_stage, has_parked, new_freezer, new_owner, nobody, looked}
 use Rattle.bias_lanes.specs.Steps.{Moment}
 
 -- The identity of lanes, and the key with which they were made
@@ -117,10 +115,6 @@ module _ {T K : Type 0} (Fits : K → T → Type 0) where
     pub moment : Moment Fits (record { key = f.lanes.key; part = OfFreezer seen })
     pub busy : slice_index moment.state.words (lane_place lane) % 2 ≡ 1
 
--- the freezer knows of each lane that its owner is out
-abbrev pub AllOut : FreezerView → Type 0
-AllOut f = (lane : ℕ) → lane < length f.marks → mark_at f lane ≡ Out
-
 -- how an owner's fields and its seat are related
 pub record IsOwner {T K : Type 0} (id : TableId) (me : Me (Option T) (View T K)) (number loaded : ℕ) (now : Stage) : Type 0 where
   pub sits : me ≡ lane_me me.0.key (lane_of me.0.part)
@@ -133,10 +127,9 @@ pub record IsOwner {T K : Type 0} (id : TableId) (me : Me (Option T) (View T K))
   pub few : id.slots < 2 ^ 32
 
 -- the same for the freezer
-pub record IsFreezer {T K : Type 0} (id : TableId) (me : Me (Option T) (View T K)) (now : ℕ) (noted : List Mark) : Type 0 where
+pub record IsFreezer {T K : Type 0} (id : TableId) (me : Me (Option T) (View T K)) (now : ℕ) : Type 0 where
   pub sits : me.0 ≡ record { key = me.0.key; part = OfFreezer (freezer_of me.0.part) }
   pub epoch : (freezer_of me.0.part).epoch ≡ now
-  pub marks : now % 2 ≡ 1 → (freezer_of me.0.part).marks ≡ noted
-  pub lanes : id.slots ≡ length noted
+  pub marks : now % 2 ≡ 1 → length (freezer_of me.0.part).marks ≡ id.slots
   pub size : id.words ≡ id.slots * 2 + 1
   pub few : id.slots < 2 ^ 32

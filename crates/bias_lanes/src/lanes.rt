@@ -8,7 +8,7 @@ use crate::freezer::Freezer;
 use crate::lane::Lane;
 use crate::reference::Reference;
 use crate::rule::{Claims, Comes, LanesRule};
-use crate::views::{Mark, View};
+use crate::views::View;
 use atomic_table::Table;
 use std::alloc::{AllocError, Global};
 use std::marker::Model;
@@ -78,8 +78,7 @@ impl<T: Reference<K>, K> Lanes<T, K> {
             table,
             count: lanes,
         };
-        let marks = vec![in alloc; Mark::Unseen; lanes]?;
-        Ok((made, Freezer::new(seat, marks)))
+        Ok((made, Freezer::new(seat)))
     }
 
     /// Returns the number of lanes.

@@ -1,5 +1,5 @@
 //! The laws of lanes, which hold at each moment. The functions do nothing; their contracts are the laws.
-ghost use Rattle.bias_lanes.specs.Laws.{EnteredIsParked, OutStaysOut, WatchedIsNotAtRest, AllOutIsEmpty, BiasIsEven};
+ghost use Rattle.bias_lanes.specs.Laws.{EnteredIsParked, OutStaysOut, WatchedIsNotAtRest, BiasIsEven};
 
 use crate::reference::Reference;
 
@@ -16,11 +16,6 @@ pub fn out_stays_out<T: Reference<K>, K>()
 /// Until the next epoch, an owner that a look found busy is never idle, and its bias, if it has one, isn't of the current epoch.
 pub fn watched_is_not_at_rest<T: Reference<K>, K>()
     ensures { WatchedIsNotAtRest T.fits }
-{}
-
-/// Once the freezer has found every owner out, no request is in, at every moment at which the freezer's state is its present one.
-pub fn all_out_is_empty<T: Reference<K>, K>()
-    ensures { AllOutIsEmpty T.fits }
 {}
 
 /// A bias has an even epoch, no later than the current one.

@@ -7,7 +7,7 @@
 //! - **Biased.** [`Lane::park`] puts the reference into the cell, and stores the current epoch in the lane: the lane is idle.
 //!   From then on [`Lane::enter`] stores that epoch plus one, which makes the lane busy, and loads the epoch. If the epoch is still that
 //!   of the bias, the request is in. [`Lane::leave`] stores the epoch of the bias again, and loads the epoch again.
-//! - **Frozen.** The [`Freezer`] stores the next, odd epoch, issues a heavy fence, and looks at each lane once. The owner of a lane that it
+//! - **Frozen.** The [`Freezer`] stores the next, odd epoch, issues a heavy fence ([`Fenced`]), and looks at each lane once. The owner of a lane that it
 //!   finds idle or unbiased is out: an owner that enters later finds the odd epoch. So its reference can be *reclaimed*: taken from the
 //!   cell, its count dropped, and put back. The owner of a lane that is busy is *watched*: it loads the epoch when it leaves, if
 //!   it hasn't yet, and finds that its bias is over.
@@ -18,8 +18,6 @@
 //!
 //! An owner with no request in doesn't delay a freeze, even if its thread sleeps or has ended. [`Reference`] states a fact
 //! about the value in a cell, which owners and freezer keep true.
-//!
-//! [`Freezer::none_in`] looks until it finds a busy lane. If it finds none, no request is in, and none enters until the thaw.
 //!
 //! `specs/Lanes.antt` relates owners, freezer and words on one page. The laws: while a request is in,
 //! its reference is parked ([`entered_is_parked`]); an owner that is out stays out until the next epoch ([`out_stays_out`]);
@@ -35,12 +33,10 @@ mod reference;
 mod rule;
 mod views;
 
-pub use fence::heavy_fence;
+pub use fence::Fenced;
 pub use freezer::Freezer;
 pub use lane::Lane;
 pub use lanes::{FIRST_EPOCH, Lanes};
-pub use laws::{
-    all_out_is_empty, bias_is_even, entered_is_parked, out_stays_out, watched_is_not_at_rest,
-};
+pub use laws::{bias_is_even, entered_is_parked, out_stays_out, watched_is_not_at_rest};
 pub use reference::Reference;
 pub use views::{FreezerView, LaneView, Mark, Part, Stage, View};

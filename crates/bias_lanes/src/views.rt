@@ -21,7 +21,7 @@ pub enum Stage {
     Over,
 }
 
-/// What the freezer knows of a lane's owner, in the epoch that it stored last.
+/// What the freezer knows of a lane's owner, in the epoch that it stored last. Ghost: it has no values at run time.
 #[derive(Clone, Copy, Debug, PartialEq, Eq)]
 pub enum Mark {
     /// The freezer hasn't looked at the lane.

@@ -1,5 +1,5 @@
 -- The text of maximal runs that is made while more runs come: all but the last are closed.
-use Rattle.std.proofs.Common.{◌≡◌, ℕ, ◌+◌, List, [], ◌∷◌, ◌++◌, length, refl, sym, ap, ◌∙◌, append_assoc, arith}
+use Rattle.std.proofs.Common.{◌≡◌, ℕ, List, [], ◌∷◌, ◌++◌, length, refl, sym, ap, ◌∙◌, append_assoc, arith}
 use Rattle.std.proofs.lemmas.List.{append-nil}
 use Rattle.blk_script.specs.Texts.{run_text, runs_text}
 use Rattle.blk_script.specs.Closed.{closed_text}

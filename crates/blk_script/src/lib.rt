@@ -17,7 +17,7 @@ mod run;
 pub use laws::one_text;
 pub use line_text::{Overlap, ParseFault, ScriptFault, Why, Words, number, words};
 pub use parser::parse;
-pub use rendering::{push_disk, render, render_disk, render_read};
+pub use rendering::{push_disk, push_read, push_written, render, render_disk};
 pub use run::run_alone;
 pub use script_meaning::{
     ByteRuns, Line, Mode, Pattern, PieceLengths, Reply, Script, Stat, Version, What,

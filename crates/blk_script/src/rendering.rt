@@ -1,15 +1,16 @@
 //! The texts of replies and of the disk.
-ghost use Rattle.std.specs.Prelude.{◌≡◌, ◌++◌, ◌∷◌, [], ◌<◌, ℕ, List, OnOk, OnErr, IfOk, IfErr, codes, decimal};
+ghost use Rattle.std.specs.Prelude.{◌≡◌, ◌++◌, ◌∷◌, [], ◌<◌, ℕ, List, OnOk, OnErr, IfOk, IfErr, codes, decimal, replicate};
 ghost use Rattle.hex.specs.Hex.{encode_lower};
 ghost use Rattle.line_text.specs.Named.{named};
 ghost use Rattle.blk_script.specs.Closed.{HasGrown, IsClosed, closed_text};
 ghost use Rattle.blk_script.specs.Texts.{pieces_text, run_text, runs_text, named_mode, physical_text, counts_text, reply_text, reply_line, disk_line};
 ghost use Rattle.ram_disk.specs.Runs.{IsRuns};
-ghost use Rattle.ram_disk.specs.Sector.{bytes_of};
-ghost use Rattle.script_meaning.specs.declared.reply.Reply.TheVariants.{Data};
+ghost use Rattle.ram_disk.specs.Sector.{bytes_of, filled_with};
+ghost use Rattle.ram_disk.specs.Sectors.{sectors_of};
+ghost use Rattle.script_meaning.specs.declared.reply.Reply.TheVariants.{Data, Written};
 
 use line_text::{ScriptFault, push_hex, push_named, push_number, push_text};
-use ram_disk::{Disk, SECTOR_BYTES, Sector, add_sector};
+use ram_disk::{Disk, SECTOR_BYTES, Sector, Sectors, add_sector};
 use script_meaning::{Mode, Reply, Stat};
 use std::alloc::{AllocError, Global};
 
@@ -157,26 +158,62 @@ pub fn render(alloc: Global, number: u32, reply: &Reply) -> Result<Vec<u8>, Scri
     Ok(line)
 }
 
-/// Returns the line of a read's reply to the script's line of this number, with its line feed: the lengths of its pieces, and the
-/// runs of the sectors that it found. `Memory` is the only fault.
-pub fn render_read(
+/// Appends the line of a write's reply to the script's line of this number: the lengths of its pieces.
+pub fn push_written(out: &mut Vec<u8>, line: u32, pieces: &[u32]) -> Result<(), AllocError>
+    ensures { OnOk result (out.new.items ≡ out.old.items ++ reply_line (line, Written pieces.now)) }
+{
+    push_number(out, u64::from(line))?;
+    push_text(out, " ")?;
+    push_text(out, "ok ")?;
+    push_pieces(out, pieces)?;
+    push_text(out, "\n")
+}
+
+/// Appends the line of a read's reply to the script's line of this number: the lengths of its pieces, and the runs of the sectors
+/// that it found. `Memory` is the only fault.
+pub fn push_read(
+    out: &mut Vec<u8>,
     alloc: Global,
-    number: u32,
+    line: u32,
     pieces: &[u32],
-    found: &[Sector],
-) -> Result<Vec<u8>, ScriptFault>
-    ensures line { IfOk result (λ line. (runs : List (ℕ × ℕ)) × IsRuns runs (bytes_of found.now) × (line.items ≡ reply_line (number, Data pieces.now runs))) }
+    found: &Sectors,
+) -> Result<(), ScriptFault>
+    ensures told { OnOk result ((runs : List (ℕ × ℕ)) × IsRuns runs (bytes_of (sectors_of found.now)) × (out.new.items ≡ out.old.items ++ reply_line (line, Data pieces.now runs))) }
     ensures fault { IfErr result (λ fault. fault ≡ ScriptFault.Memory) }
 {
-    let mut line = Vec::with_capacity(alloc, USUAL_LINE)?;
-    push_number(&mut line, u64::from(number))?;
-    push_text(&mut line, " ")?;
-    push_text(&mut line, "ok ")?;
-    push_pieces(&mut line, pieces)?;
-    push_text(&mut line, " ")?;
-    push_sectors(&mut line, alloc, found)?;
-    push_text(&mut line, "\n")?;
-    Ok(line)
+    push_number(out, u64::from(line))?;
+    push_text(out, " ")?;
+    push_text(out, "ok ")?;
+    push_pieces(out, pieces)?;
+    push_text(out, " ")?;
+    push_found(out, alloc, found)?;
+    push_text(out, "\n")?;
+    Ok(())
+}
+
+// Appends the run of sectors that have one byte at every place, if there are any.
+fn push_filled(out: &mut Vec<u8>, byte: u8, count: u32) -> Result<(), AllocError>
+    ensures { OnOk result ((runs : List (ℕ × ℕ)) × IsRuns runs (bytes_of (replicate count (filled_with byte))) × (out.new.items ≡ out.old.items ++ runs_text runs)) }
+{
+    if count == 0 {
+        return Ok(());
+    }
+    push_run(out, (byte, u64::from(count) * SECTOR_BYTES as u64))?;
+    Ok(())
+}
+
+// Appends the maximal runs of the bytes of sectors, or a part of their text if memory is refused. `Memory` is the only fault.
+fn push_found(out: &mut Vec<u8>, alloc: Global, found: &Sectors) -> Result<(), ScriptFault>
+    ensures text { OnOk result ((runs : List (ℕ × ℕ)) × IsRuns runs (bytes_of (sectors_of found.now)) × (out.new.items ≡ out.old.items ++ runs_text runs)) }
+    ensures fault { IfErr result (λ fault. fault ≡ ScriptFault.Memory) }
+{
+    match found {
+        Sectors::Filled { byte, count } => {
+            push_filled(out, *byte, *count)?;
+            Ok(())
+        }
+        Sectors::Listed(sectors) => push_sectors(out, alloc, sectors),
+    }
 }
 
 // Appends the line of a disk, or a part of the line if memory is refused.

@@ -9,6 +9,7 @@ abbrev pub no_queue : QueueFacts
 no_queue = record {
   gate = record { id = record { words = 0; slots = 0; views_name = 0; atom = 0; block = 0; offset = 0; slot_names = [] }; slots = 1; start = Atomic; words = 0 };
   hardware = 1;
+  lanes = record { id = record { words = 0; slots = 0; views_name = 0; atom = 0; block = 0; offset = 0; slot_names = [] }; key = record { id = record { words = 0; slots = 0; views_name = 0; atom = 0; block = 0; offset = 0; slot_names = [] }; slots = 1; start = Atomic; words = 0 } };
 }
 
 abbrev pub no_script : Meant

@@ -98,8 +98,9 @@ pub record HasDrained {J : Type 0} (script : Meant) (queue : QueueFacts) (comple
   pub collected : HasCollected script queue completions old new before after
   pub frozen : IsFrozenFor new.state new.freezer
 
--- the next line is this accepted request, with this number and these limits, and it may join those that are owed
+-- the next line is this accepted request, with this number and these limits; it may join those that are owed, and few lines come before it
 pub record IsReady (script : Meant) (replies : List (Option (List ℕ))) (next : Accepted) : Type 0 where
+  pub few : length replies + 1 < 2 ^ 32
   pub may_take : MayTakeRequest script replies next.request
   pub number : next.number ≡ accepted_before script (length replies)
   pub limits : next.limits ≡ (queue_at script (length replies)).limits

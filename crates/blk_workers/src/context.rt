@@ -9,7 +9,6 @@ use crate::job::{Completion, FreeTag, Job};
 use crate::naming::{QueueName, QueueNames, Run};
 use crate::points::RunPoints;
 use freeze_queue::{BlockQueue, Tag};
-use in_flight::UniformSectors;
 use run_queues::{CompletionQueue, PutCount, RequestQueue, Source, SpareQueue, Taker};
 use script_overlap::Checked;
 use std::alloc::{AllocError, Global};
@@ -95,8 +94,6 @@ pub(crate) struct RunContext<'a, J: Run, C: QueueName, L: QueueNames, R, S> {
     pub(crate) completions: &'a CompletionQueue<Completion<J>>,
     /// The submitter takes free tags from here and workers put them back. There is room for all tags of the run.
     pub(crate) free_tags: &'a SpareQueue<FreeTag<J>>,
-    /// The sectors that writes of one byte share.
-    pub(crate) uniform: &'a UniformSectors,
     of: PhantomData<L>,
 }
 
@@ -120,7 +117,6 @@ impl<'a, J: Run, C: QueueName, L: QueueNames, R, S> RunContext<'a, J, C, L, R, S
         checked: &'a Checked<'a>,
         points: &'a RunPoints<'a, J, S>,
         queues: &'a Queues<J, C>,
-        uniform: &'a UniformSectors,
     ) -> RunContext<'a, J, C, L, R, S>
         requires context { IsContext J.script J.queue checked.now queues.now.queue }
         requires queues { HasQueues L.requests C.id L.free_tags queues.now.requests queues.now.completions queues.now.free_tags }
@@ -134,7 +130,6 @@ impl<'a, J: Run, C: QueueName, L: QueueNames, R, S> RunContext<'a, J, C, L, R, S
             requests: &queues.requests,
             completions: &queues.completions,
             free_tags: &queues.free_tags,
-            uniform,
             of: PhantomData,
         }
     }

@@ -36,21 +36,47 @@ pub(crate) struct Accepted {
     pub(crate) limits: Limits,
 }
 
+// Waits for a free tag. If all workers sleep, one is woken first, and one more after each look for a tag that is in vain.
+fn free_tag<J: Run, C: QueueName, L: QueueNames, R: Wait, S>(
+    context: &RunContext<'_, J, C, L, R, S>,
+    source: &mut Source<Job<J, C>>,
+    taker: &mut Taker<FreeTag<J>>,
+) -> FreeTag<J>
+    requires its_queues { (source.old.queue ≡ L.requests) × (taker.old.queue ≡ L.free_tags) }
+    requires room { taker.old.count + 1 < 2 ^ 64 }
+    ensures one { taker.new ≡ one_more taker.old }
+    ensures source { source.new ≡ source.old }
+{
+    if let Some(tag) = context.free_tags.try_take(context.rt, taker) {
+        return tag;
+    }
+    context.requests.wake_if_all_sleep();
+    for _look in 0..context.free_tags.looks() {
+        if let Some(tag) = context.free_tags.look(context.rt, taker) {
+            return tag;
+        }
+        context.requests.wake_one_more(context.rt, source);
+    }
+    context.free_tags.take(context.rt, taker)
+}
+
 // Waits for a free tag, and enters the queue with it under these limits. A tag always reads these limits, since only this thread
 // sets them, but no proof says so. So this compares them, and if they differ, the tag leaves and enters again.
 fn entered<J: Run, C: QueueName, L: QueueNames, R: Wait, S>(
     context: &RunContext<'_, J, C, L, R, S>,
+    source: &mut Source<Job<J, C>>,
     taker: &mut Taker<FreeTag<J>>,
     limits: Limits,
 ) -> Box<Tag>
-    requires its_queue { taker.old.queue ≡ L.free_tags }
+    requires its_queues { (source.old.queue ≡ L.requests) × (taker.old.queue ≡ L.free_tags) }
     requires room { taker.old.count + 1 < 2 ^ 64 }
     ensures one { taker.new ≡ one_more taker.old }
+    ensures source { source.new ≡ source.old }
     ensures own { result.value.queue ≡ J.queue }
     ensures entered { result.value.entered ≡ true }
     ensures told { result.value.limits ≡ Some limits }
 {
-    let mut tag = context.free_tags.take(context.rt, taker).into_tag();
+    let mut tag = free_tag(context, source, taker).into_tag();
     for _ in context.rt.forever() {
         context.queue.enter(context.rt, &mut tag, SUBMITTER_SLOT);
         if context.queue.limits(&mut tag) == limits {
@@ -88,9 +114,9 @@ pub(crate) fn hand_over<J: Run, C: QueueName, L: QueueNames, R: Wait, S: Stall>(
         number,
         limits,
     } = accepted;
-    let position = table.replies.len();
+    let position = table.replies.len() as u32;
     let found = table.submit(context.alloc, context.checked.script(), request)?;
-    let tag = entered(context, &mut ends.taker, limits);
+    let tag = entered(context, &mut ends.source, &mut ends.taker, limits);
     let passed = context.points.pass_entered(number, &tag);
     let token = context.completions.token(&mut ends.collector, number);
     let job = Job::new(passed, token, position, tag, found);

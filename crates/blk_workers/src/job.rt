@@ -1,6 +1,7 @@
 //! What a worker receives for a request, and what it hands back.
 ghost use Rattle.std.specs.Prelude.{◌≡◌, ◌<◌, true, false, IfOk};
 ghost use Rattle.in_flight.specs.Requests.{IsAcceptedAt, IsAnswerTo};
+ghost use Rattle.ram_disk.specs.Sectors.{sectors_of};
 ghost use Rattle.blk_workers.specs.Jobs.{HasOnlyAsked, HasOnlyLeft, IsJob, IsReadUnderItsTag};
 ghost use Rattle.blk_workers.specs.Points.{at_point};
 ghost use Rattle.blk_workers.specs.declared.points.Point.TheVariants.{Entered, Drawn, Answered};
@@ -8,8 +9,8 @@ ghost use Rattle.blk_workers.specs.declared.points.Point.TheVariants.{Entered, D
 use crate::naming::{QueueName, Run};
 use crate::points::Passed;
 use freeze_queue::{BlockQueue, Tag};
-use in_flight::{Answer, UniformSectors, answer_to};
-use ram_disk::Sector;
+use in_flight::{Answer, Workbench, answer_to};
+use ram_disk::Sectors;
 use run_queues::{Acknowledgement, CompletionQueue, CompletionToken, Numbered};
 use script_meaning::Script;
 use std::alloc::{AllocError, Global};
@@ -25,20 +26,21 @@ use std::sync::Wait;
 #[derive(Drop)]
 pub(crate) struct Job<J: Run, C: QueueName> {
     token: CompletionToken<Completion<J>>,
-    position: usize,
+    position: u32,
     tag: Box<Tag>,
-    found: Vec<Sector>,
+    found: Sectors,
     of: PhantomData<C>,
 }
 
 impl<J: Run, C: QueueName> Model for Job<J, C> {
+    ghost use Rattle.ram_disk.specs.Sectors.{sectors_of};
     ghost use Rattle.blk_workers.specs.Jobs.{JobFacts, IsJob};
 
     ghost Value = { JobFacts };
 
-    ghost view = { λ j. record { token = j.token; position = j.position; tag = j.tag.value; found = j.found.items } };
+    ghost view = { λ j. record { token = j.token; position = j.position; tag = j.tag.value; found = sectors_of j.found } };
 
-    ghost invariant = { λ j. IsJob J.script J.queue C.id (record { token = j.token; position = j.position; tag = j.tag.value; found = j.found.items }) };
+    ghost invariant = { λ j. IsJob J.script J.queue C.id (record { token = j.token; position = j.position; tag = j.tag.value; found = sectors_of j.found }) };
 }
 
 impl<J: Run, C: QueueName> Job<J, C> {
@@ -46,11 +48,11 @@ impl<J: Run, C: QueueName> Job<J, C> {
     pub(crate) fn new(
         entered: Passed<J>,
         token: CompletionToken<Completion<J>>,
-        position: usize,
+        position: u32,
         tag: Box<Tag>,
-        found: Vec<Sector>,
+        found: Sectors,
     ) -> Job<J, C>
-        requires job { IsJob J.script J.queue C.id (record { token = token; position = position; tag = tag.value; found = found.items }) }
+        requires job { IsJob J.script J.queue C.id (record { token = token; position = position; tag = tag.value; found = sectors_of found }) }
         requires point { entered ≡ at_point token.number Entered }
         ensures { result.token ≡ token }
     {
@@ -71,7 +73,7 @@ impl<J: Run, C: QueueName> Job<J, C> {
         self,
         drawn: Passed<J>,
         alloc: Global,
-        uniform: &UniformSectors,
+        bench: &mut Workbench,
         queue: &BlockQueue,
         script: &Script,
     ) -> DoneJob<J, C>
@@ -91,7 +93,7 @@ impl<J: Run, C: QueueName> Job<J, C> {
             of: _,
         } = self;
         let limits = queue.limits(&mut tag);
-        let answer = answer_to(alloc, uniform, script, position, limits, &found);
+        let answer = answer_to(alloc, bench, script, position as usize, limits, &found);
         let completion = Completion::new(token.number(), position, answer);
         DoneJob {
             tag,
@@ -118,7 +120,7 @@ impl<J: Run, C: QueueName> Numbered for Job<J, C> {
 #[derive(Drop)]
 pub(crate) struct Completion<J: Run> {
     number: u32,
-    position: usize,
+    position: u32,
     answer: Result<Answer, AllocError>,
     of: PhantomData<J>,
 }
@@ -145,7 +147,7 @@ impl<J: Run> Numbered for Completion<J> {
 }
 
 impl<J: Run> Completion<J> {
-    fn new(number: u32, position: usize, answer: Result<Answer, AllocError>) -> Completion<J>
+    fn new(number: u32, position: u32, answer: Result<Answer, AllocError>) -> Completion<J>
         requires request { IsAcceptedAt J.script number position }
         requires answer { IfOk answer (IsAnswerTo J.script position) }
         ensures { result ≡ record { number = number; position = position } }
@@ -164,7 +166,7 @@ impl<J: Run> Completion<J> {
         ensures request { IsAcceptedAt J.script self.number self.position }
         ensures answer { IfOk result.1 (IsAnswerTo J.script result.0) }
     {
-        (self.position, self.answer)
+        (self.position as usize, self.answer)
     }
 }
 

@@ -16,7 +16,6 @@ use crate::points::{DrainPoints, RunPoints, Stall};
 use crate::submitter::Submitter;
 use crate::team::{consumers, with_workers};
 use freeze_queue::{BlockQueue, NewQueue, Tag};
-use in_flight::UniformSectors;
 use queue_limits::Limits;
 use ram_disk::Disk;
 use run_queues::{Collector, CompletionQueue};
@@ -73,14 +72,12 @@ fn run_in<
     ensures ran { IfOk result (IsRanBy J.script inputs.now.config.workers) }
 {
     let workers = inputs.config.workers();
-    let uniform = UniformSectors::of(inputs.alloc, inputs.checked.script())?;
     let context = RunContext::<J, C, L, _, _>::new(
         inputs.rt,
         inputs.alloc,
         inputs.checked,
         &inputs.points,
         queues,
-        &uniform,
     );
     // One place more than there are numbers to draw: a draw reserves a place before it takes an end mark too.
     let numbers_each = inputs.checked.accepted() + 1;

@@ -54,7 +54,7 @@ fn reply_now(
 {
     // `render` fails only if memory is refused.
     let text = render(alloc, line_number, reply).map_err(|_| RunFault::Memory)?;
-    table.reply(script, text)?;
+    table.reply(alloc, script, text)?;
     Ok(())
 }
 
@@ -175,6 +175,7 @@ impl<J: Run> Submitter<J> {
         ensures memory { IfErr result (λ fault. fault ≡ RunFault.Memory) }
     {
         let accepted = self.accepted;
+        context.requests.wake_if_all_sleep();
         freeze(context.rt, &mut self.freezer, context.queue);
         self.points.pass(context.points, &self.freezer, accepted);
         collect_until(context, collector, &mut self.table, 0)
@@ -288,6 +289,7 @@ impl<J: Run> Submitter<J> {
             if let Err(why) = self.take_next(context, ends) {
                 // Requests in flight end: every tag leaves. Completions aren't awaited, since a reply stays owed if its completion
                 // brings no answer.
+                context.requests.wake_if_all_sleep();
                 freeze(context.rt, &mut self.freezer, context.queue);
                 self.points
                     .pass(context.points, &self.freezer, self.accepted);

@@ -14,6 +14,7 @@ use crate::job::{Completion, FreeTag, Job};
 use crate::naming::{QueueName, QueueNames, Run};
 use crate::points::Stall;
 use crate::submitter::Submitter;
+use in_flight::Workbench;
 use run_queues::{Acknowledgement, Consumer, Numbered, PutCount, Source};
 use std::alloc::AllocError;
 use std::marker::{Model, PhantomData};
@@ -116,6 +117,7 @@ fn serve<J: Run, C: QueueName, L: QueueNames, R: Wait, S: Stall>(
     context: &RunContext<'_, J, C, L, R, S>,
     slot: u32,
     tags: &mut PutCount<FreeTag<J>>,
+    bench: &mut Workbench,
     job: Job<J, C>,
 ) -> Acknowledgement<Completion<J>>
     requires slot { slot < J.queue.gate.slots }
@@ -130,7 +132,7 @@ fn serve<J: Run, C: QueueName, L: QueueNames, R: Wait, S: Stall>(
     let done = job.done(
         drawn,
         context.alloc,
-        context.uniform,
+        bench,
         context.queue,
         context.checked.script(),
     );
@@ -153,14 +155,19 @@ fn work<J: Run, C: QueueName, L: QueueNames, R: Wait, S: Stall>(
 {
     let mut acknowledgements = AcknowledgementCount::new();
     let mut tags = context.free_tags.put_count();
+    let mut bench = Workbench::new(context.alloc);
     for _ in context.rt.forever() {
+        // No tag comes soon if all requests are drawn.
+        if context.requests.is_empty(&mut consumer) {
+            context.free_tags.wake_taker();
+        }
         let Ok(drawn) = context.requests.draw(context.rt, &mut consumer) else {
             unreachable!()
         };
         let Some(job) = drawn else {
             return FinishedWorker::new(consumer, acknowledgements, tags);
         };
-        acknowledgements.add(serve(context, slot, &mut tags, job));
+        acknowledgements.add(serve(context, slot, &mut tags, &mut bench, job));
     }
     unreachable!()
 }
@@ -189,7 +196,7 @@ pub(crate) fn consumers<J: Run, C: QueueName, L: QueueNames, R, S>(
     Ok(consumers)
 }
 
-// Pushes an end mark for each worker that was started.
+// Pushes an end mark for each worker that was started, and wakes them all.
 fn push_end_marks<J: Run, C: QueueName, L: QueueNames, R: Wait, S>(
     context: &RunContext<'_, J, C, L, R, S>,
     source: &mut Source<Job<J, C>>,
@@ -201,6 +208,7 @@ fn push_end_marks<J: Run, C: QueueName, L: QueueNames, R: Wait, S>(
     for _worker in 0..started {
         context.requests.end(context.rt, source);
     }
+    context.requests.wake_all();
 }
 
 // Submits and collects while `workers` workers run, and pushes an end mark for each, even if submitting fails.

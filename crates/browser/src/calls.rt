@@ -10,14 +10,13 @@ ghost use Rattle.browser.specs.Script as script;
 ghost use Rattle.gate_replay.specs.Shown.{EndsSo};
 ghost use Rattle.gate_replay.specs.declared.replay.Replayed.TheVariants.{Stuck, Whole};
 ghost use Rattle.races_run.specs.Answer as outcomes;
-ghost use Rattle.races_run.specs.declared.request.Request.TheVariants.{Written};
-ghost use Rattle.races_text.specs.declared.writing.Form.TheVariants.{Outcomes};
+ghost use Rattle.races_run.specs.declared.writing.Form.TheVariants.{Outcomes};
 
 use crate::fault_lines::{NO_MEMORY, REFUSED, STOPPED, hand_fault, line_of, status_of};
 use crate::handing::hand;
 use crate::script::script_text;
 use gate_replay::{Replayed, replay_text};
-use races_run::{Fault, Form, NoWatch, Request, outcomes_text};
+use races_run::{Fault, Form, NoWatch, outcomes_text};
 use std::alloc::Global;
 
 /// Runs a script on one thread, and writes the text of its answer.
@@ -87,7 +86,7 @@ pub extern "C" fn browser_replay(
     }
 }
 
-/// Finds all outcomes of a race, whatever its questions are.
+/// Finds all outcomes of a race.
 ///
 /// Returns status 0 with the text of the outcomes; 2 if the input is no race, with the fault's line; 4 if memory is refused.
 #[unsafe(no_mangle)]
@@ -98,13 +97,12 @@ pub extern "C" fn browser_race(
     size: &mut usize,
     line: &mut u32,
 ) -> u32
-    ensures answered { result ≡ 0 → outcomes.IsAnsweredBy (Written Outcomes) input.now (λ text. Hands text room.old room.new size.new) }
+    ensures answered { result ≡ 0 → outcomes.IsAnsweredBy Outcomes input.now (λ text. Hands text room.old room.new size.new) }
     ensures refused { result ≡ 2 → race.IsRefusedAt input.now line.new }
     ensures statuses { Contains (0 ∷ 2 ∷ 4 ∷ []) result }
     ensures no_line { result ≢ 2 → line.new ≡ 0 }
 {
-    let request = Request::Written(Form::Outcomes);
-    match outcomes_text(alloc, input, request, None, &mut NoWatch) {
+    match outcomes_text(alloc, input, Form::Outcomes, None, &mut NoWatch) {
         Ok(text) => {
             *size = hand(text.as_slice(), room);
             *line = 0;

@@ -1,8 +1,7 @@
 -- The result of an attempt to enter, as a try at the gate, and how a wait to enter ends.
-use Rattle.std.specs.Prelude.{◌≡◌, ℕ, zero, suc, Bool, true, false}
+use Rattle.std.specs.Prelude.{◌≡◌, ℕ, zero, suc}
 use Rattle.percpu_gate.specs.declared.tried.Tried.{Tried}
 use Rattle.percpu_gate.specs.declared.tried.Tried.TheVariants.{Given, Refused}
-use Rattle.percpu_gate.specs.declared.tried.Put.{Put}
 use Rattle.percpu_gate.specs.declared.tried.Put.TheVariants.{NotLast}
 use Rattle.percpu_core.specs.declared.view.PassView.{PassView}
 use Rattle.percpu_core.specs.declared.pass_event.PassEvent.{PassEvent}
@@ -13,10 +12,6 @@ use Rattle.percpu_gate.specs.Calls.{is_refused, LiveTryFinds}
 use Rattle.percpu_gate.specs.Seats.{GateFacts}
 use Rattle.freeze_queue.specs.declared.enter.Enter.{Enter}
 use Rattle.freeze_queue.specs.declared.enter.Enter.TheVariants.{Entered, Again}
-use Rattle.queue_core.specs.declared.tag.Stay.TheVariants as Stay
-use Rattle.queue_core.specs.Staying.{StaySteps}
-use Rattle.freeze_queue.specs.declared.enter.StayOrEnter.{StayOrEnter}
-use Rattle.freeze_queue.specs.declared.enter.StayOrEnter.TheVariants.{Stayed, EnteredAgain}
 
 -- Entered is a try that was given, Again a refused try; what a try finds doesn't say whether its put was the last
 abbrev pub answered : Enter → Tried
@@ -26,11 +21,6 @@ answered Again = Refused NotLast
 -- a wait to enter ends with a try that found the queue live, by a seat to which a live gate had given no more references than the tag had at the call
 abbrev pub EndsWithEntering : GateFacts → ℕ → PassView → Type 0
 EndsWithEntering gate slot before = (seat : PassView) × (seat.live_given ≡ before.live_given) × LiveTryFinds gate slot seat Given
-
--- whether a tag that would stay has left and entered again
-abbrev pub has_entered_again : StayOrEnter → Bool
-has_entered_again Stayed = false
-has_entered_again EnteredAgain = true
 
 -- the steps of an attempt to enter on this slot, whose addition is this event: those of a try at the gate with the same result
 abbrev pub EnterSteps : PassEvent → ℕ → Enter → Steps → Steps → Type 0
@@ -44,8 +34,3 @@ RefusedSteps slot (suc n) old new = (behind : Steps) × RefusedSteps slot n old 
 -- the steps of a wait to enter: attempts that were refused, and the attempt that entered
 abbrev pub WaitSteps : ℕ → Steps → Steps → Type 0
 WaitSteps slot old new = (refused : ℕ) × (behind : Steps) × RefusedSteps slot refused old behind × EnterSteps AddLive slot Entered behind new
-
--- the steps of a tag that stays, or leaves and waits to enter again
-abbrev pub StayOrEnterSteps : ℕ → StayOrEnter → Steps → Steps → Type 0
-StayOrEnterSteps slot Stayed old new = StaySteps slot Stay.Stayed old new
-StayOrEnterSteps slot EnteredAgain old new = (put : Put) × (behind : Steps) × StaySteps slot (Stay.Left put) old behind × WaitSteps slot behind new

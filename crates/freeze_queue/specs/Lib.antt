@@ -3,6 +3,9 @@ pub use Rattle.queue_core.specs.Queue
 pub use Rattle.queue_core.specs.Readings
 pub use Rattle.queue_core.specs.AtTheGate
 pub use Rattle.queue_core.specs.Sets
+pub use Rattle.queue_core.specs.BiasedTags
+pub use Rattle.queue_core.specs.BiasedSteps
 pub mod Entering
+pub mod Lanes
 pub mod Waiting
 pub mod Removal

@@ -67,8 +67,10 @@ impl Freezer {
         ensures unchanged { OnErr result (self.new ≡ self.old) }
         ensures frozen { IfOk result (λ depth. (depth ≡ self.old.depth + 1) × (r : Put) × (self.new ≡ after_freeze r self.old)) }
     {
-        // If this drained the queue, no thread sleeps for it: the last thaw woke all threads that waited for a drain.
+        // If the kill drained the queue, no thread sleeps for it: the last thaw woke all threads that waited for a drain. The put of
+        // a biased tag comes later.
         let frozen = self.core.start_freeze(&queue.core)?;
+        let _put = queue.tell(frozen.reclaimed);
         Ok(frozen.depth)
     }
 

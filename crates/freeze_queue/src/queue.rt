@@ -12,16 +12,13 @@ ghost use Rattle.queue_core.specs.declared.queue.TheConstants.{MOST_TAGS};
 ghost use Rattle.queue_core.specs.Queue.{IsQueue, first_tag, first_freezer, come_to, after_entering, after_refusal, after_asking, after_leaving};
 ghost use Rattle.queue_core.specs.AtTheGate.{AreInForce, HoldsOff};
 ghost use Rattle.queue_core.specs.Readings.{IsTag, AskSteps};
-ghost use Rattle.queue_core.specs.Staying.{has_left, after_stay, FindsDead, StaySteps};
-ghost use Rattle.queue_core.specs.declared.tag.Stay.TheVariants as Stay;
 ghost use Rattle.freeze_queue.specs.declared.enter.Enter.TheVariants.{Entered, Again};
-ghost use Rattle.freeze_queue.specs.declared.enter.StayOrEnter.TheVariants.{Stayed, EnteredAgain};
-ghost use Rattle.freeze_queue.specs.Entering.{answered, has_entered_again, EndsWithEntering, EnterSteps, WaitSteps, StayOrEnterSteps};
+ghost use Rattle.freeze_queue.specs.Entering.{answered, EndsWithEntering, EnterSteps, WaitSteps};
 
-use crate::enter::{Enter, StayOrEnter};
+use crate::enter::Enter;
 use crate::freezer::Freezer;
 use crossbeam_utils::sync::{Parker, Unparker};
-use queue_core::{Entry, Limits, Memory, Put, Stay, Tag};
+use queue_core::{Entry, Limits, Memory, Put, Tag};
 use std::alloc::Global;
 use std::marker::Model;
 use std::sync::Wait;
@@ -234,60 +231,6 @@ impl BlockQueue {
         ensures steps { PutSteps slot 1 result tag.old.steps tag.new.steps }
     {
         self.tell(self.core.leave(tag, slot))
-    }
-
-    /// Stays entered between two requests, at the price of one load. If the queue is frozen, it leaves instead, and the last put
-    /// wakes the threads that wait for the drain. A tag that stays keeps its limits.
-    ///
-    /// Linux: the requests that a plug keeps, each with its reference on `q_usage_counter` (block/blk-mq.c).
-    ///
-    /// A thread that stays and then sleeps holds up every freeze, so leave before waiting.
-    #[inline]
-    pub fn stay(&self, tag: &mut Tag, slot: u32) -> Stay
-        requires own { tag.old.queue ≡ self.now }
-        requires slot { slot < self.now.gate.slots }
-        requires entered { tag.old.entered ≡ true }
-        // The one load of this very call is counted with what it found, so the result can't come from an earlier load, or from no
-        // load.
-        ensures leaves { tag.new ≡ come_to tag.new.steps (after_stay result tag.old) }
-        ensures steps { StaySteps slot result tag.old.steps tag.new.steps }
-        ensures finds { FindsDead self.now.gate tag.old.seat (has_left result) }
-        ensures times { tag.new.seat.found_dead_times ≡ tag.old.seat.found_dead_times + count (has_left result) }
-        ensures looks { tag.new.seat.looks ≡ tag.old.seat.looks + 1 }
-    {
-        match self.core.stay(tag, slot) {
-            Stay::Stayed => Stay::Stayed,
-            Stay::Left(put) => Stay::Left(self.tell(put)),
-        }
-    }
-
-    /// Stays entered between two requests, at the price of one load. If the queue is frozen, it leaves, waits until the queue
-    /// thaws, and enters again. Returns whether the limits may differ from those before.
-    ///
-    /// A thread that stays and then sleeps holds up every freeze, so leave before waiting.
-    #[inline]
-    pub fn stay_or_enter<R: Wait>(&self, rt: &R, tag: &mut Tag, slot: u32) -> StayOrEnter
-        requires own { tag.old.queue ≡ self.now }
-        requires slot { slot < self.now.gate.slots }
-        requires entered { tag.old.entered ≡ true }
-        ensures stayed { result ≡ Stayed → tag.new ≡ come_to tag.new.steps (after_stay Stay.Stayed tag.old) }
-        ensures again { result ≡ EnteredAgain → tag.new ≡ record (after_entering tag.new.seat tag.old) { releases = tag.new.releases; steps = tag.new.steps } }
-        ensures steps { StayOrEnterSteps slot result tag.old.steps tag.new.steps }
-        ensures releases { tag.old.releases ≤ tag.new.releases }
-        ensures looks { tag.new.seat.looks ≡ tag.old.seat.looks + 1 }
-        // It left if the load of this very call found the queue frozen, and then entered again once, when the queue was live.
-        ensures frozen { FindsDead self.now.gate tag.old.seat (has_entered_again result) }
-        ensures times { tag.old.seat.found_dead_times + count (has_entered_again result) ≤ tag.new.seat.found_dead_times }
-        ensures counted { tag.new.seat.live_given ≡ tag.old.seat.live_given + count (has_entered_again result) }
-        ensures finds { result ≡ EnteredAgain → EndsWithEntering self.now.gate slot tag.old.seat }
-    {
-        match self.stay(tag, slot) {
-            Stay::Stayed => StayOrEnter::Stayed,
-            Stay::Left(_) => {
-                self.enter(rt, tag, slot);
-                StayOrEnter::EnteredAgain
-            }
-        }
     }
 
     /// Returns the limits in force, for an entered tag. They are the same at each call until it leaves, whichever threads make the

@@ -1,6 +1,6 @@
 -- What a queue that has ended leaves, of an open freezer.
 use Rattle.std.proofs.Common.{◌≡◌, ℕ, rules, ◌+◌, ◌-◌, ◌<◌, ◌≤◌, ◌==◌, Bool, false, None, Some, List, if◌then◌else◌, sym, ap, subst, ◌∙◌, arith}
-use Rattle.std.specs.Prelude.{sum_by, map, nat_le}
+use Rattle.std.specs.Prelude.{sum_by, nat_le}
 use Rattle.percpu_gate.specs.declared.exit.Final.{Final}
 use Rattle.percpu_gate.specs.declared.tried.Put.{Put}
 use Rattle.percpu_gate.specs.Calls.{released}
@@ -13,7 +13,7 @@ use Rattle.queue_core.specs.Queue.{FreezerFacts, TagFacts, remove_refusal}
 use Rattle.queue_core.specs.Removal.{HasEnded, IsFrozenToEnd, kills_after, releases_after}
 use Rattle.freeze_queue_c.specs.declared.plain_limits.PlainLimits.{PlainLimits}
 use Rattle.freeze_queue_c.specs.Ends.{IsFinal, worn_out}
-use Rattle.freeze_queue_c.specs.Opened.{FreezerOpened, plain_tag}
+use Rattle.freeze_queue_c.specs.Opened.{FreezerOpened}
 use Rattle.freeze_queue_c.specs.PlainLimits.{as_bounds}
 
 not_zero : (n : ℕ) → 0 < n → (n == 0) ≡ false
@@ -43,11 +43,9 @@ ends_well f tags all may =
     let none : f.tags - tags ≡ 0 = omega arith in
     ap (λ (n : ℕ). if nat_le 1 n then Some (TagsOut n) else worn_out f) none ∙ sym may
 
-pub final_of : {left : Final LIMIT_WORDS} {limits : PlainLimits} {plain : List TagFacts} (f : FreezerOpened) → plain ≡ map plain_tag f.waiting
-    → as_bounds limits ≡ f.freezer.freezer.limits → HasEnded f.queue.queue.gate f.freezer.freezer plain left
+pub final_of : {left : Final LIMIT_WORDS} {limits : PlainLimits} (f : FreezerOpened) → as_bounds limits ≡ f.freezer.limits → HasEnded f.queue.gate f.freezer f.waiting left
     → IsFinal f (record { dead = left.dead; kills = left.kills; releases = left.releases; limits = limits })
-final_of {left = left} {plain = plain} f are limits ended = record {
+final_of {left = left} f limits ended = record {
   limits = limits;
-  ended = subst (λ (ts : List TagFacts). HasEnded f.queue.queue.gate f.freezer.freezer ts (record { dead = left.dead; kills = left.kills; releases = left.releases; words = to_words f.freezer.freezer.limits })) are
-      (subst (λ (w : List ℕ). HasEnded f.queue.queue.gate f.freezer.freezer plain (record { dead = left.dead; kills = left.kills; releases = left.releases; words = w })) ended.words ended);
+  ended = subst (λ (w : List ℕ). HasEnded f.queue.gate f.freezer f.waiting (record { dead = left.dead; kills = left.kills; releases = left.releases; words = w })) ended.words ended;
 }

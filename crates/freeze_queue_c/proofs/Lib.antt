@@ -5,7 +5,7 @@ pub mod FreezerBox
 pub mod Closed
 -- a freezer stays one of its queue
 pub mod Kept
--- tags that wait
-pub mod Waiting
 -- what a queue that has ended leaves
 pub mod Finals
+-- tags that wait, and tags that try to enter
+pub mod Waiting

@@ -1,5 +1,5 @@
 -- The end of a queue.
-use Rattle.std.specs.Prelude.{◌≡◌, ℕ, ◌-◌, ◌⊎◌, ◌==◌, ◌&&◌, nat_le, if◌then◌else◌, Option, Some, None, Result, MatchResult, length, map}
+use Rattle.std.specs.Prelude.{◌≡◌, ℕ, ◌-◌, ◌⊎◌, ◌==◌, ◌&&◌, nat_le, if◌then◌else◌, Option, Some, None, Result, MatchResult, length}
 use Rattle.queue_limits.specs.Words.{to_words}
 use Rattle.queue_core.specs.declared.fault.FreezeFault.{FreezeFault}
 use Rattle.queue_core.specs.declared.fault.FreezeFault.TheVariants.{TagsOut, WornOut}
@@ -12,12 +12,12 @@ use Rattle.freeze_queue_c.specs.declared.open_freezer.ends.KeptFreezer.{KeptFree
 use Rattle.freeze_queue_c.specs.declared.refusal.Refusal.{Refusal}
 use Rattle.freeze_queue_c.specs.declared.refusal.Refusal.TheVariants.{OfQueue, OfMisuse}
 use Rattle.freeze_queue_c.specs.Numbers.{refusal_number}
-use Rattle.freeze_queue_c.specs.Opened.{FreezerOpened, plain_tag}
+use Rattle.freeze_queue_c.specs.Opened.{FreezerOpened}
 use Rattle.freeze_queue_c.specs.PlainLimits.{as_bounds}
 
 -- why a queue may not end: tags that were given out aren't back, or the kill that it needs is refused
 abbrev pub end_refusal : FreezerOpened → Option FreezeFault
-end_refusal f = remove_refusal f.freezer.freezer (length f.waiting)
+end_refusal f = remove_refusal f.freezer (length f.waiting)
 
 -- the refusal of the kill that a live queue needs in order to end
 abbrev pub worn_out : FreezerFacts → Option FreezeFault
@@ -25,12 +25,12 @@ worn_out f = if f.depth == 0 && nat_le KILL_LIMIT f.kills then Some WornOut else
 
 -- the last facts of a queue that has ended, with its limits instead of the words that encode them
 pub record IsFinal (f : FreezerOpened) (left : Final) : Type 0 where
-  pub limits : as_bounds left.limits ≡ f.freezer.freezer.limits
-  pub ended : HasEnded f.queue.queue.gate f.freezer.freezer (map plain_tag f.waiting) (record { dead = left.dead; kills = left.kills; releases = left.releases; words = to_words f.freezer.freezer.limits })
+  pub limits : as_bounds left.limits ≡ f.freezer.limits
+  pub ended : HasEnded f.queue.gate f.freezer f.waiting (record { dead = left.dead; kills = left.kills; releases = left.releases; words = to_words f.freezer.limits })
 
 -- the number of tags that were given out and aren't back
 abbrev pub missing_tags : FreezerOpened → ℕ
-missing_tags f = f.freezer.freezer.tags - length f.waiting
+missing_tags f = f.freezer.tags - length f.waiting
 
 -- a queue that may end has ended, with these last facts
 abbrev pub IsEnd : FreezerOpened → Final → Type 0

@@ -1,18 +1,17 @@
 -- What C may do wrong with the freezer, and the effect of each of its calls.
-use Rattle.std.specs.Prelude.{◌≡◌, ℕ, ◌<◌, ◌==◌, Bool, true, nat_lt, nat_eq, if◌then◌else◌, Option, Some, None, Result, Ok, Err, is_ok, IfOk, OnOk, OnErr}
+use Rattle.std.specs.Prelude.{◌≡◌, ℕ, ◌+◌, ◌<◌, ◌==◌, Bool, true, nat_lt, nat_eq, if◌then◌else◌, Option, Some, None, Result, Ok, Err, IfOk, OnOk, OnErr}
 use Rattle.percpu_words.specs.declared.mode.Mode.{Mode}
 use Rattle.percpu_words.specs.declared.mode.Mode.TheVariants as modes
-use Rattle.percpu_gate.specs.declared.tried.Put.TheVariants.{NotLast}
-use Rattle.bias_lanes.specs.Seats.{AllOut}
+use Rattle.percpu_gate.specs.declared.tried.Put.TheVariants.{Last, NotLast}
+use Rattle.percpu_gate.specs.Seats.{FindsZero}
 use Rattle.queue_limits.specs.Bounds.{Bounds}
 use Rattle.queue_limits.specs.declared.fault.LimitFault.{LimitFault}
 use Rattle.queue_core.specs.declared.fault.FreezeFault.{FreezeFault}
 use Rattle.queue_core.specs.declared.freezer.Frozen.{Frozen}
 use Rattle.queue_core.specs.declared.freezer.Thawed.{Thawed}
-use Rattle.queue_core.specs.Queue.{IsFreezer, after_look, after_mode, after_set, after_thaw, HasThawed, freeze_refusal, thaw_refusal, fault_of}
-use Rattle.queue_core.specs.Sets.{set_refusal}
-use Rattle.biased_queue.specs.Biased.{BiasedQueueFacts, BiasedFreezerFacts, IsOf}
-use Rattle.biased_queue.specs.Freezing.{HasFrozen, LooksAtGate}
+use Rattle.queue_core.specs.Biased.{DropsLast}
+use Rattle.queue_core.specs.Queue.{QueueFacts, FreezerFacts, IsFreezer, after_freeze, after_look, after_mode, after_set, after_thaw, HasThawed, freeze_refusal, thaw_refusal, fault_of}
+use Rattle.queue_core.specs.Sets.{LooksForDrained}
 use Rattle.c_answers.specs.declared.misuse.Misuse.{Misuse}
 use Rattle.c_answers.specs.declared.misuse.Misuse.TheVariants as misuses
 use Rattle.c_answers.specs.Numbers.{number_of}
@@ -26,7 +25,7 @@ use Rattle.freeze_queue_c.specs.Opened.{FreezerOpened}
 use Rattle.freeze_queue_c.specs.PlainLimits.{as_bounds, bounds_of, limit_refusal}
 
 -- the same freezer with these facts
-abbrev pub knowing : FreezerOpened → BiasedFreezerFacts → FreezerOpened
+abbrev pub knowing : FreezerOpened → FreezerFacts → FreezerOpened
 knowing f facts = record f { freezer = facts }
 
 -- the effect of a call that the queue may refuse: nothing changes, or this holds
@@ -34,40 +33,38 @@ abbrev pub OrRefused : {A : Type 0} → FreezerOpened → FreezerOpened → (A �
 OrRefused old new left (Ok a) = left a
 OrRefused old new left (Err why) = new ≡ old
 
--- the effect of a look for a drained queue, at the gate and at the lanes
-pub record Looked (queue : BiasedQueueFacts) (old new : BiasedFreezerFacts) (found : Bool) : Type 0 where
-  pub own : IsOf new queue
-  pub look : LooksAtGate queue.queue.gate old new found
-  pub epoch : new.lanes.view.epoch ≡ old.lanes.view.epoch
-  pub drained : found ≡ true → (new.freezer ≡ after_look true old.freezer) × AllOut new.lanes.view
-  pub frozen : found ≡ true → 0 < old.freezer.depth
-  pub known : old.freezer.drained ≡ true → AllOut old.lanes.view → found ≡ true
+-- the effect of a look for a drained queue
+pub record Looked (queue : QueueFacts) (old new : FreezerFacts) (result : Bool) : Type 0 where
+  pub look : new ≡ after_look result old
+  pub found : FindsZero queue.gate old.seat result
+  pub known : old.drained ≡ true → result ≡ true
+  pub frozen : result ≡ true → 0 < old.depth
 
 -- the effect of a freeze that has started: then it looks whether the queue is drained
 pub record HasBegun (old new : FreezerOpened) (b : Begun) : Type 0 where
   pub same : new ≡ knowing old new.freezer
-  pub mid : BiasedFreezerFacts
+  pub mid : FreezerFacts
   pub froze : Frozen
   pub depth : b.depth ≡ froze.depth
-  pub frozen : HasFrozen old.freezer mid froze
-  pub nested : 0 < old.freezer.freezer.depth → (froze.put ≡ NotLast) × (mid.lanes ≡ old.freezer.lanes)
+  pub frozen : (froze.depth ≡ old.freezer.depth + 1) × (mid ≡ after_freeze froze.put old.freezer)
+  pub nested : 0 < old.freezer.depth → froze.put ≡ NotLast
+  pub reclaimed : froze.reclaimed ≡ Last → (old.freezer.depth ≡ 0) × DropsLast old.queue
   pub looked : Looked old.queue mid new.freezer b.drained
 
 -- the effect of `start_freeze`
 pub record StartedFreeze (old new : FreezerOpened) (r : Result Begun FreezeFault) : Type 0 where
-  pub refused : fault_of r ≡ freeze_refusal old.freezer.freezer
+  pub refused : fault_of r ≡ freeze_refusal old.freezer
   pub begun : OrRefused old new (HasBegun old new) r
 
 -- the effect of `thaw`
 pub record Thaws (old new : FreezerOpened) (r : Result Thawed FreezeFault) : Type 0 where
   pub same : new ≡ knowing old new.freezer
-  pub own : IsOf new.freezer old.queue
-  pub refused : fault_of r ≡ thaw_refusal old.freezer.freezer
+  pub refused : fault_of r ≡ thaw_refusal old.freezer
   pub unchanged : OnErr r (new.freezer ≡ old.freezer)
-  pub thawed : IfOk r (λ t. HasThawed old.queue.queue.gate old.freezer.freezer new.freezer.freezer t.depth)
-  pub live : IfOk r (λ t. (t.depth ≡ new.freezer.freezer.depth) × (t.live ≡ new.freezer.freezer.live))
+  pub thawed : IfOk r (λ t. HasThawed old.queue.gate old.freezer new.freezer t.depth)
+  pub live : IfOk r (λ t. (t.depth ≡ new.freezer.depth) × (t.live ≡ new.freezer.live))
   -- a drain that the freezer knew of is counted
-  pub drained : IfOk r (λ t. old.freezer.freezer.drained ≡ true → new.freezer.freezer ≡ after_thaw true old.freezer.freezer)
+  pub drained : IfOk r (λ t. old.freezer.drained ≡ true → new.freezer ≡ after_thaw true old.freezer)
 
 -- the effect of a look for a drained queue on an open freezer
 pub record LookedForDrained (old new : FreezerOpened) (found : Bool) : Type 0 where
@@ -80,7 +77,7 @@ or_other (Some why) given own = Some (OfLimits why)
 or_other None given own = if given == own then None else Some OtherHardware
 
 abbrev pub input_refusal : PlainLimits → FreezerOpened → Option Refusal
-input_refusal limits f = or_other (limit_refusal limits) limits.hardware f.queue.queue.hardware
+input_refusal limits f = or_other (limit_refusal limits) limits.hardware f.queue.hardware
 
 -- the limits that are to be set, or why they are refused
 abbrev pub Sought : Option Refusal → Bounds → Result Bounds Refusal → Type 0
@@ -88,17 +85,13 @@ Sought refusal bounds (Ok limits) = (refusal ≡ None) × (limits ≡ bounds)
 Sought refusal bounds (Err why) = refusal ≡ Some why
 
 -- the effect of setting valid limits
-pub record SetAtQueue (limits : Bounds) (queue : BiasedQueueFacts) (old new : BiasedFreezerFacts) (r : Result (Unit {0}) FreezeFault) : Type 0 where
-  pub refused : fault_of r ≡ set_refusal old.freezer (is_ok r)
-  pub unchanged : OnErr r (new.freezer ≡ old.freezer)
-  pub set : OnOk r (new.freezer ≡ after_set limits old.freezer)
-  pub nobody : OnOk r (AllOut new.lanes.view)
-  pub own : IsOf new queue
-  pub epoch : new.lanes.view.epoch ≡ old.lanes.view.epoch
-  pub known : old.freezer.drained ≡ true → AllOut old.lanes.view → 0 < old.freezer.depth → is_ok r ≡ true
+pub record SetAtQueue (limits : Bounds) (old new : FreezerFacts) (r : Result (Unit {0}) FreezeFault) : Type 0 where
+  pub looks : LooksForDrained old (fault_of r)
+  pub unchanged : OnErr r (new ≡ old)
+  pub set : OnOk r (new ≡ after_set limits old)
 
 abbrev pub SetsHere : Bounds → FreezerOpened → FreezerOpened → Result (Unit {0}) FreezeFault → Type 0
-SetsHere limits old new r = (new ≡ knowing old new.freezer) × SetAtQueue limits old.queue old.freezer new.freezer r
+SetsHere limits old new r = (new ≡ knowing old new.freezer) × SetAtQueue limits old.freezer new.freezer r
 
 -- the effect of a set: the limits are checked first, then the queue looks whether it is drained
 abbrev pub Sets : Option Refusal → Bounds → FreezerOpened → FreezerOpened → Result (Unit {0}) Refusal → Type 0
@@ -120,19 +113,19 @@ mode_named mode = if nat_eq mode 0 then modes.Slots else modes.Atomic
 
 -- the effect of `mode`
 pub record HasMode (mode : ℕ) (old new : FreezerOpened) (r : Unit {0}) : Type 0 where
-  pub left : new ≡ knowing old (record old.freezer { freezer = after_mode (mode_named mode) old.freezer.freezer })
+  pub left : new ≡ knowing old (after_mode (mode_named mode) old.freezer)
 
 -- the depth that the freezer returns
 pub record ToldDepth (old new : FreezerOpened) (told : ℕ) : Type 0 where
   pub same : new ≡ old
-  pub value : told ≡ old.freezer.freezer.depth
-  pub kept : IsFreezer old.freezer.freezer
+  pub value : told ≡ old.freezer.depth
+  pub kept : IsFreezer old.freezer
 
 -- the limits in force that the freezer returns
 pub record ToldInForce (old new : FreezerOpened) (told : PlainLimits) : Type 0 where
   pub same : new ≡ old
-  pub value : as_bounds told ≡ old.freezer.freezer.limits
-  pub kept : IsFreezer old.freezer.freezer
+  pub value : as_bounds told ≡ old.freezer.limits
+  pub kept : IsFreezer old.freezer
 
 -- a freeze that has started returns 0, or 4 if the queue is drained; a thaw returns 0, or 5 if the queue is live again
 abbrev pub begun_number : Begun → ℕ

@@ -1,14 +1,14 @@
 -- How queues and their handles come and go.
-use Rattle.std.specs.Prelude.{◌≡◌, ℕ, ◌<◌, ◌&&◌, nat_eq, nat_lt, false, if◌then◌else◌, Option, Some, None, Result, Ok, Err, true, [], ◌∷◌, ◌++◌, length, All}
+use Rattle.std.specs.Prelude.{◌≡◌, ℕ, ◌<◌, ◌&&◌, nat_eq, nat_lt, false, if◌then◌else◌, Option, Some, None, Result, Ok, Err, true, [], ◌∷◌, ◌++◌, length, replicate}
 use Rattle.std.specs.Global.{Box}
 use Rattle.percpu_core.specs.declared.limits.TheConstants.{SLOT_LIMIT}
 use Rattle.queue_limits.specs.declared.fault.LimitFault.{LimitFault}
 use Rattle.queue_core.specs.declared.queue.TheConstants.{MOST_TAGS}
 use Rattle.percpu_gate.specs.declared.tried.Put.{Put}
 use Rattle.bias_lanes.specs.declared.views.Stage.TheVariants as stages
-use Rattle.biased_queue.specs.Biased.{BiasedTagFacts, IsNewTag, new_biased_freezer, stage, is_plain, is_in}
-use Rattle.biased_queue.specs.Steps.{at_stage, HasLeft}
-use Rattle.biased_queue.specs.AtTheGate.{LeavesByGate}
+use Rattle.queue_core.specs.BiasedTags.{BiasedFacts, IsPlainTag, queue_of, stage, is_plain, in_now, at_stage}
+use Rattle.queue_core.specs.BiasedSteps.{LeavesByGate}
+use Rattle.queue_core.specs.Queue.{TagFacts, first_tag, first_freezer}
 use Rattle.c_answers.specs.declared.drawn_number.DrawnNumber.{DrawnNumber}
 use Rattle.c_answers.specs.declared.misuse.Misuse.{Misuse}
 use Rattle.c_answers.specs.declared.misuse.Misuse.TheVariants.{Closed, Open, Size, NoneWaits, Memory, Entered, Foreign, InUse}
@@ -45,11 +45,10 @@ new_refusal limits slots tags = or_misuse (limit_refusal limits) (size_misuse sl
 -- the freezer of a new queue, whose tags no handle has yet
 pub record NewFreezer (number : DrawnNumber) (limits : PlainLimits) (slots tags : ℕ) (f : FreezerOpened) : Type 0 where
   pub number_given : f.number ≡ number
-  pub slots_given : f.queue.queue.gate.slots ≡ slots
-  pub hardware_given : f.queue.queue.hardware ≡ limits.hardware
-  pub freezer : f.freezer ≡ new_biased_freezer f.queue (bounds_of limits) tags
-  pub count : length f.waiting ≡ tags
-  pub waiting : All (IsNewTag f.queue.lanes (bounds_of limits)) f.waiting
+  pub slots_given : f.queue.gate.slots ≡ slots
+  pub hardware_given : f.queue.hardware ≡ limits.hardware
+  pub freezer : f.freezer ≡ first_freezer f.queue (bounds_of limits) tags
+  pub waiting : f.waiting ≡ replicate tags (first_tag f.queue)
 
 -- the result of making it
 abbrev pub Makes : Option Refusal → (FreezerOpened → Type 0) → Result FreezerOpened Refusal → Type 0
@@ -72,12 +71,15 @@ HasMade number limits slots tags old new answer = Made (new_refusal limits slots
 abbrev pub TellsDone : (Result (Unit {0}) Refusal → Type 0) → ℕ → Type 0
 TellsDone holds result = (answer : Result (Unit {0}) Refusal) × (result ≡ done_number answer) × holds answer
 
--- the effect of giving a tag: it is of this queue, and isn't in
+-- the effect of giving a tag: it is of this queue, has no bias, and isn't in
 pub record IsGiven (old new : FreezerOpened) (t : TagOpened) : Type 0 where
   pub number : t.number ≡ old.number
-  pub taken : old ≡ record new { waiting = new.waiting ++ t.tag ∷ [] }
+  pub plain : TagFacts
+  pub taken : old ≡ record new { waiting = new.waiting ++ plain ∷ [] }
   pub queue : t.queue ≡ old.queue
-  pub waits : Waits old.queue t.tag
+  pub waits : Waits old.queue plain
+  pub tag : IsPlainTag t.tag plain
+  pub out : in_now t.tag ≡ false
 
 -- the next tag that no handle has, if there is one and memory for it. If there is none, that isn't reported as refused memory
 abbrev pub Next : FreezerOpened → FreezerOpened → Result TagOpened Misuse → Type 0
@@ -114,17 +116,16 @@ NumbersTellOn (Some f) t = NumbersTell f t
 -- a tag that goes back is of the freezer's queue, which has a tag out, and isn't in
 abbrev pub back_misuse : FreezerOpened → TagOpened → Option Misuse
 back_misuse f t =
-    if nat_lt (length f.waiting) f.freezer.freezer.tags && nat_eq f.number.counter t.number.counter && nat_eq f.number.drawn t.number.drawn
-    then (if is_in t.tag then Some Entered else None)
+    if nat_lt (length f.waiting) f.freezer.tags && nat_eq f.number.counter t.number.counter && nat_eq f.number.drawn t.number.drawn
+    then (if in_now t.tag then Some Entered else None)
     else Some Foreign
 
--- the effect of ending the bias of a tag that isn't in: it has left with this put, or was out before. A tag with no bias stays as it is
-pub record EndsBias (old plain : BiasedTagFacts) (put : Put) : Type 0 where
-  pub own : plain.bias.lanes ≡ old.bias.lanes
-  pub out : is_in plain ≡ false
-  pub left : (stage plain ≡ stages.Unbiased) × ((slot : ℕ) × HasLeft slot put plain.tag)
+-- the effect of ending the bias of a tag that isn't in: it has left with this put, or was out before
+pub record EndsBias (old plain : BiasedFacts) (put : Put) : Type 0 where
+  pub own : queue_of plain ≡ queue_of old
+  pub out : in_now plain ≡ false
+  pub unbiased : stage plain ≡ stages.Unbiased
   pub steps : (slot : ℕ) × LeavesByGate slot put old plain
-  pub plain_stays : is_plain old ≡ true → plain ≡ old
 
 -- the freezer has the tag in hand: no use of handles leads there
 abbrev pub InHandOf : TagOpened → TagOpened → Type 0
@@ -138,7 +139,7 @@ EndedBias old new None = InHandOf old new
 -- the effect of giving back the tag of a handle: it has no bias, and is the next tag to be given
 abbrev pub GivesBackOpen : FreezerOpened → FreezerOpened → TagOpened → Option TagOpened → Result Put Misuse → Type 0
 GivesBackOpen old new t after (Ok put) =
-    (back_misuse old t ≡ None) × (after ≡ None) × (plain : BiasedTagFacts) × EndsBias t.tag plain put × (new ≡ record old { waiting = old.waiting ++ plain ∷ [] })
+    (back_misuse old t ≡ None) × (after ≡ None) × (plain : BiasedFacts) × EndsBias t.tag plain put × (tag : TagFacts) × IsPlainTag plain tag × (new ≡ record old { waiting = old.waiting ++ tag ∷ [] })
 GivesBackOpen old new t after (Err InUse) = (back_misuse old t ≡ None) × (new ≡ old) × (held : TagOpened) × (after ≡ Some held) × InHandOf t held
 GivesBackOpen old new t after (Err why) = (back_misuse old t ≡ Some why) × (new ≡ old) × (after ≡ Some t)
 

@@ -1,32 +1,30 @@
 -- What C may do wrong with a tag, and the effect of each of its calls.
-use Rattle.std.specs.Prelude.{◌≡◌, ℕ, Bool, true, false, not, nat_le, if◌then◌else◌, Option, Some, None, IfSome}
+use Rattle.std.specs.Prelude.{◌≡◌, ℕ, Bool, true, false, not, nat_le, if◌then◌else◌, Option, Some, None}
 use Rattle.percpu_gate.specs.declared.tried.Put.{Put}
 use Rattle.percpu_gate.specs.declared.tried.Put.TheVariants.{NotLast}
 use Rattle.bias_lanes.specs.declared.views.Stage.TheVariants as stages
 use Rattle.bias_lanes.specs.Seats.{at, FindsParked}
-use Rattle.biased_queue.specs.declared.tag.BiasedEntry.{BiasedEntry}
-use Rattle.biased_queue.specs.Parked.{Fits}
-use Rattle.biased_queue.specs.Biased.{IsBiasedTag, stage, is_plain, is_in}
-use Rattle.biased_queue.specs.Steps.{at_stage, says_in, says_in_hand, EnteredGate, HasLeft, LeavesPlain}
-use Rattle.biased_queue.specs.AtTheGate.{EntersByGate, LooksInByGate, LeavesAtGate, ParksAt}
+use Rattle.queue_core.specs.declared.biased.BiasedEntry.{BiasedEntry}
+use Rattle.queue_core.specs.Biased.{Fits}
+use Rattle.queue_core.specs.BiasedTags.{IsBiased, queue_of, stage, is_plain, in_now, at_stage, says_in, says_in_hand}
+use Rattle.queue_core.specs.BiasedSteps.{EntersByGate, LooksInByGate, LeavesAtGate, ParksAt}
 use Rattle.c_answers.specs.declared.misuse.Misuse.{Misuse}
 use Rattle.c_answers.specs.declared.misuse.Misuse.TheVariants.{Slot, Entered, NotEntered}
 use Rattle.freeze_queue_c.specs.declared.plain_limits.PlainLimits.{PlainLimits}
-use Rattle.freeze_queue_c.specs.declared.tried.Tried.{Tried}
 use Rattle.freeze_queue_c.specs.PlainLimits.{as_bounds}
 use Rattle.freeze_queue_c.specs.Opened.{TagOpened}
 
 -- there is no such slot, or else this misuse
 abbrev pub slot_misuse : ℕ → TagOpened → Option Misuse → Option Misuse
-slot_misuse slot t else_this = if nat_le t.queue.queue.gate.slots slot then Some Slot else else_this
+slot_misuse slot t else_this = if nat_le t.queue.gate.slots slot then Some Slot else else_this
 
 -- a tag that enters isn't in
 abbrev pub enter_misuse : ℕ → TagOpened → Option Misuse
-enter_misuse slot t = slot_misuse slot t (if is_in t.tag then Some Entered else None)
+enter_misuse slot t = slot_misuse slot t (if in_now t.tag then Some Entered else None)
 
 -- a tag whose limits are read is in
 abbrev pub limits_misuse : TagOpened → Option Misuse
-limits_misuse t = if is_in t.tag then None else Some NotEntered
+limits_misuse t = if in_now t.tag then None else Some NotEntered
 
 -- a tag that leaves is in
 abbrev pub leave_misuse : ℕ → TagOpened → Option Misuse
@@ -37,41 +35,36 @@ abbrev pub SameQueue : TagOpened → TagOpened → Type 0
 SameQueue old new = (new.number ≡ old.number) × (new.queue ≡ old.queue)
 
 -- the effect of `try_enter` on this slot
-pub record TriedToEnter (slot : ℕ) (old new : TagOpened) (r : Tried) : Type 0 where
+pub record TriedToEnter (slot : ℕ) (old new : TagOpened) (r : BiasedEntry) : Type 0 where
   pub same : SameQueue old new
-  pub own : new.tag.bias.lanes ≡ old.tag.bias.lanes
-  pub entered : is_in new.tag ≡ says_in r.entry
+  pub own : queue_of new.tag ≡ queue_of old.tag
+  pub entered : in_now new.tag ≡ says_in r
   -- if the tag entered by its lane, its reference was parked at the load that let it in, and nothing else changes
   pub by_lane : stage new.tag ≡ stages.Entered → new.tag ≡ at_stage stages.Entered old.tag
   pub held : stage new.tag ≡ stages.Entered → FindsParked Fits (at stages.Trying old.tag.bias)
-  pub by_gate : says_in r.entry ≡ false → is_plain new.tag ≡ not (says_in_hand r.entry)
-  pub in_force : says_in r.entry ≡ true → is_plain new.tag ≡ true → EnteredGate old.queue new.tag.limits
-  pub refused : says_in r.entry ≡ false → says_in_hand r.entry ≡ false → IfSome new.tag.tag (λ t. t.seat.found_dead ≡ true)
-  pub in_hand : says_in_hand r.entry ≡ true → new.tag ≡ at_stage stages.Parked old.tag
+  pub by_gate : says_in r ≡ false → is_plain new.tag ≡ not (says_in_hand r)
+  pub in_hand : says_in_hand r ≡ true → new.tag ≡ at_stage stages.Parked old.tag
   -- a tag with no bias afterwards looked once at the gate, or tried once on this slot; by its lane a tag takes no step there
-  pub steps : is_plain new.tag ≡ true → EntersByGate slot old.queue r.entry old.tag new.tag
-  pub bias : r.had_bias ≡ not (is_plain old.tag)
+  pub steps : is_plain new.tag ≡ true → EntersByGate slot old.queue r old.tag new.tag
 
 -- the effect of a look on this slot into a queue that may be frozen
 pub record TriedToLookIn (slot : ℕ) (old new : TagOpened) (r : BiasedEntry) : Type 0 where
   pub same : SameQueue old new
-  pub own : new.tag.bias.lanes ≡ old.tag.bias.lanes
-  pub entered : is_in new.tag ≡ says_in r
+  pub own : queue_of new.tag ≡ queue_of old.tag
+  pub entered : in_now new.tag ≡ says_in r
   pub by_gate : is_plain new.tag ≡ not (says_in_hand r)
-  pub drained : says_in r ≡ false → says_in_hand r ≡ false → IfSome new.tag.tag (λ t. t.seat.found_zero ≡ true)
   pub in_hand : says_in_hand r ≡ true → new.tag ≡ at_stage stages.Parked old.tag
   pub steps : is_plain new.tag ≡ true → LooksInByGate slot old.queue r old.tag new.tag
 
 -- the effect of leaving on this slot; `keep` says whether a tag with no bias is to be parked
 pub record Leaves (slot : ℕ) (keep : Bool) (old new : TagOpened) (put : Put) : Type 0 where
   pub same : SameQueue old new
-  pub own : new.tag.bias.lanes ≡ old.tag.bias.lanes
-  pub out : is_in new.tag ≡ false
-  pub left : is_plain new.tag ≡ true → HasLeft slot put new.tag.tag
+  pub own : queue_of new.tag ≡ queue_of old.tag
+  pub out : in_now new.tag ≡ false
+  pub limits : new.tag.limits ≡ old.tag.limits
   pub parked : is_plain new.tag ≡ false → put ≡ NotLast
-  pub plain : keep ≡ false → is_plain old.tag ≡ true → LeavesPlain slot put old.tag new.tag
   pub biased : stage old.tag ≡ stages.Entered → stage new.tag ≡ stages.Idle → new.tag ≡ at_stage stages.Idle old.tag
-  pub keeps : stage new.tag ≡ stages.Idle → (is_plain old.tag ≡ true → keep ≡ true) × (new.tag.limits ≡ old.tag.limits)
+  pub keeps : stage new.tag ≡ stages.Idle → is_plain old.tag ≡ true → keep ≡ true
   -- a tag with no bias afterwards put once on this slot; by its lane a tag takes no step there
   pub steps : is_plain new.tag ≡ true → LeavesAtGate slot keep put old.tag new.tag
   pub parks : is_plain old.tag ≡ true → stage new.tag ≡ stages.Idle → ParksAt stages.Idle slot old.tag new.tag
@@ -80,4 +73,4 @@ pub record Leaves (slot : ℕ) (keep : Bool) (old new : TagOpened) (put : Put) :
 pub record ToldLimits (old new : TagOpened) (told : PlainLimits) : Type 0 where
   pub same : new ≡ old
   pub value : as_bounds told ≡ old.tag.limits
-  pub kept : IsBiasedTag old.tag
+  pub kept : IsBiased old.tag

@@ -7,10 +7,8 @@ ghost use Rattle.freeze_queue_c.specs.FreezerCalls.{begun_number, thawed_number,
 
 use crate::begun::Begun;
 use crate::refusal::Refusal;
-use crate::tried::Tried;
-use biased_queue::BiasedEntry;
 use c_answers::{Misuse, put_number};
-use queue_core::{FreezeFault, Thawed};
+use queue_core::{BiasedEntry, FreezeFault, Thawed};
 
 /// The number of a look: 0 if the tag entered; otherwise 2, or 3 if the look's put was the last, or 6 if the freezer has the tag in
 /// hand.
@@ -25,19 +23,15 @@ pub fn of_look(answer: Result<BiasedEntry, Misuse>) -> u32
     }
 }
 
-/// The number of a try: 0 if the tag entered; otherwise 2, or 3 if the try's put was the last or the tag had a bias.
-pub fn of_try(answer: Result<Tried, Misuse>) -> u32
+/// The number of a try: 0 if the tag entered; otherwise 2, or 3 if the try's put was the last.
+pub fn of_try(answer: Result<BiasedEntry, Misuse>) -> u32
     ensures { result ≡ number_of tried_number answer }
 {
-    let Tried { entry, had_bias } = match answer {
-        Ok(tried) => tried,
-        Err(why) => return why.number(),
-    };
-    match entry {
-        BiasedEntry::Entered => 0,
-        BiasedEntry::Refused(_) if had_bias => 3,
-        BiasedEntry::Refused(put) => 2 + put_number(put),
-        BiasedEntry::InHand => 3,
+    match answer {
+        Ok(BiasedEntry::Entered) => 0,
+        Ok(BiasedEntry::Refused(put)) => 2 + put_number(put),
+        Ok(BiasedEntry::InHand) => 2,
+        Err(why) => why.number(),
     }
 }
 

@@ -11,10 +11,9 @@ mod tags;
 use crate::begun::Begun;
 use crate::plain_limits::PlainLimits;
 use crate::refusal::Refusal;
-use biased_queue::{BiasedFreezer, BiasedQueue, BiasedTag};
 use c_answers::{DrawnNumber, Misuse};
 pub use ends::KeptFreezer;
-use queue_core::{FreezeFault, Limits, Mode, Tag, Thawed};
+use queue_core::{BlockQueue, FreezeFault, Freezer, Limits, Mode, Tag, Thawed};
 use std::marker::Model;
 use std::sync::Arc;
 
@@ -23,31 +22,27 @@ use std::sync::Arc;
 #[repr(C)]
 pub struct OpenFreezer {
     before: [u64; 16],
-    queue: Arc<BiasedQueue>,
+    queue: Arc<BlockQueue>,
     number: DrawnNumber,
     /// The number of tags of the queue.
     tags: u32,
-    waiting: Vec<BiasedTag>,
-    /// Room for the plain tags when the queue ends.
-    room: Vec<Tag>,
-    freezer: BiasedFreezer,
+    waiting: Vec<Tag>,
+    freezer: Freezer,
     after: [u64; 16],
 }
 
 impl Model for OpenFreezer {
-    ghost use Rattle.std.specs.Prelude.{◌≡◌, ◌≤◌, All, [], vec_len};
+    ghost use Rattle.std.specs.Prelude.{◌≡◌, ◌≤◌, All, vec_len};
     ghost use Rattle.std.specs.Vec.{vec_capacity};
     ghost use Rattle.std.specs.Arc.{arc_value};
-    ghost use Rattle.biased_queue.specs.Biased.{IsOf, IsBiasedQueue};
     ghost use Rattle.freeze_queue_c.specs.Opened.{FreezerOpened, Waits};
 
     ghost Value = { FreezerOpened };
 
     ghost view = { λ f. record { number = f.number; queue = arc_value f.queue; waiting = f.waiting.items; freezer = f.freezer } };
 
-    ghost invariant = { λ f. (IsOf f.freezer (arc_value f.queue)) × (f.tags ≡ f.freezer.freezer.tags)
-        × (f.tags ≤ vec_capacity f.waiting) × (f.room.items ≡ []) × (f.tags ≤ vec_capacity f.room)
-        × All (Waits (arc_value f.queue)) f.waiting.items × (vec_len f.waiting ≤ f.tags) × IsBiasedQueue (arc_value f.queue) };
+    ghost invariant = { λ f. (f.freezer.queue ≡ arc_value f.queue) × (f.tags ≡ f.freezer.tags) × (f.tags ≤ vec_capacity f.waiting)
+        × All (Waits (arc_value f.queue)) f.waiting.items × (vec_len f.waiting ≤ f.tags) };
 }
 
 /// The mode with this number.
@@ -71,7 +66,7 @@ impl OpenFreezer {
         Ok(Ok(Begun { depth, drained }))
     }
 
-    /// Whether the queue is frozen and every tag has left.
+    /// Whether one look finds the queue frozen and drained.
     pub fn poll_drained(&mut self) -> bool
         ensures { LookedForDrained self.old self.new result }
     {

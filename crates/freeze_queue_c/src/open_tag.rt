@@ -1,16 +1,14 @@
 //! The box of an open tag handle.
 ghost use Rattle.std.specs.Prelude.{◌≡◌, None, false, IfSome};
-ghost use Rattle.biased_queue.specs.Biased.{IsBiasedQueue, is_in};
+ghost use Rattle.bias_lanes.specs.declared.views.Stage.TheVariants.{Unbiased};
+ghost use Rattle.queue_core.specs.BiasedTags.{in_now, queue_of, stage};
 ghost use Rattle.c_answers.specs.Ran.{Ran, misuse_of};
 ghost use Rattle.freeze_queue_c.specs.Life.{EndedBias};
-ghost use Rattle.freeze_queue_c.specs.Opened.{Waits};
 ghost use Rattle.freeze_queue_c.specs.TagCalls.{slot_misuse, enter_misuse, leave_misuse, limits_misuse, TriedToEnter, TriedToLookIn, Leaves, ToldLimits};
 
 use crate::plain_limits::PlainLimits;
-use crate::tried::Tried;
-use biased_queue::{BiasedEntry, BiasedQueue, BiasedTag};
 use c_answers::{DrawnNumber, Misuse};
-use percpu_gate::Put;
+use queue_core::{BiasedEntry, BiasedTag, BlockQueue, Put};
 use std::marker::Model;
 use std::sync::Arc;
 
@@ -21,7 +19,7 @@ use std::sync::Arc;
 #[repr(C)]
 pub struct OpenTag {
     before: [u64; 16],
-    pub(crate) queue: Arc<BiasedQueue>,
+    pub(crate) queue: Arc<BlockQueue>,
     number: DrawnNumber,
     pub(crate) tag: BiasedTag,
     after: [u64; 16],
@@ -30,21 +28,20 @@ pub struct OpenTag {
 impl Model for OpenTag {
     ghost use Rattle.std.specs.Prelude.{◌≡◌};
     ghost use Rattle.std.specs.Arc.{arc_value};
-    ghost use Rattle.biased_queue.specs.Biased.{IsBiasedQueue};
+    ghost use Rattle.queue_core.specs.BiasedTags.{queue_of};
     ghost use Rattle.freeze_queue_c.specs.Opened.{TagOpened};
 
     ghost Value = { TagOpened };
 
     ghost view = { λ t. record { number = t.number; queue = arc_value t.queue; tag = t.tag } };
 
-    ghost invariant = { λ t. (t.tag.bias.lanes ≡ (arc_value t.queue).lanes) × IsBiasedQueue (arc_value t.queue) };
+    ghost invariant = { λ t. queue_of t.tag ≡ arc_value t.queue };
 }
 
 impl OpenTag {
     /// Makes the box's contents for a tag of this queue.
-    pub fn new(queue: Arc<BiasedQueue>, number: DrawnNumber, tag: BiasedTag) -> OpenTag
-        requires own { tag.bias.lanes ≡ queue.value.lanes }
-        requires queue { IsBiasedQueue queue.value }
+    pub fn new(queue: Arc<BlockQueue>, number: DrawnNumber, tag: BiasedTag) -> OpenTag
+        requires own { queue_of tag ≡ queue.value }
         ensures { result ≡ record { number = number; queue = queue.value; tag = tag } }
     {
         OpenTag {
@@ -91,13 +88,11 @@ impl OpenTag {
     }
 
     /// Enters unless the queue is frozen. Refuses with Slot or Entered.
-    pub fn try_enter(&mut self, slot: u32) -> Result<Tried, Misuse>
+    pub fn try_enter(&mut self, slot: u32) -> Result<BiasedEntry, Misuse>
         ensures { Ran (enter_misuse slot self.old) (TriedToEnter slot) self.old self.new result }
     {
         self.refuse_enter(slot)?;
-        let had_bias = self.tag.is_biased();
-        let entry = self.tag.try_enter(&self.queue, slot);
-        Ok(Tried { entry, had_bias })
+        Ok(self.tag.try_enter(&self.queue, slot))
     }
 
     /// Enters to look at the requests in flight, unless the queue is drained. Refuses with Slot or Entered.
@@ -127,17 +122,12 @@ impl OpenTag {
 
     /// Ends the bias of a tag that isn't in, if it has one. Returns the put, or None if the freezer has the tag in hand.
     pub fn end_bias(&mut self) -> Option<Put>
-        requires out { is_in self.old.tag ≡ false }
+        requires out { in_now self.old.tag ≡ false }
         ensures ended { EndedBias self.old self.new result }
-        ensures waits { IfSome result (λ _. Waits self.new.queue self.new.tag) }
+        ensures unbiased { IfSome result (λ _. (stage self.new.tag ≡ Unbiased) × (in_now self.new.tag ≡ false)) }
     {
-        if !self.tag.is_biased() && !self.tag.entered() {
-            return Some(Put::NotLast);
-        }
         let slot = self.queue.slots() - 1;
-        let put = self.tag.end_bias(&self.queue, slot)?;
-        prove!(!self.tag.entered());
-        Some(put)
+        self.tag.end_bias(&self.queue, slot)
     }
 
     /// The number of the tag's queue.
@@ -149,14 +139,15 @@ impl OpenTag {
 
     /// Whether the tag has entered and not left.
     pub fn entered(&self) -> bool
-        ensures { result ≡ is_in self.now.tag }
+        ensures { result ≡ in_now self.now.tag }
     {
         self.tag.entered()
     }
 
     /// The tag alone.
     pub fn into_tag(self) -> BiasedTag
-        ensures { result ≡ self.tag }
+        ensures tag { result ≡ self.tag }
+        ensures own { queue_of result ≡ self.queue }
     {
         let Self {
             before: _,

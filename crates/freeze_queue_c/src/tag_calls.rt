@@ -10,9 +10,8 @@ use crate::plain_limits::PlainLimits;
 use crate::tag_handle::TagHandle;
 use c_answers::{Misuse, of_put, write};
 
-/// Enters and returns 0, unless the queue is frozen. Otherwise returns 2, or 3 if the put of this try drained the queue or the tag was
-/// biased. After 3 the caller wakes the freezer. A biased tag enters by its lane. Linux: `blk_queue_enter` with BLK_MQ_REQ_NOWAIT
-/// (block/blk-core.c).
+/// Enters and returns 0, unless the queue is frozen. Otherwise returns 2, or 3 if the put of this try drained the queue: the caller then
+/// wakes the freezer. A biased tag enters by its lane. Linux: `blk_queue_enter` with BLK_MQ_REQ_NOWAIT (block/blk-core.c).
 #[tactic(auto, using(c_answers::proofs::Closed::closed_answers))]
 #[unsafe(no_mangle)]
 pub extern "C" fn freeze_queue_try_enter(tag: &mut TagHandle, slot: u32) -> u32

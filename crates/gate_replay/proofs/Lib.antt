@@ -1,5 +1,3 @@
--- A world with a mark by its parts (Marking), steps that were read in front of those to come (Scheduling), and what is shown as a run of the
--- machine (ShownRuns).
-pub mod Marking
+-- Steps that were read in front of those to come (Scheduling), and what is shown as a run of the machine (ShownRuns).
 pub mod Scheduling
 pub mod ShownRuns

@@ -9,18 +9,13 @@ use Rattle.line_text.specs.declared.fault.ParseFault.{ParseFault}
 use Rattle.percpu_core.specs.declared.event.Event.{Event}
 use Rattle.percpu_core.specs.Starts.{Opening, opening}
 use Rattle.gate_replay.specs.EventLine.{event_of}
-use Rattle.gate_replay.specs.WorldLine.{Marked, gate_of, marked_world_of, world_of}
+use Rattle.gate_replay.specs.WorldLine.{gate_of, world_of}
 use Rattle.gate_replay.specs.declared.schedule.Schedule.{Schedule}
-use Rattle.gate_replay.specs.declared.world_line.MarkedWorld.{MarkedWorld}
 use Rattle.gate_replay.specs.declared.world_line.WorldLine.{WorldLine}
 
 -- what a gate is made with, from a line, and from a schedule
 abbrev pub opened : WorldLine → Opening
 opened said = opening said.slots said.passes said.start said.kills said.words
-
--- that, and whether a mark replaces the guarded words
-abbrev pub marked : MarkedWorld → Marked
-marked said = record { world = opened said.world; is_marked = said.is_marked }
 
 abbrev pub opening_in : Schedule → Opening
 opening_in schedule = opening schedule.slots schedule.passes schedule.start schedule.kills schedule.words
@@ -48,10 +43,6 @@ gate_in text = first_or NoVersion text >>= λ said. at_line said.0 (gate_of said
 -- and the next one describes the world
 abbrev pub world_in : Unread → Result Opening ParseFault
 world_in text = first_or NoWorld text >>= λ said. at_line said.0 (world_of said.1)
-
--- or a world in which the mark may replace the guarded words
-abbrev pub marked_world_in : List ℕ → Unread → Result Marked ParseFault
-marked_world_in mark text = first_or NoWorld text >>= λ said. at_line said.0 (marked_world_of mark said.1)
 
 -- the version, then the world, then the steps
 abbrev pub read_schedule : Unread → Result Schedule ParseFault

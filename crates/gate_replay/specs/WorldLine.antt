@@ -1,7 +1,6 @@
 -- What the first two lines of a schedule say: its version, and the world.
-use Rattle.std.specs.Prelude.{ℕ, Bool, true, false, ◌&&◌, if◌then◌else◌, nat_lt, List, [], ◌∷◌, drop, length, Result, Ok, Err, codes}
+use Rattle.std.specs.Prelude.{ℕ, Bool, true, ◌&&◌, if◌then◌else◌, nat_lt, List, [], ◌∷◌, drop, length, Result, Ok, Err, codes}
 use Rattle.std.specs.Str.{bytes_eq}
-use Rattle.line_text.specs.Words.{no_words}
 use Rattle.line_text.specs.Numbers.{◌>>=◌, number_in}
 use Rattle.line_text.specs.declared.fault.Why.{Why}
 use Rattle.line_text.specs.declared.fault.Why.TheVariants.{NoVersion, NoWorld, UnknownWord, MissingWord, ExtraWord}
@@ -78,32 +77,3 @@ behind_world (first ∷ words) = if bytes_eq first (codes "world") then Ok words
 -- the second line says `world SLOTS PASSES START KILLS [WORD ..]`
 abbrev pub world_of : List (List ℕ) → Result Opening Why
 world_of words = behind_world words >>= opening_of
-
--- a world, and whether a mark replaces its guarded words
-pub record Marked : Type 0 where
-  pub world : Opening
-  pub is_marked : Bool
-
--- the mark, with no word after it
-abbrev pub mark_alone : List (List ℕ) → Result (Bool × List ℕ) Why
-mark_alone words = no_words words >>= λ alone. Ok (true, [])
-
--- guarded words, and no mark
-abbrev pub values_alone : List (List ℕ) → Result (Bool × List ℕ) Why
-values_alone words = values_of words >>= λ values. Ok (false, values)
-
--- whether the first of these words is the mark; otherwise they are guarded words
-abbrev pub mark_or_values : List ℕ → List (List ℕ) → Result (Bool × List ℕ) Why
-mark_or_values mark [] = Ok (false, [])
-mark_or_values mark (first ∷ words) = if bytes_eq first mark then mark_alone words else values_alone (first ∷ words)
-
--- the slots, the passes, the start and the kills, and then the mark or up to 8 guarded words
-abbrev pub marked_of : List ℕ → List (List ℕ) → Result Marked Why
-marked_of mark words =
-    sizes_of words >>= λ said.
-    mark_or_values mark (behind_kills words) >>= λ rest.
-    Ok (record { world = with_values said rest.1; is_marked = rest.0 })
-
--- a line says `world SLOTS PASSES START KILLS [WORD ..]`, or `world SLOTS PASSES START KILLS MARK`
-abbrev pub marked_world_of : List ℕ → List (List ℕ) → Result Marked Why
-marked_world_of mark words = behind_world words >>= marked_of mark

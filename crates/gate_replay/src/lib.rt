@@ -20,5 +20,5 @@ pub use laws::replays_are_runs;
 pub use replay::{Replay, Replayed, replay_text};
 pub use reply_lines::{push_delta, push_end, push_reply};
 pub use schedule::{Events, GuardedWords, Schedule};
-pub use schedule_parser::{next_marked_world, next_world, parse_schedule};
-pub use world_line::{MarkedWorld, WorldLine, marked_world, world_said};
+pub use schedule_parser::{next_world, parse_schedule};
+pub use world_line::WorldLine;

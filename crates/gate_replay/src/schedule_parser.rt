@@ -3,10 +3,10 @@ ghost use Rattle.std.specs.Prelude.{◌≡◌, true, IfOk};
 ghost use Rattle.line_text.specs.Answers.{Answers, Says, Tells, at_line};
 ghost use Rattle.line_text.specs.Statements.{after_first};
 ghost use Rattle.percpu_core.specs.Starts.{IsWithinLimits};
-ghost use Rattle.gate_replay.specs.Schedules.{marked, marked_world_in, opened, opening_in, told_by, events_of, gate_in, world_in, schedule_of};
+ghost use Rattle.gate_replay.specs.Schedules.{opened, opening_in, told_by, events_of, gate_in, world_in, schedule_of};
 
 use crate::schedule::{Events, Schedule};
-use crate::world_line::{MarkedWorld, WorldLine};
+use crate::world_line::WorldLine;
 use crate::{event_line, world_line};
 use line_text::{ParseFault, ScriptFault, Statements, Why, Words, at_line};
 use percpu_core::Event;
@@ -32,23 +32,6 @@ pub fn next_world(alloc: Global, text: &mut Statements<'_>) -> Result<WorldLine,
 {
     let (line, words) = text.next_or(Why::NoWorld)?;
     world_line::world(alloc, line, words)
-}
-
-/// Takes the next line, which has to describe a world. The word `mark` may replace its guarded words.
-///
-/// Fails as [`next_world`] does, to which a mark is no guarded word, and with `ExtraWord` if words follow the mark. The line is
-/// taken even if this fails.
-pub fn next_marked_world(
-    alloc: Global,
-    text: &mut Statements<'_>,
-    mark: &str,
-) -> Result<MarkedWorld, ScriptFault>
-    ensures said { Tells marked result (marked_world_in mark.now text.old) }
-    ensures rest { text.new ≡ after_first text.old }
-    ensures within { IfOk result (λ said. IsWithinLimits (opened said.world)) }
-{
-    let (line, words) = text.next_or(Why::NoWorld)?;
-    world_line::marked_world(alloc, line, words, mark)
 }
 
 // Returns the step that the words of a line describe, if it has any.

@@ -1,12 +1,12 @@
 //! What the first two lines of a schedule say: its version, and the world.
-ghost use Rattle.std.specs.Prelude.{◌≡◌, ◌∷◌, ◌≤◌, ◌+◌, true, length, Err, IfOk, OnOk, MatchResult};
+ghost use Rattle.std.specs.Prelude.{◌≡◌, ◌∷◌, ◌≤◌, true, length, Err, IfOk, OnOk, MatchResult};
 ghost use Rattle.line_text.specs.Answers.{Says, Tells, at_line};
 ghost use Rattle.percpu_core.specs.Starts.{IsWithinLimits, opening};
-ghost use Rattle.gate_replay.specs.Schedules.{marked, opened};
-ghost use Rattle.gate_replay.specs.WorldLine.{behind_kills, behind_world, gate_of, mark_alone, mark_or_values, marked_of, marked_world_of, opening_of, sizes, sizes_of, start_of, values_alone, values_of, world_of};
+ghost use Rattle.gate_replay.specs.Schedules.{opened};
+ghost use Rattle.gate_replay.specs.WorldLine.{behind_kills, behind_world, gate_of, opening_of, sizes, sizes_of, start_of, values_of, world_of};
 
 use crate::schedule::GuardedWords;
-use line_text::{ScriptFault, Why, Words, at_line, is_word, long_number, no_words, short_number};
+use line_text::{ScriptFault, Why, Words, at_line, is_word, long_number, short_number};
 use percpu_core::{KILL_LIMIT, Start, WORD_LIMIT};
 use std::alloc::Global;
 
@@ -42,14 +42,6 @@ impl WorldLine {
             words: GuardedWords::new(values),
         }
     }
-}
-
-/// The world of a line in which a mark, a word that the caller chooses, may replace the guarded words.
-#[derive(Debug, Drop)]
-pub struct MarkedWorld {
-    pub world: WorldLine,
-    /// Whether the mark is there. Then the world has no guarded words.
-    pub is_marked: bool,
 }
 
 /// Checks that the line names the version.
@@ -165,67 +157,6 @@ fn values(alloc: Global, line: u32, mut words: Words<'_>) -> Result<Vec<u64>, Sc
     Ok(values)
 }
 
-// Reads the guarded words, of which the first was taken.
-fn values_behind(
-    alloc: Global,
-    line: u32,
-    first: &[u8],
-    words: Words<'_>,
-) -> Result<Vec<u64>, ScriptFault>
-    ensures said { Tells (λ values. values.items) result (at_line line (values_of (first.now ∷ words.entry))) }
-    ensures count { IfOk result (λ values. length values.items ≡ length words.entry + 1) }
-{
-    let first = at_line(line, long_number(first, 0, u64::MAX))?;
-    let others = values(alloc, line, words)?;
-    let mut values = Vec::new(alloc);
-    values.push(first)?;
-    values.extend_from_slice(others.as_slice())?;
-    Ok(values)
-}
-
-// Checks that no word follows the mark: then there are no guarded words.
-fn mark_alone(alloc: Global, line: u32, words: Words<'_>) -> Result<(bool, Vec<u64>), ScriptFault>
-    ensures said { Tells (λ said. (said.0, said.1.items)) result (at_line line (mark_alone words.entry)) }
-    ensures count { IfOk result (λ said. length said.1.items ≡ 0) }
-{
-    at_line(line, no_words(words))?;
-    Ok((true, Vec::new(alloc)))
-}
-
-// Reads the guarded words, of which the first was taken, if there is no mark.
-fn values_alone(
-    alloc: Global,
-    line: u32,
-    first: &[u8],
-    words: Words<'_>,
-) -> Result<(bool, Vec<u64>), ScriptFault>
-    ensures said { Tells (λ said. (said.0, said.1.items)) result (at_line line (values_alone (first.now ∷ words.entry))) }
-    ensures count { IfOk result (λ said. length said.1.items ≡ length words.entry + 1) }
-{
-    let values = values_behind(alloc, line, first, words)?;
-    Ok((false, values))
-}
-
-// Returns whether the mark replaces the guarded words, and these words, of which there are none if it does.
-fn mark_or_values(
-    alloc: Global,
-    line: u32,
-    mut words: Words<'_>,
-    mark: &str,
-) -> Result<(bool, Vec<u64>), ScriptFault>
-    ensures said { Tells (λ said. (said.0, said.1.items)) result (at_line line (mark_or_values mark.now words.entry)) }
-    ensures count { IfOk result (λ said. length said.1.items ≤ length words.entry) }
-{
-    let Some(first) = words.next() else {
-        return Ok((false, Vec::new(alloc)));
-    };
-    if is_word(first, mark) {
-        mark_alone(alloc, line, words)
-    } else {
-        values_alone(alloc, line, first, words)
-    }
-}
-
 /// Returns the world that the words of a line describe.
 pub(crate) fn world(
     alloc: Global,
@@ -239,48 +170,12 @@ pub(crate) fn world(
     world_said(alloc, line, words)
 }
 
-/// Returns the world that the words of a line describe, in which this mark may replace the guarded words.
-///
-/// Returns `Parse` with the first fault among them and this line. Returns `Memory` only if memory is refused.
-pub fn marked_world(
-    alloc: Global,
-    line: u32,
-    mut words: Words<'_>,
-    mark: &str,
-) -> Result<MarkedWorld, ScriptFault>
-    ensures said { Tells marked result (at_line line (marked_world_of mark.now words.entry)) }
-    ensures within { IfOk result (λ said. IsWithinLimits (opened said.world)) }
-{
-    at_line(line, named(&mut words))?;
-    marked_world_said(alloc, line, words, mark)
-}
-
-/// Returns the world that the words after `world` describe.
-///
-/// Returns `Parse` with the first fault among them and this line. Returns `Memory` only if memory is refused.
-pub fn world_said(alloc: Global, line: u32, mut words: Words<'_>) -> Result<WorldLine, ScriptFault>
+// Returns the world that the words after `world` describe.
+fn world_said(alloc: Global, line: u32, mut words: Words<'_>) -> Result<WorldLine, ScriptFault>
     ensures said { Tells opened result (at_line line (opening_of words.entry)) }
     ensures within { IfOk result (λ world. IsWithinLimits (opened world)) }
 {
     let sizes = at_line(line, sizes(&mut words))?;
     let values = values(alloc, line, words)?;
     Ok(WorldLine::new(sizes, values))
-}
-
-// Returns the world that the words after `world` describe, in which the mark may replace the guarded words.
-fn marked_world_said(
-    alloc: Global,
-    line: u32,
-    mut words: Words<'_>,
-    mark: &str,
-) -> Result<MarkedWorld, ScriptFault>
-    ensures said { Tells marked result (at_line line (marked_of mark.now words.entry)) }
-    ensures within { IfOk result (λ said. IsWithinLimits (opened said.world)) }
-{
-    let sizes = at_line(line, sizes(&mut words))?;
-    let (is_marked, values) = mark_or_values(alloc, line, words, mark)?;
-    Ok(MarkedWorld {
-        world: WorldLine::new(sizes, values),
-        is_marked,
-    })
 }

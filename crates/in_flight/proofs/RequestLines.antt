@@ -1,9 +1,11 @@
 -- What a request is answered, at its line.
 use Rattle.std.proofs.Common.{◌≡◌, ◌∙◌, sym, ap, subst, ℕ, true, List, get_or, Some, Result, Ok, Err, IfOk, is_some}
 use Rattle.std.specs.List.{slice_get}
+use Rattle.std.specs.Option.{option_map_or}
 use Rattle.std.proofs.lemmas.Bool.{false≢true}
 use Rattle.std.proofs.lemmas.Option.{get_or_from_slice_get}
 use Rattle.queue_limits.specs.Bounds.{Bounds}
+use Rattle.ram_disk.specs.Sectors.{sectors_of}
 use Rattle.script_meaning.specs.Meaning.{State, IsAnswered, IsReplyTo, IsReply}
 use Rattle.script_meaning.specs.Requests.{state_at}
 use Rattle.script_meaning.specs.Script.{Meant}
@@ -42,8 +44,8 @@ same_line script position line due is at = is ∙ get_or_from_slice_get script.l
 -- what is made for what the line asks, with a reply that is right at the line, is the answer to the request that is due
 answers_line : (script : Meant) (position : ℕ) (limits : Bounds) (found : List (List ℕ)) (due : IsDue script position limits found) (line : Line) (what : What) (made : Answer) (reply : Reply)
     → line ≡ due.line → due.line.what ≡ what → IsAnswered (state_at script position) what reply → made.text ≡ reply_line (line.number, reply)
-    → made.start ≡ first_of what → made.sectors.items ≡ left_by what → IsAnswerTo script position made
-answers_line script position limits found due line what made reply same asks right told begins leaves = record {
+    → sectors_of made.sectors ≡ left_by what → IsAnswerTo script position made
+answers_line script position limits found due line what made reply same asks right told leaves = record {
   line = due.line;
   request = due.request;
   text_is = record {
@@ -53,7 +55,7 @@ answers_line script position limits found due line what made reply same asks rig
     replied = replied script position due.line reply due.request (subst (λ w. IsAnswered (state_at script position) w reply) (sym asks) right);
     told = told ∙ ap (λ (l : Line). reply_line (l.number, reply)) same;
   };
-  begins = begins ∙ sym (ap first_of asks);
+  begins = ap (λ o. option_map_or (λ (l : Line). first_of l.what) o 0) due.request.at;
   leaves = leaves ∙ sym (ap left_by asks);
 }
 
@@ -65,7 +67,7 @@ from_read script position limits found due line start count is what made answer 
     let asks : due.line.what ≡ Read start count = sym (ap (λ (l : Line). l.what) same) ∙ what in
     let finds = due.finds ∙ ap (found_by (state_at script position).disk) asks in
     answers_line script position limits found due line (Read start count) made answer.reply same asks (answer.right (state_at script position) due.in_force finds)
-    answer.told answer.begins answer.leaves
+    answer.told answer.leaves
 
 pub from_write : (script : Meant) (position : ℕ) (limits : Bounds) (found : List (List ℕ)) (due : IsDue script position limits found) (line : Line) (start count : ℕ) (pattern : List ℕ)
     → line ≡ get_or script.lines position line → line.what ≡ Write start count pattern → (made : Answer)
@@ -74,4 +76,4 @@ from_write script position limits found due line start count pattern is what mad
     let same = same_line script position line due.line is due.request.at in
     let asks : due.line.what ≡ Write start count pattern = sym (ap (λ (l : Line). l.what) same) ∙ what in
     answers_line script position limits found due line (Write start count pattern) made answer.reply same asks (answer.right (state_at script position) due.in_force)
-    answer.told answer.begins answer.leaves
+    answer.told answer.leaves

@@ -6,7 +6,7 @@ use Rattle.in_flight.specs.declared.replies.Bytes.TheVariants.{Short, Long}
 -- the bytes of a line, kept in place or in memory of their own
 abbrev pub bytes_of : Bytes → List ℕ
 bytes_of (Short bytes) = bytes
-bytes_of (Long bytes) = bytes.items
+bytes_of (Long bytes) = bytes.value.items
 
 -- the lines of a text, by their lengths
 abbrev pub lines_of : List ℕ → List ℕ → List (List ℕ)

@@ -1,5 +1,7 @@
 -- What is due to a request of a script, and what its answer is: both are what the script's meaning has at the request's line.
 use Rattle.std.specs.Prelude.{◌≡◌, ℕ, ◌≤◌, true, if◌then◌else◌, List, [], Some, slice_get, is_some}
+use Rattle.std.specs.Option.{option_map_or}
+use Rattle.ram_disk.specs.Sectors.{sectors_of}
 use Rattle.ram_disk.specs.Disk.{sectors_read}
 use Rattle.ram_disk.specs.Pattern.{pattern_sectors}
 use Rattle.queue_limits.specs.Bounds.{Bounds}
@@ -51,6 +53,10 @@ first_of (Read start count) = start
 first_of (Write start count pattern) = start
 first_of what = 0
 
+-- the same for the line at a position
+abbrev pub first_at : Meant → ℕ → ℕ
+first_at script position = option_map_or (λ (line : Line). first_of line.what) (slice_get script.lines position) 0
+
 -- the limits in force at a request, and the sectors that it finds
 pub record IsDue (script : Meant) (position : ℕ) (limits : Bounds) (found : List (List ℕ)) : Type 0 where
   pub line : Line
@@ -76,20 +82,18 @@ pub record IsAnswer (script : Meant) (position : ℕ) (text : List ℕ) (start :
 
 -- this is the answer to the request at a position
 abbrev pub IsAnswerTo : Meant → ℕ → Answer → Type 0
-IsAnswerTo script position answer = IsAnswer script position answer.text answer.start answer.sectors.items
+IsAnswerTo script position answer = IsAnswer script position answer.text (first_at script position) (sectors_of answer.sectors)
 
 -- the answer to a read that finds these sectors under these limits: the reply is right in every state that has both
 pub record IsReadAnswer (number : ℕ) (limits : Bounds) (start count : ℕ) (found : List (List ℕ)) (answer : Answer) : Type 0 where
   pub reply : Reply
   pub told : answer.text ≡ reply_line (number, reply)
   pub right : (s : State) → limits ≡ s.queue.limits → found ≡ sectors_read start count s.disk → IsAnswered s (Read start count) reply
-  pub begins : answer.start ≡ start
-  pub leaves : answer.sectors.items ≡ []
+  pub leaves : sectors_of answer.sectors ≡ []
 
 -- the answer to a write under these limits
 pub record IsWriteAnswer (number : ℕ) (limits : Bounds) (start count : ℕ) (pattern : List ℕ) (answer : Answer) : Type 0 where
   pub reply : Reply
   pub told : answer.text ≡ reply_line (number, reply)
   pub right : (s : State) → limits ≡ s.queue.limits → IsAnswered s (Write start count pattern) reply
-  pub begins : answer.start ≡ start
-  pub leaves : answer.sectors.items ≡ pattern_sectors pattern count
+  pub leaves : sectors_of answer.sectors ≡ pattern_sectors pattern count

@@ -16,7 +16,7 @@ mod laws;
 mod replies;
 mod table;
 
-pub use answer::{Answer, UniformSectors, answer_to};
+pub use answer::{Answer, Workbench, answer_to};
 pub use laws::{answers_come_in_any_order, reads_stand_in_a_span};
 pub use replies::{Replies, Text};
 pub use table::InFlightTable;

@@ -6,9 +6,10 @@ ghost use Rattle.in_flight.specs.Table.{joined, is_owed, owed_count};
 use std::alloc::{AllocError, Global};
 use std::collections::VecDeque;
 use std::marker::Model;
+use std::mem;
 
 /// The maximum number of bytes of a line that takes no memory of its own.
-pub(crate) const MOST_SHORT: usize = 30;
+pub(crate) const MOST_SHORT: usize = 22;
 
 /// The line of one reply. Contracts see its bytes.
 #[derive(Drop)]
@@ -16,11 +17,12 @@ pub struct Text {
     bytes: Bytes,
 }
 
-// Lines of up to 30 bytes, such as those of small requests, go from thread to thread in the value itself.
+// Lines of up to 22 bytes, such as those of small requests, go from thread to thread in the value itself, which is small enough for a
+// completion to fit in one cache line.
 #[derive(Drop)]
 enum Bytes {
     Short(ShortLine),
-    Long(Vec<u8>),
+    Long(Box<Vec<u8>>),
 }
 
 impl Model for Text {
@@ -33,15 +35,27 @@ impl Model for Text {
 }
 
 impl Text {
-    /// Makes a line of these bytes; no memory is taken.
-    pub(crate) fn new(bytes: Vec<u8>) -> Text
-        ensures { result ≡ bytes.items }
+    /// Makes a line of the bytes of a room, which a short line leaves its memory.
+    pub(crate) fn of(alloc: Global, room: &mut Vec<u8>) -> Result<Text, AllocError>
+        ensures { IfOk result (λ text. text ≡ room.old.items) }
+    {
+        match ShortLine::of(room) {
+            Some(short) => Ok(Text {
+                bytes: Bytes::Short(short),
+            }),
+            None => Text::new(alloc, mem::replace(room, Vec::new(alloc))),
+        }
+    }
+
+    /// Makes a line of these bytes.
+    pub(crate) fn new(alloc: Global, bytes: Vec<u8>) -> Result<Text, AllocError>
+        ensures { IfOk result (λ text. text ≡ bytes.items) }
     {
         let bytes = match ShortLine::of(&bytes) {
             Some(short) => Bytes::Short(short),
-            None => Bytes::Long(bytes),
+            None => Bytes::Long(Box::new(alloc, bytes)?),
         };
-        Text { bytes }
+        Ok(Text { bytes })
     }
 
     /// Returns the bytes.
@@ -55,7 +69,7 @@ impl Text {
     }
 }
 
-// Up to 30 bytes, kept in the value itself. Contracts see the list of them.
+// Up to 22 bytes, kept in the value itself. Contracts see the list of them.
 #[derive(Drop)]
 struct ShortLine {
     bytes: [u8; MOST_SHORT],
@@ -74,7 +88,7 @@ impl Model for ShortLine {
 }
 
 impl ShortLine {
-    // Returns these bytes, or `None` if there are more than 30.
+    // Returns these bytes, or `None` if there are more than 22.
     fn of(bytes: &[u8]) -> Option<ShortLine>
         ensures short { IfSome result (λ short. short ≡ bytes.now) }
         ensures long { IfNone result (MOST_SHORT < length bytes.now) }
@@ -231,13 +245,14 @@ impl Replies {
 
     /// Takes one more line, whose reply is there.
     #[tactic(auto, using(crate::proofs::Places::count_push_some))]
-    pub(crate) fn push(&mut self, text: Vec<u8>) -> Result<(), AllocError>
+    pub(crate) fn push(&mut self, alloc: Global, text: Vec<u8>) -> Result<(), AllocError>
         ensures ok { OnOk result (self.new ≡ self.old ++ Some text.items ∷ []) }
         ensures err { OnErr result (self.new ≡ self.old) }
     {
         self.join()?;
+        let text = Text::new(alloc, text)?;
         self.rest.reserve(1)?;
-        self.rest.push_back_reserved(Some(Text::new(text)));
+        self.rest.push_back_reserved(Some(text));
         Ok(())
     }
 

@@ -1,5 +1,5 @@
 -- The result of a call, compared with what the text means.
-use Rattle.std.specs.Prelude.{◌≡◌, ℕ, Result, Ok, Err}
+use Rattle.std.specs.Prelude.{◌≡◌, ℕ, Result, Ok, Err, IsOk}
 use Rattle.line_text.specs.declared.fault.Why.{Why}
 use Rattle.line_text.specs.declared.fault.LineFault.{LineFault}
 use Rattle.line_text.specs.declared.fault.LineFault.TheVariants as line_fault
@@ -17,14 +17,11 @@ abbrev pub Says : {A B E : Type 0} → (A → B) → Result A E → Result B E �
 Says view (Ok x) said = said ≡ Ok (view x)
 Says view (Err e) said = said ≡ Err e
 
--- the result of a call on one line, seen by `view`, is what the line says, unless memory was refused
-abbrev pub LineTells : {A B : Type 0} → (A → B) → Result A LineFault → Result B Why → Type 0
-LineTells view (Ok x) said = said ≡ Ok (view x)
-LineTells view (Err line_fault.Memory) said = Unit {0}
-LineTells view (Err (line_fault.Refused why)) said = said ≡ Err why
-
+-- the result of a call on one line is what the line says; memory is refused only for a line that says something
 abbrev pub LineAnswers : {A : Type 0} → Result A LineFault → Result A Why → Type 0
-LineAnswers answered said = LineTells (λ x. x) answered said
+LineAnswers (Ok x) said = said ≡ Ok x
+LineAnswers (Err line_fault.Memory) said = IsOk said
+LineAnswers (Err (line_fault.Refused why)) said = said ≡ Err why
 
 -- the result of a call on a text, seen by `view`, is what the text means, unless memory was refused; it is never an overlap
 abbrev pub Tells : {A B : Type 0} → (A → B) → Result A ScriptFault → Result B ParseFault → Type 0

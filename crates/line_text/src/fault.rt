@@ -137,6 +137,16 @@ pub enum LineFault {
     Refused(Why),
 }
 
+impl From<AllocError> for LineFault {
+    ghost use Rattle.line_text.specs.declared.fault.LineFault.TheVariants.{Memory};
+
+    ghost from_gives = { λ _ fault. fault ≡ Memory };
+
+    fn from(_refused: AllocError) -> Self {
+        LineFault::Memory
+    }
+}
+
 impl From<Why> for LineFault {
     ghost use Rattle.line_text.specs.declared.fault.LineFault.TheVariants.{Refused};
 

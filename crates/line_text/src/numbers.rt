@@ -1,43 +1,52 @@
 //! The numbers and the bytes that words spell.
-ghost use Rattle.std.specs.Prelude.{◌≡◌, ◌≤◌, ◌<◌, ◌^◌, ◌≤ℤ◌, length, if◌then◌else◌, Some, None, IfOk, IfSome, ◌*◌};
+ghost use Rattle.std.specs.Prelude.{◌≡◌, ◌≤◌, ◌<◌, ◌^◌, ◌≤ℤ◌, length, take, if◌then◌else◌, Some, None, IfOk, IfSome, ◌*◌, ◌-◌};
 ghost use Rattle.std.specs.List.{list_all};
 ghost use Rattle.line_text.specs.Integers.{is_negative, digits_of, integer_of, integer_in};
 ghost use Rattle.line_text.specs.Numbers.{is_digit, decimal_value, is_number, number_in};
-ghost use Rattle.line_text.specs.Answers.{LineTells};
+ghost use Rattle.line_text.specs.Answers.{Says};
 ghost use Rattle.line_text.specs.Hex.{hex_bytes};
 
-use crate::fault::{LineFault, Why};
-use hex::FromHexError;
-use std::alloc::Global;
+use crate::fault::Why;
 
-// Returns the number that up to 20 digits spell; any such number fits.
-fn digits(word: &[u8]) -> Option<u128>
-    requires { length word.now ≤ 20 }
+// Returns the value of a digit.
+fn digit(byte: u8) -> Option<u8>
+    ensures value { result ≡ (if is_digit byte then Some (byte - 48) else None) }
+    ensures small { IfSome result (λ value. value ≤ 9) }
+{
+    if byte >= b'0' && byte <= b'9' {
+        Some(byte - b'0')
+    } else {
+        None
+    }
+}
+
+// Returns the number that up to 19 digits spell; any such number fits.
+fn digits(word: &[u8]) -> Option<u64>
+    requires { length word.now ≤ 19 }
     ensures value { result ≡ (if list_all is_digit word.now then Some (decimal_value word.now) else None) }
-    ensures small { IfSome result (λ number. number < 10 ^ 20) }
+    ensures small { IfSome result (λ number. number < 10 ^ 19) }
 {
     let mut number = 0;
-    for digit in word {
-        if *digit < b'0' || *digit > b'9' {
-            return None;
-        }
-        number = 10 * number + u128::from(*digit - b'0');
+    for byte in word {
+        number = 10 * number + u64::from(digit(*byte)?);
     }
     Some(number)
 }
 
-// Returns the number that 1 to 20 decimal digits spell.
+// Returns the number that 1 to 20 decimal digits spell. All but the last fit in 64 bits, which take less time than 128.
 fn unsigned(word: &[u8]) -> Result<u128, Why>
     ensures value { result ≡ (if is_number word.now then Ok (decimal_value word.now) else Err Why.BadNumber) }
     ensures small { IfOk result (λ number. number < 10 ^ 20) }
 {
-    if word.is_empty() || word.len() > 20 {
-        return Err(Why::BadNumber);
-    }
-    let Some(number) = digits(word) else {
+    let Some((last, front)) = word.split_last() else {
         return Err(Why::BadNumber);
     };
-    Ok(number)
+    if front.len() > 19 {
+        return Err(Why::BadNumber);
+    }
+    let tens = digits(front).ok_or(Why::BadNumber)?;
+    let ones = digit(*last).ok_or(Why::BadNumber)?;
+    Ok(10 * u128::from(tens) + u128::from(ones))
 }
 
 /// Returns the number from `low` to `high` that a word spells by 1 to 20 decimal digits, leading zeros allowed.
@@ -90,21 +99,22 @@ pub fn number(word: &[u8], low: i128, high: i128, signed: bool) -> Result<i128, 
     Ok(number)
 }
 
-/// Returns the 1 to `most` bytes that a word spells, each by two hexadecimal digits of either case.
+/// Puts the bytes that a word spells, each by two hexadecimal digits of either case, at the beginning of `room`, and returns how many
+/// they are: 1 at least. Allocates nothing.
 ///
-/// Returns `BadHex` if the word spells no bytes, or more than `most`.
-pub fn hex_bytes(alloc: Global, word: &[u8], most: usize) -> Result<Vec<u8>, LineFault>
-    requires { 2 * most < 2 ^ 64 }
-    ensures bytes { LineTells (λ bytes. bytes.items) result (hex_bytes most word.now) }
-    ensures some { IfOk result (λ bytes. 1 ≤ length bytes.items) }
-    ensures few { IfOk result (λ bytes. length bytes.items ≤ most) }
+/// Returns `BadHex` if the word spells no bytes, or more than `room` has.
+pub fn hex_bytes(word: &[u8], room: &mut [u8]) -> Result<usize, Why>
+    requires { 2 * length room.old < 2 ^ 64 }
+    ensures bytes { Says (λ count. take count room.new) result (hex_bytes (length room.old) word.now) }
+    ensures some { IfOk result (λ count. 1 ≤ count) }
+    ensures few { IfOk result (λ count. count ≤ length room.old) }
 {
-    if word.len() < 2 || word.len() > 2 * most {
-        return Err(LineFault::Refused(Why::BadHex));
+    if word.len() < 2 || word.len() > 2 * room.len() {
+        return Err(Why::BadHex);
     }
-    match hex::decode(alloc, word) {
-        Ok(bytes) => Ok(bytes),
-        Err(FromHexError::OutOfMemory) => Err(LineFault::Memory),
-        Err(_) => Err(LineFault::Refused(Why::BadHex)),
+    let count = word.len() / 2;
+    match hex::decode_to_slice(word, &mut room[..count]) {
+        Ok(()) => Ok(count),
+        Err(_) => Err(Why::BadHex),
     }
 }

@@ -45,7 +45,7 @@ fn is_blank(byte: u8) -> bool
     byte == b' ' || byte == b'\t'
 }
 
-fn without_blanks(line: &[u8]) -> &[u8]
+pub(crate) fn without_blanks(line: &[u8]) -> &[u8]
     ensures words { words_of result.now ≡ words_of line.now }
     ensures begins { (result.now ≡ []) ⊎ (is_blank (slice_index result.now 0) ≡ false) }
 {

@@ -5,3 +5,7 @@ pub mod Entering
 pub mod Staying
 pub mod Sets
 pub mod Removal
+pub mod Biased
+pub mod BiasedTags
+pub mod BiasedSteps
+pub mod BiasedLaws

@@ -1,5 +1,8 @@
 //! The freezer: it freezes a queue, sets its limits and thaws it.
-ghost use Rattle.std.specs.Prelude.{◌≡◌, ◌+◌, ◌<◌, ◌≤◌, true, false, IfOk, OnOk, OnErr};
+ghost use Rattle.std.specs.Prelude.{◌≡◌, ◌+◌, ◌<◌, ◌≤◌, true, false, [], IfOk, OnOk, OnErr};
+ghost use Rattle.bias_lanes.specs.Rule.{new_freezer};
+ghost use Rattle.percpu_gate.specs.declared.tried.Put.TheVariants.{Last};
+ghost use Rattle.queue_core.specs.Biased.{DropsLast, epoch_after};
 ghost use Rattle.percpu_gate.specs.Seats.{fresh_control};
 ghost use Rattle.percpu_gate.specs.ControlCalls.{after_switch};
 ghost use Rattle.percpu_words.specs.declared.mode.Mode.TheVariants.{Slots};
@@ -12,11 +15,14 @@ ghost use Rattle.percpu_gate.specs.Seats.{FindsZero};
 ghost use Rattle.queue_core.specs.Queue.{IsFreezer, first_freezer, after_freeze, after_look, after_mode, after_thaw, after_set, after_return, HasThawed, freeze_refusal, thaw_refusal, fault_of};
 ghost use Rattle.queue_core.specs.Sets.{LooksForDrained};
 
+use crate::at_gate::put_once;
 use crate::fault::FreezeFault;
 use crate::limit_words::{LIMIT_WORDS, store_words};
+use crate::parked::ParkedPass;
 use crate::queue::BlockQueue;
 use crate::tag::Tag;
-use percpu_gate::{Control, Mode, Put};
+use bias_lanes::{Fenced, Freezer as LaneFreezer};
+use percpu_gate::{Control, Gate, Mode, Put};
 use queue_limits::Limits;
 use std::marker::Model;
 
@@ -31,6 +37,8 @@ pub struct Frozen {
     /// `Last` if this freeze found nobody in the queue: it is drained, and no other call returns that. Otherwise call
     /// `poll_drained`; if it returns false, a later put or refused try returns `Last`, unless the queue is thawed first.
     pub put: Put,
+    /// `Last` if the put of a tag that this freeze found biased and idle was the last.
+    pub reclaimed: Put,
 }
 
 /// The result of a thaw.
@@ -50,6 +58,7 @@ pub struct Freezer {
     control: Control<LIMIT_WORDS>,
     depth: u32,
     limits: Limits,
+    lanes: LaneFreezer<ParkedPass, Gate<LIMIT_WORDS>>,
 }
 
 impl Model for Freezer {
@@ -59,22 +68,30 @@ impl Model for Freezer {
 
     ghost use Rattle.queue_core.specs.Readings.{freezer_facts, Keeps};
 
-    ghost view = { λ f. freezer_facts f.control f.depth f.limits };
+    ghost view = { λ f. freezer_facts f.control f.depth f.limits f.lanes.lanes };
 
-    ghost invariant = { λ f. Keeps f.control.view f.control.wants f.depth f.limits };
+    ghost use Rattle.queue_core.specs.Biased.{KeepsLanes};
+
+    ghost invariant = { λ f. Keeps f.control.view f.control.wants f.depth f.limits × KeepsLanes f.lanes f.control.gate f.depth f.control.view.standing.kills };
 }
 
 impl Freezer {
     /// The freezer of a new queue that counts on its slots.
-    pub(crate) fn new(control: Control<LIMIT_WORDS>, limits: Limits) -> Freezer
+    pub(crate) fn new(
+        control: Control<LIMIT_WORDS>,
+        limits: Limits,
+        lanes: LaneFreezer<ParkedPass, Gate<LIMIT_WORDS>>,
+    ) -> Freezer
         requires new { control ≡ after_switch Slots (fresh_control control.gate control.view.passes (to_words limits)) }
         requires live { control.gate.start ≡ Atomic }
-        ensures { result ≡ first_freezer (record { gate = control.gate; hardware = limits.hardware }) limits control.view.passes }
+        requires lanes { (lanes.lanes.key ≡ control.gate) × (lanes.view ≡ new_freezer) × (lanes.out ≡ []) }
+        ensures { result ≡ first_freezer (record { gate = control.gate; hardware = limits.hardware; lanes = lanes.lanes }) limits control.view.passes }
     {
         Freezer {
             control,
             depth: 0,
             limits,
+            lanes,
         }
     }
 
@@ -87,6 +104,7 @@ impl Freezer {
     {
         // The type's facts speak of the control too, so the clause needs it read.
         let _ = &self.control;
+        let _ = &self.lanes;
         self.depth
     }
 
@@ -105,12 +123,13 @@ impl Freezer {
         ensures kept { IsFreezer self.now }
     {
         let _ = &self.control;
+        let _ = &self.lanes;
         self.limits
     }
 
     /// Begins a freeze. Returns the depth, and `Last` if this call drained the queue. The first freeze kills the gate,
-    /// so that no tag enters from then on, except to look. Refuses with DepthFull or WornOut. Linux:
-    /// `blk_freeze_queue_start` (block/blk-mq.c).
+    /// so that no tag enters from then on, except to look; then it takes the bias of each idle tag away. Refuses with
+    /// DepthFull or WornOut. Linux: `blk_freeze_queue_start` (block/blk-mq.c).
     pub fn start_freeze(&mut self, queue: &BlockQueue) -> Result<Frozen, FreezeFault>
         requires own { self.old.queue ≡ queue.now }
         ensures refused { fault_of result ≡ freeze_refusal self.old }
@@ -118,22 +137,76 @@ impl Freezer {
         ensures frozen { IfOk result (λ f. (f.depth ≡ self.old.depth + 1) × (self.new ≡ after_freeze f.put self.old)) }
         // Only the kill drops a reference, so a nested freeze never returns `Last`.
         ensures nested { IfOk result (λ f. 0 < self.old.depth → f.put ≡ NotLast) }
+        // Behind the kill, the first freeze drops the references of parked passes.
+        ensures reclaimed { IfOk result (λ f. f.reclaimed ≡ Last → (self.old.depth ≡ 0) × DropsLast queue.now) }
     {
         if self.depth >= MOST_DEPTH {
             return Err(FreezeFault::DepthFull);
         }
         let put = if self.depth == 0 {
-            self.control
+            let put = self
+                .control
                 .kill(&queue.gate)
-                .map_err(|_| FreezeFault::WornOut)?
+                .map_err(|_| FreezeFault::WornOut)?;
+            self.lanes.freeze(&queue.lanes);
+            put
         } else {
             Put::NotLast
         };
         self.depth += 1;
+        let reclaimed = if self.depth == 1 {
+            self.reclaim_all(queue)
+        } else {
+            Put::NotLast
+        };
         Ok(Frozen {
             depth: self.depth,
             put,
+            reclaimed,
         })
+    }
+
+    /// Takes the bias of each idle tag away. Returns `Last` if one of their puts was the last.
+    fn reclaim_all(&mut self, queue: &BlockQueue) -> Put
+        requires own { self.old.queue ≡ queue.now }
+        requires frozen { 0 < self.old.depth }
+        ensures same { self.new ≡ self.old }
+        ensures last { result ≡ Last → DropsLast queue.now }
+    {
+        if !queue.has_parked() {
+            return Put::NotLast;
+        }
+        let fenced = self.lanes.fence();
+        let mut last = Put::NotLast;
+        for lane in 0..queue.lanes.count() {
+            if self.reclaim(queue, lane, &fenced) == Put::Last {
+                last = Put::Last;
+            }
+        }
+        last
+    }
+
+    /// Looks at a lane behind the fence of this freeze, and drops the reference of the pass that is parked in it, if its owner is out.
+    fn reclaim(&mut self, queue: &BlockQueue, lane: usize, fenced: &Fenced) -> Put
+        requires own { self.old.queue ≡ queue.now }
+        requires there { lane < queue.now.lanes.id.slots }
+        requires frozen { 0 < self.old.depth }
+        requires fenced { fenced.now ≡ epoch_after self.old.depth self.old.kills }
+        ensures same { self.new ≡ self.old }
+        ensures last { result ≡ Last → DropsLast queue.now }
+    {
+        if self.lanes.look(&queue.lanes, lane, fenced) {
+            return Put::NotLast;
+        }
+        let Some(mut parked) = self.lanes.reclaim(&queue.lanes, lane) else {
+            return Put::NotLast;
+        };
+        if parked.pass.held() == 1 {
+            queue.count_back();
+        }
+        let put = put_once(&mut parked.pass, &queue.gate, parked.slot);
+        self.lanes.restore(&queue.lanes, lane, parked);
+        put
     }
 
     /// Whether one look finds the queue frozen and drained. Once it has returned true it does so until the last thaw.
@@ -200,6 +273,7 @@ impl Freezer {
         if self.depth == 0 {
             let revived = self.control.resurrect(&queue.gate);
             prove!(revived.is_ok());
+            self.lanes.thaw(&queue.lanes);
         }
         Ok(Thawed {
             depth: self.depth,

@@ -10,10 +10,21 @@
 //!   freeze has started, and leaves only then.
 //! - **Frozen.** The [`Freezer`] counts freezes. The first freeze kills the gate: no tag enters from then on, except by
 //!   `try_enter_frozen`, to look at what is in flight. When the last tag leaves, its call returns [`Put::Last`]: the
-//!   queue is drained.
+//!   gate is at zero, and the queue is drained.
 //! - **Set.** While the queue is drained its limits can be set. They are in the gate's guarded words, so they don't
 //!   change while a tag is entered.
 //! - **Thawed.** The last thaw revives the gate, drained or not.
+//!
+//! A [`BiasedTag`] enters and leaves by a store and a load, by its lane (the crate `bias_lanes`), while its pass stays counted at the gate:
+//! - **Plain.** It enters and leaves the gate, and reads its limits as it enters.
+//! - **Biased.** [`BiasedTag::park`] parks its pass in the lane. Its next requests are in by the lane, under the limits that it read. While
+//!   one is in, the parked pass has its reference, so the limits don't change, and the gate can't be at zero ([`biased_holds_off`]).
+//! - **Frozen.** The first freeze ends all biases, and drops the reference of each parked pass whose owner is idle. The owner of a busy lane
+//!   finds its bias over as it leaves, takes its pass back, and leaves by the gate. An owner that comes later tries to enter by the gate.
+//! - **Thawed.** Each bias is over. A tag can be biased again when its next request leaves.
+//!
+//! While the freezer has a pass in hand, its owner can't take it back: the call returns [`BiasedEntry::InHand`]. A freezer under a lock has
+//! no pass in hand when the lock is released, so the owner tries again under that lock.
 //!
 //! Which waiters to wake: if `leave`, a refused try or `start_freeze` returns [`Put::Last`], wake the freezer, which
 //! then finds the queue drained. If `thaw` returns that the queue is live, wake the threads that wait to enter. A
@@ -27,23 +38,28 @@
 //! [`drained_refuses`] prove that a queue doesn't drain while a tag is in, and that a drained queue refuses a look.
 #![tactic(auto)]
 
+mod at_gate;
+mod biased;
 mod fault;
 mod freezer;
 mod laws;
 mod limit_words;
+mod parked;
 mod queue;
 mod remove;
 mod tag;
 #[cfg(test)]
 mod tests;
 
+pub use biased::{BiasedEntry, BiasedTag};
 pub use fault::FreezeFault;
 pub use freezer::{Freezer, Frozen, MOST_DEPTH, Thawed};
 pub use laws::{
-    drained_is_empty, drained_refuses, entered_holds_off, in_force_are_set, limits_hold_still,
-    sizes_in_numbers, tags_read_what_is_set,
+    biased_holds_off, drained_is_empty, drained_refuses, entered_holds_off, in_force_are_set,
+    limits_hold_still, sizes_in_numbers, tags_read_what_is_set,
 };
 pub use limit_words::LIMIT_WORDS;
+pub use parked::ParkedPass;
 pub use percpu_gate::{Final, Memory, Mode, Put};
 pub use queue::{BlockQueue, MOST_TAGS, NewQueue};
 pub use queue_limits::{LimitFault, Limits};

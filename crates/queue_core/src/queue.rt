@@ -1,7 +1,7 @@
 //! The queue that tags enter and leave.
 ghost use Rattle.std.specs.Prelude.{◌≡◌, ◌+◌, ◌<◌, ◌≤◌, true, false, All, map, replicate, IfSome, IfOk};
 ghost use Rattle.percpu_core.specs.declared.limits.TheConstants.{SLOT_LIMIT};
-ghost use Rattle.percpu_gate.specs.Seats.{fresh_pass};
+ghost use Rattle.percpu_gate.specs.Seats.{GateFacts, fresh_pass};
 ghost use Rattle.queue_core.specs.Queue.{IsQueue, first_tag, first_freezer, come_to, after_asking, after_leaving};
 ghost use Rattle.percpu_core.specs.Views.{count};
 ghost use Rattle.percpu_core.specs.declared.pass_event.PassEvent.TheVariants as events;
@@ -14,11 +14,14 @@ ghost use Rattle.queue_core.specs.Staying.{has_left, after_stay, FindsDead, Stay
 
 use crate::freezer::Freezer;
 use crate::limit_words::{LIMIT_WORDS, load_words};
+use crate::parked::ParkedPass;
 use crate::tag::{Entry, Stay, Tag};
+use bias_lanes::Lanes;
 use percpu_gate::{Gate, Memory, Pass, Put, Start, Tried};
 use queue_limits::Limits;
 use std::alloc::{AllocError, Global};
 use std::marker::Model;
+use std::sync::atomic::{AtomicU64, Ordering};
 
 /// Maximum number of tags of a queue.
 pub const MOST_TAGS: u32 = 1_023;
@@ -31,7 +34,10 @@ pub type NewQueue = (BlockQueue, Freezer, Vec<Tag>);
 #[derive(Drop)]
 pub struct BlockQueue {
     pub(crate) gate: Gate<LIMIT_WORDS>,
-    hardware: u32,
+    pub(crate) hardware: u32,
+    pub(crate) lanes: Lanes<ParkedPass, Gate<LIMIT_WORDS>>,
+    /// An upper bound on the number of entered tags that are parked.
+    pub(crate) biased: AtomicU64,
 }
 
 impl Model for BlockQueue {
@@ -39,23 +45,31 @@ impl Model for BlockQueue {
 
     ghost Value = { QueueFacts };
 
-    ghost view = { λ q. record { gate = q.gate; hardware = q.hardware } };
+    ghost view = { λ q. record { gate = q.gate; hardware = q.hardware; lanes = q.lanes } };
 
-    ghost invariant = { λ q. IsQueue (record { gate = q.gate; hardware = q.hardware }) };
+    ghost invariant = { λ q. IsQueue (record { gate = q.gate; hardware = q.hardware; lanes = q.lanes }) };
 }
 
-/// Makes a tag for each of these new passes.
+/// Makes a tag for each lane, with one of these new passes. No lane had an owner before.
 fn make_tags(
     alloc: Global,
-    passes: Vec<Pass<LIMIT_WORDS>>,
+    mut passes: Vec<Pass<LIMIT_WORDS>>,
     hardware: u32,
+    gate: &Gate<LIMIT_WORDS>,
+    lanes: &Lanes<ParkedPass, Gate<LIMIT_WORDS>>,
 ) -> Result<Vec<Tag>, AllocError>
-    requires new { All (λ p. p ≡ fresh_pass p.gate) passes.items }
-    ensures { IfOk result (λ made. made.items ≡ map (λ p. first_tag (record { gate = p.gate; hardware = hardware })) passes.items) }
+    requires new { All (λ p. p ≡ fresh_pass gate.now) passes.items }
+    requires key { lanes.now.key ≡ gate.now }
+    ensures { IfOk result (λ made. made.items ≡ replicate lanes.now.id.slots (first_tag (record { gate = gate.now; hardware = hardware; lanes = lanes.now }))) }
 {
-    let mut tags = Vec::with_capacity(alloc, passes.len())?;
-    for pass in passes {
-        tags.push(Tag::new(pass, hardware))?;
+    let _ = gate;
+    let mut tags = Vec::with_capacity(alloc, lanes.count())?;
+    for number in 0..lanes.count() {
+        // The list has a pass for each lane, and no lane has an owner yet.
+        let (Some(pass), Some(lane)) = (passes.pop(), lanes.owner(number)) else {
+            return Err(AllocError);
+        };
+        tags.push(Tag::new(pass, hardware, lane))?;
     }
     Ok(tags)
 }
@@ -76,9 +90,30 @@ impl BlockQueue {
         let switched = control.switch_to_slots(&gate);
         prove!(switched.is_ok());
         let hardware = limits.hw();
-        let made = make_tags(alloc, passes, hardware)?;
-        let queue = BlockQueue { gate, hardware };
-        Ok((queue, Freezer::new(control, limits), made))
+        let (lanes, looker) = Lanes::new(alloc, tags as usize, &gate)?;
+        let made = make_tags(alloc, passes, hardware, &gate, &lanes)?;
+        let queue = BlockQueue {
+            gate,
+            hardware,
+            lanes,
+            biased: AtomicU64::new(0),
+        };
+        Ok((queue, Freezer::new(control, limits, looker), made))
+    }
+
+    /// Counts an entered tag that is about to be parked.
+    pub(crate) fn count_parked(&self) {
+        self.biased.fetch_add(1, Ordering::SeqCst);
+    }
+
+    /// Takes a tag off the count, because it isn't parked or isn't entered any more.
+    pub(crate) fn count_back(&self) {
+        self.biased.fetch_sub(1, Ordering::SeqCst);
+    }
+
+    /// Returns whether an entered tag may be parked.
+    pub(crate) fn has_parked(&self) -> bool {
+        self.biased.load(Ordering::SeqCst) != 0
     }
 
     /// The number of slots: 1 to 512.
@@ -89,6 +124,7 @@ impl BlockQueue {
     {
         // The type's facts are about all fields, so the clause needs the whole queue to be read.
         let _ = self.hardware;
+        let _ = &self.lanes;
         self.gate.slots()
     }
 

@@ -1,12 +1,15 @@
 //! A tag: the right to have one request in flight.
-ghost use Rattle.std.specs.Prelude.{◌≡◌, true, false, None};
+ghost use Rattle.std.specs.Prelude.{◌≡◌, ◌≤◌, true, false, None};
 ghost use Rattle.percpu_gate.specs.Seats.{fresh_pass};
+ghost use Rattle.bias_lanes.specs.declared.views.Stage.TheVariants.{Unbiased};
 ghost use Rattle.percpu_gate.specs.Steps.{LookSteps};
 ghost use Rattle.queue_core.specs.Queue.{first_tag, come_to};
-ghost use Rattle.queue_core.specs.Readings.{IsTag};
+ghost use Rattle.queue_core.specs.Readings.{IsTag, tag_facts};
 ghost use Rattle.queue_core.specs.Staying.{after_asking_to_stay, FindsDead};
 
 use crate::limit_words::LIMIT_WORDS;
+use crate::parked::ParkedPass;
+use bias_lanes::Lane;
 use percpu_gate::{Gate, Pass, Put};
 use std::marker::Model;
 
@@ -37,28 +40,41 @@ pub enum Stay {
 pub struct Tag {
     pub(crate) pass: Pass<LIMIT_WORDS>,
     hardware: u32,
+    /// By which it enters while it is biased.
+    lane: Lane<ParkedPass, Gate<LIMIT_WORDS>>,
 }
 
 impl Model for Tag {
-    ghost use Rattle.std.specs.Prelude.{◌≤◌};
+    ghost use Rattle.std.specs.Prelude.{◌≡◌, ◌≤◌};
+    ghost use Rattle.bias_lanes.specs.declared.views.Stage.TheVariants.{Unbiased};
     ghost use Rattle.queue_core.specs.Queue.{TagFacts};
 
     ghost Value = { TagFacts };
 
     ghost use Rattle.queue_core.specs.Readings.{tag_facts};
 
-    ghost view = { λ t. tag_facts t.pass t.hardware };
+    ghost view = { λ t. tag_facts t.pass t.hardware t.lane.lanes };
 
-    ghost invariant = { λ t. t.pass.view.standing.held ≤ 1 };
+    ghost invariant = { λ t. (t.pass.view.standing.held ≤ 1) × (t.lane.view.stage ≡ Unbiased) × (t.lane.lanes.key ≡ t.pass.gate) };
 }
 
 impl Tag {
     /// A tag that hasn't entered.
-    pub(crate) fn new(pass: Pass<LIMIT_WORDS>, hardware: u32) -> Tag
-        requires { pass ≡ fresh_pass pass.gate }
-        ensures { result ≡ first_tag (record { gate = pass.gate; hardware = hardware }) }
+    pub(crate) fn new(
+        pass: Pass<LIMIT_WORDS>,
+        hardware: u32,
+        lane: Lane<ParkedPass, Gate<LIMIT_WORDS>>,
+    ) -> Tag
+        requires fresh { pass ≡ fresh_pass pass.gate }
+        requires unbiased { lane.view.stage ≡ Unbiased }
+        requires key { lane.lanes.key ≡ pass.gate }
+        ensures { result ≡ first_tag (record { gate = pass.gate; hardware = hardware; lanes = lane.lanes }) }
     {
-        Tag { pass, hardware }
+        Tag {
+            pass,
+            hardware,
+            lane,
+        }
     }
 
     /// Whether the tag has entered its queue and not left.
@@ -81,6 +97,34 @@ impl Tag {
         ensures finds { FindsDead gate.now self.old.seat result }
     {
         self.pass.is_dying(gate)
+    }
+
+    /// The parts of a tag.
+    pub(crate) fn into_parts(self) -> (Pass<LIMIT_WORDS>, u32, Lane<ParkedPass, Gate<LIMIT_WORDS>>)
+        ensures facts { self ≡ tag_facts result.0 result.1 result.2.lanes }
+        ensures pass { result.0.view.standing.held ≤ 1 }
+        ensures lane { result.2.view.stage ≡ Unbiased }
+        ensures key { result.2.lanes.key ≡ result.0.gate }
+    {
+        (self.pass, self.hardware, self.lane)
+    }
+
+    /// A tag of these parts.
+    pub(crate) fn of_parts(
+        pass: Pass<LIMIT_WORDS>,
+        hardware: u32,
+        lane: Lane<ParkedPass, Gate<LIMIT_WORDS>>,
+    ) -> Tag
+        requires one { pass.view.standing.held ≤ 1 }
+        requires unbiased { lane.view.stage ≡ Unbiased }
+        requires key { lane.lanes.key ≡ pass.gate }
+        ensures { result ≡ tag_facts pass hardware lane.lanes }
+    {
+        Tag {
+            pass,
+            hardware,
+            lane,
+        }
     }
 
     /// The pass of a tag that ends.

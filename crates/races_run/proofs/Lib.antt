@@ -1,11 +1,12 @@
--- The answer to what an input means is that of the input (Answered), how many states of a race are kept (Bounds), what was read means as much
--- as the whole input (Cutting, of an answer Answering, of a replay Showing), the statuses of faults (Ending, of a replay Halting), and lists
--- of one word and of two (Wording).
-pub mod Answered
+-- Reading: the calls of a line (Parts). Printing: a number is read back (Spelling), the words of a line (WordsBack), and a step (StepsBack). The program:
+-- the race of an input and the bound on its states (Bounds), an input that is cut (Cutting), its answer (Answering), the meaning of the status if a race ends
+-- with a fault (Ending), and arguments (Wording).
 pub mod Answering
 pub mod Bounds
 pub mod Cutting
 pub mod Ending
-pub mod Halting
-pub mod Showing
+pub mod Parts
+pub mod Spelling
+pub mod StepsBack
 pub mod Wording
+pub mod WordsBack

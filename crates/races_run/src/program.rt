@@ -2,24 +2,21 @@
 ghost use Rattle.std.specs.Prelude.{◌≡◌, [], ◌∷◌, map, string_bytes, Contains};
 ghost use Rattle.counted_io.specs.Failures.{IsFourIfBroken};
 ghost use Rattle.counted_io.specs.Reading.{TakesUpTo};
-ghost use Rattle.races_run.specs.Replays.{TellsReplay};
-ghost use Rattle.races_run.specs.Requests.{AsksReplay, AsksSomething};
+ghost use Rattle.races_run.specs.Requests.{AsksSomething};
 ghost use Rattle.races_run.specs.Statuses.{TellsAsAsked, TellsOutcomes};
 
 use crate::arguments::{Task, requested};
 use crate::fault::Fault;
-use crate::replay_report::replay_reported;
-use crate::request::Request;
 use crate::run::{MOST_READ, outcomes_bytes};
+use crate::writing::Form;
 use counted_io::Counted;
-use race_search::Watch;
+use race_outcomes::Watch;
 use std::alloc::Global;
 use std::io;
 use std::io::{ErrorKind, Read, Write};
 
 /// The usage line.
-const USAGE: &str =
-    "usage: gate_races [--outcomes | --summary | --beside] [--states N], with a race on standard input, or gate_races --replay";
+const USAGE: &str = "usage: gate_races [--summary] [--states N], with a race on standard input";
 
 /// The status if the answer wasn't written for any reason other than the input.
 const NOT_ANSWERED: u8 = 4;
@@ -27,18 +24,18 @@ const NOT_ANSWERED: u8 = 4;
 /// Answers the race in `reader`. Returns the program's status, and writes a line to `errors` if it isn't 0.
 fn outcomes_reported<R: Read, W: Write, E: Write, H: Watch>(
     alloc: Global,
-    request: Request,
+    form: Form,
     most: Option<u64>,
     reader: &mut Counted<R>,
     writer: &mut Counted<W>,
     errors: &mut E,
     watch: &mut H,
 ) -> u8
-    ensures told { TellsOutcomes request R.remaining W.contents most reader.old writer.old writer.new result }
+    ensures told { TellsOutcomes form R.remaining W.contents most reader.old writer.old writer.new result }
     ensures broken { IsFourIfBroken reader.old reader.new writer.old writer.new result }
     ensures taken { TakesUpTo R.remaining reader.old reader.new MOST_READ }
 {
-    match outcomes_bytes(alloc, reader, writer, request, most, watch) {
+    match outcomes_bytes(alloc, reader, writer, form, most, watch) {
         Ok(()) => 0,
         Err(fault) => {
             let _ = errors.writeln(fault);
@@ -47,11 +44,9 @@ fn outcomes_reported<R: Read, W: Write, E: Write, H: Watch>(
     }
 }
 
-/// Writes to `writer` the answer to the race in `reader`, and returns the program's status: 0 if the answer was written.
-/// `args`, the program's arguments, decide what is written: the answers to the race's questions, its outcomes, or the outcomes
-/// that it has only on this gate or only on Linux's percpu_ref; with `--replay`, the replay of the schedule in `reader`. Status 3
-/// means that this replay was written, and stopped at a step that isn't taken. Status 2 or 4 comes with a line to `errors`: 2 if
-/// the input is no race or schedule; 4 if reading, writing or memory was refused, if a search would keep more states than `args`
+/// Writes to `writer` the outcomes of the race in `reader`, in the form that `args`, the program's arguments, ask for, and returns the
+/// program's status: 0 if they were written. Status 2 or 4 comes with a line to `errors`: 2 if
+/// the input is no race; 4 if reading, writing or memory was refused, if the search would keep more states than `args`
 /// allow by `--states`, or if the arguments ask for something unknown. They are checked before anything is read. If `errors`
 /// fails, the line is lost and the status stays. It reports to `watch` how far the search is.
 pub fn command<R: Read, W: Write, E: Write, H: Watch>(
@@ -62,10 +57,8 @@ pub fn command<R: Read, W: Write, E: Write, H: Watch>(
     errors: &mut E,
     watch: &mut H,
 ) -> u8
-    ensures statuses { Contains (0 ∷ 2 ∷ 3 ∷ 4 ∷ []) result }
+    ensures statuses { Contains (0 ∷ 2 ∷ 4 ∷ []) result }
     ensures told { TellsAsAsked (map string_bytes args.now) R.remaining W.contents reader.old writer.old writer.new result }
-    ensures replay { AsksReplay (map string_bytes args.now)
-        → TellsReplay R.remaining W.contents reader.old writer.old writer.new result }
 
     // If the arguments ask for something unknown, nothing is read and nothing is written.
     ensures usage { ¬ (AsksSomething (map string_bytes args.now)) → result ≡ 4 }
@@ -77,10 +70,9 @@ pub fn command<R: Read, W: Write, E: Write, H: Watch>(
     ensures taken { TakesUpTo R.remaining reader.old reader.new MOST_READ }
 {
     match requested(args) {
-        Task::Answer(request, most) => {
-            outcomes_reported(alloc, request, most, reader, writer, errors, watch)
+        Task::Answer(form, most) => {
+            outcomes_reported(alloc, form, most, reader, writer, errors, watch)
         }
-        Task::Replay => replay_reported(alloc, reader, writer, errors),
         Task::Usage => {
             let _ = errors.writeln(USAGE);
             NOT_ANSWERED

@@ -4,8 +4,10 @@ ghost use Rattle.ram_disk.specs.declared.sector.TheConstants.{SECTOR_BYTES};
 ghost use Rattle.ram_disk.specs.Sector.{IsSector, bytes_of, filled_with};
 ghost use Rattle.ram_disk.specs.Disk.{IsDisk, sectors_read, sectors_written};
 ghost use Rattle.ram_disk.specs.Runs.{IsRuns};
+ghost use Rattle.ram_disk.specs.Sectors.{sectors_of};
 ghost use Rattle.ram_disk.specs.Writes.{ReadsTheirBytes, WritesTheirBytes};
 
+use crate::sectors::{Sectors, common_byte};
 use crate::{DiskFault, Sector, runs};
 use std::alloc::Global;
 use std::marker::Model;
@@ -40,8 +42,7 @@ impl Disk {
         ensures bytes { IfOk result (λ disk. bytes_of disk ≡ replicate (sectors * SECTOR_BYTES) 0) }
         ensures only_memory { IsOkUnless result DiskFault.Memory }
     {
-        let zeros = Sector::filled(alloc, 0)?;
-        let sectors = vec![in alloc; zeros; sectors as usize]?;
+        let sectors = vec![in alloc; Sector::filled(0); sectors as usize]?;
         Ok(Disk { sectors })
     }
 
@@ -75,6 +76,24 @@ impl Disk {
         Ok(self.sectors[start..end].to_vec(alloc)?)
     }
 
+    /// Reads like [`Disk::share`]. Sectors that were all made of one byte value take no memory.
+    pub fn find(&self, alloc: Global, start: u64, count: u32) -> Result<Sectors, DiskFault>
+        ensures past_end { IsErrOf result DiskFault.PastEnd ↔ (length self.now < start + count) }
+        ensures within { OnOk result (start + count ≤ length self.now) }
+        ensures read { IfOk result (λ sectors. sectors_of sectors ≡ sectors_read start count self.now) }
+    {
+        let len = self.sectors.len() as u64;
+        if start > len || u64::from(count) > len - start {
+            return Err(DiskFault::PastEnd);
+        }
+        let start = start as usize;
+        let sectors = &self.sectors[start..start + count as usize];
+        match common_byte(sectors) {
+            Some(byte) => Ok(Sectors::Filled { byte, count }),
+            None => Ok(Sectors::Listed(sectors.to_vec(alloc)?)),
+        }
+    }
+
     /// Writes these sectors to the disk, starting with sector `start`. It always succeeds.
     ///
     /// The sectors are moved in, and the disk drops its shares of the old ones.
@@ -85,6 +104,19 @@ impl Disk {
         ensures disk { IsDisk self.new }
     {
         replace(&mut self.sectors, start as usize, sectors);
+    }
+
+    /// Writes these sectors like [`Disk::install`].
+    pub fn leave(&mut self, start: u64, sectors: Sectors)
+        requires { start + length (sectors_of sectors) ≤ length self.old }
+        ensures written { self.new ≡ sectors_written start (sectors_of sectors) self.old }
+        ensures len { length self.new ≡ length self.old }
+        ensures disk { IsDisk self.new }
+    {
+        match sectors {
+            Sectors::Filled { byte, count } => fill(&mut self.sectors, start as usize, count, byte),
+            Sectors::Listed(sectors) => replace(&mut self.sectors, start as usize, sectors),
+        }
     }
 
     /// Returns the disk's sectors, in the order of their numbers.
@@ -125,5 +157,15 @@ fn replace(kept: &mut Vec<Sector>, start: usize, sectors: Vec<Sector>)
         let _whole = sector.bytes();
         kept[place] = sector;
         place += 1;
+    }
+}
+
+fn fill(kept: &mut Vec<Sector>, start: usize, count: u32, byte: u8)
+    requires { start + count ≤ vec_len kept.old }
+    ensures written { kept.new.items ≡ sectors_written start (replicate count (filled_with byte)) kept.old.items }
+    ensures whole { IsSector (filled_with byte) }
+{
+    for place in start..start + count as usize {
+        kept[place] = Sector::filled(byte);
     }
 }

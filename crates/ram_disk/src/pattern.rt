@@ -28,7 +28,7 @@ pub fn patterned(alloc: Global, pattern: &[u8], count: u32) -> Result<Vec<Sector
 {
     match only_byte(pattern) {
         Some(byte) => {
-            let sector = Sector::filled(alloc, byte)?;
+            let sector = Sector::filled(byte);
             Ok(vec![in alloc; sector; count as usize]?)
         }
         None => tiled(alloc, pattern, count as usize),
@@ -36,7 +36,7 @@ pub fn patterned(alloc: Global, pattern: &[u8], count: u32) -> Result<Vec<Sector
 }
 
 // Returns the only byte value of a pattern, if it has just one.
-fn only_byte(pattern: &[u8]) -> Option<u8>
+pub(crate) fn only_byte(pattern: &[u8]) -> Option<u8>
     requires { 1 ≤ length pattern.now }
     ensures { MatchOption result ⊤ (λ byte. All (λ other. other ≡ byte) pattern.now) }
 {
@@ -45,7 +45,7 @@ fn only_byte(pattern: &[u8]) -> Option<u8>
 }
 
 // Makes each different sector once, and shares it afterwards.
-fn tiled(alloc: Global, pattern: &[u8], count: usize) -> Result<Vec<Sector>, DiskFault>
+pub(crate) fn tiled(alloc: Global, pattern: &[u8], count: usize) -> Result<Vec<Sector>, DiskFault>
     requires within { (1 ≤ length pattern.now) × (length pattern.now ≤ MAX_PATTERN) }
     ensures ok { IfOk result (λ sectors. sectors.items ≡ pattern_sectors pattern.now count) }
     ensures only_memory { IsOkUnless result DiskFault.Memory }

@@ -3,6 +3,7 @@ ghost use Rattle.std.specs.Prelude.{◌≡◌, IfOk, IfSome, IsOkUnless};
 ghost use Rattle.ram_disk.specs.Sector.{IsSector, filled_with};
 
 use crate::DiskFault;
+use crate::filled::filled_bytes;
 use std::alloc::{AllocError, Global};
 use std::marker::Model;
 use std::sync::Arc;
@@ -10,33 +11,38 @@ use std::sync::Arc;
 /// The number of bytes of a sector.
 pub const SECTOR_BYTES: usize = 512;
 
-// What the owners of a sector share. `only` is the byte at every place, if the sector was made of one byte value.
+// What the owners of a sector share.
 #[derive(Drop)]
 struct Block {
     bytes: [u8; SECTOR_BYTES],
-    only: Option<u8>,
+}
+
+// The bytes of a sector: one value at every place, or any.
+#[derive(Drop)]
+enum Kind {
+    Filled(u8),
+    Copied(Arc<Block>),
 }
 
 /// One owner of 512 bytes that never change. In contracts it is the list of the bytes.
 ///
 /// A clone is another owner: it copies no byte and takes no memory. An owner may move to another thread, and the bytes
-/// live until the last owner is dropped.
+/// live until the last owner is dropped. A sector that was made of one byte value has no memory of its own.
 #[derive(Drop)]
 pub struct Sector {
-    block: Arc<Block>,
+    kind: Kind,
 }
 
 impl Model for Sector {
-    ghost use Rattle.std.specs.Prelude.{◌≡◌, ℕ, List};
-    ghost use Rattle.std.specs.Option.{ForSome};
-    ghost use Rattle.ram_disk.specs.Sector.{IsSector, filled_with};
+    ghost use Rattle.std.specs.Prelude.{ℕ, List};
+    ghost use Rattle.ram_disk.specs.Sector.{IsSector};
+    ghost use Rattle.ram_disk.specs.Kinds.{bytes_of_kind};
 
     ghost Value = { List ℕ };
 
-    ghost view = { λ s. s.block.value.bytes };
+    ghost view = { λ s. bytes_of_kind s.kind };
 
-    ghost invariant = { λ s. IsSector s.block.value.bytes
-        × ForSome s.block.value.only (λ byte. s.block.value.bytes ≡ filled_with byte) };
+    ghost invariant = { λ s. IsSector (bytes_of_kind s.kind) };
 }
 
 impl Sector {
@@ -45,7 +51,10 @@ impl Sector {
         ensures value { result.now ≡ self.now }
         ensures sector { IsSector self.now }
     {
-        &self.block.bytes
+        match &self.kind {
+            Kind::Filled(byte) => filled_bytes(*byte),
+            Kind::Copied(block) => &block.bytes,
+        }
     }
 
     // Returns the byte at every place, if the sector was made of one byte value. Reads no byte.
@@ -53,21 +62,19 @@ impl Sector {
         ensures only { IfSome result (λ byte. self.now ≡ filled_with byte) }
         ensures sector { IsSector self.now }
     {
-        self.block.only
+        match &self.kind {
+            Kind::Filled(byte) => Some(*byte),
+            Kind::Copied(_) => None,
+        }
     }
 
-    // Returns a new sector with this byte at every place.
-    pub(crate) fn filled(alloc: Global, byte: u8) -> Result<Sector, DiskFault>
-        ensures ok { IfOk result (λ sector. sector ≡ filled_with byte) }
-        ensures only_memory { IsOkUnless result DiskFault.Memory }
+    // Returns a sector with this byte at every place.
+    pub(crate) fn filled(byte: u8) -> Sector
+        ensures { result ≡ filled_with byte }
     {
-        let block = Block {
-            bytes: repeated(byte),
-            only: Some(byte),
-        };
-        Ok(Sector {
-            block: Arc::new(alloc, block)?,
-        })
+        Sector {
+            kind: Kind::Filled(byte),
+        }
     }
 
     // Returns a new sector with these 512 bytes.
@@ -79,7 +86,7 @@ impl Sector {
         let mut bytes = [0; SECTOR_BYTES];
         bytes.copy_from_slice(from);
         Ok(Sector {
-            block: Arc::new(alloc, Block { bytes, only: None })?,
+            kind: Kind::Copied(Arc::new(alloc, Block { bytes })?),
         })
     }
 }
@@ -88,14 +95,10 @@ impl Clone for Sector {
     ghost is_clone = { λ sector copy. copy ≡ sector };
 
     fn clone(&self) -> Result<Sector, AllocError> {
-        Ok(Sector {
-            block: Arc::try_clone(&self.block)?,
-        })
+        let kind = match &self.kind {
+            Kind::Filled(byte) => Kind::Filled(*byte),
+            Kind::Copied(block) => Kind::Copied(Arc::try_clone(block)?),
+        };
+        Ok(Sector { kind })
     }
-}
-
-fn repeated(byte: u8) -> [u8; SECTOR_BYTES]
-    ensures { result ≡ filled_with byte }
-{
-    [byte; SECTOR_BYTES]
 }

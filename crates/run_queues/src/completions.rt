@@ -166,7 +166,7 @@ impl<T: Numbered + Drop> CompletionQueue<T> {
         ensures queue { IfOk result (λ q. q.0.room ≡ room) }
         ensures collector { IfOk result (λ q. q.1 ≡ record { queue = q.0.id; given = 0; collected = [] }) }
     {
-        let (line, seat) = RuledQueue::new(alloc, room)?;
+        let (line, seat) = RuledQueue::new(alloc, room, false)?;
         Ok((CompletionQueue { line }, Collector { seat }))
     }
 
@@ -194,6 +194,7 @@ impl<T: Numbered + Drop> CompletionQueue<T> {
     {
         let CompletionToken { mut seat, number } = token;
         self.line.push_as::<Pushed, R>(rt, &mut seat, completion);
+        self.line.sleepers.wake();
         Acknowledgement { seat, number }
     }
 

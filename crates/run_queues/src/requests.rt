@@ -7,7 +7,7 @@ ghost use Rattle.run_queues.specs.Parts.{after_draw, after_gather, new_source};
 use crate::numbered::Numbered;
 use crate::ruled_queue::RuledQueue;
 use crossbeam_queue::Pass;
-use crossbeam_queue::protocol::{Join, Lesson, Outcome, Protocol, Split};
+use crossbeam_queue::protocol::{Free, Join, Lesson, Outcome, Protocol, Split};
 use std::alloc::{AllocError, Global};
 use std::collections::LinkedList;
 use std::marker::Model;
@@ -116,10 +116,18 @@ type Requests<T> = RuledQueue<Option<T>, Part, InOrder>;
 
 type Seat<T> = Pass<Option<T>, Part>;
 
+/// Maximum number of pushes after which a thread is woken if all sleep.
+const BATCH: usize = 16;
+
 /// A queue of requests, from which several threads draw.
+///
+/// A thread that draws wakes no other. A push wakes one after some pushes if all sleep, and whoever pushes wakes more by need.
 #[derive(Drop)]
 pub struct RequestQueue<T: Numbered + Drop> {
     line: Requests<T>,
+    consumers: usize,
+    /// The number of pushes after which a thread is woken if all sleep.
+    batch: usize,
 }
 
 impl<T: Numbered + Drop> Model for RequestQueue<T> {
@@ -135,6 +143,8 @@ impl<T: Numbered + Drop> Model for RequestQueue<T> {
 #[derive(Drop)]
 pub struct Source<T: Numbered + Drop> {
     seat: Seat<T>,
+    /// The number of pushes since the last after which a thread was woken if all slept.
+    untold: usize,
     lists: Vec<Vec<u32>>,
 }
 
@@ -182,8 +192,20 @@ impl<T: Numbered + Drop> RequestQueue<T> {
         ensures source { IfOk result (λ q. q.1 ≡ new_source q.0.id consumers) }
     {
         let lists = Vec::with_capacity(alloc, consumers)?;
-        let (line, seat) = RuledQueue::new(alloc, room)?;
-        Ok((RequestQueue { line }, Source { seat, lists }))
+        let batch = (room / 2).clamp(1, BATCH);
+        // A sole thread that is woken for each request needs no lookout.
+        let (line, seat) = RuledQueue::new(alloc, room, consumers > 1 || batch > 1)?;
+        let queue = RequestQueue {
+            line,
+            consumers,
+            batch,
+        };
+        let source = Source {
+            seat,
+            untold: 0,
+            lists,
+        };
+        Ok((queue, source))
     }
 
     /// Returns a right to draw, with memory for `room` numbers. It is split off the right to push, and comes back to it by
@@ -206,7 +228,7 @@ impl<T: Numbered + Drop> RequestQueue<T> {
     }
 
     /// Pushes the next request, and waits while there is no room. Its number is how many requests were pushed before. No request
-    /// may follow an end mark.
+    /// may follow an end mark. A thread that sleeps finds it after a while, or once it is woken.
     pub fn push<R: Wait>(&self, rt: &R, source: &mut Source<T>, request: T)
         requires own { source.old.queue ≡ self.now.id }
         requires open { source.old.marks ≡ 0 }
@@ -215,14 +237,48 @@ impl<T: Numbered + Drop> RequestQueue<T> {
     {
         self.line
             .push_as::<Pushed, R>(rt, &mut source.seat, Some(request));
+        source.untold = source.untold.saturating_add(1);
+        if source.untold >= self.batch {
+            source.untold = 0;
+            self.wake_if_all_sleep();
+        }
     }
 
-    /// Pushes one end mark, and waits while there is no room. One call of `draw` then returns `None`.
+    /// Wakes a thread if all sleep. Call this before you wait for what the threads do.
+    pub fn wake_if_all_sleep(&self) {
+        if self.line.sleepers.count() >= self.consumers {
+            self.line.sleepers.wake();
+        }
+    }
+
+    /// Wakes one more thread if there is a request or an end mark that none has taken. Call this after you waited in vain.
+    pub fn wake_one_more<R: Wait>(&self, rt: &R, source: &mut Source<T>)
+        requires { source.old.queue ≡ self.now.id }
+        ensures { source.new ≡ source.old }
+    {
+        self.line.wake_if_filled(rt, &mut source.seat, 1);
+    }
+
+    /// Wakes all threads. Call this once all end marks are pushed, so that the threads end at once.
+    pub fn wake_all(&self) {
+        self.line.sleepers.wake_all();
+    }
+
+    /// Pushes one end mark, and waits while there is no room. One call of `draw` then returns `None`. Wakes a thread if all sleep.
     pub fn end<R: Wait>(&self, rt: &R, source: &mut Source<T>)
         requires { source.old.queue ≡ self.now.id }
         ensures { source.new ≡ record source.old { marks = source.old.marks + 1 } }
     {
         self.line.push_as::<Ended, R>(rt, &mut source.seat, None);
+        self.wake_if_all_sleep();
+    }
+
+    /// Returns whether there is no item, at one moment of the call.
+    pub fn is_empty(&self, consumer: &mut Consumer<T>) -> bool
+        requires { consumer.old.queue ≡ self.now.id }
+        ensures { consumer.new ≡ consumer.old }
+    {
+        self.line.ring.is_empty_as::<Free>(&mut consumer.seat)
     }
 
     /// Takes the first item, and waits while there is none. Returns a request, or `None` for an end mark.
@@ -269,7 +325,11 @@ impl<T: Numbered + Drop> RequestQueue<T> {
         ensures lists { map (λ list. list.items) result.items ≡ source.lists }
         ensures draws { Draws source.pushed source.lists }
     {
-        let Source { mut seat, lists } = source;
+        let Source {
+            mut seat,
+            untold: _,
+            lists,
+        } = source;
         self.line.ring.learn_as::<Total>(&mut seat);
         lists
     }

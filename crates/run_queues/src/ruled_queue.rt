@@ -9,37 +9,37 @@ use crossbeam_queue::{Pass, RuledArrayQueue};
 use crossbeam_utils::CachePadded;
 use std::alloc::{AllocError, Global};
 use std::sync::Wait;
-use std::sync::atomic::{AtomicUsize, Ordering};
+use std::sync::atomic::{AtomicBool, Ordering};
 use wait_queue::WaitQueue;
 
-/// Maximum number of threads that look at a time. More would be in each other's way, and in the way of the thread that pushes.
-const LOOKERS: usize = 4;
+/// Maximum number of tries of one look.
+const TRIES: u32 = 128;
 
 /// A queue under a rule, and the threads that sleep at it.
 ///
 /// A push and a pop each take effect at one step, and take no lock. A thread that finds nothing looks again a few times, as long as
-/// that is worthwhile ([`Patience`]). Then it announces that it will sleep, looks once more, and sleeps. A thread that pushes looks
-/// for such announcements after its step, so one of the two sees the other.
+/// that is worthwhile ([`Patience`]), unless another thread does. Then it announces that it will sleep, looks once more, and sleeps. A
+/// thread that wakes others looks for such announcements after its push, so one of the two sees the other.
 ///
-/// A push wakes nobody while a thread is looking, or was woken and hasn't looked yet, since that thread finds the item. If it finds
-/// one item and leaves others, it wakes the next thread, once it no longer counts as looking.
+/// A push wakes nobody: its caller does, by need.
 #[derive(Drop)]
 pub(crate) struct RuledQueue<T: Drop, V, P: Protocol<T, V>> {
     pub(crate) ring: RuledArrayQueue<T, V, P>,
     /// The threads that wait for an item.
-    sleepers: Sleepers,
+    pub(crate) sleepers: Sleepers,
     /// The threads that wait for room.
     taken: WaitQueue,
-    patience: Patience,
-    /// How many threads are looking for an item. It changes with each look, so it shares its cache lines with nothing else.
-    looking: CachePadded<AtomicUsize>,
+    pub(crate) patience: CachePadded<Patience>,
+    /// Whether a thread is looking for an item. More would be in each other's way, and in the way of the thread that pushes.
+    is_looked_at: CachePadded<AtomicBool>,
 }
 
 impl<T: Drop, V, P: Protocol<T, V>> RuledQueue<T, V, P> {
-    /// Returns a queue with room for `room` items, and its first pass.
+    /// Returns a queue with room for `room` items, and its first pass. `is_timed` is as at [`Sleepers::new`].
     pub(crate) fn new(
         alloc: Global,
         room: usize,
+        is_timed: bool,
     ) -> Result<(RuledQueue<T, V, P>, Pass<T, V>), AllocError>
         requires room { 0 < room }
         requires rule { P.holds [] (P.first ∷ []) }
@@ -48,15 +48,15 @@ impl<T: Drop, V, P: Protocol<T, V>> RuledQueue<T, V, P> {
         let (ring, pass) = RuledArrayQueue::ruled(alloc, room)?;
         let line = RuledQueue {
             ring,
-            sleepers: Sleepers::new(),
+            sleepers: Sleepers::new(is_timed),
             taken: WaitQueue::new(),
-            patience: Patience::new(),
-            looking: CachePadded::new(AtomicUsize::new(0)),
+            patience: CachePadded::new(Patience::new()),
+            is_looked_at: CachePadded::new(AtomicBool::new(false)),
         };
         Ok((line, pass))
     }
 
-    /// Pushes an item, and waits while there is no room.
+    /// Pushes an item, and waits while there is no room. Wakes a sleeper if there is none, which makes room.
     pub(crate) fn push_as<M: Outcome<T, V> + Lesson<T, V>, R: Wait>(
         &self,
         rt: &R,
@@ -71,12 +71,10 @@ impl<T: Drop, V, P: Protocol<T, V>> RuledQueue<T, V, P> {
         let mut item = item;
         for _ in self.taken.tries(rt) {
             match self.ring.push_as::<M, R>(rt, pass, item) {
-                Ok(()) => {
-                    self.wake();
-                    return;
-                }
+                Ok(()) => return,
                 Err(back) => item = back,
             }
+            self.sleepers.wake();
         }
         unreachable!()
     }
@@ -95,7 +93,7 @@ impl<T: Drop, V, P: Protocol<T, V>> RuledQueue<T, V, P> {
         if let Some(item) = self.pop_now_as::<M, R>(rt, pass) {
             return item;
         }
-        if let Some(item) = self.look_as::<M, R>(rt, pass) {
+        if let Some(item) = self.look_alone_as::<M, R>(rt, pass) {
             return item;
         }
         self.sleep_as::<M, R>(rt, pass)
@@ -114,12 +112,17 @@ impl<T: Drop, V, P: Protocol<T, V>> RuledQueue<T, V, P> {
         ensures rule { IfSome result (λ item. M.then (view pass.old) item (view pass.new)) }
     {
         let item = self.ring.pop_as::<M, R>(rt, pass)?;
-        self.pass_on(pass);
+        self.taken.wake_one();
         Some(item)
     }
 
-    // Looks for an item a few times, and counts as looking meanwhile. Doesn't look if enough other threads do.
-    fn look_as<M: Outcome<T, V> + Lesson<T, V>, R: Wait>(
+    /// Returns how many looks are worthwhile before a sleep.
+    pub(crate) fn looks(&self) -> u32 {
+        self.patience.tries().div_ceil(TRIES)
+    }
+
+    /// Tries to take the first item a few times, with a pause before each try.
+    pub(crate) fn look_as<M: Outcome<T, V> + Lesson<T, V>, R: Wait>(
         &self,
         rt: &R,
         pass: &mut Pass<T, V>,
@@ -130,19 +133,39 @@ impl<T: Drop, V, P: Protocol<T, V>> RuledQueue<T, V, P> {
         ensures none { IfNone result (view pass.new ≡ view pass.old) }
         ensures rule { IfSome result (λ item. M.then (view pass.old) item (view pass.new)) }
     {
-        if self.looking.load(Ordering::SeqCst) >= LOOKERS {
+        for tried in 0..self.patience.tries().min(TRIES) {
+            Patience::pause();
+            if let Some(item) = self.pop_now_as::<M, R>(rt, pass) {
+                self.patience.found(tried);
+                return Some(item);
+            }
+        }
+        None
+    }
+
+    // Looks for an item as long as that is worthwhile, unless another thread does.
+    fn look_alone_as<M: Outcome<T, V> + Lesson<T, V>, R: Wait>(
+        &self,
+        rt: &R,
+        pass: &mut Pass<T, V>,
+    ) -> Option<T>
+        requires queue { IsPassOf self.now.ring pass.old }
+        requires rule { MayPop P.holds pass.old M.then M.fact }
+        ensures queue { IsSamePass pass.old pass.new }
+        ensures none { IfNone result (view pass.new ≡ view pass.old) }
+        ensures rule { IfSome result (λ item. M.then (view pass.old) item (view pass.new)) }
+    {
+        if self.is_looked_at.load(Ordering::SeqCst)
+            || self.is_looked_at.swap(true, Ordering::SeqCst)
+        {
             return None;
         }
-        self.looking.fetch_add(1, Ordering::SeqCst);
         let item = self.find_as::<M, R>(rt, pass);
-        self.looking.fetch_sub(1, Ordering::SeqCst);
-        if item.is_some() {
-            self.pass_on(pass);
-        }
+        self.is_looked_at.store(false, Ordering::SeqCst);
         item
     }
 
-    // Tries to pop a few times, with a pause before each try.
+    // Looks for an item as long as that is worthwhile.
     fn find_as<M: Outcome<T, V> + Lesson<T, V>, R: Wait>(
         &self,
         rt: &R,
@@ -154,10 +177,8 @@ impl<T: Drop, V, P: Protocol<T, V>> RuledQueue<T, V, P> {
         ensures none { IfNone result (view pass.new ≡ view pass.old) }
         ensures rule { IfSome result (λ item. M.then (view pass.old) item (view pass.new)) }
     {
-        for tried in 0..self.patience.tries() {
-            Patience::pause();
-            if let Some(item) = self.ring.pop_as::<M, R>(rt, pass) {
-                self.patience.found(tried);
+        for _look in 0..self.looks() {
+            if let Some(item) = self.look_as::<M, R>(rt, pass) {
                 return Some(item);
             }
         }
@@ -165,8 +186,12 @@ impl<T: Drop, V, P: Protocol<T, V>> RuledQueue<T, V, P> {
         None
     }
 
-    // Takes the first item, and sleeps while there is none.
-    fn sleep_as<M: Outcome<T, V> + Lesson<T, V>, R: Wait>(&self, rt: &R, pass: &mut Pass<T, V>) -> T
+    /// Takes the first item, and sleeps while there is none.
+    pub(crate) fn sleep_as<M: Outcome<T, V> + Lesson<T, V>, R: Wait>(
+        &self,
+        rt: &R,
+        pass: &mut Pass<T, V>,
+    ) -> T
         requires queue { IsPassOf self.now.ring pass.old }
         requires rule { MayPop P.holds pass.old M.then M.fact }
         ensures queue { IsSamePass pass.old pass.new }
@@ -175,31 +200,21 @@ impl<T: Drop, V, P: Protocol<T, V>> RuledQueue<T, V, P> {
         let mut sleeper = self.sleepers.join(rt);
         for _ in rt.forever() {
             sleeper.turn();
-            if let Some(item) = sleeper.look_as::<T, V, P, M>(rt, &self.ring, pass) {
+            if let Some(item) = sleeper.look_as::<T, V, P, M>(&self.ring, pass) {
                 sleeper.rise();
-                self.pass_on(pass);
+                self.taken.wake_one();
                 return item;
             }
         }
         unreachable!()
     }
 
-    // Wakes a thread that waits for room after a pop, and leaves the remaining items to the next. Looks at the queue only if a
-    // thread sleeps, since each look takes cache lines from the thread that pushes.
-    fn pass_on(&self, pass: &mut Pass<T, V>)
+    /// Wakes a sleeper if there are so many items.
+    pub(crate) fn wake_if_filled<R: Wait>(&self, rt: &R, pass: &mut Pass<T, V>, enough: usize)
         requires { IsPassOf self.now.ring pass.old }
         ensures { IsSamePass pass.old pass.new × (view pass.new ≡ view pass.old) }
     {
-        self.taken.wake_one();
-        if self.sleepers.are_any() && !self.ring.is_empty_as::<Free>(pass) {
-            self.wake();
-        }
-    }
-
-    // Wakes a sleeper, if there is one, unless a thread is looking or a woken one is on its way: that thread finds what the sleeper
-    // would find.
-    fn wake(&self) {
-        if self.sleepers.are_any() && self.looking.load(Ordering::SeqCst) == 0 {
+        if self.sleepers.count() > 0 && self.ring.len_as::<Free, R>(rt, pass) >= enough {
             self.sleepers.wake();
         }
     }

@@ -5,17 +5,17 @@ ghost use Rattle.run_queues.specs.Allowed.{MayPop};
 
 use crossbeam_queue::protocol::{Lesson, Outcome, Protocol};
 use crossbeam_queue::{Pass, RuledArrayQueue};
+use crossbeam_utils::CachePadded;
 use std::hint;
 use std::marker::Model;
 use std::sync::Wait;
 use std::sync::atomic::{AtomicBool, AtomicU32, AtomicUsize, Ordering};
+use std::thread::Parker;
+use std::time::Duration;
 use wait_queue::{Tries, WaitQueue};
 
-/// Number of pauses before each try, some 50 nanoseconds each.
-const PAUSES: u32 = 4;
-
-/// Maximum number of tries of a look: some 60 microseconds in all, longer than a sleeping thread takes to wake and come.
-const MOST: u32 = 256;
+/// Maximum number of tries before a thread sleeps: some 60 microseconds in all, longer than a sleeping thread takes to wake and come.
+const MOST: u32 = 1_024;
 
 /// Number of looks in vain after which one look has the maximum number of tries again. If that look is in vain too, the next comes
 /// after twice as many.
@@ -23,6 +23,9 @@ const AGAIN: u32 = 16;
 
 /// Maximum number of looks in vain between two that have the maximum number of tries.
 const SELDOM: u32 = 1_024;
+
+/// How long a lookout sleeps until it looks again, in milliseconds.
+const WATCH: u64 = 1;
 
 /// How long a look at a queue is worthwhile. A look that finds an item makes the next twice as long, and a look in vain half as
 /// long. Now and then a look has its full length, so that two threads that woke each other for every item stay awake again. Looks
@@ -56,11 +59,9 @@ impl Patience {
         }
     }
 
-    /// Pauses before a try. A yield would give the processor away for a whole slice if other programs want it.
+    /// Pauses before a try, some 50 nanoseconds. A yield would give the processor away for a whole slice if other programs want it.
     pub(crate) fn pause() {
-        for _ in 0..PAUSES {
-            hint::spin_loop();
-        }
+        hint::spin_loop();
     }
 
     /// Records a look that found an item after `tried` tries.
@@ -97,7 +98,7 @@ impl Patience {
 /// Whether a woken thread is still to come.
 #[derive(Drop)]
 struct Coming {
-    is_set: AtomicBool,
+    is_set: CachePadded<AtomicBool>,
 }
 
 /// The look at the queue that a woken thread owes once it has come. It can't be dropped, only ended. Contracts see whether a look
@@ -118,7 +119,7 @@ impl Coming {
     /// No woken thread is to come.
     fn new() -> Coming {
         Coming {
-            is_set: AtomicBool::new(false),
+            is_set: CachePadded::new(AtomicBool::new(false)),
         }
     }
 
@@ -172,33 +173,57 @@ impl OwedLook {
 }
 
 /// The threads that sleep because they found nothing, or are about to sleep.
+///
+/// One of them is the lookout. If `is_timed`, it looks again after a while though nobody wakes it, and once it has risen another takes
+/// its place. So a push may leave its item to a thread that is awake: if that thread is held elsewhere, the lookout finds the item.
 #[derive(Drop)]
 pub(crate) struct Sleepers {
-    woken: WaitQueue,
-    count: AtomicUsize,
+    /// How many they are. It changes with each sleep, so it shares its cache lines with nothing else.
+    count: CachePadded<AtomicUsize>,
     coming: Coming,
+    has_lookout: AtomicBool,
+    /// Where the lookout sleeps.
+    lookout: Parker,
+    /// Where the others sleep.
+    others: WaitQueue,
+    is_timed: bool,
 }
 
 impl Sleepers {
-    /// Makes an empty set of sleepers.
-    pub(crate) fn new() -> Sleepers {
+    /// Makes an empty set of sleepers. Without a time limit, one thread at most may sleep.
+    pub(crate) fn new(is_timed: bool) -> Sleepers {
         Sleepers {
-            woken: WaitQueue::new(),
-            count: AtomicUsize::new(0),
+            count: CachePadded::new(AtomicUsize::new(0)),
             coming: Coming::new(),
+            has_lookout: AtomicBool::new(false),
+            lookout: Parker::new(),
+            others: WaitQueue::new(),
+            is_timed,
         }
     }
 
-    /// Returns whether there are any.
-    pub(crate) fn are_any(&self) -> bool {
-        self.count.load(Ordering::SeqCst) > 0
+    /// Returns how many there are.
+    pub(crate) fn count(&self) -> usize {
+        self.count.load(Ordering::SeqCst)
     }
 
-    /// Wakes one, unless a woken thread is still to come.
+    /// Wakes one, unless a woken thread is still to come: the lookout if it is the only one.
     pub(crate) fn wake(&self) {
-        if self.coming.claim() {
-            self.woken.wake_one();
+        let count = self.count();
+        if count == 0 || !self.coming.claim() {
+            return;
         }
+        if count > 1 {
+            self.others.wake_one();
+        } else {
+            self.lookout.unpark();
+        }
+    }
+
+    /// Wakes all.
+    pub(crate) fn wake_all(&self) {
+        self.lookout.unpark();
+        self.others.wake_all();
     }
 
     /// Counts the calling thread as a sleeper.
@@ -207,17 +232,46 @@ impl Sleepers {
     {
         self.count.fetch_add(1, Ordering::SeqCst);
         Sleeper {
-            tries: self.woken.announced_tries(rt),
+            rt,
             sleepers: self,
+            is_lookout: false,
+            tries: self.others.announced_tries(rt),
             owed: OwedLook::new(),
+        }
+    }
+
+    /// Returns whether the caller is the lookout from now on, because there was none.
+    fn claim_lookout(&self) -> bool {
+        !self.has_lookout.load(Ordering::SeqCst) && !self.has_lookout.swap(true, Ordering::SeqCst)
+    }
+
+    /// Sleeps as the lookout.
+    fn watch<R: Wait>(&self, rt: &R) {
+        if self.is_timed {
+            self.lookout.park_timeout(rt, Duration::from_millis(WATCH));
+        } else {
+            self.lookout.park(rt);
+        }
+    }
+
+    /// Stops counting a thread as a sleeper. If it was the lookout, it wakes another, which takes its place.
+    fn leave(&self, is_lookout: bool) {
+        if is_lookout {
+            self.has_lookout.store(false, Ordering::SeqCst);
+        }
+        if self.count.fetch_sub(1, Ordering::SeqCst) > 1 && is_lookout {
+            self.others.wake_one();
         }
     }
 }
 
 /// A thread that counts as a sleeper until [`Sleeper::rise`]; it can't be dropped. Contracts see whether it owes a look.
 pub(crate) struct Sleeper<'q, R: Wait> {
-    tries: Tries<'q, R>,
+    rt: &'q R,
     sleepers: &'q Sleepers,
+    is_lookout: bool,
+    /// Its tries among the others, unless it is the lookout.
+    tries: Tries<'q, R>,
     owed: OwedLook,
 }
 
@@ -236,14 +290,30 @@ impl<'q, R: Wait> Sleeper<'q, R> {
         requires looked { self.old ≡ false }
         ensures { self.new ≡ true }
     {
-        let _turn = self.tries.next();
+        if self.is_lookout {
+            self.sleepers.watch(self.rt);
+        } else if !self.becomes_lookout() {
+            let _turn = self.tries.next();
+            // The lookout may have risen since, and have found no announcement of this thread's.
+            self.becomes_lookout();
+        }
         self.sleepers.coming.come(&mut self.owed);
+    }
+
+    // Becomes the lookout if there is none. It waits with the others no longer then.
+    fn becomes_lookout(&mut self) -> bool
+        ensures { self.new ≡ self.old }
+    {
+        self.is_lookout = self.sleepers.claim_lookout();
+        if self.is_lookout {
+            self.tries = self.sleepers.others.announced_tries(self.rt);
+        }
+        self.is_lookout
     }
 
     /// Takes the first item of the queue, if there is one.
     pub(crate) fn look_as<T: Drop, V, P: Protocol<T, V>, M: Outcome<T, V> + Lesson<T, V>>(
         &mut self,
-        rt: &R,
         ring: &RuledArrayQueue<T, V, P>,
         pass: &mut Pass<T, V>,
     ) -> Option<T>
@@ -254,7 +324,7 @@ impl<'q, R: Wait> Sleeper<'q, R> {
         ensures none { IfNone result (view pass.new ≡ view pass.old) }
         ensures rule { IfSome result (λ item. M.then (view pass.old) item (view pass.new)) }
     {
-        self.owed.look_as::<T, V, P, M, R>(rt, ring, pass)
+        self.owed.look_as::<T, V, P, M, R>(self.rt, ring, pass)
     }
 
     /// Stops counting the thread as a sleeper.
@@ -262,11 +332,13 @@ impl<'q, R: Wait> Sleeper<'q, R> {
         requires looked { self ≡ false }
     {
         let Sleeper {
-            tries: _,
+            rt: _,
             sleepers,
+            is_lookout,
+            tries: _,
             owed,
         } = self;
         owed.end();
-        sleepers.count.fetch_sub(1, Ordering::SeqCst);
+        sleepers.leave(is_lookout);
     }
 }

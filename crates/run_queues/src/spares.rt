@@ -1,5 +1,5 @@
 //! The queue of items that aren't in use.
-ghost use Rattle.std.specs.Prelude.{◌≡◌, ◌+◌, ◌<◌, ◌^◌, IfOk};
+ghost use Rattle.std.specs.Prelude.{◌≡◌, ◌+◌, ◌<◌, ◌^◌, IfOk, IfSome, IfNone};
 ghost use Rattle.run_queues.specs.Parts.{none_counted, one_more};
 
 use crate::ruled_queue::RuledQueue;
@@ -11,9 +11,13 @@ use std::sync::Wait;
 
 /// A queue of items that threads take and put back. Contracts know of an item what its type's invariant says: if every value of the
 /// type is free and belongs to one owner, the queue holds free items of that owner.
+///
+/// The thread that takes is woken once half of the spares are back, or if those who put expect no more soon.
 #[derive(Drop)]
 pub struct SpareQueue<T: Drop> {
     line: RuledQueue<T, (), Free>,
+    /// The number of spares for which a thread that sleeps is woken.
+    enough: usize,
 }
 
 impl<T: Drop> Model for SpareQueue<T> {
@@ -70,8 +74,9 @@ impl<T: Drop> SpareQueue<T> {
         ensures queue { IfOk result (λ made. made.0.room ≡ room) }
         ensures taker { IfOk result (λ made. made.1 ≡ none_counted made.0.id) }
     {
-        let (line, seat) = RuledQueue::new(alloc, room)?;
-        Ok((SpareQueue { line }, Taker { seat, taken: 0 }))
+        let enough = room.div_ceil(2);
+        let (line, seat) = RuledQueue::new(alloc, room, enough > 1)?;
+        Ok((SpareQueue { line, enough }, Taker { seat, taken: 0 }))
     }
 
     /// Returns the number of items for which there is room.
@@ -99,15 +104,51 @@ impl<T: Drop> SpareQueue<T> {
     {
         self.line.push_as::<Free, R>(rt, &mut count.seat, item);
         count.put += 1;
+        self.line.wake_if_filled(rt, &mut count.seat, self.enough);
     }
 
-    /// Takes the first item, and counts it. Waits while there is none.
+    /// Wakes the thread that takes, if it sleeps. Call this if no more spares come soon.
+    pub fn wake_taker(&self) {
+        self.line.sleepers.wake();
+    }
+
+    /// Takes the first item if there is one now, and counts it.
+    pub fn try_take<R: Wait>(&self, rt: &R, taker: &mut Taker<T>) -> Option<T>
+        requires own { taker.old.queue ≡ self.now.id }
+        requires room { taker.old.count + 1 < 2 ^ 64 }
+        ensures counted { IfSome result (λ _. taker.new ≡ one_more taker.old) }
+        ensures none { IfNone result (taker.new ≡ taker.old) }
+    {
+        let item = self.line.pop_now_as::<Free, R>(rt, &mut taker.seat)?;
+        taker.taken += 1;
+        Some(item)
+    }
+
+    /// Returns how many looks are worthwhile before a sleep.
+    pub fn looks(&self) -> u32 {
+        self.line.looks()
+    }
+
+    /// Looks for an item for some microseconds, and counts it.
+    pub fn look<R: Wait>(&self, rt: &R, taker: &mut Taker<T>) -> Option<T>
+        requires own { taker.old.queue ≡ self.now.id }
+        requires room { taker.old.count + 1 < 2 ^ 64 }
+        ensures counted { IfSome result (λ _. taker.new ≡ one_more taker.old) }
+        ensures none { IfNone result (taker.new ≡ taker.old) }
+    {
+        let item = self.line.look_as::<Free, R>(rt, &mut taker.seat)?;
+        taker.taken += 1;
+        Some(item)
+    }
+
+    /// Takes the first item, and counts it. Sleeps while there is none; look first if one is to come soon.
     pub fn take<R: Wait>(&self, rt: &R, taker: &mut Taker<T>) -> T
         requires own { taker.old.queue ≡ self.now.id }
         requires room { taker.old.count + 1 < 2 ^ 64 }
         ensures counted { taker.new ≡ one_more taker.old }
     {
         taker.taken += 1;
-        self.line.pop_as::<Free, R>(rt, &mut taker.seat)
+        self.line.patience.in_vain();
+        self.line.sleep_as::<Free, R>(rt, &mut taker.seat)
     }
 }

@@ -1,11 +1,12 @@
 //! A script: its version, and its lines with what each asks.
-ghost use Rattle.std.specs.Prelude.{◌≡◌, ◌≤◌, length, ◌<◌, IfSome, IfNone};
+ghost use Rattle.std.specs.Prelude.{◌≡◌, ◌≤◌, length, ◌<◌, IfSome, IfNone, IfOk, OnErr};
 ghost use Rattle.ram_disk.specs.declared.pattern.TheConstants.{MAX_PATTERN};
 ghost use Rattle.script_meaning.specs.declared.script.TheConstants.{MOST_SHORT};
 ghost use Rattle.script_meaning.specs.Script.{version_number, Meant, orders};
 ghost use Rattle.queue_limits.specs.declared.limits.TheConstants.{HARDWARE_LIMIT};
 ghost use Rattle.ram_disk.specs.declared.disk.TheConstants.{MAX_SECTORS};
 
+use std::alloc::{AllocError, Global};
 use std::marker::Model;
 
 /// How the queue of a script counts requests in flight. A run of the script derives the mode of its own queue from this one.
@@ -83,17 +84,18 @@ impl Model for Pattern {
 }
 
 impl Pattern {
-    /// Makes a pattern of 1 to 64 bytes; no memory is taken.
-    pub fn new(bytes: Vec<u8>) -> Self
-        requires some { 1 ≤ length bytes.items }
-        requires few { length bytes.items ≤ MAX_PATTERN }
-        ensures { result ≡ bytes.items }
+    /// Makes a pattern of 1 to 64 bytes. Takes memory, and returns an error if it is refused, only for more than 8 bytes.
+    pub fn new(alloc: Global, bytes: &[u8]) -> Result<Self, AllocError>
+        requires some { 1 ≤ length bytes.now }
+        requires few { length bytes.now ≤ MAX_PATTERN }
+        ensures value { IfOk result (λ pattern. pattern ≡ bytes.now) }
+        ensures refused { OnErr result (MOST_SHORT < length bytes.now) }
     {
-        let bytes = match ShortBytes::of(&bytes) {
+        let bytes = match ShortBytes::of(bytes) {
             Some(short) => Bytes::Short(short),
-            None => Bytes::Long(bytes),
+            None => Bytes::Long(Vec::from_slice(alloc, bytes)?),
         };
-        Pattern { bytes }
+        Ok(Pattern { bytes })
     }
 
     /// Returns the bytes.

@@ -1,10 +1,11 @@
 //! The calls of `freeze_queue`.
 ghost use Rattle.std.specs.Prelude.{◌≡◌, ◌<◌, ◌≤◌, All, true, false};
 ghost use Rattle.freeze_queue.specs.Queue.{fault_number};
+ghost use Rattle.freeze_queue.specs.BiasedTags.{queue_of, stage, not_in_lane, in_now};
 
 use freeze_queue::{
-    BlockQueue, Enter, Final, FreezeFault, Freezer, Limits, Memory, Mode, Pair, Put, RemoveFault,
-    SharedFreezer, Stay, StayOrEnter, Tag,
+    BiasedEntry, BiasedTag, BlockQueue, Enter, Final, FreezeFault, Freezer, Limits, Memory, Mode,
+    Pair, Put, RemoveFault, SharedFreezer, Tag,
 };
 use std::alloc::Global;
 use std::sync::{MutexGuard, Wait};
@@ -57,20 +58,44 @@ pub fn leave(queue: &BlockQueue, tag: &mut Tag, slot: u32) -> Put
     queue.leave(tag, slot)
 }
 
-pub fn stay(queue: &BlockQueue, tag: &mut Tag, slot: u32) -> Stay
-    requires own { tag.old.queue ≡ queue.now }
+pub fn try_enter_by_lane(queue: &BlockQueue, tag: &mut BiasedTag, slot: u32) -> BiasedEntry
+    requires own { queue_of tag.old ≡ queue.now }
     requires slot { slot < queue.now.gate.slots }
-    requires entered { tag.old.entered ≡ true }
+    requires out { in_now tag.old ≡ false }
 {
-    queue.stay(tag, slot)
+    queue.try_enter_by_lane(tag, slot)
 }
 
-pub fn stay_or_enter<R: Wait>(rt: &R, queue: &BlockQueue, tag: &mut Tag, slot: u32) -> StayOrEnter
-    requires own { tag.old.queue ≡ queue.now }
+pub fn look_in(queue: &BlockQueue, tag: &mut BiasedTag, slot: u32) -> BiasedEntry
+    requires own { queue_of tag.old ≡ queue.now }
     requires slot { slot < queue.now.gate.slots }
-    requires entered { tag.old.entered ≡ true }
+    requires out { in_now tag.old ≡ false }
 {
-    queue.stay_or_enter(rt, tag, slot)
+    queue.look_in(tag, slot)
+}
+
+pub fn enter_by_lane<R: Wait>(rt: &R, queue: &BlockQueue, tag: &mut BiasedTag, slot: u32)
+    requires own { queue_of tag.old ≡ queue.now }
+    requires slot { slot < queue.now.gate.slots }
+    requires out { in_now tag.old ≡ false }
+{
+    queue.enter_by_lane(rt, tag, slot);
+}
+
+pub fn leave_by_lane(queue: &BlockQueue, tag: &mut BiasedTag, slot: u32, keep: bool) -> Put
+    requires own { queue_of tag.old ≡ queue.now }
+    requires slot { slot < queue.now.gate.slots }
+    requires entered { in_now tag.old ≡ true }
+{
+    queue.leave_by_lane(tag, slot, keep)
+}
+
+pub fn end_bias(queue: &BlockQueue, tag: &mut BiasedTag, slot: u32) -> Option<Put>
+    requires own { queue_of tag.old ≡ queue.now }
+    requires slot { slot < queue.now.gate.slots }
+    requires out { not_in_lane (stage tag.old) ≡ true }
+{
+    queue.end_bias(tag, slot)
 }
 
 pub fn limits_under(queue: &BlockQueue, tag: &mut Tag) -> Limits

@@ -3,13 +3,14 @@ ghost use Rattle.std.specs.Prelude.{◌≡◌, ◌<◌, false, true, None};
 ghost use Rattle.percpu_core.specs.Starts.{starts_dead};
 ghost use Rattle.percpu_gate.specs.Calls.{holding};
 ghost use Rattle.percpu_gate.specs.ControlCalls.{kill_refusal};
+ghost use Rattle.freeze_queue.specs.BiasedTags.{queue_of, in_now};
 
-use freeze_queue::{BlockQueue, FreezeFault, Freezer, Limits, Tag};
+use freeze_queue::{BiasedTag, BlockQueue, FreezeFault, Freezer, Limits, Tag};
 use percpu_gate::{Control, ControlFault, Gate, Pass, Put};
 use std::alloc::{AllocError, Global};
 use std::sync::Wait;
 use std::thread::Threads;
-use uses::{Command, Raced, Served};
+use uses::{Command, Driven, Raced, Request, Served};
 
 pub fn commands(
     alloc: Global,
@@ -67,17 +68,46 @@ pub fn submit_next<R: Wait>(
     rt: &R,
     alloc: Global,
     queue: &BlockQueue,
-    tag: &mut Tag,
+    tag: &mut BiasedTag,
     slot: u32,
-    start: u64,
-    count: u32,
+    request: Request,
 ) -> Result<Vec<Command>, AllocError>
-    requires own { tag.old.queue ≡ queue.now }
+    requires own { queue_of tag.old ≡ queue.now }
     requires slot { slot < queue.now.gate.slots }
-    requires entered { tag.old.entered ≡ true }
-    requires place { start < 4294967296 }
+    requires out { in_now tag.old ≡ false }
 {
-    uses::submit_next(rt, alloc, queue, tag, slot, start, count)
+    uses::submit_next(rt, alloc, queue, tag, slot, request)
+}
+
+pub fn run_requests<R: Wait>(
+    rt: &R,
+    alloc: Global,
+    queue: &BlockQueue,
+    tag: &mut BiasedTag,
+    slot: u32,
+    requests: &[Request],
+) -> Result<Vec<Vec<Command>>, AllocError>
+    requires own { queue_of tag.old ≡ queue.now }
+    requires slot { slot < queue.now.gate.slots }
+    requires out { in_now tag.old ≡ false }
+{
+    uses::run_requests(rt, alloc, queue, tag, slot, requests)
+}
+
+pub fn drive<R: Threads + Wait + Sync>(
+    rt: &R,
+    alloc: Global,
+    queue: &BlockQueue,
+    tag: BiasedTag,
+    freezer: Freezer,
+    requests: &[Request],
+    changes: &[Limits],
+) -> Driven
+    requires own { (queue_of tag ≡ queue.now) × (freezer.queue ≡ queue.now) }
+    requires slot { 0 < queue.now.gate.slots }
+    requires out { in_now tag ≡ false }
+{
+    uses::drive(rt, alloc, queue, tag, freezer, requests, changes)
 }
 
 pub fn enter_under<R: Wait>(rt: &R, queue: &BlockQueue, tag: &mut Tag, slot: u32, limits: &Limits)

@@ -1,2 +1,3 @@
--- Rows: commands in a row, and one more.
+-- Rows: commands in a row, and one more. Cuts: requests with their commands, and one more.
+pub mod Cuts
 pub mod Rows

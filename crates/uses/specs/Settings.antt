@@ -1,18 +1,16 @@
 -- What a request that entered a queue leaves, and what a change of its limits leaves.
-use Rattle.std.specs.Prelude.{◌≡◌, ◌+◌, ◌≤◌, ℕ, zero, suc, Bool, true, false, Option, Some, None, IfSome, Result, Ok, Err, List}
+use Rattle.std.specs.Prelude.{◌≡◌, ◌+◌, ◌≤◌, ℕ, zero, suc, Bool, true, false, Option, Some, None, Result, Ok, Err, List}
 use Rattle.queue_limits.specs.Bounds.{Bounds, AreAllowed}
 use Rattle.queue_limits.specs.Pieces.{IsSplit}
 use Rattle.percpu_core.specs.declared.view.PassView.{PassView}
 use Rattle.percpu_gate.specs.declared.tried.Put.{Put}
 use Rattle.percpu_gate.specs.declared.tried.Tried.TheVariants.{Given}
 use Rattle.percpu_core.specs.declared.pass_event.PassEvent.TheVariants.{AddLive}
-use Rattle.percpu_core.specs.Views.{count}
 use Rattle.percpu_gate.specs.Rule.{Steps}
 use Rattle.percpu_gate.specs.Steps.{PutSteps}
 use Rattle.percpu_gate.specs.Calls.{LiveTryFinds}
 use Rattle.freeze_queue.specs.declared.enter.Enter.TheVariants.{Entered, Again}
-use Rattle.freeze_queue.specs.declared.enter.StayOrEnter.{StayOrEnter}
-use Rattle.freeze_queue.specs.Entering.{EnterSteps, WaitSteps, StayOrEnterSteps, has_entered_again}
+use Rattle.freeze_queue.specs.Entering.{EnterSteps, WaitSteps}
 use Rattle.freeze_queue.specs.Readings.{AskSteps}
 use Rattle.freeze_queue.specs.AtTheGate.{AreInForce}
 use Rattle.freeze_queue.specs.Queue.{QueueFacts, TagFacts, FreezerFacts, after_freeze, after_look, after_set, after_thaw}
@@ -36,10 +34,6 @@ pub record IsChanged (limits : Bounds) (old new : FreezerFacts) : Type 0 where
   pub last : Put
   pub leaves : new ≡ after_thaw true (after_set limits (after_look true (after_freeze last old)))
 
--- while no live gate gives a tag another reference, it keeps the limits that it has read
-abbrev pub KeepsLimits : TagFacts → TagFacts → Type 0
-KeepsLimits old new = IfSome old.limits (λ l. new.seat.live_given ≡ old.seat.live_given → new.limits ≡ Some l)
-
 -- an entered tag has read these limits in a call in which its seat knew all that it knows now, except what it read then; they were in force
 abbrev pub WereReadInside : QueueFacts → TagFacts → Bounds → Type 0
 WereReadInside q t limits = (before : PassView) × (t.seat ≡ record before { read = t.seat.read }) × AreInForce q.gate q.hardware before limits
@@ -53,16 +47,6 @@ abbrev pub SubmitSteps : {A E : Type 0} → ℕ → Result (Option A) E → Step
 SubmitSteps slot (Ok None) old new = EnterSteps AddLive slot Again old new
 SubmitSteps slot (Ok (Some made)) old new = (entered : Steps) × EnterSteps AddLive slot Entered old entered × AskSteps entered new
 SubmitSteps slot (Err why) old new = (put : Put) × (entered : Steps) × (asked : Steps) × EnterSteps AddLive slot Entered old entered × AskSteps entered asked × PutSteps slot 1 put asked new
-
--- an entered tag stays, or leaves once and enters again, and then loads the limits. Only in the second case did a gate give it a reference: one, after its load
--- had found the queue frozen
-pub record StaysOrEnters (slot : ℕ) (old new : TagFacts) : Type 0 where
-  pub answer : StayOrEnter
-  pub given : new.seat.live_given ≡ old.seat.live_given + count (has_entered_again answer)
-  pub found : old.seat.found_dead_times + count (has_entered_again answer) ≤ new.seat.found_dead_times
-  pub behind : Steps
-  pub asks : StayOrEnterSteps slot answer old.steps behind
-  pub loads : AskSteps behind new.steps
 
 -- it entered on this slot, loaded the limits and left, this many times
 abbrev pub RoundSteps : ℕ → ℕ → Steps → Steps → Type 0

@@ -5,7 +5,7 @@ ghost use Rattle.percpu_gate.specs.Calls.{is_refused, taken, LiveTryFinds};
 ghost use Rattle.freeze_queue.specs.Queue.{fault_of, freeze_refusal};
 ghost use Rattle.freeze_queue.specs.Readings.{IsTag};
 ghost use Rattle.uses.specs.Commands.{lengths, found, AreInARow};
-ghost use Rattle.uses.specs.Settings.{IsCutByLimits, IsChanged, KeepsLimits, WereReadInside, EndsWithOneTry, SubmitSteps, StaysOrEnters, UnderSteps, is_made};
+ghost use Rattle.uses.specs.Settings.{IsCutByLimits, IsChanged, WereReadInside, EndsWithOneTry, SubmitSteps, UnderSteps, is_made};
 
 use crate::cutting::{Command, commands};
 use freeze_queue::{BlockQueue, Enter, FreezeFault, Freezer, Tag};
@@ -55,38 +55,6 @@ pub fn submit(
             Err(why)
         }
     }
-}
-
-/// Returns the commands for the next request of a thread whose tag is entered. The tag stays entered with the limits that it read,
-/// unless a freeze has begun: then it leaves, waits for the thaw and enters again. So a busy thread submits at the price of a load.
-///
-/// Such a thread has to leave before it waits for anything else, since a thread that stays and then sleeps holds up every freeze.
-pub fn submit_next<R: Wait>(
-    rt: &R,
-    alloc: Global,
-    queue: &BlockQueue,
-    tag: &mut Tag,
-    slot: u32,
-    start: u64,
-    count: u32,
-) -> Result<Vec<Command>, AllocError>
-    requires own { tag.old.queue ≡ queue.now }
-    requires slot { slot < queue.now.gate.slots }
-    requires entered { tag.old.entered ≡ true }
-    requires place { start < 2 ^ 32 }
-    ensures own { tag.new.queue ≡ queue.now }
-    ensures entered { tag.new.entered ≡ true }
-    // It looks once. If no gate gave it another reference, it has stayed, and these are the limits of before.
-    ensures looks { tag.new.seat.looks ≡ tag.old.seat.looks + 1 }
-    ensures same { KeepsLimits tag.old tag.new }
-    // It leaves at most once, if it found the queue frozen, and enters again once.
-    ensures once { StaysOrEnters slot tag.old tag.new }
-    ensures row { IfOk result (λ made. AreInARow start made.items) }
-    ensures split { IfOk result (λ made. IsCutByLimits tag.new start count (lengths made.items)) }
-{
-    let _answer = queue.stay_or_enter(rt, tag, slot);
-    let limits = queue.limits(tag);
-    commands(alloc, &limits, start, count)
 }
 
 /// Enters, and waits until the limits in force are these. By the time a tag enters after a change of limits, the freezer may have

@@ -28,5 +28,5 @@ pub mod sync;
 pub mod thread;
 pub mod wait_queue;
 
-pub use ::freeze_queue::erased::{queue_core, queue_limits};
+pub use ::freeze_queue::erased::{bias_lanes, queue_core, queue_limits};
 pub use ::percpu_gate::erased::{atomic_table, fallible, percpu_gate, percpu_words};

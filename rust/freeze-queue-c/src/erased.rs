@@ -15,7 +15,6 @@ pub mod freeze_queue_c;
 #[path = "../../freeze-queue/src/erased"]
 pub mod steps {
     pub mod bias_lanes;
-    pub mod biased_queue;
     pub mod queue_core;
     pub mod queue_limits;
 }
@@ -46,7 +45,7 @@ pub use c_memory as pointers;
 pub use c_memory::erased::atomic_table;
 pub use c_memory::erased::loose_box;
 pub use gate::{percpu_core, percpu_gate, percpu_words};
-pub use steps::{bias_lanes, biased_queue, queue_core, queue_limits};
+pub use steps::{bias_lanes, queue_core, queue_limits};
 
 use core::sync::atomic::AtomicU64;
 

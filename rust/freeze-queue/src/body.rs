@@ -1,5 +1,5 @@
 //! A tag in its place. The tag has a share of its queue, so a request doesn't count one.
-use crate::erased::biased_queue::BiasedTag;
+use crate::erased::queue_core::BiasedTag;
 use crate::lent::Lent;
 use crate::limits::Limits;
 use crate::shared::Shared;

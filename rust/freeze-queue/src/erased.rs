@@ -4,7 +4,6 @@
 #![allow(missing_docs, missing_debug_implementations, clippy::all, clippy::pedantic, rustdoc::all)]
 
 pub mod bias_lanes;
-pub mod biased_queue;
 pub mod fences;
 pub mod lane_table;
 pub mod queue_core;

@@ -146,8 +146,8 @@ errors! {
         Freeze(why: FreezeError) => "the update couldn't freeze the queue",
         /// Another update ran, or requests were in flight, until the deadline.
         TimedOut => "the deadline has passed",
-        /// The closure of an update updates the same queue.
-        Nested => "an update within an update of the same queue",
+        /// The closure of an update updates the same queue, or sets its limits.
+        Nested => "a change within an update of the same queue",
         /// There is no memory to wait for another update.
         NoMemory => "no memory to wait for another update",
     }

@@ -7,6 +7,7 @@ use crate::shared::Shared;
 use crate::tasks;
 use std::marker::PhantomData;
 use std::ops::Deref;
+use std::panic::Location;
 use std::sync::Arc;
 use std::time::{Duration, Instant};
 
@@ -14,6 +15,8 @@ use std::time::{Duration, Instant};
 pub(crate) struct Freeze<T> {
     /// None after the thaw.
     queue: Option<Arc<Shared<T>>>,
+    /// Its number in the queue's list of freezes.
+    number: u64,
 }
 
 impl<T> Freeze<T> {
@@ -24,7 +27,7 @@ impl<T> Freeze<T> {
     /// Marks the queue dying and ends this freeze. A waker may panic, after the freeze has ended.
     pub(crate) fn mark_dying(mut self) {
         if let Some(queue) = self.queue.take() {
-            queue.mark_dying(true);
+            queue.mark_dying(Some(self.number));
         }
     }
 }
@@ -43,7 +46,7 @@ impl<T> Drop for Borrow<'_, T> {
 impl<T> Drop for Freeze<T> {
     fn drop(&mut self) {
         if let Some(queue) = self.queue.take() {
-            queue.thaw();
+            queue.thaw(self.number);
         }
     }
 }
@@ -89,9 +92,12 @@ pub struct OwnedFreezing<T = ()> {
 }
 
 impl<'q, T> Freezing<'q, T> {
-    pub(crate) fn begin(queue: &'q Arc<Shared<T>>) -> Result<Freezing<'q, T>, FreezeError> {
-        let updates = queue.begin_freeze()?;
-        let freeze = Freeze { queue: Some(Arc::clone(queue)) };
+    pub(crate) fn begin(
+        queue: &'q Arc<Shared<T>>,
+        location: &'static Location<'static>,
+    ) -> Result<Freezing<'q, T>, FreezeError> {
+        let (number, updates) = queue.begin_freeze(location)?;
+        let freeze = Freeze { queue: Some(Arc::clone(queue)), number };
         wake_each(updates); // which may panic: then the freeze is thawed
         Ok(Freezing::of(OwnedFreezing { freeze }))
     }

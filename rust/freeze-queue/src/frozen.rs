@@ -106,7 +106,7 @@ impl<T> OwnedFrozen<T> {
     /// # Errors
     ///
     /// Returns [`UpdateError::Limits`] if the limits are invalid, or else [`UpdateError::OtherHardware`] if `hardware` isn't
-    /// the queue's.
+    /// the queue's, or else [`UpdateError::Nested`] if the closure of an update of this queue calls it.
     ///
     /// # Examples
     ///

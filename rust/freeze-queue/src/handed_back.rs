@@ -6,8 +6,8 @@ use std::fmt;
 /// A refusal of a call that takes a value. It returns the value.
 ///
 /// `?` drops the value and returns only the reason (or boxes it). The value's type doesn't matter. `HandedBack` isn't an
-/// `Error` itself. To use `?` with an error type of another crate, take the reason first, for example with
-/// `map_err(RemoveError::from)`.
+/// `Error` itself, since it would keep the value alive. To use `?` with an error type of another crate, take the reason first
+/// ([`into_reason`](HandedBack::into_reason)).
 ///
 /// ```
 /// # use freeze_queue::{HandedBack, Limits, Queue, RemoveError};
@@ -23,6 +23,32 @@ pub struct HandedBack<T, E> {
     pub value: T,
     /// Why the call refused.
     pub reason: E,
+}
+
+impl<T, E> HandedBack<T, E> {
+    /// Drops the value and returns the reason, as `?` needs it for an error type of another crate.
+    ///
+    /// ```
+    /// # use freeze_queue::{HandedBack, Limits, Queue};
+    /// # #[derive(Debug)]
+    /// # struct AnyError(String);
+    /// # impl<E: std::error::Error> From<E> for AnyError {
+    /// #     fn from(error: E) -> AnyError {
+    /// #         AnyError(error.to_string())
+    /// #     }
+    /// # }
+    /// fn remove(queue: Queue) -> Result<(), AnyError> {
+    ///     queue.remove().map_err(HandedBack::into_reason)?;
+    ///     Ok(())
+    /// }
+    /// # let queue = Queue::new(Limits::of_hardware(64))?;
+    /// # let tag = queue.tag()?;
+    /// assert_eq!(remove(queue).unwrap_err().0, "tags are out");
+    /// # Ok::<(), AnyError>(())
+    /// ```
+    pub fn into_reason(self) -> E {
+        self.reason
+    }
 }
 
 impl<T, E: fmt::Display> fmt::Display for HandedBack<T, E> {
@@ -72,5 +98,6 @@ mod tests {
         let refused = HandedBack { value: 7, reason: RemoveError::TagsOut };
         assert_eq!(refused.to_string(), "tags are out");
         assert_eq!(refused.value, 7);
+        assert_eq!(refused.into_reason(), RemoveError::TagsOut);
     }
 }

@@ -45,6 +45,7 @@
 //! | a change | now | wait | with a timeout | as a task |
 //! |---|---|---|---|---|
 //! | of the limits | | [`update`](Queue::update) | [`update_timeout`](Queue::update_timeout) | [`update_async`](Queue::update_async) |
+//! | of the value | | [`update_value`](Queue::update_value) | [`update_value_timeout`](Queue::update_value_timeout) | [`update_value_async`](Queue::update_value_async) |
 //! | a freeze, which nests | [`begin_freeze`](Queue::begin_freeze), [`try_freeze`](Queue::try_freeze) | [`freeze`](Queue::freeze) | [`freeze_timeout`](Queue::freeze_timeout) | [`freeze_async`](Queue::freeze_async) |
 //! | the device's end | [`mark_dying`](Queue::mark_dying) | [`shut_down`](Queue::shut_down) | [`shut_down_timeout`](Queue::shut_down_timeout) | [`shut_down_async`](Queue::shut_down_async) |
 //!
@@ -69,7 +70,7 @@
 //!
 //! - `freeze`, `update` or `shut_down`, if the caller holds a request of the same queue, or if two threads or tasks each hold a request
 //!   of the queue that the other freezes. In `match queue.enter(&mut tag)?.limits().max { .. }` the request is held to the end of the
-//!   `match`.
+//!   `match`, and in `assert!(queue.enter_any().is_ok())` or an argument of `println!` to the end of the statement.
 //! - `enter`, `enter_owned` or `enter_any`, if the caller holds a freeze.
 //! - `enter`, `enter_owned` or `enter_any`, if the caller holds a request and a freeze begins meanwhile: the freeze waits for the
 //!   request, and the call waits for the thaw. [`Queue::try_enter_frozen`] enters at once.
@@ -78,14 +79,13 @@
 //!   gets requests through a channel, if a freeze begins meanwhile. On these threads enter by `try_enter`, `try_enter_any` or
 //!   `try_enter_frozen`, or not at all.
 //! - `enter_any`, if the caller holds all tags that aren't reserved.
-//! - [`OwnedFrozen::lock`], if the caller holds the value already. (It may panic instead.)
 //! - A wait for a request, a tag, a freeze or a value that was leaked (`mem::forget`).
 //! - A wait for a future that was polled once, and is neither polled again nor dropped: it may have a tag, a freeze or the turn to
 //!   update.
 //! - A blocking call in a task, if another task of the same executor has what the call waits for, and no other thread runs that task.
 //!   Use the `_async` form.
 //!
-//! If a drain hangs, [`Queue::in_flight`] lists the requests.
+//! If a drain hangs, [`Queue::in_flight`] lists the requests, and if a thaw doesn't come, [`Queue::frozen_by`] the freezes.
 //!
 //! # What is proved
 //!
@@ -120,6 +120,7 @@ mod errors;
 mod excluded;
 mod freezing;
 mod frozen;
+mod frozen_by;
 mod handed_back;
 mod in_flight;
 mod lent;
@@ -150,6 +151,7 @@ pub use counts::Stats;
 pub use errors::{EnterError, FreezeError, LimitsError, NewError, RemoveError, UpdateError};
 pub use freezing::{Freezing, OwnedFreezing};
 pub use frozen::{Frozen, OwnedFrozen};
+pub use frozen_by::FrozenBy;
 pub use handed_back::HandedBack;
 pub use in_flight::InFlight;
 pub use limits::Limits;

@@ -192,7 +192,10 @@ pub(crate) fn wait<T, L: Lined<T>>(queue: &Shared<T>, deadline: Option<Instant>)
         match place.look(None) {
             Poll::Ready(got) => break got,
             Poll::Pending if in_time => {}
-            Poll::Pending => break Err(L::TIMED_OUT),
+            Poll::Pending => {
+                queue.waits.lock().counts.stats.timed_out += 1;
+                break Err(L::TIMED_OUT);
+            }
         }
     };
     drop(place);

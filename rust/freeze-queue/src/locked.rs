@@ -4,7 +4,7 @@
 //! Without this option the extra steps don't exist.
 use crate::sync::{Condvar, Mutex, MutexGuard};
 use std::ops::{Deref, DerefMut};
-use std::sync::PoisonError;
+use std::sync::{PoisonError, TryLockError};
 use std::time::Instant;
 
 /// A value that one thread has at a time. If that thread panics, the next one finds the value as it is.
@@ -29,6 +29,15 @@ impl<T> Lock<T> {
     #[inline]
     pub(crate) fn lock(&self) -> Locked<'_, T> {
         self.locked(self.value.lock().unwrap_or_else(PoisonError::into_inner))
+    }
+
+    /// Takes the lock, unless a thread has it.
+    pub(crate) fn try_lock(&self) -> Option<Locked<'_, T>> {
+        match self.value.try_lock() {
+            Ok(guard) => Some(self.locked(guard)),
+            Err(TryLockError::Poisoned(poisoned)) => Some(self.locked(poisoned.into_inner())),
+            Err(TryLockError::WouldBlock) => None,
+        }
     }
 
     #[inline]

@@ -32,7 +32,7 @@ use std::mem::ManuallyDrop;
 /// queue.remove()?; // each tag was given back
 /// # Ok::<(), Box<dyn std::error::Error>>(())
 /// ```
-#[must_use = "an unused request leaves at once"]
+#[must_use = "an unused request leaves at once, and one in a temporary at the end of the statement"]
 pub struct OwnedRequest<T = ()> {
     /// A tag that has entered its queue. None after it was taken.
     body: Option<Body<T>>,

@@ -55,6 +55,11 @@ impl<T> Places<T> {
         &self.all()[..self.reserved]
     }
 
+    /// Returns how many tags are home.
+    pub(crate) fn free(&self) -> u64 {
+        self.all().iter().map(|place| u64::from(place.home.is_here())).sum()
+    }
+
     /// Returns the tag of this number if it is home and not reserved.
     #[inline]
     pub(crate) fn try_take_at(&self, number: usize) -> Option<Body<T>> {

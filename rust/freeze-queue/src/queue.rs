@@ -2,13 +2,11 @@
 use crate::body::{Parts, TagState};
 use crate::builder::Builder;
 use crate::counts::Stats;
-use crate::erased::biased_queue::BiasedQueue;
 use crate::erased::fences;
 use crate::erased::percpu_core::SLOT_LIMIT;
-use crate::erased::queue_core::{self as erased, Mode};
+use crate::erased::queue_core::{self as erased, BlockQueue, Mode};
 use crate::errors::{EnterError, NewError, RemoveError};
 use crate::handed_back::HandedBack;
-use crate::in_flight::InFlight;
 use crate::limits::Limits;
 use crate::outcomes::Final;
 use crate::pause::Pause;
@@ -29,7 +27,9 @@ mod enters;
 mod enters_any;
 mod enters_owned;
 mod freezes;
+mod listed;
 mod updates;
+mod value_updates;
 
 /// A queue that requests enter and leave on many threads, and whose limits change under a freeze.
 ///
@@ -114,7 +114,7 @@ impl<T> Queue<T> {
         if sizes.iter().any(|(size, least, most)| size < least || size > most) {
             return Err(NewError::Size);
         }
-        let (erased, freezer, tags) = BiasedQueue::new(limits, slots, tags).map_err(|_| NewError::NoMemory)?;
+        let (erased, freezer, tags) = BlockQueue::new(limits, slots, tags).map_err(|_| NewError::NoMemory)?;
         let waits = Waits::of(Held::new(freezer, tags.len()).ok_or(NewError::NoMemory)?);
         let places = Places::new(tags.len(), reserved as usize).ok_or(NewError::NoMemory)?;
         Ok(move |value| {
@@ -123,7 +123,7 @@ impl<T> Queue<T> {
             let (watch, pause, value) = (AtomicBool::new(false), Pause::new(), Value::of(value));
             let shared = Arc::new(Shared { id, watch, erased, places, waits, pause, value });
             for (number, (erased, place)) in tags.into_iter().zip(shared.places.all()).enumerate() {
-                let state = TagState::new(erased, number, limits.into());
+                let state = TagState::new(erased.into_biased(limits), number, limits.into());
                 place.home.fill(Parts { state, shared: Arc::clone(&shared) });
             }
             Queue { shared }
@@ -315,8 +315,12 @@ impl<T> Queue<T> {
     /// ```
     #[must_use]
     pub fn stats(&self) -> Stats {
-        let stats = self.shared.waits.lock().counts.stats;
-        Stats { biased: self.shared.erased.biased.load(SeqCst), membarrier: fences::has_heavy_fence(), ..stats }
+        let held = self.shared.waits.lock();
+        let stats = held.counts.so_far(held.is_dying);
+        drop(held);
+        let free_tags = self.shared.places.free();
+        let biased = self.shared.erased.biased.load(SeqCst);
+        Stats { free_tags, biased, membarrier: fences::has_heavy_fence(), ..stats }
     }
 
     /// Returns whether the queue was marked dying ([`mark_dying`](Queue::mark_dying)). Linux: `blk_queue_dying`.
@@ -331,44 +335,6 @@ impl<T> Queue<T> {
     #[must_use]
     pub fn is_dying(&self) -> bool {
         self.shared.waits.lock().is_dying
-    }
-
-    /// Starts or stops noting when requests enter, for [`in_flight`](Queue::in_flight). Each request of a watched queue takes
-    /// a lock of its own tag, reads the clock, and uses no bias. While the queue isn't watched, a request only reads a flag for this.
-    ///
-    /// ```
-    /// # use freeze_queue::{FreezeError, Limits, Queue};
-    /// # use std::time::Duration;
-    /// # let queue = Queue::builder(Limits::of_hardware(64)).slots(1).tags(1).build()?;
-    /// queue.watch(true);
-    /// # let _request = queue.enter_any()?;
-    /// if let Err(FreezeError::TimedOut) = queue.freeze_timeout(Duration::from_millis(1)) {
-    ///     for request in queue.in_flight() {
-    ///         println!("tag {} by {:?}: {:?}", request.tag, request.thread, request.since.elapsed());
-    ///     }
-    /// }
-    /// # assert_eq!(queue.in_flight().count(), 1);
-    /// # Ok::<(), Box<dyn std::error::Error>>(())
-    /// ```
-    pub fn watch(&self, on: bool) {
-        self.shared.watch.store(on, Relaxed);
-    }
-
-    /// Returns the requests in flight that entered while the queue was [watched](Queue::watch). The iterator looks at one tag after
-    /// another, so this isn't a snapshot. A leaked request (`mem::forget`) is in flight forever. This call doesn't allocate. Linux:
-    /// the list `busy` of debugfs (block/blk-mq-debugfs.c).
-    ///
-    /// ```
-    /// # use freeze_queue::{Limits, Queue};
-    /// # let queue = Queue::builder(Limits::of_hardware(64)).slots(1).tags(2).build()?;
-    /// let unseen = queue.enter_any()?;
-    /// queue.watch(true);
-    /// let seen = queue.enter_any()?;
-    /// assert_eq!(queue.in_flight().count(), 1);
-    /// # Ok::<(), Box<dyn std::error::Error>>(())
-    /// ```
-    pub fn in_flight(&self) -> impl Iterator<Item = InFlight> {
-        self.shared.places.all().iter().filter_map(|place| *place.noted.lock())
     }
 
     /// Returns a unique id, starting at 1.

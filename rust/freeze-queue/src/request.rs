@@ -23,7 +23,7 @@ use crate::shared::Shared;
 /// drop(request); // leaves
 /// # Ok::<(), Box<dyn std::error::Error>>(())
 /// ```
-#[must_use = "an unused request leaves at once"]
+#[must_use = "an unused request leaves at once, and one in a temporary at the end of the statement"]
 pub struct Request<'e, T = ()> {
     queue: &'e Shared<T>,
     /// A tag of this queue that has entered.

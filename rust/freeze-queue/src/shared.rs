@@ -1,7 +1,6 @@
 //! The part of a queue that it shares with its tags and its freezes. In comments a *share* of a queue is an `Arc` of this part.
 use crate::body::{Body, TagState};
-use crate::erased::biased_queue::{BiasedEntry, BiasedQueue, BiasedTag};
-use crate::erased::queue_core::{self, Put};
+use crate::erased::queue_core::{self, BiasedEntry, BiasedTag, BlockQueue, Put};
 use crate::errors::{EnterError, UpdateError};
 use crate::excluded::excluded;
 use crate::in_flight::InFlight;
@@ -33,7 +32,7 @@ pub(crate) struct Shared<T> {
     pub(crate) id: NonZeroU64,
     /// Whether requests note when they enter.
     pub(crate) watch: AtomicBool,
-    pub(crate) erased: BiasedQueue,
+    pub(crate) erased: BlockQueue,
     /// One for each tag.
     pub(crate) places: Places<T>,
     pub(crate) waits: Waits<T>,
@@ -77,13 +76,12 @@ impl<T> Shared<T> {
         &self,
         tag: &mut TagState,
         closed: EnterError,
-        enter: impl Fn(&mut BiasedTag, &BiasedQueue, u32) -> BiasedEntry,
+        enter: impl Fn(&mut BiasedTag, &BlockQueue, u32) -> BiasedEntry,
     ) -> Result<(), EnterError> {
         if tag.erased.entered() {
             return Err(EnterError::StillEntered);
         }
-        let had_bias = tag.erased.is_biased();
-        if had_bias && self.is_watched() {
+        if tag.erased.is_biased() && self.is_watched() {
             self.end_bias(tag);
         }
         let mut found = enter(&mut tag.erased, &self.erased, tag.slot);
@@ -92,7 +90,7 @@ impl<T> Shared<T> {
             found = enter(&mut tag.erased, &self.erased, tag.slot);
         }
         if let BiasedEntry::Refused(put) = found {
-            self.left_gate(put, had_bias);
+            self.left_gate(put);
             let is_gone = closed == EnterError::Frozen && self.waits.lock().is_dying;
             return Err(if is_gone { EnterError::Dying } else { closed });
         }
@@ -110,7 +108,7 @@ impl<T> Shared<T> {
     fn end_bias(&self, tag: &mut TagState) {
         loop {
             match tag.erased.end_bias(&self.erased, tag.slot) {
-                Some(put) => return self.left_gate(put, true),
+                Some(put) => return self.left_gate(put),
                 None => self.waits.let_freezer_go_on(),
             }
         }
@@ -223,6 +221,7 @@ impl<T> Shared<T> {
         if limits.hw() != held.freezer.limits().hw() {
             return Err(UpdateError::OtherHardware);
         }
+        held.turns.refuse_nested()?;
         self.set(&mut held, limits);
         Ok(())
     }
@@ -261,8 +260,7 @@ impl<T> Shared<T> {
     #[cold]
     #[inline(never)]
     pub(crate) fn leave_slowly(&self, tag: &mut TagState) {
-        let had_bias = tag.erased.is_biased();
-        let put = if had_bias {
+        let put = if tag.erased.is_biased() {
             tag.erased.end_bias(&self.erased, tag.slot)
         } else {
             if tag.is_watched {
@@ -271,7 +269,7 @@ impl<T> Shared<T> {
             Some(tag.erased.leave(&self.erased, tag.slot, tag.keeps))
         };
         if let Some(put) = put {
-            self.left_gate(put, had_bias);
+            self.left_gate(put);
         }
     }
 
@@ -282,11 +280,10 @@ impl<T> Shared<T> {
         *self.places.all()[tag.number].noted.lock() = is_in.then(|| InFlight::now(tag.number));
     }
 
-    /// Handles a tag that isn't in. If its put was the last of a freeze, the waiters for the drain are woken. They are also
-    /// woken if a bias ended, whose lane was busy for a moment: a freezer that saw it looks again.
+    /// Handles the put of a tag that isn't in. If it was the last of a freeze, the waiters for the drain are woken.
     #[inline]
-    fn left_gate(&self, put: Put, had_bias: bool) {
-        if put == Put::Last || had_bias {
+    fn left_gate(&self, put: Put) {
+        if put == Put::Last {
             self.tell_drained();
         }
     }

@@ -121,6 +121,19 @@ impl<T> Drop for Noted<'_, T> {
     }
 }
 
+/// Lets other tasks go first, once.
+pub(crate) async fn yield_once() {
+    let mut has_yielded = false;
+    future::poll_fn(|context| {
+        if mem::replace(&mut has_yielded, true) {
+            return Poll::Ready(());
+        }
+        context.waker().wake_by_ref();
+        Poll::Pending
+    })
+    .await;
+}
+
 /// Waits as a task until the condition holds. Whoever makes it true wakes these tasks.
 pub(crate) async fn until<T>(
     queue: &Shared<T>,

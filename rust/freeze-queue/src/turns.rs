@@ -22,6 +22,12 @@ impl Turns {
     pub(crate) fn new() -> Option<Turns> {
         Some(Turns { is_taken: false, in_closure: None, line: Line::new(1)? })
     }
+
+    /// Refuses a caller that the closure of an update called.
+    pub(crate) fn refuse_nested(&self) -> Result<(), UpdateError> {
+        let is_nested = self.in_closure == Some(thread::current().id());
+        if is_nested { Err(UpdateError::Nested) } else { Ok(()) }
+    }
 }
 
 /// The turn of an update. Dropping it passes the turn to the first in line.
@@ -45,9 +51,7 @@ impl<T> Lined<T> for Turns {
     }
 
     fn get(_: &Shared<T>, held: &mut Held<T>) -> Result<Option<()>, UpdateError> {
-        if held.turns.in_closure == Some(thread::current().id()) {
-            return Err(UpdateError::Nested);
-        }
+        held.turns.refuse_nested()?;
         Ok((!mem::replace(&mut held.turns.is_taken, true)).then_some(()))
     }
 
@@ -57,7 +61,7 @@ impl<T> Lined<T> for Turns {
 }
 
 impl<T> Taken<'_, T> {
-    /// Runs the closure of the update that has the turn. An update inside it, on this thread, gets no turn.
+    /// Runs the closure of the update that has the turn. An update or a set inside it, on this thread, is refused.
     pub(crate) fn runs<R>(&self, closure: impl FnOnce() -> R) -> R {
         let is_run_by = |thread| self.0.waits.lock().turns.in_closure = thread;
         is_run_by(Some(thread::current().id()));

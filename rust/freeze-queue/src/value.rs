@@ -14,11 +14,20 @@ use crate::request::Request;
 use std::cell::UnsafeCell;
 use std::fmt;
 use std::ops::{Deref, DerefMut};
+use std::ptr;
+use std::sync::atomic::{AtomicUsize, Ordering::Relaxed};
 
-/// The value of a queue, and the lock of its freezes.
+/// The value of a queue, and the lock of its freezes with the thread that has it; 0: none has.
 pub(crate) struct Value<T> {
     lock: Lock<()>,
+    holder: AtomicUsize,
     cell: UnsafeCell<T>,
+}
+
+/// A number of this thread that no other thread has while this one runs.
+fn this_thread() -> usize {
+    thread_local!(static PLACE: u8 = const { 0 });
+    PLACE.with(|place| ptr::from_ref(place).addr())
 }
 
 // SAFETY: threads share `&T` under their requests, and a thread that froze the queue may change a T that another thread made.
@@ -26,7 +35,13 @@ unsafe impl<T: Send + Sync> Sync for Value<T> {}
 
 impl<T> Value<T> {
     pub(crate) fn of(value: T) -> Value<T> {
-        Value { lock: Lock::new(()), cell: UnsafeCell::new(value) }
+        Value { lock: Lock::new(()), holder: AtomicUsize::new(0), cell: UnsafeCell::new(value) }
+    }
+
+    /// The value of a frozen queue, for who has its lock.
+    fn alone<'f>(&'f self, lock: Locked<'f, ()>) -> Alone<'f, T> {
+        self.holder.store(this_thread(), Relaxed);
+        Alone { value: self, _lock: lock }
     }
 
     pub(crate) fn into_inner(self) -> T {
@@ -57,9 +72,14 @@ impl<T> Deref for OwnedRequest<T> {
 impl<T> OwnedFrozen<T> {
     /// Lends the value as `&mut T`. Since freezes nest, this call waits while another freeze has the value.
     ///
-    /// Calling `lock` on a thread that still holds an [`Alone`] of this queue blocks forever or panics, like `Mutex`. So does every
-    /// `lock` after an [`Alone`] was leaked (`mem::forget`); removing the queue still returns the value. A task that may move between
-    /// threads can't hold an `Alone` over an `.await`: it isn't `Send`.
+    /// After an [`Alone`] was leaked (`mem::forget`) every `lock` on another thread blocks forever; removing the queue still returns the
+    /// value. A task that may move between threads can't hold an `Alone` over an `.await`: it isn't `Send`.
+    ///
+    /// # Panics
+    ///
+    /// Panics on a thread that still holds an [`Alone`] of this queue.
+    ///
+    /// # Examples
     ///
     /// ```
     /// # use freeze_queue::{Limits, Queue};
@@ -73,15 +93,42 @@ impl<T> OwnedFrozen<T> {
     #[must_use = "the value is released when the guard is dropped"]
     pub fn lock(&self) -> Alone<'_, T> {
         let value = &self.queue().value;
-        Alone { cell: &value.cell, _lock: value.lock.lock() }
+        assert!(value.holder.load(Relaxed) != this_thread(), "this thread has the value of this queue already");
+        value.alone(value.lock.lock())
+    }
+
+    /// Lends the value as [`lock`](OwnedFrozen::lock) does, or returns None if another freeze has it.
+    ///
+    /// ```
+    /// # use freeze_queue::{Limits, Queue};
+    /// # let queue = Queue::builder(Limits::of_hardware(64)).slots(1).tags(1).value(7).build()?;
+    /// let (frozen, nested) = (queue.freeze()?, queue.freeze()?);
+    /// let value = frozen.lock();
+    /// assert!(nested.try_lock().is_none());
+    /// drop(value);
+    /// assert_eq!(nested.try_lock().as_deref(), Some(&7));
+    /// # drop((frozen, nested));
+    /// # Ok::<(), Box<dyn std::error::Error>>(())
+    /// ```
+    #[must_use = "the value is released when the guard is dropped"]
+    pub fn try_lock(&self) -> Option<Alone<'_, T>> {
+        let value = &self.queue().value;
+        Some(value.alone(value.lock.try_lock()?))
     }
 }
 
 /// The value of a frozen queue, for one freeze at a time: [`OwnedFrozen::lock`]. Like a guard of std's mutex it stays on its thread.
 #[must_use = "the value is released when the guard is dropped"]
 pub struct Alone<'f, T> {
-    cell: &'f UnsafeCell<T>,
+    value: &'f Value<T>,
     _lock: Locked<'f, ()>,
+}
+
+/// The thread is forgotten before the lock is let go.
+impl<T> Drop for Alone<'_, T> {
+    fn drop(&mut self) {
+        self.value.holder.store(0, Relaxed);
+    }
 }
 
 impl<T> Deref for Alone<'_, T> {
@@ -89,14 +136,14 @@ impl<T> Deref for Alone<'_, T> {
 
     fn deref(&self) -> &T {
         // SAFETY: the queue is frozen and drained, and this freeze has the lock, so nobody changes the value.
-        unsafe { &*self.cell.get() }
+        unsafe { &*self.value.cell.get() }
     }
 }
 
 impl<T> DerefMut for Alone<'_, T> {
     fn deref_mut(&mut self) -> &mut T {
         // SAFETY: the queue is frozen and drained, and this freeze has the lock, so nobody else reaches the value.
-        unsafe { &mut *self.cell.get() }
+        unsafe { &mut *self.value.cell.get() }
     }
 }
 

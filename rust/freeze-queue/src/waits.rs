@@ -6,11 +6,11 @@
 //! and no user's code runs under it: wakers are called after it is released.
 use crate::body::{Body, TagState};
 use crate::counts::Counts;
-use crate::erased::biased_queue::{BiasedFreezer, BiasedQueue, BiasedTag};
 use crate::erased::percpu_core::KILL_LIMIT;
-use crate::erased::queue_core::{Final, FreezeFault, LIMIT_WORDS, Tag};
+use crate::erased::queue_core::{BiasedTag, BlockQueue, Final, FreezeFault, Freezer, LIMIT_WORDS, Tag};
 use crate::errors::FreezeError;
 use crate::excluded::excluded;
+use crate::frozen_by::FreezeList;
 use crate::line::{Line, Notify};
 use crate::locked::{Lock, Locked};
 use crate::patience::Patience;
@@ -20,6 +20,7 @@ use crate::shared::{self, Shared};
 use crate::sync::{Condvar, MOST_PATIENCE};
 use crate::turns::Turns;
 use std::mem;
+use std::panic::Location;
 use std::sync::Arc;
 use std::sync::atomic::{AtomicBool, Ordering::Relaxed};
 use std::task::Waker;
@@ -27,7 +28,7 @@ use std::time::Instant;
 
 /// The state that the lock guards.
 pub(crate) struct Held<T> {
-    pub(crate) freezer: BiasedFreezer,
+    pub(crate) freezer: Freezer,
     pauses: Pauses,
     pub(crate) seats: Seats,
     pub(crate) line: Line<Body<T>>,
@@ -49,6 +50,7 @@ pub(crate) struct Held<T> {
     asleep: [u32; 3],
     waiting: Waiting,
     pub(crate) counts: Counts,
+    pub(crate) freezes: FreezeList,
 }
 
 /// What threads sleep for at a queue.
@@ -71,7 +73,7 @@ struct Waiting {
 
 impl<T> Held<T> {
     /// Makes the state of a new queue with this many tags. None if memory is refused.
-    pub(crate) fn new(freezer: BiasedFreezer, tags: usize) -> Option<Held<T>> {
+    pub(crate) fn new(freezer: Freezer, tags: usize) -> Option<Held<T>> {
         let mut room = Vec::new();
         room.try_reserve_exact(tags).ok()?;
         Some(Held {
@@ -90,6 +92,7 @@ impl<T> Held<T> {
             asleep: [0; 3],
             waiting: Waiting::default(),
             counts: Counts::default(),
+            freezes: FreezeList::default(),
         })
     }
 
@@ -99,7 +102,7 @@ impl<T> Held<T> {
     }
 
     /// Begins a freeze. The queue's last kill is reserved for its end.
-    fn start_freeze(&mut self, queue: &BiasedQueue, pause: &Pause) -> Result<(), FreezeError> {
+    fn start_freeze(&mut self, queue: &BlockQueue, pause: &Pause) -> Result<(), FreezeError> {
         if mem::take(&mut self.is_shut) {
             return Ok(()); // it holds the queue from now on
         }
@@ -109,7 +112,7 @@ impl<T> Held<T> {
         self.kill_or_nest(queue, pause)
     }
 
-    fn kill_or_nest(&mut self, queue: &BiasedQueue, pause: &Pause) -> Result<(), FreezeError> {
+    fn kill_or_nest(&mut self, queue: &BlockQueue, pause: &Pause) -> Result<(), FreezeError> {
         let takes = queue.has_parked().then(|| pause.now());
         match self.freezer.start_freeze(queue) {
             Ok(frozen) if frozen.depth == 1 => {
@@ -126,7 +129,7 @@ impl<T> Held<T> {
     }
 
     /// Ends a freeze. Returns whether requests enter again.
-    fn end_freeze(&mut self, queue: &BiasedQueue) -> bool {
+    fn end_freeze(&mut self, queue: &BlockQueue) -> bool {
         if self.is_dying && self.freezer.depth() == 1 {
             self.is_shut = true;
             return false;
@@ -141,7 +144,7 @@ impl<T> Held<T> {
     }
 
     /// Closes a queue for good, whether it is frozen or not, even at the maximum depth.
-    pub(crate) fn shut(&mut self, queue: &BiasedQueue, pause: &Pause) {
+    pub(crate) fn shut(&mut self, queue: &BlockQueue, pause: &Pause) {
         if self.freezer.depth() == 0 {
             self.kill_or_nest(queue, pause).unwrap_or_else(|fault| excluded("start_freeze", fault));
             self.is_shut = true;
@@ -149,13 +152,13 @@ impl<T> Held<T> {
     }
 
     /// Takes a tag back at the end of a queue, which is frozen.
-    pub(crate) fn take_back(&mut self, queue: &BiasedQueue, mut tag: BiasedTag) {
+    pub(crate) fn take_back(&mut self, queue: &BlockQueue, mut tag: BiasedTag) {
         let _ended = tag.end_bias(queue, 0);
         self.room.extend(tag.into_tag()); // there is room: it is one of the queue's
     }
 
     /// Ends a frozen queue, whose tags were all taken back.
-    pub(crate) fn remove(self, queue: BiasedQueue) -> Final<LIMIT_WORDS> {
+    pub(crate) fn remove(self, queue: BlockQueue) -> Final<LIMIT_WORDS> {
         self.freezer.remove(queue, self.room).unwrap_or_else(|fault| excluded("remove", fault.why))
     }
 
@@ -257,6 +260,14 @@ impl<T> Waits<T> {
         seen
     }
 
+    /// Counts a wait that ended because its deadline had passed. Returns whether what it waited for came in time.
+    fn noted(&self, came: bool) -> bool {
+        if !came {
+            self.lock().counts.stats.timed_out += 1;
+        }
+        came
+    }
+
     /// Wakes the threads that sleep for this.
     fn rouse(&self, held: &Held<T>, until: Until) {
         if held.asleep[until as usize] > 0 {
@@ -267,10 +278,11 @@ impl<T> Waits<T> {
     /// Waits until requests enter, or never will again. Returns whether that was by the deadline.
     pub(crate) fn until_open(&self, deadline: Option<Instant>) -> bool {
         self.for_open.sees(deadline, || !self.shut.0.load(Relaxed));
-        self.sleep(Until::Open, deadline, |held| {
+        let is_open = self.sleep(Until::Open, deadline, |held| {
             debug_assert_eq!(self.shut.0.load(Relaxed), !held.is_open(), "the hint is set under the lock");
             held.is_open()
-        })
+        });
+        self.noted(is_open)
     }
 
     /// Notes a thread that waits to enter.
@@ -300,27 +312,31 @@ impl<T> Waits<T> {
 
 impl<T> Shared<T> {
     /// Begins a freeze, which the caller thaws. The caller also wakes the returned waiters, since an update has nobody to let in
-    /// any more. If the freeze drains the queue at once, the waiters for the drain see it by themselves.
-    pub(crate) fn begin_freeze(&self) -> Result<impl Iterator<Item = Notify> + use<T>, FreezeError> {
+    /// any more. If the freeze drains the queue at once, the waiters for the drain see it by themselves. Returns the freeze's number, too.
+    pub(crate) fn begin_freeze(
+        &self,
+        location: &'static Location<'static>,
+    ) -> Result<(u64, impl Iterator<Item = Notify> + use<T>), FreezeError> {
         let mut held = self.waits.lock();
         held.start_freeze(&self.erased, &self.pause)?;
         held.counts.stats.freezes += 1;
         held.shares += 1;
         self.waits.shut.0.store(!held.is_dying, Relaxed);
         self.waits.rouse(&held, Until::LetIn);
-        Ok(held.let_in.send_away())
+        Ok((held.freezes.add(location), held.let_in.send_away()))
     }
 
     /// Waits until a frozen queue is drained. Returns whether it was by the deadline.
     pub(crate) fn until_drained(&self, deadline: Option<Instant>) -> bool {
         let is_drained = |held: &mut Held<T>| held.freezer.poll_drained(&self.erased);
         self.waits.for_drain.sees(deadline, || self.is_drained())
-            || self.waits.sleep(Until::Drained, deadline, is_drained)
+            || self.waits.noted(self.waits.sleep(Until::Drained, deadline, is_drained))
     }
 
     /// Ends the freeze of this share. If it was the last freeze, wakes the waiters to enter.
-    pub(crate) fn thaw(self: Arc<Self>) {
+    pub(crate) fn thaw(self: Arc<Self>, number: u64) {
         let mut held = self.waits.lock();
+        held.freezes.remove(number);
         if !held.end_freeze(&self.erased) {
             held.shares -= 1;
             return;
@@ -330,12 +346,15 @@ impl<T> Shared<T> {
         wake_each(shared::entering(self));
     }
 
-    /// Lets no request enter any more, and ends the freeze of this share, if it has one. Wakes the waiters to enter and for a
-    /// tag; they are refused.
-    pub(crate) fn mark_dying(self: Arc<Self>, is_freeze: bool) {
+    /// Lets no request enter any more, and ends the freeze of this share, if it has one, by its number. Wakes the waiters to enter
+    /// and for a tag; they are refused.
+    pub(crate) fn mark_dying(self: Arc<Self>, freeze: Option<u64>) {
         let mut held = self.waits.lock();
-        held.is_dying = true;
-        if is_freeze {
+        if !mem::replace(&mut held.is_dying, true) {
+            held.counts.dies();
+        }
+        if let Some(number) = freeze {
+            held.freezes.remove(number);
             held.end_freeze(&self.erased);
         } else {
             held.shut(&self.erased, &self.pause);

@@ -151,7 +151,7 @@ fn texts() {
         (UpdateError::OtherHardware.into(), "a hardware limit that isn't the queue's"),
         (UpdateError::from(FreezeError::DepthFull).into(), "the update couldn't freeze the queue"),
         (UpdateError::from(FreezeError::TimedOut).into(), "the deadline has passed"),
-        (UpdateError::Nested.into(), "an update within an update of the same queue"),
+        (UpdateError::Nested.into(), "a change within an update of the same queue"),
         (UpdateError::NoMemory.into(), "no memory to wait for another update"),
         (RemoveError::TagsOut.into(), "tags are out"),
         (RemoveError::Shared.into(), "a freeze or a future still uses the queue"),

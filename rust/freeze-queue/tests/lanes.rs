@@ -1,8 +1,7 @@
 //! The steps of a lane and of its freezer, one by one: what the freezer knows of an owner, and what a bias that is over leaves. Also the freezes
 //! of a queue with any number of biased tags.
 use freeze_queue::erased::bias_lanes::{Freezer, Lane, Lanes, Stage};
-use freeze_queue::erased::biased_queue::{BiasedEntry, BiasedFreezer, BiasedQueue, BiasedTag};
-use freeze_queue::erased::queue_core::{Limits, Put};
+use freeze_queue::erased::queue_core::{self, BiasedEntry, BiasedTag, BlockQueue, Frozen, Limits, Put};
 
 mod shared;
 use shared::Chance;
@@ -27,7 +26,7 @@ fn lanes_of_each_magnitude() {
             let mut owner = lanes.owner(last).expect("an owner");
             assert_eq!(owner.park(&lanes, last), Ok(true), "{count} lanes");
             freezer.freeze(&lanes);
-            assert!(!freezer.look(&lanes, last));
+            assert!(!freezer.look(&lanes, last, &freezer.fence()));
             assert_eq!(freezer.reclaim(&lanes, last), Some(last), "{count} lanes");
         }
     }
@@ -59,45 +58,44 @@ fn a_busy_lane_is_watched_and_its_owner_finds_out() {
     let (lanes, mut freezer, mut owners) = parked(2);
     assert!(owners[0].enter(&lanes));
     freezer.freeze(&lanes);
-    assert!(freezer.look(&lanes, 0), "the lane is busy");
-    assert!(!freezer.look(&lanes, 1));
-    assert!(!freezer.none_in(&lanes), "a watched owner isn't out");
+    let fenced = freezer.fence();
+    assert!(freezer.look(&lanes, 0, &fenced), "the lane is busy");
+    assert!(!freezer.look(&lanes, 1, &fenced));
     assert!(!owners[0].leave(&lanes), "the bias is over");
-    assert!(freezer.none_in(&lanes));
+    assert!(!freezer.look(&lanes, 0, &fenced));
     assert_eq!(owners[0].take_back(&lanes), Some(0));
 }
 
 #[test]
-fn an_owner_that_is_out_is_not_asked_again() {
+fn an_owner_that_is_out_enters_in_vain() {
     let (lanes, mut freezer, mut owners) = parked(1);
     freezer.freeze(&lanes);
-    assert!(!freezer.look(&lanes, 0));
-    assert!(!owners[0].enter(&lanes), "it tries in vain, and its lane says busy still");
-    assert!(freezer.none_in(&lanes));
+    assert!(!freezer.look(&lanes, 0, &freezer.fence()));
+    assert!(!owners[0].enter(&lanes), "its lane says busy still");
     assert_eq!(owners[0].take_back(&lanes), Some(0));
     freezer.thaw(&lanes);
     freezer.freeze(&lanes);
-    assert!(!freezer.look(&lanes, 0), "a lane without a bias isn't busy");
+    assert!(!freezer.look(&lanes, 0, &freezer.fence()), "a lane without a bias isn't busy");
 }
 
 #[test]
-fn a_freeze_knows_nothing_of_the_owners_that_the_last_one_found_out() {
+fn a_freeze_looks_again_at_an_owner_that_the_last_one_found_out() {
     let (lanes, mut freezer, mut owners) = parked(1);
     freezer.freeze(&lanes);
-    assert!(!freezer.look(&lanes, 0));
+    assert!(!freezer.look(&lanes, 0, &freezer.fence()));
     freezer.thaw(&lanes);
     assert_eq!(owners[0].take_back(&lanes), Some(0));
     assert_eq!(owners[0].park(&lanes, 7), Ok(true));
     assert!(owners[0].enter(&lanes));
     freezer.freeze(&lanes);
-    assert!(!freezer.none_in(&lanes), "it is in by the lane, in its second life");
+    assert!(freezer.look(&lanes, 0, &freezer.fence()), "it is in by the lane, in its second life");
 }
 
 #[test]
 fn what_is_reclaimed_is_out_of_reach_until_it_is_restored() {
     let (lanes, mut freezer, mut owners) = parked(2);
     freezer.freeze(&lanes);
-    assert!(!freezer.look(&lanes, 1));
+    assert!(!freezer.look(&lanes, 1, &freezer.fence()));
     assert_eq!(freezer.reclaim(&lanes, 1), Some(1));
     assert_eq!(owners[1].take_back(&lanes), None, "the freezer has it in hand");
     freezer.restore(&lanes, 1, 9);
@@ -131,10 +129,15 @@ fn places(chance: &mut Chance, tags: usize, parked: usize) -> Vec<Place> {
 
 /// A biased queue, with its freezer and its tags, and the limits in force.
 struct Whole {
-    queue: BiasedQueue,
-    freezer: BiasedFreezer,
+    queue: BlockQueue,
+    freezer: queue_core::Freezer,
     tags: Vec<BiasedTag>,
     limits: Limits,
+}
+
+/// The last put of a freeze: its own, or that of a tag that it found biased and idle.
+fn last(frozen: Frozen) -> Put {
+    if frozen.reclaimed == Put::Last { Put::Last } else { frozen.put }
 }
 
 /// The result of a put that leaves so many requests in.
@@ -145,9 +148,9 @@ fn put_before(left: usize) -> Put {
 impl Whole {
     fn new(slots: u32, tags: u32) -> Whole {
         let limits = Limits::new(64, 64, 0).expect("limits");
-        let (queue, freezer, made) = BiasedQueue::new(limits, slots, tags).unwrap_or_else(|_| panic!("memory"));
+        let (queue, freezer, made) = BlockQueue::new(limits, slots, tags).unwrap_or_else(|_| panic!("memory"));
         assert_eq!((made.len(), queue.slots()), (tags as usize, slots));
-        Whole { queue, freezer, tags: made, limits }
+        Whole { queue, freezer, tags: made.into_iter().map(|tag| tag.into_biased(limits)).collect(), limits }
     }
 
     /// Takes a tag that is out to its place.
@@ -176,7 +179,7 @@ impl Whole {
         }
         let is_in = |place: &Place| matches!(place, Place::InByLane | Place::InByGate);
         let mut inside: Vec<usize> = (0..places.len()).filter(|tag| is_in(&places[*tag])).collect();
-        let frozen = self.freezer.start_freeze(&self.queue).map(|frozen| (frozen.depth, frozen.put));
+        let frozen = self.freezer.start_freeze(&self.queue).map(|frozen| (frozen.depth, last(frozen)));
         assert_eq!(frozen, Ok((1, put_before(inside.len()))));
         while !inside.is_empty() {
             assert!(!self.freezer.poll_drained(&self.queue));

@@ -81,14 +81,15 @@ fn storm(queue: &Queue) {
     });
 }
 
-/// Runs a test of this file in a process of its own. Whether this is that process.
+/// Runs a test of this file in a process of its own, whose lines are shown only if it fails. Whether this is that process.
 fn is_own_process(test: &str) -> bool {
     if env::var_os("FREEZE_QUEUE_ALONE").is_some() {
         return true;
     }
     let mut alone = Command::new(env::current_exe().unwrap());
     alone.args([test, "--exact", "--nocapture"]).env("FREEZE_QUEUE_ALONE", "1");
-    assert!(alone.status().unwrap().success(), "{test} in a process of its own");
+    let answer = alone.output().unwrap();
+    assert!(answer.status.success(), "{test} in a process of its own: {answer:?}");
     false
 }
 
@@ -97,6 +98,17 @@ fn a_filter_refuses_the_fence() {
     if is_own_process("a_filter_refuses_the_fence") {
         refuse(FENCE);
         refuse(REGISTER);
+        let queue = queue(2, 2);
+        assert!(!queue.stats().membarrier);
+        storm(&queue);
+    }
+}
+
+/// A filter that allows the registration, and refuses each fence after it.
+#[test]
+fn a_filter_refuses_the_fence_alone() {
+    if is_own_process("a_filter_refuses_the_fence_alone") {
+        refuse(FENCE);
         let queue = queue(2, 2);
         assert!(!queue.stats().membarrier);
         storm(&queue);

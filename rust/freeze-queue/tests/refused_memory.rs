@@ -76,8 +76,8 @@ fn a_queue_has_the_bytes_of_the_page() {
     for (slots, tags) in [(1, 1), (512, 1), (1, 1_023), (512, 1_023)] {
         let before = BYTES.get();
         let queue = Queue::builder(LIMITS).slots(slots).tags(tags).build().unwrap();
-        let rest = BYTES.get() - before - 128 * i64::from(slots) - 897 * i64::from(tags);
-        assert!((2_200..2_500).contains(&rest), "{rest} bytes beside {slots} slots and {tags} tags");
+        let rest = BYTES.get() - before - 128 * i64::from(slots) - 904 * i64::from(tags);
+        assert!((2_400..2_600).contains(&rest), "{rest} bytes beside {slots} slots and {tags} tags");
         queue.remove().unwrap();
     }
 }

@@ -39,6 +39,7 @@ struct Model<'q> {
     is_dying: bool,
     begun: u64,
     updates: u64,
+    abandoned: u64,
     draining: Span,
     longest: Span,
     frozen: Span,
@@ -59,9 +60,22 @@ impl<'q> Model<'q> {
     fn of(queue: &'q Queue) -> Model<'q> {
         let [draining, longest, frozen] = [Span::default(); 3];
         let (requests, freezes) = (vec![], vec![]);
-        let (is_draining, is_dying, begun, updates) = (false, false, 0, 0);
-        let closed_at = None;
-        Model { queue, requests, freezes, closed_at, is_draining, is_dying, begun, updates, draining, longest, frozen }
+        let [begun, updates, abandoned] = [0; 3];
+        let (is_draining, is_dying, closed_at) = (false, false, None);
+        Model {
+            queue,
+            requests,
+            freezes,
+            closed_at,
+            is_draining,
+            is_dying,
+            begun,
+            updates,
+            abandoned,
+            draining,
+            longest,
+            frozen,
+        }
     }
 
     fn enter(&mut self) {
@@ -75,11 +89,16 @@ impl<'q> Model<'q> {
         let Some(request) = self.requests.pop() else { return };
         let ((), left) = timed(|| drop(request));
         if let (true, true, Some(from)) = (self.requests.is_empty(), self.is_draining, self.closed_at) {
-            let took = Span::between(from, left);
             self.is_draining = false;
-            plus(&mut self.draining, took);
-            self.longest = Span(self.longest.0.max(took.0), self.longest.1.max(took.1));
+            (self.draining, self.longest) = self.with_drain(Span::between(from, left));
         }
+    }
+
+    /// The time of all drains and of the longest, with one more.
+    fn with_drain(&self, took: Span) -> (Span, Span) {
+        let mut draining = self.draining;
+        plus(&mut draining, took);
+        (draining, Span(self.longest.0.max(took.0), self.longest.1.max(took.1)))
     }
 
     /// A first freeze, or the mark of a dying queue, begins at this moment.
@@ -102,8 +121,12 @@ impl<'q> Model<'q> {
         let Some(freezing) = self.freezes.pop() else { return };
         let ((), at) = timed(|| drop(freezing));
         if self.freezes.is_empty() && !self.is_dying {
-            plus(&mut self.frozen, Span::between(self.closed_at.take().unwrap(), at));
-            self.is_draining = false;
+            let took = Span::between(self.closed_at.take().unwrap(), at);
+            plus(&mut self.frozen, took);
+            if std::mem::take(&mut self.is_draining) {
+                self.abandoned += 1;
+                (self.draining, self.longest) = self.with_drain(took);
+            }
         }
     }
 
@@ -120,15 +143,30 @@ impl<'q> Model<'q> {
     fn dies(&mut self) {
         let ((), at) = timed(|| self.queue.mark_dying());
         self.is_dying = true;
+        if let Some(from) = self.closed_at {
+            plus(&mut self.frozen, Span::between(from, at));
+        }
         self.begins(at);
     }
 
     fn looks(&self) {
-        let stats: Stats = self.queue.stats();
-        assert_eq!((stats.freezes, stats.updates, stats.waited), (self.begun, self.updates, 0));
-        assert!(self.draining.has(stats.draining), "draining is {:?}, and not {:?}", stats.draining, self.draining);
-        assert!(self.longest.has(stats.longest_drain), "{:?}, and not {:?}", stats.longest_drain, self.longest);
-        assert!(self.frozen.has(stats.frozen), "frozen is {:?}, and not {:?}", stats.frozen, self.frozen);
+        let (stats, now): (Stats, Moment) = timed(|| self.queue.stats());
+        let counts = (stats.freezes, stats.updates, stats.waited, stats.timed_out, stats.abandoned);
+        assert_eq!(counts, (self.begun, self.updates, 0, 0, self.abandoned));
+        assert_eq!(stats.free_tags, 4 - self.requests.len() as u64);
+        let goes_on = self.closed_at.map(|from| Span::between(from, now)).unwrap_or_default();
+        let (draining, longest) =
+            if self.is_draining { self.with_drain(goes_on) } else { (self.draining, self.longest) };
+        let mut frozen = self.frozen;
+        if !self.is_dying {
+            plus(&mut frozen, goes_on);
+        }
+        assert!(draining.has(stats.draining), "draining is {:?}, and not {draining:?}", stats.draining);
+        assert!(longest.has(stats.longest_drain), "{:?}, and not {longest:?}", stats.longest_drain);
+        assert!(frozen.has(stats.frozen), "frozen is {:?}, and not {frozen:?}", stats.frozen);
+        let since = self.closed_at.map(|(before, after)| before..=after);
+        assert_eq!(stats.frozen_since.is_some(), since.is_some());
+        assert!(since.zip(stats.frozen_since).is_none_or(|(span, since)| span.contains(&since)), "frozen since then");
     }
 
     fn step(&mut self, chance: &mut Chance) {
@@ -263,6 +301,8 @@ fn waits_of_threads() {
             let late = queue.enter_timeout(&mut tag, Duration::from_millis(1));
             assert_eq!(late.unwrap_err(), EnterError::TimedOut);
             assert!(waited(3));
+            assert_eq!(queue.stats().timed_out, 3 * round + 1);
+            let freezing = freezing.wait_timeout(Duration::ZERO).unwrap();
             drop(freezing);
             any.join().unwrap();
             let request = queue.enter_any().unwrap();
@@ -270,6 +310,9 @@ fn waits_of_threads() {
             until("it has its turn", || queue.depth() == 1);
             assert!(queue.update_timeout(Duration::from_millis(1), |limits| limits).is_err());
             assert!(waited(4));
+            assert_eq!(queue.stats().timed_out, 3 * round + 2);
+            drop(queue.begin_freeze().unwrap().wait_timeout(Duration::from_millis(1)).unwrap_err());
+            assert_eq!(queue.stats().timed_out, 3 * round + 3);
             drop(request);
             first.join().unwrap();
         });

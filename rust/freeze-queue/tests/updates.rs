@@ -1,5 +1,5 @@
 //! Updates of the limits, of several threads and tasks, and beside freezes that set limits: none is lost.
-use freeze_queue::{Limits, Queue, UpdateError};
+use freeze_queue::{Limits, LimitsError, Queue, UpdateError};
 use std::future::Future;
 use std::hint;
 use std::panic::{AssertUnwindSafe, catch_unwind};
@@ -10,7 +10,7 @@ use std::thread;
 use std::time::Duration;
 
 mod shared;
-use shared::{block_on, ends, number_of, until};
+use shared::{block_on, ends, number_of, on_another_thread, until};
 
 const THREADS: u32 = 4;
 
@@ -74,7 +74,7 @@ fn a_set_while_the_closure_runs_is_kept() {
     for updates in changes {
         for sets in changes {
             let queue = queue();
-            let set_beside = |limits| queue.freeze().unwrap().set(sets(limits)).unwrap();
+            let set_beside = |limits| on_another_thread(|| queue.freeze().unwrap().set(sets(limits)).unwrap());
             let (set, calls) = update_beside(&queue, updates, set_beside);
             let both = updates(sets(LIMITS));
             assert_eq!((set, queue.limits(), calls, queue.depth()), (Ok(both), both, 2, 0));
@@ -99,7 +99,27 @@ fn updates_beside_freezes_that_set() {
     assert_eq!(queue.limits(), LIMITS.with_chunk(rounds).with_max(most));
 }
 
-/// The closure of an update enters and freezes its queue, and is refused an update of it.
+/// Sets each time that the closure of an update runs: the update ends at its deadline, and a future lets others go first.
+#[test]
+fn sets_without_end() {
+    let queue = queue();
+    let mut calls = 0;
+    let mut beside = |limits: Limits| {
+        calls += 1;
+        on_another_thread(|| queue.freeze().unwrap().set(limits.with_chunk(calls)).unwrap());
+        limits.with_max(9)
+    };
+    assert_eq!(queue.update_timeout(Duration::from_millis(5), &mut beside), Err(UpdateError::TimedOut));
+    let mut update = pin!(queue.update_async(&mut beside));
+    for _ in 0..3 {
+        assert!(update.as_mut().poll(&mut Context::from_waker(Waker::noop())).is_pending());
+        assert_eq!(queue.depth(), 0);
+    }
+    drop(queue.enter_any().unwrap());
+    assert_eq!((queue.stats().updates, queue.limits().max, queue.limits().chunk < 3), (0, 1, false));
+}
+
+/// The closure of an update enters and freezes its queue, and is refused an update and a set of it.
 #[test]
 fn an_update_within_an_update() {
     let (queue, other) = (queue(), queue());
@@ -108,7 +128,13 @@ fn an_update_within_an_update() {
         assert_eq!(queue.update_timeout(Duration::MAX, one_more), Err(UpdateError::Nested));
         assert_eq!(ready(queue.update_async(one_more)), Err(UpdateError::Nested));
         assert_eq!(other.update(one_more).unwrap().max, 2);
-        drop(queue.freeze().unwrap());
+        let (frozen, frozen_other) = (queue.freeze().unwrap(), other.freeze().unwrap());
+        assert_eq!(frozen.set(LIMITS.with_chunk(8)), Err(UpdateError::Nested));
+        assert_eq!(frozen.set(LIMITS.with_chunk(65_536)), Err(UpdateError::Limits(LimitsError::ChunkTooLarge)));
+        assert_eq!(frozen.set(Limits::of_hardware(8)), Err(UpdateError::OtherHardware));
+        frozen_other.set(LIMITS.with_chunk(8)).unwrap();
+        on_another_thread(|| frozen.set(LIMITS).unwrap());
+        drop(frozen);
         drop(queue.enter_any().unwrap()); // the closure isn't called under a freeze
     });
     assert_eq!((set.unwrap().max, queue.limits().max, calls), (2, 2, 1));

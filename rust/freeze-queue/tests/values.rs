@@ -1,11 +1,11 @@
 //! A queue that guards a value: `&T` under a request, `&mut T` under a freeze, and T back. Run under the thread sanitizer, and by Miri, too.
-use freeze_queue::{EnterError, FreezeError, Limits, NewError, OwnedRequest, Queue, RemoveError};
+use freeze_queue::{EnterError, FreezeError, Limits, NewError, OwnedRequest, Queue, RemoveError, UpdateError};
 use std::env;
 use std::future::Future;
 use std::mem;
 use std::panic::{AssertUnwindSafe, catch_unwind};
 use std::sync::atomic::{AtomicU64, Ordering::Relaxed};
-use std::sync::{Arc, mpsc};
+use std::sync::{Arc, Barrier, mpsc};
 use std::task::{Context, Poll, Waker};
 use std::thread;
 use std::time::Duration;
@@ -146,6 +146,103 @@ fn panics_in_the_middle() {
     assert!(reads.is_err());
     queue.try_freeze().unwrap().lock().push(3);
     assert_eq!(*queue.enter(&mut tag).unwrap(), [1, 2, 3]);
+}
+
+/// Each change of the value by a turn is kept, one at a time, and none runs beside a request. What a closure returns is returned.
+#[test]
+fn the_value_is_updated() {
+    let queue = queue(0_u64);
+    thread::scope(|threads| {
+        for _ in 0..4 {
+            threads.spawn(|| (0..rounds(500)).for_each(|_| queue.update_value(|value| *value += 1).unwrap()));
+        }
+        threads.spawn(|| {
+            for _ in 0..rounds(500) {
+                let request = queue.enter_any().unwrap();
+                let was = *request;
+                assert_eq!(*request, was);
+            }
+        });
+    });
+    assert_eq!(queue.update_value(|value| (*value, "told")).unwrap(), (4 * rounds(500), "told"));
+    assert_eq!((queue.depth(), queue.stats().updates), (0, 0));
+}
+
+/// The closure may not update its queue, and isn't called late. A future that is dropped changes nothing.
+#[test]
+fn an_update_of_the_value_ends() {
+    let queue = queue(vec![1]);
+    let nested =
+        queue.update_value(|_| (queue.update(|limits| limits), queue.update_value(|_| ()), queue.freeze().map(drop)));
+    assert_eq!(nested.unwrap(), (Err(UpdateError::Nested), Err(UpdateError::Nested), Ok(())));
+    let request = queue.enter_any().unwrap();
+    assert_eq!(
+        queue.update_value_timeout(Duration::from_millis(1), |_| panic!("too late")),
+        Err::<(), _>(UpdateError::TimedOut)
+    );
+    let mut waits = Box::pin(queue.update_value_async(|value| value.push(2)));
+    let mut context = Context::from_waker(Waker::noop());
+    assert_eq!(waits.as_mut().poll(&mut context), Poll::Pending);
+    assert_eq!((queue.depth(), queue.update_value_timeout(Duration::ZERO, |_| ())), (1, Err(UpdateError::TimedOut)));
+    drop(request);
+    assert_eq!(waits.as_mut().poll(&mut context), Poll::Ready(Ok(())));
+    let request = queue.enter_any().unwrap();
+    let mut dropped = Box::pin(queue.update_value_async(|value| value.push(3)));
+    assert_eq!(dropped.as_mut().poll(&mut context), Poll::Pending);
+    drop(dropped);
+    assert_eq!((queue.depth(), request.len()), (0, 2));
+    drop(request);
+    assert_eq!(queue.update_value_timeout(Duration::from_secs(60), |value| value.len()), Ok(2));
+}
+
+/// A closure that panics gives up its turn and its freeze, and leaves the value as it is.
+#[test]
+fn an_update_of_the_value_panics() {
+    let queue = queue(vec![1]);
+    let halfway = catch_unwind(AssertUnwindSafe(|| {
+        queue.update_value(|value| {
+            value.push(2);
+            panic!("halfway");
+        })
+    }));
+    assert!(halfway.is_err());
+    assert_eq!((queue.depth(), queue.freeze().unwrap().try_lock().map(|value| value.len())), (0, Some(2)));
+    assert_eq!(queue.update_value(|value| value.len()).unwrap(), 2);
+}
+
+/// While a freeze has the value, a try for another freeze finds that, and a lock on another thread waits.
+#[test]
+fn one_freeze_has_the_value() {
+    let queue = queue(1);
+    let (frozen, nested) = (queue.freeze().unwrap(), queue.freeze().unwrap().into_owned());
+    let value = frozen.lock();
+    assert!(nested.try_lock().is_none() && frozen.try_lock().is_none());
+    let tried = Barrier::new(2);
+    thread::scope(|threads| {
+        let other = threads.spawn(|| {
+            assert!(nested.try_lock().is_none());
+            tried.wait();
+            *nested.lock() += 1;
+        });
+        tried.wait();
+        thread::sleep(Duration::from_millis(5));
+        drop(value);
+        other.join().unwrap();
+    });
+    assert_eq!(frozen.try_lock().as_deref(), Some(&2));
+    assert_eq!(*nested.lock(), 2);
+}
+
+/// A second lock on one thread panics, and leaves the first as it is.
+#[test]
+fn a_second_lock_panics() {
+    let queue = queue(1);
+    let (frozen, nested) = (queue.freeze().unwrap(), queue.freeze().unwrap());
+    let mut value = frozen.lock();
+    assert!(catch_unwind(AssertUnwindSafe(|| drop(nested.lock()))).is_err());
+    *value += 1;
+    drop(value);
+    assert_eq!(*nested.lock(), 2);
 }
 
 /// A request that was forgotten holds each change off, for ever, and a freeze that was forgotten each request.

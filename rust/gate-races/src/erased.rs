@@ -3,15 +3,10 @@
 #![forbid(unsafe_code)]
 #![allow(missing_docs, missing_debug_implementations, clippy::all, clippy::pedantic, rustdoc::all)]
 
-pub mod gates_world;
-pub mod linux_world;
 pub mod maps;
-pub mod race_calls;
 pub mod race_outcomes;
-pub mod race_search;
 pub mod race_world;
 pub mod races_run;
-pub mod races_text;
 pub mod time;
 
 pub use ::blkq::erased::{

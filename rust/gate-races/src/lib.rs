@@ -2,7 +2,7 @@
 //!
 //! A race is the calls of the actors. [`outcomes`] goes through every interleaving of their atomic steps and returns each outcome: what
 //! the calls return, and a shortest schedule that leads there. The program `gate_races` does the same from standard input to standard
-//! output, and answers questions about a race.
+//! output.
 //!
 //! ```
 //! // A try beside the start of a kill: it is given or refused.
@@ -13,7 +13,7 @@
 //! # Ok::<(), gate_races::RaceError>(())
 //! ```
 //!
-//! In the repository, docs/races/FORMATS.md has the format of a race, and docs/races/TOUR.md introduces the program. [`blkq::replay()`] replays
+//! In the repository, docs/races/README.md introduces the program and has the format of a race. [`blkq::replay()`] replays
 //! a schedule of one gate.
 //!
 //! # What is proved, and what isn't

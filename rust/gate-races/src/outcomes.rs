@@ -1,14 +1,13 @@
 //! All outcomes of a race.
 use crate::erased::counted_io::Counted;
-use crate::erased::races_run::{Form, NoWatch, Request, outcomes_bytes};
+use crate::erased::races_run::{Form, NoWatch, outcomes_bytes};
 use crate::error::RaceError;
 use blkq::text::Text;
 
 /// Goes through all orders of the atomic steps of a race, and returns its outcomes.
 ///
 /// An outcome is what the calls return, and a shortest schedule that leads there. [`blkq::replay()`] accepts the schedule unchanged if it has
-/// at most 1,048,576 bytes, which is also the maximum size of a race. The program `gate_races --outcomes` writes the same. The questions of a
-/// race are read but not answered.
+/// at most 1,048,576 bytes, which is also the maximum size of a race. The program `gate_races` writes the same.
 ///
 /// The search keeps all states that it has seen, so a race of many calls takes much memory. Passes that make equal calls may change
 /// places in any state; of the states that differ only by that, one is kept.
@@ -33,7 +32,6 @@ use blkq::text::Text;
 /// ```
 pub fn outcomes(race: &[u8]) -> Result<Vec<u8>, RaceError> {
     let mut text = Text::default();
-    let request = Request::Written(Form::Outcomes);
-    outcomes_bytes(&mut Counted::new(race), &mut Counted::new(&mut text), request, None, &mut NoWatch)?;
+    outcomes_bytes(&mut Counted::new(race), &mut Counted::new(&mut text), Form::Outcomes, None, &mut NoWatch)?;
     Ok(text.0)
 }

@@ -1,12 +1,8 @@
 //! Tests the calls that a text gives, and long lists of answers.
 
-use gate_races::erased::gates_world::CallAt;
-use gate_races::erased::line_text::ScriptFault;
 use gate_races::erased::percpu_core::Start;
-use gate_races::erased::race_calls::Answers;
-use gate_races::erased::race_calls::{Answer, Asked, Awaited, ControlCall, Count, Flag, Mode, PassCall};
-use gate_races::erased::race_world::Race;
-use gate_races::erased::races_text::{Raced, parse_plan, parse_race};
+use gate_races::erased::race_world::{Answer, Answers, Asked, Awaited, ControlCall, Count, Flag, Mode, PassCall};
+use gate_races::erased::races_run::parse_race;
 
 const EVERY_CALL: &str = "# A race of every call.\n\nraces 1\nworld 2 4 slots 5 7 8\n\
     2 try 1 / live 0 / get 1 65535 / put 4294967295 1\n\
@@ -19,10 +15,8 @@ const EVERY_CALL: &str = "# A race of every call.\n\nraces 1\nworld 2 4 slots 5 
 
 #[test]
 fn calls_of_every_kind() {
-    let asked = parse_race(EVERY_CALL.as_bytes()).unwrap();
-    assert!(asked.questions().is_empty());
-    let Raced::OneGate(race) = asked.raced() else { panic!("one gate") };
-    assert_eq!(race.start(), Start::Slots);
+    let race = parse_race(EVERY_CALL.as_bytes()).unwrap();
+    assert_eq!((race.slots(), race.start(), race.kills(), race.words()), (2, Start::Slots, 5, &[7, 8][..]));
     let questions = [Asked::Front, Asked::Dying, Asked::Zero, Asked::Word(u32::MAX)].map(PassCall::Asks);
     let counts =
         [(1, Count::Try), (0, Count::TryLive), (1, Count::Get(65535)), (u32::MAX, Count::Put(1)), (0, Count::Put(0))]
@@ -53,54 +47,6 @@ fn calls_of_every_kind() {
         ControlCall::Sets(a),
     ];
     assert!(race.control() == control);
-}
-
-/// Each call of a race of several gates has its gate, numbered from 0.
-#[test]
-fn calls_at_several_gates() {
-    let text = "races 1\nworld 1 1 atomic 0\nworld 2 1 dead 3\nc @2 kill / kill\n0 zero / @2 zero\n0 @1 front\nask never @2 zero\n";
-    let asked = parse_race(text.as_bytes()).unwrap();
-    assert_eq!(asked.questions().len(), 1);
-    let Raced::SeveralGates(race) = asked.raced() else { panic!("several gates") };
-    let starts: Vec<_> = race.gates().iter().map(|gate| (gate.slots(), gate.start(), gate.kills())).collect();
-    assert_eq!(starts, [(1, Start::Atomic, 0), (2, Start::Dead, 3)]);
-    let calls = [(0, Asked::Zero), (1, Asked::Zero), (0, Asked::Front)];
-    let [of_pass] = race.passes() else { panic!("one pass") };
-    assert!(of_pass.as_slice() == calls.map(|(gate, asked)| CallAt { gate, call: PassCall::Asks(asked) }));
-    assert!(race.control() == [1, 0].map(|gate| CallAt { gate, call: ControlCall::Kill }));
-}
-
-const CALLS: &str = "0 try 1\nc kill\nask never zero\n";
-
-/// Whether this is the race of CALLS on a counter with 2 slots and 2 passes, which starts dead after 3 kills.
-fn has_its_calls(race: &Race) -> bool {
-    let [first, second] = race.passes() else { panic!("two passes") };
-    (race.slots(), race.start(), race.kills()) == (2, Start::Dead, 3)
-        && first.as_slice() == [PassCall::Counts { slot: 1, count: Count::Try }]
-        && second.as_slice().is_empty()
-        && race.control() == [ControlCall::Kill]
-}
-
-/// A race on Linux's `percpu_ref` has no guarded words, and its questions.
-#[test]
-fn linux_in_place_of_guarded_words() {
-    let asked = parse_race(format!("races 1\nworld 2 2 dead 3 linux\n{CALLS}").as_bytes()).unwrap();
-    assert_eq!(asked.questions().len(), 1);
-    let Raced::OnLinux(race) = asked.raced() else { panic!("on Linux's percpu_ref") };
-    assert!(race.race().words().is_empty() && has_its_calls(race.race()));
-}
-
-/// The plan of a text is the same on either gate, except for the guarded words. It has one gate.
-#[test]
-fn plans_of_either_gate() {
-    for (behind, words) in [("", &[][..]), (" linux", &[]), (" 7 8", &[7, 8])] {
-        let text = format!("races 1\nworld 2 2 dead 3{behind}\n{CALLS}");
-        let race = parse_plan(text.as_bytes()).unwrap();
-        assert!(race.words() == words && has_its_calls(&race));
-        let text = format!("races 1\nworld 2 2 dead 3{behind}\nworld 2 2 dead 3\n{CALLS}");
-        let Err(ScriptFault::Parse(fault)) = parse_plan(text.as_bytes()) else { panic!("two worlds") };
-        assert_eq!(fault.to_string(), "line 3: unknown word");
-    }
 }
 
 // A list is as deep as it is long. Recursion over its answers would overflow a thread's stack of some megabytes.

@@ -1,4 +1,4 @@
-//! Tests the line and the reason of refused races (docs/races/FORMATS.md), and what the program says of arguments that it can't read.
+//! Tests the line and the reason of refused races (docs/races/README.md), and what the program says of arguments that it can't read.
 use gate_races::erased::races_run::refuse_words;
 use gate_races::{LineError, RaceError, Reason, outcomes};
 use std::io::{Error, ErrorKind};
@@ -27,7 +27,7 @@ fn the_longest_text() {
     assert_eq!(refused(&text), Some(LineError { line: 1, reason: Reason::TooLong }));
 }
 
-const USAGE: &str = "usage: gate_races [--outcomes | --summary | --beside] [--states N], with a race on standard input, or gate_races --replay\n";
+const USAGE: &str = "usage: gate_races [--summary] [--states N], with a race on standard input\n";
 
 /// There is no memory for the arguments, or one of them isn't text.
 #[test]

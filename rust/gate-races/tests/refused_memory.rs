@@ -5,7 +5,7 @@
 
 use gate_races::erased::counted_io::Counted;
 use gate_races::erased::maps::{HashMap, TryMap};
-use gate_races::erased::races_run::{Fault, Form, NoWatch, Request, Watch, outcomes_bytes, outcomes_text};
+use gate_races::erased::races_run::{Fault, Form, NoWatch, Watch, outcomes_bytes, outcomes_text};
 use std::fs::{read, read_dir};
 use std::io::{self, Read};
 use std::path::{Path, PathBuf};
@@ -35,8 +35,7 @@ fn one_run(race: &[u8], answer: &[u8], allowed: u64) -> bool {
     IS_ONE.set(true);
     ALLOWED.set(Some(allowed));
     let (mut reader, mut writer) = (Counted::new(&mut feed), Counted::new(&mut room[..]));
-    let answered =
-        outcomes_bytes(&mut reader, &mut writer, Request::Written(Form::Answers), None, &mut NoWatch).map(drop);
+    let answered = outcomes_bytes(&mut reader, &mut writer, Form::Outcomes, None, &mut NoWatch).map(drop);
     let is_refused = ALLOWED.take().is_none();
     assert_eq!(BLOCKS.get(), blocks, "a block is left");
     assert!(feed.reads <= 2, "the input was read again");
@@ -104,21 +103,20 @@ impl Watch for Heap {
 /// The bytes that are told for each state of this race, as a share of those that it takes.
 fn share_told(race: &str) -> f64 {
     let mut heap = Heap(Vec::with_capacity(2));
-    assert!(outcomes_text(race.as_bytes(), Request::Written(Form::Summary), None, &mut heap).is_ok(), "{race}");
+    assert!(outcomes_text(race.as_bytes(), Form::Summary, None, &mut heap).is_ok(), "{race}");
     let [(few, first_told, first), (many, last_told, last)] = heap.0[..] else { panic!("two reports") };
     assert!(many - few > 100.0);
     (last_told - first_told) / (last - first)
 }
 
-/// The bytes that a watcher learns of are about those that the states take, of any number of slots and passes, on this gate, on Linux's
-/// `percpu_ref` and of two gates.
+/// The bytes that a watcher learns of are about those that the states take, of any number of slots and passes.
 #[test]
 fn bytes_of_states() {
     let calls = vec!["dying"; 300].join(" / ");
-    for gates in ["S P slots 0", "S P atomic 0", "S P slots 0 linux", "S P slots 0\nworld S P slots 0"] {
+    for start in ["slots", "atomic"] {
         for slots in [1, 8, 33, 64] {
             for passes in [1, 3, 8, 33, 64] {
-                let world = gates.replace('S', &slots.to_string()).replace('P', &passes.to_string());
+                let world = format!("{slots} {passes} {start} 0");
                 let share = share_told(&format!("races 1\nworld {world}\n0 {calls}\n"));
                 assert!((0.6..=1.1).contains(&share), "{share:.2} of world {world}");
             }

@@ -7,6 +7,22 @@ pub mod crossbeam_utils;
 pub mod pointers;
 pub mod sync;
 
+/// The lanes of a queue. No step of theirs goes to the scheduler: `tests/biased` has the races of biased tags.
+#[path = "../../freeze-queue/src/erased/lane_table.rs"]
+mod lane_table;
+use core::sync::atomic::AtomicU64;
+
+/// The fences of lanes.
+mod fences {
+    pub fn light_fence() {}
+
+    pub fn heavy_fence() {}
+
+    pub fn has_heavy_fence() -> bool {
+        true
+    }
+}
+
 #[path = "../../percpu-gate/src/erased"]
 mod gate {
     pub mod fallible;
@@ -17,6 +33,7 @@ mod gate {
 
 #[path = "../../freeze-queue/src/erased"]
 mod queue {
+    pub mod bias_lanes;
     pub mod queue_core;
     pub mod queue_limits;
 }
@@ -28,5 +45,11 @@ mod waits {
 }
 
 pub use gate::{fallible, percpu_core, percpu_gate, percpu_words};
-pub use queue::{queue_core, queue_limits};
+pub use queue::{bias_lanes, queue_core, queue_limits};
 pub use waits::{freeze_queue, wait_queue};
+
+/// A step on a word that its table doesn't have.
+#[track_caller]
+pub fn past_the_end(word: usize, words: usize) -> ! {
+    panic!("a table of {words} words has no word {word}")
+}

@@ -1,4 +1,4 @@
-//! Races of the gate: docs/races/FORMATS.md has their text, and each call.
+//! Races of the gate: docs/races/README.md has their text, and each call.
 
 use crate::actor::{at_once, join};
 use crate::erased::percpu_gate::{

@@ -21,7 +21,7 @@
 //!   machine and not by the code.
 //! - `queue`: tags enter, read the limits twice, stay, leave and look in, beside nested freezes, new limits, thaws and the
 //!   removal. The limits hold still under a tag, each drain has one last release, and each call is answered as its contract says.
-//! - `waits`: tags that wait to enter, and tags that stay, beside threads that freeze by one shared freezer; several threads
+//! - `waits`: tags that wait to enter, by lanes too, beside threads that freeze by one shared freezer; several threads
 //!   that wait for one drain; and a thread that has the freezer alone. No wake is lost, and a wait changes nothing.
 //!
 //! The public crates have wakers, futures and any values behind their locks, which can't be written down: [`turns`] goes through the orders
@@ -37,7 +37,7 @@
 //!
 //! Two things aren't tried: loads out of order, and a thread that wakes with no call. Relaxed and release stores are seen late by [`turns`] alone;
 //! the other races have none. A waiter tries once before it announces its wait, and not eleven times.
-#![forbid(unsafe_code)]
+#![deny(unsafe_code)] // except in the lanes' table of freeze-queue
 
 extern crate alloc;
 
@@ -51,7 +51,6 @@ mod memory;
 mod op;
 mod orders;
 mod queue_race;
-mod stay_race;
 pub mod turns;
 mod wait_race;
 
@@ -60,5 +59,4 @@ pub use drain_race::{AloneRace, DrainRace, Drained, Finish, LookRace};
 pub use gate_race::{Call, GateRace};
 pub use orders::{Ending, Fault, Found, Orders, Race};
 pub use queue_race::{FIRST_MOST, Freezing, QueueAnswer, QueueRace, Visit};
-pub use stay_race::StayRace;
 pub use wait_race::{FIRST, WaitRace, Waited};

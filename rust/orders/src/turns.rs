@@ -6,7 +6,7 @@
 //! actors is one order. The next run makes the last choice that has an untried alternative in another way, until none has.
 //!
 //! [`Turns::switches`] bounds the switches away from a thread that could go on; a switch that a wait needs is free. A notification of one
-//! sleeper is a choice of the sleeper, and a wait with a deadline may end at each moment.
+//! sleeper is a choice of the sleeper, and a wait with a deadline may end at each moment, or, as its caller says, once no other can go on.
 //!
 //! A relaxed or release store is seen by other threads at any later moment, in any order across words; a release store after the stores before
 //! it. A step that stores otherwise, a lock and [`heavy_fence`] have them seen: `turns/buffers.rs` has the rules.

@@ -16,6 +16,9 @@ pub struct WaitRace {
     pub rounds: usize,
     /// Whether each tag's thread reads the depth before it leaves, and so takes the freezer's lock.
     pub reads_depth: bool,
+    /// Whether each tag could be biased. None is, so that it enters and leaves by the gate: the words of lanes are each actor's own here, and
+    /// `tests/biased` goes through the orders of tags with a bias.
+    pub by_lanes: bool,
 }
 
 /// An answer.
@@ -72,8 +75,22 @@ fn enters(race: &WaitRace, queue: &BlockQueue, shared: &SharedFreezer<'_>, mut t
     Waited::Entered(seen, tag.into_pass().into_parts().1)
 }
 
+/// The same by the calls of a tag that could be biased, which reads its limits as it enters.
+fn enters_by_lanes(race: &WaitRace, queue: &BlockQueue, tag: Tag) -> Waited {
+    let mut tag = tag.into_biased(Limits::start(FIRST).expect("limits"));
+    let mut seen = Vec::new();
+    for _ in 0..race.rounds {
+        queue.enter_by_lane(&mut tag, 0);
+        let first = tag.limits().max();
+        seen.push((first, tag.limits().max()));
+        let _put = queue.leave_by_lane(&mut tag, 0, false);
+    }
+    let Ok(tag) = tag.into_tag() else { panic!("it has a bias") };
+    Waited::Entered(seen, tag.into_pass().into_parts().1)
+}
+
 /// Freezes, sets the limits and thaws. A thaw by another thread meanwhile isn't a fault.
-pub(crate) fn freezes(shared: &SharedFreezer<'_>, most: u32) -> Waited {
+fn freezes(shared: &SharedFreezer<'_>, most: u32) -> Waited {
     let mut guard = match shared.freeze() {
         Ok(guard) => guard,
         Err(FreezeFault::NotFrozen) => return Waited::Froze(Vec::new(), true),
@@ -87,7 +104,7 @@ pub(crate) fn freezes(shared: &SharedFreezer<'_>, most: u32) -> Waited {
 }
 
 /// Returns depth, kills and releases of a freezer, once all other actors have ended.
-pub(crate) fn ended(shared: SharedFreezer<'_>) -> Waited {
+fn ended(shared: SharedFreezer<'_>) -> Waited {
     join();
     let freezer = shared.into_inner().freezer;
     let depth = freezer.depth();
@@ -106,7 +123,8 @@ impl Race for WaitRace {
         let (queue, freezer, mut tags) = at_once(|| queue_of(self.tags));
         let shared = share(freezer, &queue);
         if actor < self.tags {
-            return enters(self, &queue, &shared, tags.swap_remove(actor));
+            let tag = tags.swap_remove(actor);
+            return if self.by_lanes { enters_by_lanes(self, &queue, tag) } else { enters(self, &queue, &shared, tag) };
         }
         if actor < self.tags + self.freezers {
             return freezes(&shared, FIRST - 1 - u32::try_from(actor - self.tags).expect("few freezers"));

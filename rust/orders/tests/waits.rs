@@ -4,8 +4,7 @@
 use orders::erased::atomic_table::Table;
 use orders::erased::wait_queue::WaitQueue;
 use orders::{
-    AloneRace, DrainRace, Drained, FIRST, Fault, Finish, Found, LookRace, Orders, Race, StayRace, WaitRace, Waited,
-    at_once,
+    AloneRace, DrainRace, Drained, FIRST, Fault, Finish, Found, LookRace, Orders, Race, WaitRace, Waited, at_once,
 };
 
 /// Goes through the orders of a race, in which no thread may wait for ever.
@@ -38,28 +37,18 @@ fn check_outcome(answers: &[Waited]) {
     }
 }
 
-fn check(race: WaitRace, switches: u8) {
+/// Goes through the orders of a race: all outcomes, each of which is right.
+fn check(race: WaitRace, switches: u8) -> Vec<Vec<Waited>> {
     let mut orders = Orders::of(&race).switches(switches);
     let found = found(&mut orders);
     let (outcomes, states, ways) = (found.outcomes.len(), found.states, found.interleavings);
-    let WaitRace { tags, freezers, rounds, reads_depth } = race;
+    let WaitRace { tags, freezers, rounds, reads_depth, by_lanes } = race;
     let reads = if reads_depth { " and read the depth" } else { "" };
+    let lanes = if by_lanes { " by lanes" } else { "" };
     println!(
-        "orders of {tags} tags that wait to enter{reads}, {rounds} times, beside {freezers} threads that freeze, {switches} switches: \
+        "orders of {tags} tags that wait to enter{lanes}{reads}, {rounds} times, beside {freezers} threads that freeze, {switches} switches: \
          {outcomes} outcomes, {states} states, {ways} interleavings"
     );
-    for (answers, ending) in &found.outcomes {
-        let is_right = std::panic::catch_unwind(|| check_outcome(answers)).is_ok();
-        assert!(is_right, "{answers:?} by\n{}", orders.schedule(ending).join("\n"));
-    }
-}
-
-/// Goes through the orders of tags that stay: all outcomes.
-fn stayed(race: StayRace, switches: u8) -> Vec<Vec<Waited>> {
-    let mut orders = Orders::of(&race).switches(switches);
-    let found = found(&mut orders);
-    let (outcomes, states, ways) = (found.outcomes.len(), found.states, found.interleavings);
-    println!("orders of {race:?}, {switches} switches: {outcomes} outcomes, {states} states, {ways} interleavings");
     for (answers, ending) in &found.outcomes {
         let is_right = std::panic::catch_unwind(|| check_outcome(answers)).is_ok();
         assert!(is_right, "{answers:?} by\n{}", orders.schedule(ending).join("\n"));
@@ -69,42 +58,39 @@ fn stayed(race: StayRace, switches: u8) -> Vec<Vec<Waited>> {
 
 #[test]
 fn one_enters_and_one_freezes() {
-    check(WaitRace { tags: 1, freezers: 1, rounds: 1, reads_depth: false }, 4);
+    check(WaitRace { tags: 1, freezers: 1, rounds: 1, reads_depth: false, by_lanes: false }, 4);
 }
 
 #[test]
 fn two_enter_and_one_freezes() {
-    check(WaitRace { tags: 2, freezers: 1, rounds: 1, reads_depth: false }, 2);
+    check(WaitRace { tags: 2, freezers: 1, rounds: 1, reads_depth: false, by_lanes: false }, 2);
 }
 
 #[test]
 fn one_enters_and_two_freeze() {
-    check(WaitRace { tags: 1, freezers: 2, rounds: 1, reads_depth: false }, 2);
+    check(WaitRace { tags: 1, freezers: 2, rounds: 1, reads_depth: false, by_lanes: false }, 2);
 }
 
-/// Tags that stay leave for a freeze, and enter again: no wake is lost, and no stay sees two limits.
+/// Tags that could be biased beside a freeze: no wake is lost, no visit sees two limits, and the drain is released once.
 #[test]
-fn two_stay_and_one_freezes() {
-    let race = StayRace { tags: 2, turns: 1 };
-    let outcomes = stayed(race, 2);
-    let stays = |it: &Vec<Waited>, of: usize| matches!(&it[of], Waited::Entered(seen, _) if seen.len() == 1);
-    assert!(outcomes.iter().any(|it| stays(it, 0) && stays(it, 1)), "none stays");
-    assert!(outcomes.iter().any(|it| !stays(it, 0) && !stays(it, 1)), "none leaves for the freeze");
-    let again = Waited::Entered(vec![(FIRST, FIRST), (FIRST - 1, FIRST - 1)], 1);
-    assert!(outcomes.iter().any(|it| it[0] == again), "none is the last to leave by its stay, and enters again");
+fn two_enter_by_lanes_and_one_freezes() {
+    let outcomes = check(WaitRace { tags: 2, freezers: 1, rounds: 1, reads_depth: false, by_lanes: true }, 2);
+    let visits = |most: u32, won: u64| Waited::Entered(vec![(most, most)], won);
+    for seen in [visits(FIRST, 0), visits(FIRST, 1), visits(FIRST - 1, 0)] {
+        assert!(outcomes.iter().any(|it| it[0] == seen), "no {seen:?}");
+    }
 }
 
 #[test]
-fn one_stays_for_three_turns_and_one_freezes() {
-    let outcomes = stayed(StayRace { tags: 1, turns: 3 }, 4);
-    let most = outcomes.iter().map(|it| matches!(&it[0], Waited::Entered(seen, _) if seen.len() == 2));
-    assert!(most.clone().any(|it| it) && !most.clone().all(|it| it), "it leaves for the one freeze, or for none");
+fn one_enters_by_its_lane_and_one_freezes() {
+    let outcomes = check(WaitRace { tags: 1, freezers: 1, rounds: 1, reads_depth: false, by_lanes: true }, 4);
+    assert_eq!(outcomes.len(), 4, "the freeze comes first or not, and this tag is the last or not");
 }
 
 /// A thread that waits for the drain has let the freezer's lock go: the tag that holds the drain off takes it before it leaves.
 #[test]
 fn one_enters_and_reads_the_depth_beside_a_freeze() {
-    check(WaitRace { tags: 1, freezers: 1, rounds: 1, reads_depth: true }, 4);
+    check(WaitRace { tags: 1, freezers: 1, rounds: 1, reads_depth: true, by_lanes: false }, 4);
 }
 
 /// Goes through the orders of a race for a drain: the answers of the threads that wait, in each outcome.

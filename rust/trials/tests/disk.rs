@@ -1,10 +1,10 @@
 //! Tests the disk from inside: examples by hand, and calls compared with plain loops over bytes.
 
-use blkq::erased::blk_script::{Line, What, parse};
+use blkq::erased::blk_script::parse;
 use blkq::erased::fallible::TryClone;
-use blkq::erased::in_flight::{UniformSectors, answer_to};
+use blkq::erased::in_flight::{Workbench, answer_to};
 use blkq::erased::queue_limits::Limits;
-use blkq::erased::ram_disk::{Disk, DiskFault, SECTOR_BYTES, Sector, patterned, runs};
+use blkq::erased::ram_disk::{Disk, DiskFault, SECTOR_BYTES, Sector, Sectors, patterned, runs};
 use std::collections::BTreeSet;
 
 // The bytes of sectors, one after another.
@@ -47,76 +47,40 @@ fn patterns_are_the_plain_ones() {
     }
 }
 
-// All writes of one byte share one sector, whatever their length, and also after thousands of other lines.
+// A write of one byte value leaves sectors that take no memory, whatever its length, and a read finds such sectors again.
 #[test]
-fn writes_of_one_byte_share_a_sector() {
-    const BEFORE: usize = 20_000;
-    const LONGEST: usize = 4_096;
-    let writes: String = (1..=LONGEST).map(|count| format!("write 0 {count} 61\n")).collect();
-    let text = format!("blkq 1\ndisk 4096 hw 8\n{writes}{}write 4 2 61\n", "read 0 1\n".repeat(BEFORE));
-    let script = parse(text.as_bytes()).unwrap();
-    let uniform = UniformSectors::of(&script).unwrap();
+fn sectors_of_one_byte_take_no_memory() {
+    const SECTORS: u32 = 4_096;
+    let mut bench = Workbench::new();
     let limits = Limits::start(8).unwrap();
-    let places = |position| {
-        let answer = answer_to(&uniform, &script, position, limits, &[]).unwrap();
-        answer.sectors.iter().map(|sector| sector.bytes().as_ptr()).collect::<Vec<_>>()
-    };
-    let first = places(0)[0];
-    for count in 1..=LONGEST {
-        assert_eq!(places(count - 1), vec![first; count]);
-    }
-    assert_eq!(places(LONGEST + BEFORE), [first; 2]);
-}
-
-// They do so too if the first write of the byte comes behind lines of any other kind.
-#[test]
-fn writes_behind_any_line_share_a_sector() {
-    const OTHERS: [&str; 12] = [
-        "read 0 1\n",
-        "read 0 9\n",
-        "freeze\n",
-        "thaw\n",
-        "freeze\nthaw\n",
-        "set max_sectors 3\n",
-        "set chunk_sectors 4\n",
-        "set physical_sectors 2\n",
-        "mode atomic\n",
-        "stat\n",
-        "write 4 2 6162\n",
-        "write 0 1 60\n",
-    ];
-    for before in OTHERS {
-        for between in OTHERS {
-            for times in [0, 1, 3, 1_000] {
-                let text =
-                    format!("blkq 2\ndisk 8 hw 8\n{}write 1 2 61\n{between}write 2 3 61\n", before.repeat(times));
-                let script = parse(text.as_bytes()).unwrap();
-                let uniform = UniformSectors::of(&script).unwrap();
-                let limits = Limits::start(8).unwrap();
-                let is_one =
-                    |line: &Line| matches!(&line.what, What::Write { pattern, .. } if pattern.bytes() == [0x61]);
-                let of_one = (0..script.lines().len()).filter(|at| is_one(&script.lines()[*at]));
-                let answers = of_one.map(|at| answer_to(&uniform, &script, at, limits, &[]).unwrap().sectors);
-                let sectors: Vec<Sector> = answers.flatten().collect();
-                let places: BTreeSet<_> = sectors.iter().map(|sector| sector.bytes().as_ptr()).collect();
-                assert_eq!((sectors.len(), places.len()), (5, 1), "{times} times {before}, {between}");
-            }
+    for byte in 0..=255_u8 {
+        let mut disk = Disk::new(SECTORS).unwrap();
+        for (count, times) in [(1, 1), (2, 1), (63, 2), (SECTORS - 1, 64), (SECTORS, 1)] {
+            let pattern = format!("{byte:02x}").repeat(times);
+            let script = parse(format!("blkq 2\ndisk 4096 hw 8\nwrite 0 {count} {pattern}\n").as_bytes()).unwrap();
+            let left = answer_to(&mut bench, &script, 0, limits, &Sectors::none()).unwrap().sectors;
+            assert!(matches!(left, Sectors::Filled { byte: of, count: many } if (of, many) == (byte, count)));
+            disk.leave(0, left);
+            assert!(disk.sectors().iter().take(count as usize).all(|sector| sector.bytes() == [byte; SECTOR_BYTES]));
+            let found = disk.find(0, count).unwrap();
+            assert!(matches!(found, Sectors::Filled { byte: of, count: many } if (of, many) == (byte, count)));
+            let is_listed = matches!(disk.find(0, SECTORS), Ok(Sectors::Listed(_)));
+            assert_eq!(is_listed, byte > 0 && count < SECTORS, "{count} sectors of {byte}, and others");
         }
     }
 }
 
-// So do the writes of each byte, and of no other.
+// A list of sectors is left and found as it is, and one sector of it alone.
 #[test]
-fn each_byte_has_a_sector() {
-    let writes: String = (0..256).map(|byte| format!("write {byte} 2 {byte:02x}\n")).collect();
-    let script = parse(format!("blkq 2\ndisk 4096 hw 8\n{writes}{writes}").as_bytes()).unwrap();
-    let uniform = UniformSectors::of(&script).unwrap();
-    let limits = Limits::start(8).unwrap();
-    let answers: Vec<_> =
-        (0..512).map(|position| answer_to(&uniform, &script, position, limits, &[]).unwrap().sectors).collect();
-    let place = |position: usize| answers[position][0].bytes().as_ptr();
-    assert_eq!((0..256).map(place).collect::<BTreeSet<_>>().len(), 256);
-    assert!((0..256).all(|position| place(position) == place(position + 256)));
+fn other_sectors_are_listed() {
+    let mut disk = Disk::new(8).unwrap();
+    disk.leave(1, Sectors::patterned(&SAMPLE[..3], 4).unwrap());
+    let Sectors::Listed(found) = disk.find(0, 8).unwrap() else { panic!("sectors of one byte") };
+    assert_eq!(joined(&found), joined(disk.sectors()));
+    let Sectors::Listed(found) = disk.find(2, 1).unwrap() else { panic!("a sector of one byte") };
+    assert_eq!(joined(&found), joined(&disk.sectors()[2..3]));
+    assert!(matches!(disk.find(5, 3), Ok(Sectors::Filled { byte: 0, count: 3 })));
+    assert!(matches!(disk.find(8, 1), Err(DiskFault::PastEnd)) && matches!(disk.find(9, 0), Err(DiskFault::PastEnd)));
 }
 
 // A pattern makes each of its different sectors once, however many are asked for: its length by the greatest common divisor with a sector's, and

@@ -3,10 +3,12 @@
 #![allow(unsafe_code)]
 
 use blkq::erased::atomic_table::Table;
+use blkq::erased::blk_script::parse;
 use blkq::erased::crossbeam_queue::RuledArrayQueue;
 use blkq::erased::fallible::{AllocError, TryClone, TryCollect, TryRoom, TryToVec, TryVec};
-use blkq::erased::hex;
+use blkq::erased::line_text::ScriptFault;
 use blkq::erased::pointers::{Arc, Rc, TryBox};
+use blkq::erased::script_meaning::Pattern;
 use std::cell::Cell;
 use std::collections::VecDeque;
 use std::thread;
@@ -48,7 +50,22 @@ fn each_call_is_refused() {
     assert_eq!(each_refused(|| Arc::try_new(Arc::try_new(1)?)), 2);
     assert_eq!(each_refused(|| Table::of_words(&[1, 2])), 1);
     assert_eq!(each_refused(|| RuledArrayQueue::<u32>::ruled(3)), 1);
-    assert_eq!(each_refused(|| hex::decode(b"00ff").map_err(|_| AllocError)), 1);
+    assert_eq!(each_refused(|| Pattern::new(&[7; 8])), 0);
+    assert_eq!(each_refused(|| Pattern::new(&[7; 9])), 1);
+}
+
+/// A script takes memory for its lines, and for a pattern of more than 8 bytes: a refusal of either is want of memory, not a fault of
+/// the script.
+#[test]
+fn each_script_is_refused() {
+    let parsed = |pattern: &str| {
+        let script = format!("blkq 1\ndisk 8 hw 8\nwrite 0 1 {pattern}\n");
+        each_refused(|| {
+            parse(script.as_bytes()).map_err(|fault| assert_eq!(fault, ScriptFault::Memory)).map_err(|()| AllocError)
+        })
+    };
+    assert_eq!(parsed(&"ab".repeat(8)), 1);
+    assert_eq!(parsed(&"ab".repeat(9)), 2);
 }
 
 /// If a growth is refused, the value stays as it was.

@@ -11,7 +11,7 @@ use blkq::erased::blk_workers::{Config, Point, Stall};
 use blkq::erased::blkq_run::{self, replay_bytes, run_bytes};
 use blkq::erased::counted_io::Counted;
 use std::env::{args, current_exe};
-use std::fs::{read, read_dir};
+use std::fs::{create_dir_all, read, read_dir, write};
 use std::io::{self, Read};
 use std::path::{Path, PathBuf};
 use std::process::{Command, exit};
@@ -215,13 +215,44 @@ fn each_refused(example: &Path) -> u32 {
     aborts
 }
 
+/// A script of 1,100 writes of one byte each, of which the last ten are of three sectors and cut in two, and its answer.
+fn many_writes() -> (String, String) {
+    let mut script = String::from("blkq 1\ndisk 1200 hw 4\n");
+    let (mut answer, mut disk) = (String::new(), String::from("disk "));
+    for at in 0..REQUESTS {
+        let byte = at % 255 + 1;
+        let (sector, sectors, line, pieces) = match at.checked_sub(1090) {
+            None => (at, 1, at + 3, "1"),
+            Some(past) => (1090 + 3 * past, 3, at + 4, "2+1"),
+        };
+        if at == 1090 {
+            script += "set max_sectors 2\n";
+            answer += "1093 ok\n";
+        }
+        script += &format!("write {sector} {sectors} {byte:02x}\n");
+        answer += &format!("{line} ok {pieces}\n");
+        disk += &format!("{byte:02x}*{},", 512 * sectors);
+    }
+    (script, format!("{answer}{disk}00*40960\n"))
+}
+
+/// A folder with the longest script.
+fn folder_of_many() -> PathBuf {
+    let folder = Path::new(env!("CARGO_TARGET_TMPDIR")).join("refused");
+    create_dir_all(&folder).unwrap();
+    let (script, answer) = many_writes();
+    write(folder.join("eleven_hundred_writes.blkq"), script).unwrap();
+    write(folder.join("eleven_hundred_writes.answer"), answer).unwrap();
+    folder
+}
+
 fn main() {
     let words: Vec<String> = args().collect();
     if words.get(1).is_some_and(|word| word == "--one") {
         exit(one_run(Path::new(&words[2]), words[3].parse().unwrap()).into());
     }
     let here = Path::new(env!("CARGO_MANIFEST_DIR"));
-    let folders = [here.join("../../examples"), here.join("tests/refused")];
+    let folders = [here.join("../../examples"), here.join("tests/refused"), folder_of_many()];
     let files = folders.iter().flat_map(|folder| read_dir(folder).unwrap());
     let mut examples: Vec<PathBuf> = files.map(|entry| entry.unwrap().path()).collect();
     examples.sort();

@@ -247,7 +247,9 @@ fn bytes_of_words() {
         (b"6g", Err(Why::BadHex)),
     ];
     for (word, wanted) in rows {
-        assert_eq!(hex_bytes(word, 3), wanted.map(Vec::from).map_err(LineFault::Refused), "{word:?}");
+        let mut room = [0; 3];
+        let count = hex_bytes(word, &mut room);
+        assert_eq!(count.map(|count| &room[..count]), wanted, "{word:?}");
     }
 }
 

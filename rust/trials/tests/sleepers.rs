@@ -1,7 +1,7 @@
 //! Tests that a thread which waits at a queue is woken, once, by the event that it waits for. Also tests sharing a freezer, and freezing two
 //! queues together.
 
-use blkq::erased::freeze_queue::{BlockQueue, Enter, FreezeFault, Freezer, Limits, Put, SharedFreezer, Stay, Tag};
+use blkq::erased::freeze_queue::{BlockQueue, Enter, FreezeFault, Freezer, Limits, Put, SharedFreezer, Tag};
 use std::sync::atomic::{AtomicU64, Ordering::SeqCst};
 use std::thread;
 use std::time::Duration;
@@ -49,10 +49,20 @@ fn the_last_leaver_wakes_the_freezer() {
     assert_eq!(freezes_beside(|queue, tag| queue.leave(tag, 0)), (Ok(2), Put::Last));
 }
 
-/// A tag that asks to stay leaves a frozen queue. As the last to leave it wakes the freezer.
+/// A biased tag whose bias a freeze has ended leaves by the gate. As the last to leave it wakes the freezer.
 #[test]
-fn a_stay_that_is_last_wakes_the_freezer() {
-    assert_eq!(freezes_beside(|queue, tag| queue.stay(tag, 0)), (Ok(2), Stay::Left(Put::Last)));
+fn a_biased_tag_that_is_last_wakes_the_freezer() {
+    let (queue, mut freezer, tag) = with_one_tag();
+    let mut tag = tag.into_biased(freezer.limits());
+    queue.enter_by_lane(&mut tag, 0);
+    assert_eq!(queue.leave_by_lane(&mut tag, 0, true), Put::NotLast);
+    queue.enter_by_lane(&mut tag, 0);
+    thread::scope(|scope| {
+        let freezes = scope.spawn(|| freezer.freeze(&queue));
+        thread::sleep(PAUSE);
+        assert_eq!(queue.leave_by_lane(&mut tag, 0, true), Put::Last);
+        assert_eq!(freezes.join().expect("a freeze that ends"), Ok(1));
+    });
 }
 
 /// Thaws, under the lock.

@@ -13,11 +13,14 @@ fn digits_by_hand() {
     assert_eq!(hex::encode_to_slice(&[0, 0xAF, 0x5c], &mut room), Ok(()));
     assert_eq!(&room, b"00af5c");
     assert_eq!(hex::encode_to_slice(&[1], &mut room), Err(FromHexError::InvalidStringLength));
-    assert_eq!(hex::decode(b"00aF5C").unwrap(), [0, 0xaf, 0x5c]);
-    assert_eq!(hex::decode(b"").unwrap(), []);
-    assert_eq!(hex::decode(b"0g1"), Err(FromHexError::OddLength));
-    assert_eq!(hex::decode(b"0g"), Err(FromHexError::InvalidHexCharacter));
-    assert_eq!(hex::decode("\u{e9}".as_bytes()), Err(FromHexError::InvalidHexCharacter));
+    let mut bytes = [1; 3];
+    assert_eq!(hex::decode_to_slice(b"00aF5C", &mut bytes), Ok(()));
+    assert_eq!(bytes, [0, 0xaf, 0x5c]);
+    assert_eq!(hex::decode_to_slice(b"", &mut []), Ok(()));
+    assert_eq!(hex::decode_to_slice(b"0g1", &mut bytes), Err(FromHexError::OddLength));
+    assert_eq!(hex::decode_to_slice(b"0g", &mut bytes), Err(FromHexError::InvalidStringLength));
+    assert_eq!(hex::decode_to_slice(b"0g", &mut bytes[..1]), Err(FromHexError::InvalidHexCharacter));
+    assert_eq!(hex::decode_to_slice("\u{e9}".as_bytes(), &mut bytes[..1]), Err(FromHexError::InvalidHexCharacter));
 }
 
 #[test]
@@ -26,8 +29,10 @@ fn every_byte_there_and_back() {
         let mut room = [0; 2];
         hex::encode_to_slice(&[byte], &mut room).unwrap();
         assert_eq!(std::str::from_utf8(&room).unwrap(), format!("{byte:02x}"));
-        assert_eq!(hex::decode(&room).unwrap(), [byte]);
-        assert_eq!(hex::decode(&[byte, b'0']).is_ok(), char::from(byte).is_ascii_hexdigit());
+        let mut read = [!byte];
+        hex::decode_to_slice(&room, &mut read).unwrap();
+        assert_eq!(read, [byte]);
+        assert_eq!(hex::decode_to_slice(&[byte, b'0'], &mut read).is_ok(), char::from(byte).is_ascii_hexdigit());
     }
 }
 
@@ -38,7 +43,7 @@ fn numbers_as_std_has_them() {
     let edges = (0..20).flat_map(|power| [10u64.pow(power) - 1, 10u64.pow(power)]).chain([u64::MAX]);
     let random: Vec<u64> = (0..20_000).map(|k| numbers.next() >> (k % 64)).collect();
     for number in edges.chain(random) {
-        assert_eq!(buffer.format(number), number.to_string());
+        assert_eq!(buffer.format(number).as_bytes(), number.to_string().as_bytes());
     }
 }
 

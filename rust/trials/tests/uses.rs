@@ -5,7 +5,7 @@ use blkq::erased::freeze_queue::{BlockQueue, Limits};
 use blkq::erased::percpu_gate::{Control, Gate, Pass, Put, Start, Tried};
 use std::time::Instant;
 use trials::erased::uses::{
-    Command, Raced, Served, change_limits, commands, enter_under, race, remove, serve, submit, submit_next,
+    Command, Raced, Request, Served, change_limits, commands, enter_under, race, remove, serve, submit, submit_next,
 };
 
 #[path = "shared/patience.rs"]
@@ -32,13 +32,16 @@ fn a_long_range_is_cut() {
 /// There is memory for the commands of a request of each magnitude.
 #[test]
 fn a_request_of_each_magnitude_is_cut() {
-    let (queue, _freezer, mut tags) = BlockQueue::new(Limits::start(65_535).unwrap(), 1, 1).unwrap();
-    for count in (0..32).flat_map(|bits| [1 << bits, u32::MAX >> bits]) {
-        let entered = submit(&queue, &mut tags[0], 0, 7, count).unwrap().expect("entered");
-        let stayed = submit_next(&queue, &mut tags[0], 0, 7, count).unwrap();
+    let limits = Limits::start(65_535).unwrap();
+    let (queue, _freezer, mut tags) = BlockQueue::new(limits, 1, 2).unwrap();
+    let mut biased = tags.pop().expect("a tag").into_biased(limits);
+    for sectors in (0..32).flat_map(|bits| [1 << bits, u32::MAX >> bits]) {
+        let plain = submit(&queue, &mut tags[0], 0, 7, sectors).unwrap().expect("entered");
+        let next = submit_next(&queue, &mut biased, 0, Request { first: 7, sectors }).unwrap();
         queue.leave(&mut tags[0], 0);
-        for made in [entered, stayed] {
-            assert_eq!(made.iter().map(|command| u64::from(command.sectors)).sum::<u64>(), u64::from(count));
+        queue.leave_by_lane(&mut biased, 0, true);
+        for made in [plain, next] {
+            assert_eq!(made.iter().map(|command| u64::from(command.sectors)).sum::<u64>(), u64::from(sectors));
         }
     }
 }

@@ -1,10 +1,10 @@
-//! Tests the functions that `uses` shows to drivers, while other threads act: limits that another thread sets, nested freezes, requests that
-//! stay.
+//! Tests the functions that `uses` shows to drivers, while other threads act: limits that another thread sets, nested freezes, requests
+//! of biased tags.
 
-use blkq::erased::freeze_queue::{BlockQueue, Freezer, Limits, Put, Stay, Tag};
+use blkq::erased::freeze_queue::{BlockQueue, Freezer, Limits, Put, Tag};
 use std::thread;
 use std::time::Duration;
-use trials::erased::uses::{Command, change_limits, enter_under, submit, submit_next};
+use trials::erased::uses::{Command, Request, change_limits, drive, enter_under, submit, submit_next};
 
 #[allow(dead_code)]
 #[path = "shared/turns.rs"]
@@ -50,17 +50,19 @@ fn limits_that_are_set_later() {
     assert_eq!((freezer.poll_drained(&queue), queue.leave(&mut tag, 0)), (false, Put::Last));
 }
 
-/// The next request stays under the limits of the one before; after a freeze it has the new limits.
+/// The next request has the limits of the one before; after a freeze it has the new limits.
 #[test]
-fn requests_that_stay() {
+fn requests_of_a_biased_tag() {
     let (queue, mut freezer, mut tag) = with_one_tag();
     assert_eq!(lengths(&submit(&queue, &mut tag, 0, 6, 6).unwrap().expect("a live queue")), [6]);
+    assert_eq!(queue.leave(&mut tag, 0), Put::NotLast);
+    let (mut tag, request) = (tag.into_biased(limits(NARROW)), Request { first: 6, sectors: 6 });
     for _ in 0..3 {
-        assert_eq!(lengths(&submit_next(&queue, &mut tag, 0, 6, 6).unwrap()), [6]);
+        assert_eq!(lengths(&submit_next(&queue, &mut tag, 0, request).unwrap()), [6]);
+        assert_eq!((queue.leave_by_lane(&mut tag, 0, true), tag.is_biased()), (Put::NotLast, true));
     }
-    assert_eq!(queue.stay(&mut tag, 0), Stay::Stayed);
     thread::scope(|scope| {
-        let (frozen, next) = (freezer.start_freeze(&queue), scope.spawn(|| submit_next(&queue, &mut tag, 0, 6, 6)));
+        let (frozen, next) = (freezer.start_freeze(&queue), scope.spawn(|| submit_next(&queue, &mut tag, 0, request)));
         insist(frozen == Ok(1), "a freeze is refused");
         insist(change_limits(&queue, &mut freezer, limits(NARROW)).is_ok(), "a nested freeze is refused");
         insist(freezer.depth() == 1 && freezer.limits() == limits(NARROW), "the nested freeze changes another depth");
@@ -68,9 +70,23 @@ fn requests_that_stay() {
         let cut = next.join().expect("no panic").expect("memory");
         insist(lengths(&cut) == [2, 4], "it is cut by other limits");
     });
-    assert_eq!(queue.leave(&mut tag, 0), Put::NotLast);
+    assert_eq!(queue.leave_by_lane(&mut tag, 0, false), Put::NotLast);
+    let Ok(mut tag) = tag.into_tag() else { panic!("it isn't biased") };
     assert_eq!(change_limits(&queue, &mut freezer, limits(WIDE)), Ok(()));
     assert!(submit(&queue, &mut tag, 0, 0, 8).unwrap().is_some());
+}
+
+/// Requests that run beside changes are each cut by the limits of one of these, and the changes are made. Limits for other hardware are left out.
+#[test]
+fn requests_beside_changes() {
+    let (queue, freezer, tag) = with_one_tag();
+    let requests = [Request { first: 6, sectors: 6 }; 10_000];
+    let changes = [limits(NARROW), Limits::new(16, 1, 0).unwrap(), limits(WIDE)].repeat(50);
+    let driven = drive(&queue, tag.into_biased(limits(WIDE)), freezer, &requests, &changes);
+    assert_eq!(driven.changed, Ok(()));
+    let commands = driven.commands.expect("memory");
+    assert_eq!(commands.len(), requests.len());
+    assert!(commands.iter().all(|it| [vec![6], vec![2, 4]].contains(&lengths(it))), "other limits cut a request");
 }
 
 /// Limits can be changed at each depth, and the depth stays.

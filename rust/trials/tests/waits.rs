@@ -1,7 +1,7 @@
 //! Tests that waiting threads sleep and go on waiting after needless wakes, and that a shared wait changes nothing.
 
 use blkq::erased::blk_workers::{Point, Stall};
-use blkq::erased::freeze_queue::{BlockQueue, Enter, Freezer, Limits, Put, SharedFreezer, StayOrEnter, Tag};
+use blkq::erased::freeze_queue::{BlockQueue, Enter, Freezer, Limits, Put, SharedFreezer, Tag};
 use blkq::erased::wait_queue::WaitQueue;
 use std::sync::atomic::{AtomicBool, AtomicU64, Ordering::SeqCst};
 use std::time::Duration;
@@ -106,13 +106,14 @@ fn sleep<const WAITS: usize>(names: [&str; WAITS], tries: impl Fn() -> [Option<D
 
 #[test]
 fn a_tag_that_waits_to_enter_sleeps() {
-    sleep(["enter", "stay_or_enter"], || {
+    sleep(["enter", "enter_by_lane"], || {
         let (queue, mut freezer, mut tag) = with_one_tag(1);
         assert_eq!(freezer.freeze(&queue), Ok(1));
         let enters = taken_by(|| queue.enter(&mut tag, 0), || assert_eq!(freezer.thaw(&queue), Ok(0)));
+        queue.leave(&mut tag, 0);
+        let mut tag = tag.into_biased(freezer.limits());
         assert_eq!(freezer.start_freeze(&queue), Ok(1));
-        let stay = || assert_eq!(queue.stay_or_enter(&mut tag, 0), StayOrEnter::EnteredAgain);
-        [enters, taken_by(stay, || assert_eq!(freezer.thaw(&queue), Ok(0)))]
+        [enters, taken_by(|| queue.enter_by_lane(&mut tag, 0), || assert_eq!(freezer.thaw(&queue), Ok(0)))]
     });
 }
 

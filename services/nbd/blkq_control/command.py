@@ -8,7 +8,7 @@ import signal
 import sys
 from contextlib import contextmanager, suppress
 
-from blkq_control.server import NOT_FOUND, NOT_RUN
+from blkq_control.server import NOT_FOUND, NOT_RUN, Gone
 
 PR_SET_PDEATHSIG = 1  # of Linux
 
@@ -40,7 +40,8 @@ def raised_signals():
             signal.signal(number, handler)
 
 
-PASSED_ON = (signal.SIGTERM, signal.SIGHUP)
+LEAVES_WITHIN = 5.0  # seconds for a command that can't go on
+PASSED_ON = (signal.SIGTERM, signal.SIGHUP, signal.SIGINT)
 
 
 def execute(file, words, variables, said):
@@ -55,7 +56,7 @@ def become(words, go, ready, parent):
     Linux kills the child if its parent is killed, since the freeze has ended then. Clients wait from that message on, so the program is looked up
     before it, and a first try, which fails, has Linux copy the memory that the second one writes."""
     try:
-        for number in (*PASSED_ON, signal.SIGINT, signal.SIGPIPE, signal.SIGXFSZ):
+        for number in (*PASSED_ON, signal.SIGPIPE, signal.SIGXFSZ):
             signal.signal(number, signal.SIG_DFL)
         ctypes.CDLL(None).prctl(PR_SET_PDEATHSIG, signal.SIGKILL)
         found, variables = shutil.which(words[0]) or words[0], dict(os.environb)
@@ -86,13 +87,16 @@ class Command:
         os.close(ready)
         os.read(waits, 1)  # returns once the child has closed its end
         os.close(waits)
-        self.status = None
+        self.status = self.passed = self.leave = None
 
-    def wait(self, within):
-        """Waits until the command ends. Kills it once nobody reads this program's output, or after this many seconds."""
+    def wait(self, within, server):
+        """Waits until the command ends. Ends it once nobody reads this program's output, after this many seconds, or if the server's connection, unless
+        None, ends."""
         ended, poll = os.pidfd_open(self.pid), select.poll()
         poll.register(ended, select.POLLIN)
         poll.register(1, 0)
+        if server is not None:
+            poll.register(server, select.POLLRDHUP)
         try:
             while True:
                 found = dict(poll.poll(within and within * 1e3))
@@ -101,23 +105,36 @@ class Command:
                 if found.get(1) == select.POLLNVAL:
                     poll.unregister(1)
                     continue
-                os.kill(self.pid, signal.SIGKILL)
-                raise Unheard if found else Overdue
+                if self.leave and server not in found:
+                    self.lets_go()
+                    select.select([ended], [], [], LEAVES_WITHIN)
+                with suppress(ProcessLookupError):
+                    os.kill(self.pid, signal.SIGKILL)
+                raise Gone("the server has gone") if server in found else Unheard if found else Overdue
         finally:
             os.close(ended)
 
+    def lets_go(self):
+        """Ends what the command reads, so that it ends by itself: nbdkit 1.32 may abort where it is killed. Once."""
+        leave, self.leave = self.leave, None
+        leave()
+
     def pass_on(self, number, _):
-        if self.status is None:
+        self.passed = number
+        if self.status is None and self.leave:
+            self.lets_go()
+        elif self.status is None:
             with suppress(ProcessLookupError):
                 os.kill(self.pid, number)
 
-    def run(self, within=None, variables=()):
-        """Runs the command with these additional variables, and returns its status. Passes signals that would end this program on to it."""
+    def run(self, within=None, variables=(), server=None, leave=None):
+        """Runs the command with these additional variables, and returns its status. Passes signals that would end this program on to it, or calls `leave`
+        at the first."""
+        self.leave = leave
         before = {number: signal.signal(number, self.pass_on) for number in PASSED_ON}
-        before[signal.SIGINT] = signal.signal(signal.SIGINT, lambda *_: None)  # a terminal sends it to the command too
         try:
             os.write(self.go, "\0".join(["go", *variables]).encode())
-            self.wait(within)
+            self.wait(within, server)
         finally:
             status = self.end()
             for number, handler in before.items():

@@ -5,8 +5,9 @@ import time
 
 from blkq_control.command import Command, Ended, Unheard, raised_signals, run
 from blkq_control.held import tell
+from blkq_control.live import END, PREPARE, TAKE, connected, freeze_for
 from blkq_control.members import Failed, ask_all, need_all
-from blkq_control.server import NOT_HELD
+from blkq_control.server import NOT_HELD, Missing, Refused
 
 ANSWERED_WITHIN = 30.0  # seconds for a connection, and for a thaw
 
@@ -23,7 +24,7 @@ class Group:
     def __init__(self, given):
         self.given, self.members = given, given.members
         self.began = self.frozen = self.flushed = self.ended = None
-        self.lost = {}
+        self.lost, self.keepers = {}, []
 
     def ask(self, line):
         return {member: [line] for member in self.members}
@@ -49,28 +50,71 @@ class Group:
         self.flushed = time.monotonic()
         return [it for member, replies in told.items() for it in member.variables(replies[-1])]
 
+    def prepare(self):
+        """Prepares a snapshot of each member. Returns the command's variables."""
+        late = time.monotonic() + (self.given.timeout or ANSWERED_WITHIN)
+        once = " once" if self.given.once else ""
+        variables = []
+        for member, replies in need_all(self.ask(PREPARE + once), "export", late, "no snapshot").items():
+            variables += member.variables(replies[0], self.given.tls_certificates)
+            try:
+                self.keepers.append(connected(variables[-1].partition("=")[2]))
+            except (Refused, Missing) as refused:
+                raise Failed([member], str(refused)) from refused
+        return variables
+
+    def take(self):
+        """Takes snapshots of all members at one moment, at which all are frozen. Returns the command's variables, each naming a snapshot's export."""
+        variables, seconds = self.prepare(), self.given.deadline
+        self.began = time.monotonic()
+        late = self.began + seconds
+        need_all(self.ask(f"freeze hold {seconds:.9f}"), "depth", late, f"drain took more than {seconds:g} s")
+        self.frozen = time.monotonic()
+        if freeze_for(self.keepers) == "quiesce":
+            need_all(self.ask("flush"), "ok", late, f"not flushed {seconds:g} s after the freeze began")
+        self.flushed = time.monotonic()
+        need_all(self.ask(TAKE), "ok", late, f"no snapshot {seconds:g} s after the freeze began")
+        self.thaw()
+        if self.lost:
+            raise Failed([it for it in self.members if it.name in self.lost], "the freeze ended before the snapshots were taken")
+        return variables
+
+    def drop(self):
+        """Ends all snapshots. One that can't be read any more is lost, and says why."""
+        late = time.monotonic() + (self.given.timeout or ANSWERED_WITHIN)
+        for member, replies, why in ask_all(self.ask(END), late, "no reply"):
+            if why is not None or not replies[0].startswith("snapshot "):
+                self.lost[member.name] = why or replies[0].removeprefix("lost ")
+
     def thaw(self):
         """Thaws all members at the same time. A member whose freeze ended earlier is lost, and says how it ended."""
         late = time.monotonic() + (self.given.timeout or ANSWERED_WITHIN)
+        ends = [self.frozen or self.began]
         for member, replies, why in ask_all({it: ["thaw", "why"] for it in self.members}, late, "no reply to the thaw"):
-            if why is not None or not replies[0].startswith("depth "):
+            is_lost = why is not None or not replies[0].startswith("depth ")
+            if is_lost:
                 self.lost[member.name] = why or how_ended(*replies)
-        self.ended = time.monotonic()
+            held_out = is_lost and self.lost[member.name].startswith("held for more than ")
+            ends.append(self.frozen + self.given.hold if held_out else time.monotonic())
+        self.ended = max(ends)
 
     def run(self):
-        """Runs the command under the freeze. Returns its status, or 125 if a freeze ended before it did."""
-        child = Command(self.given.command)
+        """Runs the command under the freeze, or over snapshots. Returns its status, or 125 if one of them ended before it did."""
+        child, live = Command(self.given.command), self.given.live
+        begin, end = (self.take, self.drop) if live else (self.freeze, self.thaw)
         try:
             self.connect()
-            status = child.run(variables=self.freeze())
-            self.thaw()
+            status = child.run(variables=begin())
+            end()
         finally:
             for member in self.members:
                 member.close()
+            for keeper in self.keepers:
+                keeper.shutdown()
             self.ended = self.ended or time.monotonic()
             child.end()
         for name, why in self.lost.items():
-            tell(f"{name}: the freeze ended before {self.given.command[0]} did ({why}): the copies may be torn")
+            tell(f"{name}: the {'snapshot' if live else 'freeze'} ended before {self.given.command[0]} did ({why}): the copies may be torn")
         return NOT_HELD if self.lost else status
 
     def held(self):

@@ -8,6 +8,9 @@ from blkq_control.command import Command, Unheard
 from blkq_control.server import DONE, NOT_HELD, Gone, Late, Refused
 
 
+HOLD = 60.0  # seconds of a freeze around a command, unless --hold is given
+
+
 def tell(text):
     print(f"blkqctl: {text}", file=sys.stderr)
 
@@ -31,9 +34,9 @@ class Held:
             server.label(self.given.label)
             server.ask(line, "depth")
             self.began = time.monotonic()
-            status = child.run()
+            status = child.run(server=server.at.fileno())
         except (Refused, Gone, Late) as refused:
-            return self.fail(f"{line}: {refused}")
+            return self.fail(f"{line}: {refused}" if self.began is None else f"{refused}: {self.command[0]} was killed")
         except Unheard:
             return NOT_HELD
         finally:
@@ -57,8 +60,8 @@ class Held:
 
 def freeze(server, given):
     """Begins a freeze, around a command or until later. A freeze around a command always ends with this program."""
-    bound = "hold" if given.command else "lease"
-    how = f" {bound} {given.lease:.9f}" if given.lease else " keep" if given.keep else ""
+    bound, seconds = ("hold", given.hold or HOLD) if given.command else ("lease", given.hold)
+    how = " keep" if given.keep else f" {bound} {seconds:.9f}"
     if given.command:
         held = Held(given)
         status = held.run(server, given.name + how)
@@ -67,8 +70,8 @@ def freeze(server, given):
     server.label(given.label)
     asked = time.monotonic()
     reply = server.ask(given.name + how, "depth")
-    taken = time.monotonic() - asked
-    print(json.dumps({"depth": int(reply.split()[1]), f"{given.name}_seconds": taken}) if given.json else reply)
+    taken, number = time.monotonic() - asked, int(server.ask("number", "number").split()[1])
+    print(json.dumps({"depth": int(reply.split()[1]), "number": number, f"{given.name}_seconds": taken}) if given.json else f"{reply} number {number}")
     if given.verbose:
         tell(f"the {given.name} took {taken:.2f} s")
     return DONE

@@ -25,3 +25,15 @@ def holders(server, as_json):
     """Prints a line for each freeze."""
     found = [held(line) for line in server.list("holders")[:-1]]
     print(json.dumps(found) if as_json else "\n".join(map(shown, found)), end="\n" if found or as_json else "")
+
+
+REQUEST = re.compile(r"(?P<operation>\w+) (?P<length>\d+) at (?P<offset>\d+) (?P<seconds>[\d.]+)")
+
+
+def requests(server, as_json):
+    """Prints a line for each request in flight, the oldest first."""
+    found = server.list("requests")[:-1]
+    if as_json:
+        split = (REQUEST.fullmatch(line).groupdict() for line in found)
+        found = [json.dumps([{**it, "length": int(it["length"]), "offset": int(it["offset"]), "seconds": float(it["seconds"])} for it in split])]
+    print("\n".join(found), end="\n" if found else "")

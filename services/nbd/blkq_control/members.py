@@ -4,13 +4,12 @@ import os
 import re
 import select
 import shlex
-import socket
 import subprocess
 import time
 from contextlib import suppress
 from urllib.parse import quote, urlsplit
 
-from blkq_control.server import Refused
+from blkq_control.server import Refused, connected_to
 
 NAME, OF_NO_VARIABLE = re.compile(r"[A-Za-z0-9_.-]+"), re.compile(r"[.-]")
 
@@ -23,14 +22,15 @@ class Failed(Exception):
         self.why = why
 
 
-def uri_of(export, address, name=""):
+def uri_of(export, address, name="", certificates=None):
     """The URI of an export. The backend gets the name after the /."""
     kind, _, place = address.partition(":")
+    secure, options = ("s", [f"tls-certificates={quote(certificates)}"]) if certificates else ("", [])
     export = quote(f"{export}/{name}" if name else export)
     if kind == "unix":
-        return f"nbd+unix:///{export}?socket={quote(place)}"
+        return f"nbd{secure}+unix:///{export}?{'&'.join([f'socket={quote(place)}', *options])}"
     if kind == "tcp":
-        return f"nbd://localhost:{place}/{export}"
+        return f"nbd{secure}://{place}/{export}" + "".join(f"?{it}" for it in options)
     raise Refused("the server can't tell which socket it listens on")
 
 
@@ -46,9 +46,10 @@ class Member:
     """A disk of a group. Its freezes end when its connection, or its ssh, ends."""
 
     def __init__(self, words):
-        self.name, found, self.address = words.partition("=")
+        self.name, found, address = words.partition("=")
+        self.address, _, self.export = address.partition("#")
         if not found or not NAME.fullmatch(self.name) or not self.address:
-            raise ValueError(f"'{words}' isn't NAME=PATH or NAME=ssh://[USER@]HOST[:PORT]/PATH")
+            raise ValueError(f"'{words}' isn't NAME=PATH[#EXPORT] or NAME=ssh://[USER@]HOST[:PORT]/PATH")
         self.is_remote = self.address.startswith("ssh://")
         if self.is_remote:
             parts = urlsplit(self.address)
@@ -65,18 +66,16 @@ class Member:
                 self.carrier = subprocess.Popen(ssh(self.address), stdin=subprocess.PIPE, stdout=subprocess.PIPE, bufsize=0,
                                                 start_new_session=True)
             else:
-                self.at = socket.socket(socket.AF_UNIX)
-                self.at.settimeout(within)
-                self.at.connect(self.address)
+                self.at = connected_to(self.address, within)
         except OSError as refused:
             raise Failed([self], refused.strerror or refused) from refused
 
-    def variables(self, reply):
+    def variables(self, reply, certificates=None):
         """The variable that gives the command this disk's export, if there is one, from the reply to `export`."""
         words = reply.split(" ", 2)
         if words[0] != "export" or words[2] == "none":
             return []
-        return [f"{self.variable}={uri_of(words[1], words[2])}"]
+        return [f"{self.variable}={uri_of(words[1], words[2], self.export, certificates)}"]
 
     def reads(self):
         return (self.at or self.carrier.stdout).fileno()

@@ -1,6 +1,7 @@
 """A connection to the control of a server."""
 
 import socket
+import time
 
 DONE, REFUSED, USAGE, NO_SERVER, TIMED_OUT = 0, 1, 2, 3, 4
 NOT_HELD, NOT_RUN, NOT_FOUND = 125, 126, 127  # with a COMMAND
@@ -18,13 +19,33 @@ class Late(Exception):
     """The server hasn't replied in time."""
 
 
+class Missing(Exception):
+    """A program or a module that isn't installed."""
+
+
+def connected_to(path, timeout):
+    """A connection to a control. A server whose backlog is full is waited for, within the timeout."""
+    at, late = socket.socket(socket.AF_UNIX), timeout and time.monotonic() + timeout
+    at.settimeout(timeout)
+    while True:
+        try:
+            at.connect(path)
+            return at
+        except BlockingIOError:
+            if time.monotonic() > late:
+                at.close()
+                raise TimeoutError(f"no connection within {timeout:g} s") from None
+            time.sleep(0.01)
+        except OSError:
+            at.close()
+            raise
+
+
 class Server:
     """A connection to the control's socket. Its freezes end with it."""
 
     def __init__(self, path, timeout=None):
-        self.timeout, self.at = timeout, socket.socket(socket.AF_UNIX)
-        self.at.settimeout(timeout)
-        self.at.connect(path)
+        self.timeout, self.at = timeout, connected_to(path, timeout)
         self.replies = self.at.makefile("r", encoding="ascii")
 
     def send(self, line):
@@ -64,6 +85,11 @@ class Server:
             self.send("why")
             why, _, more = self.reply().partition(": ")
             raise Refused(more if why == "freeze" else refused) from refused
+
+    def within(self, seconds):
+        """Limits each reply from now on."""
+        self.timeout = seconds
+        self.at.settimeout(seconds)
 
     def label(self, text):
         if text:

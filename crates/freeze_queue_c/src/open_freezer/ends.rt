@@ -1,19 +1,17 @@
 //! The end of a queue.
-ghost use Rattle.std.specs.Prelude.{◌≡◌, ◌≤◌, ◌<◌, [], map, vec_len, All, IsSome, OnErr, OnOk};
+ghost use Rattle.std.specs.Prelude.{◌≡◌, ◌≤◌, ◌<◌, vec_len, All, OnErr, OnOk};
 ghost use Rattle.std.specs.Vec.{vec_capacity};
 ghost use Rattle.queue_core.specs.Queue.{fault_of};
 ghost use Rattle.queue_core.specs.Removal.{IsFrozenToEnd};
-ghost use Rattle.biased_queue.specs.Biased.{IsOf};
 ghost use Rattle.freeze_queue_c.specs.Ends.{EndsOrIsKept, IsPutBack, missing_tags, worn_out};
-ghost use Rattle.freeze_queue_c.specs.Opened.{freezer_with, plain_tag, Waits};
+ghost use Rattle.freeze_queue_c.specs.Opened.{freezer_with, Waits};
 
 use super::OpenFreezer;
 use crate::life::Final;
 use crate::plain_limits::PlainLimits;
 use crate::refusal::Refusal;
-use biased_queue::{BiasedFreezer, BiasedQueue, BiasedTag};
 use c_answers::{DrawnNumber, Misuse};
-use queue_core::{FreezeFault, Tag};
+use queue_core::{BlockQueue, FreezeFault, Freezer, Tag};
 use std::alloc::Global;
 use std::sync::Arc;
 
@@ -29,34 +27,17 @@ pub struct KeptFreezer {
 pub(super) struct Parts {
     pub number: DrawnNumber,
     pub tags: u32,
-    pub waiting: Vec<BiasedTag>,
-    pub room: Vec<Tag>,
-    pub freezer: BiasedFreezer,
-}
-
-/// Moves the plain tags of these tags into the room for them.
-fn take_plain(mut room: Vec<Tag>, waiting: Vec<BiasedTag>) -> Vec<Tag>
-    requires empty { room.items ≡ [] }
-    requires places { vec_len waiting ≤ vec_capacity room }
-    requires plain { All (λ t. IsSome t.tag) waiting.items }
-    ensures { result.items ≡ map plain_tag waiting.items }
-{
-    for tag in waiting {
-        if let Some(plain) = tag.into_tag() {
-            room.push_reserved(plain);
-        }
-    }
-    room
+    pub waiting: Vec<Tag>,
+    pub freezer: Freezer,
 }
 
 /// Freezes a queue that is to end, unless it is already frozen. Refuses with WornOut.
-fn freeze_to_end(freezer: &mut BiasedFreezer, queue: &BiasedQueue) -> Result<(), FreezeFault>
-    requires own { IsOf freezer.old queue.now }
-    ensures refused { fault_of result ≡ worn_out freezer.old.freezer }
+fn freeze_to_end(freezer: &mut Freezer, queue: &BlockQueue) -> Result<(), FreezeFault>
+    requires own { freezer.old.queue ≡ queue.now }
+    ensures refused { fault_of result ≡ worn_out freezer.old }
     ensures unchanged { OnErr result (freezer.new ≡ freezer.old) }
-    ensures own { IsOf freezer.new queue.now }
-    ensures frozen { OnOk result (IsFrozenToEnd freezer.old.freezer freezer.new.freezer) }
-    ensures depth { OnOk result (0 < freezer.new.freezer.depth) }
+    ensures frozen { OnOk result (IsFrozenToEnd freezer.old freezer.new) }
+    ensures depth { OnOk result (0 < freezer.new.depth) }
 {
     if freezer.depth() == 0 {
         freezer.start_freeze(queue)?;
@@ -65,11 +46,10 @@ fn freeze_to_end(freezer: &mut BiasedFreezer, queue: &BiasedQueue) -> Result<(),
 }
 
 /// Makes the freezer again of a queue that doesn't end. The freezer is lost if there is no memory.
-fn put_back(alloc: Global, queue: BiasedQueue, parts: Parts, why: FreezeFault) -> KeptFreezer
-    requires own { IsOf parts.freezer queue }
-    requires tags { parts.tags ≡ parts.freezer.freezer.tags }
-    requires places { (parts.tags ≤ vec_capacity parts.waiting) × (parts.tags ≤ vec_capacity parts.room) }
-    requires empty { parts.room.items ≡ [] }
+fn put_back(alloc: Global, queue: BlockQueue, parts: Parts, why: FreezeFault) -> KeptFreezer
+    requires own { parts.freezer.queue ≡ queue }
+    requires tags { parts.tags ≡ parts.freezer.tags }
+    requires places { parts.tags ≤ vec_capacity parts.waiting }
     requires wait { All (Waits queue) parts.waiting.items }
     requires many { vec_len parts.waiting ≤ parts.tags }
     ensures { IsPutBack (freezer_with parts.number queue parts.waiting.items parts.freezer) why result.freezer result.why }
@@ -87,11 +67,10 @@ fn put_back(alloc: Global, queue: BiasedQueue, parts: Parts, why: FreezeFault) -
 }
 
 /// Ends a queue that nobody else has a share of, and whose tags no handle has. Refuses with WornOut.
-fn remove(alloc: Global, queue: BiasedQueue, mut parts: Parts) -> Result<Final, KeptFreezer>
-    requires own { IsOf parts.freezer queue }
-    requires tags { parts.tags ≡ parts.freezer.freezer.tags }
-    requires places { (parts.tags ≤ vec_capacity parts.waiting) × (parts.tags ≤ vec_capacity parts.room) }
-    requires empty { parts.room.items ≡ [] }
+fn remove(alloc: Global, queue: BlockQueue, mut parts: Parts) -> Result<Final, KeptFreezer>
+    requires own { parts.freezer.queue ≡ queue }
+    requires tags { parts.tags ≡ parts.freezer.tags }
+    requires places { parts.tags ≤ vec_capacity parts.waiting }
     requires wait { All (Waits queue) parts.waiting.items }
     requires all { parts.tags ≡ vec_len parts.waiting }
     ensures { EndsOrIsKept (freezer_with parts.number queue parts.waiting.items parts.freezer) result }
@@ -100,8 +79,7 @@ fn remove(alloc: Global, queue: BiasedQueue, mut parts: Parts) -> Result<Final, 
     if let Err(why) = freeze_to_end(&mut parts.freezer, &queue) {
         return Err(put_back(alloc, queue, parts, why));
     }
-    let plain = take_plain(parts.room, parts.waiting);
-    match parts.freezer.remove(queue, plain) {
+    match parts.freezer.remove(queue, parts.waiting) {
         Ok(left) => Ok(Final {
             dead: left.dead,
             kills: left.kills,
@@ -132,7 +110,6 @@ impl OpenFreezer {
             number,
             tags,
             waiting,
-            room,
             freezer,
             after: _,
         } = self;
@@ -140,7 +117,6 @@ impl OpenFreezer {
             number,
             tags,
             waiting,
-            room,
             freezer,
         };
         match Arc::try_unwrap(queue) {

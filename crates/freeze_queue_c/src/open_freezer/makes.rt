@@ -1,8 +1,7 @@
 //! A new queue.
-ghost use Rattle.std.specs.Prelude.{◌≡◌, ◌≤◌, [], All, vec_len};
+ghost use Rattle.std.specs.Prelude.{◌≡◌, ◌≤◌, All, vec_len};
 ghost use Rattle.std.specs.Arc.{arc_value};
 ghost use Rattle.std.specs.Vec.{vec_capacity};
-ghost use Rattle.biased_queue.specs.Biased.{IsOf, IsBiasedQueue};
 ghost use Rattle.c_answers.specs.Ran.{misuse_of};
 ghost use Rattle.freeze_queue_c.specs.FreezerCalls.{Sought};
 ghost use Rattle.freeze_queue_c.specs.Life.{Makes, NewFreezer, new_refusal, size_misuse};
@@ -13,10 +12,9 @@ use super::OpenFreezer;
 use super::ends::Parts;
 use crate::plain_limits::PlainLimits;
 use crate::refusal::Refusal;
-use biased_queue::BiasedQueue;
 use c_answers::{DrawnNumber, Misuse};
 use percpu_core::SLOT_LIMIT;
-use queue_core::{Limits, MOST_TAGS};
+use queue_core::{BlockQueue, Limits, MOST_TAGS};
 use std::alloc::Global;
 use std::sync::Arc;
 
@@ -46,21 +44,18 @@ fn checked(limits: &PlainLimits, slots: u32, tags: u32) -> Result<Limits, Refusa
 
 impl OpenFreezer {
     /// Makes a freezer from its parts.
-    pub(super) fn of(queue: Arc<BiasedQueue>, parts: Parts) -> OpenFreezer
-        requires own { IsOf parts.freezer (arc_value queue) }
-        requires tags { parts.tags ≡ parts.freezer.freezer.tags }
-        requires places { (parts.tags ≤ vec_capacity parts.waiting) × (parts.tags ≤ vec_capacity parts.room) }
-        requires empty { parts.room.items ≡ [] }
+    pub(super) fn of(queue: Arc<BlockQueue>, parts: Parts) -> OpenFreezer
+        requires own { parts.freezer.queue ≡ arc_value queue }
+        requires tags { parts.tags ≡ parts.freezer.tags }
+        requires places { parts.tags ≤ vec_capacity parts.waiting }
         requires wait { All (Waits (arc_value queue)) parts.waiting.items }
         requires many { vec_len parts.waiting ≤ parts.tags }
-        requires queue { IsBiasedQueue (arc_value queue) }
         ensures { result ≡ freezer_with parts.number (arc_value queue) parts.waiting.items parts.freezer }
     {
         let Parts {
             number,
             tags,
             waiting,
-            room,
             freezer,
         } = parts;
         OpenFreezer {
@@ -69,7 +64,6 @@ impl OpenFreezer {
             number,
             tags,
             waiting,
-            room,
             freezer,
             after: [0; 16],
         }
@@ -86,16 +80,9 @@ impl OpenFreezer {
         ensures { Makes (new_refusal limits.now slots tags) (NewFreezer number limits.now slots tags) result }
     {
         let limits = checked(limits, slots, tags)?;
-        let Ok((queue, freezer, waiting)) = BiasedQueue::new(alloc, limits, slots, tags) else {
+        let Ok((queue, freezer, waiting)) = BlockQueue::new(alloc, limits, slots, tags) else {
             return Err(Refusal::OfMisuse(Misuse::Memory));
         };
-        let Ok(room) = Vec::with_capacity(alloc, tags as usize) else {
-            return Err(Refusal::OfMisuse(Misuse::Memory));
-        };
-        // A new queue has each of its tags.
-        if waiting.len() != tags as usize {
-            return Err(Refusal::OfMisuse(Misuse::Memory));
-        }
         let Ok(queue) = Arc::new(alloc, queue) else {
             return Err(Refusal::OfMisuse(Misuse::Memory));
         };
@@ -103,7 +90,6 @@ impl OpenFreezer {
             number,
             tags,
             waiting,
-            room,
             freezer,
         };
         Ok(OpenFreezer::of(queue, parts))

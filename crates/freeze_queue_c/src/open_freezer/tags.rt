@@ -1,8 +1,10 @@
 //! The tags that no handle has: how they are given to handles and taken back.
-ghost use Rattle.std.specs.Prelude.{◌≡◌, ◌<◌, [], ◌∷◌, ◌++◌, length};
+ghost use Rattle.std.specs.Prelude.{◌≡◌, ◌<◌, [], ◌∷◌, ◌++◌, length, false};
+ghost use Rattle.bias_lanes.specs.declared.views.Stage.TheVariants.{Unbiased};
+ghost use Rattle.queue_core.specs.BiasedTags.{IsPlainTag, in_now, stage};
+ghost use Rattle.queue_core.specs.Queue.{TagFacts};
 ghost use Rattle.c_answers.specs.Ran.{misuse_of};
 ghost use Rattle.freeze_queue_c.specs.Life.{back_misuse, Next, value_of};
-ghost use Rattle.freeze_queue_c.specs.Opened.{Waits};
 
 use super::OpenFreezer;
 use crate::open_tag::OpenTag;
@@ -22,10 +24,11 @@ impl OpenFreezer {
             self.waiting.push_reserved(tag);
             return Err(Misuse::Memory);
         };
-        match Box::new(alloc, OpenTag::new(queue, self.number, tag)) {
+        let biased = tag.into_biased(self.freezer.limits());
+        match Box::new(alloc, OpenTag::new(queue, self.number, biased)) {
             Ok(open) => Ok(open),
             Err(back) => {
-                self.waiting.push_reserved(back.value.into_tag());
+                self.take_back(back.value);
                 Err(Misuse::Memory)
             }
         }
@@ -49,12 +52,17 @@ impl OpenFreezer {
         }
     }
 
-    /// Takes back a tag that has no bias. There is room for it.
+    /// Takes back a tag that has no bias and isn't in. There is room for it.
     pub fn take_back(&mut self, tag: OpenTag)
-        requires waits { Waits self.old.queue tag.tag }
-        requires place { length self.old.waiting < self.old.freezer.freezer.tags }
-        ensures { self.new ≡ record self.old { waiting = self.old.waiting ++ tag.tag ∷ [] } }
+        requires own { tag.queue ≡ self.old.queue }
+        requires unbiased { stage tag.tag ≡ Unbiased }
+        requires out { in_now tag.tag ≡ false }
+        requires place { length self.old.waiting < self.old.freezer.tags }
+        ensures { (plain : TagFacts) × IsPlainTag tag.tag plain × (self.new ≡ record self.old { waiting = self.old.waiting ++ plain ∷ [] }) }
     {
-        self.waiting.push_reserved(tag.into_tag());
+        match tag.into_tag().into_tag() {
+            Ok(plain) => self.waiting.push_reserved(plain),
+            Err(_) => unreachable!(),
+        }
     }
 }

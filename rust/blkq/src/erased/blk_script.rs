@@ -19,5 +19,5 @@ pub use crate::erased::script_meaning::{
 };
 pub use crate::erased::script_overlap::{Checked, check, drains};
 pub use parser::parse;
-pub use rendering::{push_disk, render, render_disk, render_read};
+pub use rendering::{push_disk, push_read, push_written, render, render_disk};
 pub use run::run_alone;

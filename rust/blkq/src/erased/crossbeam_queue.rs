@@ -17,14 +17,9 @@ use crate::erased::crossbeam_utils::{Backoff, CachePadded};
 use crate::erased::fallible::{AllocError, TryVec};
 use std::cell::UnsafeCell;
 use std::fmt;
-use std::hint::spin_loop;
 use std::marker::PhantomData;
 use std::sync::atomic::AtomicUsize;
 use std::sync::atomic::Ordering::{Relaxed, Release, SeqCst};
-
-/// The pauses of a pop that finds nothing. A thread that looks for an item pops again at once, and each pop reads the cache line that
-/// the next push writes.
-const PAUSES: u32 = 3;
 
 /// The right to step on a queue.
 #[derive(Debug)]
@@ -193,9 +188,6 @@ impl<T> RuledArrayQueue<T> {
                 backoff.spin();
             } else if turn <= free(ticket) {
                 // No push has this ticket yet, so none has a later one: the queue is empty.
-                for _ in 0..PAUSES {
-                    spin_loop();
-                }
                 return None;
             } else if turn == claimed(ticket) {
                 backoff.snooze();
@@ -208,6 +200,17 @@ impl<T> RuledArrayQueue<T> {
     pub fn is_empty_as(&self, _pass: &mut Pass<T>) -> bool {
         let ticket = self.head.load(SeqCst);
         self.place(ticket).turn.load(SeqCst) <= free(ticket)
+    }
+
+    /// How many tickets precede this one.
+    fn count_before(&self, ticket: usize) -> usize {
+        ticket / self.round * self.places.len() + (ticket & (self.round - 1))
+    }
+
+    /// How many items the queue has: exactly, if no other thread steps on it meanwhile.
+    pub fn len_as(&self, _pass: &mut Pass<T>) -> usize {
+        let head = self.count_before(self.head.load(SeqCst));
+        self.count_before(self.tail.load(SeqCst)).saturating_sub(head)
     }
 
     /// A pass beside this one.

@@ -8,9 +8,8 @@
 //! - **Live.** A submitter takes a [`Tag`] and enters with it, reads the limits under it, and hands the tag on with its request.
 //!   The thread that ends the request leaves with the tag. `try_enter` and `leave` are one counting call of the gate each, without
 //!   a lock. If each submitter uses a slot of its own, no word is written by all of them (in the other [`Mode`] they share one
-//!   count). `enter` announces its wait only after it has been refused a few times. A busy thread may stay entered between two
-//!   requests: `stay_or_enter` looks once whether a freeze has begun, and only then leaves, waits and enters again. Such a thread
-//!   has to leave before it sleeps for any other reason.
+//!   count). `enter` announces its wait only after it has been refused a few times. A thread with a tag of its own makes it a
+//!   [`BiasedTag`], which keeps its reference between requests: `enter_by_lane` and `leave_by_lane` are a store and a load each.
 //! - **Frozen.** The [`Freezer`] counts freezes. The first kills the gate: no tag enters from then on, except by
 //!   `try_enter_frozen`, to look at the requests in flight. The last tag to leave wakes the threads that wait for the drain.
 //!   `freeze` starts and waits; to freeze several queues, call `start_freeze` on each, and then `wait_drained` on each.
@@ -27,14 +26,16 @@
 
 mod enter;
 mod freezer;
+mod lanes;
 mod queue;
 mod remove;
 mod shared;
 
 pub use crate::erased::queue_core::{
-    Final, FreezeFault, LIMIT_WORDS, LimitFault, Limits, MOST_DEPTH, MOST_TAGS, Memory, Mode, Put, Stay, Tag,
+    BiasedEntry, BiasedTag, Final, FreezeFault, LIMIT_WORDS, LimitFault, Limits, MOST_DEPTH, MOST_TAGS, Memory, Mode,
+    Put, Tag,
 };
-pub use enter::{Enter, StayOrEnter};
+pub use enter::Enter;
 pub use freezer::Freezer;
 pub use queue::{BlockQueue, NewQueue};
 pub use remove::RemoveFault;

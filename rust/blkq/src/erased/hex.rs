@@ -1,8 +1,6 @@
 // A stand-in for the kit's hex, written by hand: tools/erase leaves it alone.
 //! Bytes in hexadecimal digits.
 
-use crate::erased::fallible::{AllocError, TryVec};
-
 /// Why digits are refused.
 #[derive(Clone, Copy, Debug, PartialEq, Eq)]
 pub enum FromHexError {
@@ -12,14 +10,6 @@ pub enum FromHexError {
     OddLength,
     /// The room isn't of two digits for each byte.
     InvalidStringLength,
-    /// Memory was refused.
-    OutOfMemory,
-}
-
-impl From<AllocError> for FromHexError {
-    fn from(_: AllocError) -> FromHexError {
-        FromHexError::OutOfMemory
-    }
 }
 
 const DIGITS: [u8; 16] = *b"0123456789abcdef";
@@ -44,14 +34,16 @@ fn value(digit: u8) -> Result<u8, FromHexError> {
     }
 }
 
-/// The bytes of these digits, of either case. Refuses an odd number of them first.
-pub fn decode(digits: &[u8]) -> Result<Vec<u8>, FromHexError> {
+/// Writes the bytes of these digits, of either case. Refuses an odd number of them first, then room of another size.
+pub fn decode_to_slice(digits: &[u8], room: &mut [u8]) -> Result<(), FromHexError> {
     if digits.len() % 2 != 0 {
         return Err(FromHexError::OddLength);
     }
-    let mut bytes = Vec::try_with_room(digits.len() / 2)?;
-    for pair in digits.chunks_exact(2) {
-        bytes.push(16 * value(pair[0])? + value(pair[1])?);
+    if digits.len() / 2 != room.len() {
+        return Err(FromHexError::InvalidStringLength);
     }
-    Ok(bytes)
+    for (pair, byte) in digits.chunks_exact(2).zip(room) {
+        *byte = 16 * value(pair[0])? + value(pair[1])?;
+    }
+    Ok(())
 }

@@ -15,6 +15,6 @@ mod answer;
 mod replies;
 mod table;
 
-pub use answer::{Answer, UniformSectors, answer_to};
+pub use answer::{Answer, Workbench, answer_to};
 pub use replies::{Replies, Text};
 pub use table::InFlightTable;

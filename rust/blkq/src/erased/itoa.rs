@@ -9,6 +9,18 @@ pub struct Buffer {
     digits: [u8; MOST_DIGITS],
 }
 
+/// The digits of a number.
+#[derive(Debug)]
+pub struct Digits<'a>(&'a [u8]);
+
+impl<'a> Digits<'a> {
+    /// The digits as ASCII bytes. Callers need no `str`, so nothing checks that they are UTF-8.
+    #[inline]
+    pub fn as_bytes(&self) -> &'a [u8] {
+        self.0
+    }
+}
+
 impl Buffer {
     /// Room that no number uses yet.
     #[inline]
@@ -18,7 +30,7 @@ impl Buffer {
 
     /// The digits of a number, with no zero before them.
     #[inline]
-    pub fn format(&mut self, number: u64) -> &str {
+    pub fn format(&mut self, number: u64) -> Digits<'_> {
         let (mut first, mut left) = (MOST_DIGITS, number);
         loop {
             first -= 1;
@@ -28,6 +40,6 @@ impl Buffer {
                 break;
             }
         }
-        std::str::from_utf8(&self.digits[first..]).unwrap_or("")
+        Digits(&self.digits[first..])
     }
 }

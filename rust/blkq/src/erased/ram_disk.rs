@@ -18,9 +18,8 @@
 //!
 //! No contract bounds time or memory; this describes the code.
 //!
-//! - Equal sectors are one block of memory. A new disk is one sector of zeros with as many owners as the
-//!   disk has sectors. A pattern of L bytes makes L / gcd(L, 512) different sectors, 63 at most, and
-//!   owners of these for the rest of the range; a pattern of one byte value makes one.
+//! - A sector that was made of one byte value takes no memory, and so those of a new disk. A pattern of L bytes makes
+//!   L / gcd(L, 512) different sectors, 63 at most, and owners of these for the rest of the range.
 //! - Another owner of a sector is a count that goes up: it takes no memory.
 //! - A sector of one byte value is known as such from the time it is made. In `runs` it is one step, and a run that
 //!   spans sectors is joined without a look at their bytes. Other sectors are read byte by byte.
@@ -28,12 +27,15 @@
 
 mod disk;
 mod fault;
+mod filled;
 mod pattern;
 mod run;
 mod sector;
+mod sectors;
 
 pub use disk::{Disk, MAX_SECTORS};
 pub use fault::DiskFault;
 pub use pattern::{MAX_PATTERN, patterned};
 pub use run::{add_sector, runs};
 pub use sector::{SECTOR_BYTES, Sector};
+pub use sectors::Sectors;

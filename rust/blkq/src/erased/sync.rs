@@ -5,6 +5,7 @@
 //! [`crossbeam_utils`]: crate::erased::crossbeam_utils
 
 use std::sync::PoisonError;
+use std::time::Duration;
 
 pub use std::sync::MutexGuard;
 pub use std::sync::atomic::AtomicUsize;
@@ -46,6 +47,11 @@ impl Condvar {
         self.0.wait(guard).unwrap_or_else(PoisonError::into_inner)
     }
 
+    /// The same, for a time at most.
+    pub fn wait_timeout<'a, T>(&self, guard: MutexGuard<'a, T>, time: Duration) -> MutexGuard<'a, T> {
+        self.0.wait_timeout(guard, time).unwrap_or_else(PoisonError::into_inner).0
+    }
+
     /// Wakes one thread that sleeps.
     pub fn notify_one(&self) {
         self.0.notify_one();
@@ -54,5 +60,43 @@ impl Condvar {
     /// Wakes all threads that sleep.
     pub fn notify_all(&self) {
         self.0.notify_all();
+    }
+}
+
+/// A token, which any thread gives, and which the one thread that parks takes.
+#[derive(Debug)]
+pub struct Parker {
+    is_there: Mutex<bool>,
+    given: Condvar,
+}
+
+impl Parker {
+    /// The token is missing.
+    pub const fn new() -> Parker {
+        Parker { is_there: Mutex::new(false), given: Condvar::new() }
+    }
+
+    /// Sleeps until the token is there, and takes it.
+    pub fn park(&self) {
+        let mut is_there = self.is_there.lock();
+        while !*is_there {
+            is_there = self.given.wait(is_there);
+        }
+        *is_there = false;
+    }
+
+    /// The same, for a time at most. It may return early.
+    pub fn park_timeout(&self, time: Duration) {
+        let mut is_there = self.is_there.lock();
+        if !*is_there {
+            is_there = self.given.wait_timeout(is_there, time);
+        }
+        *is_there = false;
+    }
+
+    /// Gives the token, and wakes the thread that sleeps.
+    pub fn unpark(&self) {
+        *self.is_there.lock() = true;
+        self.given.notify_one();
     }
 }

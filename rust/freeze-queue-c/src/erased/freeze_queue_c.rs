@@ -1,5 +1,5 @@
 // Erased from crates/freeze_queue_c/src/lib.rt by tools/erase: edit that file.
-//! The queue for C programs: one export for each call of a tag and of the freezer of `biased_queue`. C reads
+//! The queue for C programs: one export for each call of a tag and of the freezer of `queue_core`. C reads
 //! include/freeze_queue.h.
 //!
 //! C has a handle for the freezer and one for each tag, a `bool` and a pointer, zero while closed (`freezer_handle`,
@@ -35,7 +35,6 @@ mod tag_handle;
 mod tag_held;
 #[cfg(test)]
 mod tests;
-mod tried;
 
 pub use open_tag::OpenTag;
 pub use tag_handle::TagHandle;

@@ -19,10 +19,12 @@ const YES: u8 = 1;
 const NO: u8 = 2;
 
 /// Returns whether this process has the heavy fence: the same at each call. It doesn't on another system, with an old kernel, or if a filter
-/// refuses the system call at the first one.
+/// refuses the first registration, or the fence that is tried after it.
 pub fn has_heavy_fence() -> bool {
     if HAS_FENCE.load(SeqCst) == UNKNOWN {
-        let found = if linux::membarrier(linux::REGISTER_PRIVATE_EXPEDITED) { YES } else { NO };
+        let is_made =
+            linux::membarrier(linux::REGISTER_PRIVATE_EXPEDITED) && linux::membarrier(linux::PRIVATE_EXPEDITED);
+        let found = if is_made { YES } else { NO };
         let _earlier = HAS_FENCE.compare_exchange(UNKNOWN, found, SeqCst, SeqCst);
     }
     HAS_FENCE.load(SeqCst) == YES

@@ -6,9 +6,8 @@
 //! Other crates compile this file over their own atomic number and fences. C code steps on lanes too (`include/freeze_queue/lane.h`).
 #![allow(unsafe_code)] // a cell is reached by whoever took it
 
-use super::fallible::AllocError;
 pub use super::fences::heavy_fence;
-use super::{AtomicU64, fences, past_the_end};
+use super::{AtomicU64, fallible::AllocError, fences, past_the_end};
 use alloc::vec::Vec;
 use core::sync::atomic::Ordering::{self, Acquire, Relaxed, Release, SeqCst};
 use core::{cell::UnsafeCell, marker::PhantomData, mem, ptr, sync::atomic};
@@ -103,13 +102,14 @@ impl<S> Shared<S> {
         fences::light_fence();
     }
 
-    /// Stores a word before such a load, if there is no heavy fence.
+    /// Stores a word before such a load, if there is no heavy fence. On x86-64 an exchange is a full barrier.
     #[cold]
     #[inline(never)]
     #[track_caller]
     fn store_and_fence(&self, word: usize, new: u64) {
         self.at(word).swap(new, SeqCst);
-        atomic::fence(SeqCst);
+        let fence = if cfg!(all(target_arch = "x86_64", not(miri))) { atomic::compiler_fence } else { atomic::fence };
+        fence(SeqCst);
     }
 
     /// Stores `new` if the word is `old`. Returns the value found: `old` if and only if `new` was stored.

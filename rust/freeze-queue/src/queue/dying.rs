@@ -33,7 +33,7 @@ impl<T> Queue<T> {
     /// # Ok::<(), Box<dyn std::error::Error>>(())
     /// ```
     pub fn mark_dying(&self) {
-        Arc::clone(&self.shared).mark_dying(false);
+        Arc::clone(&self.shared).mark_dying(None);
     }
 
     /// Marks the queue dying, and waits until each request has left. Linux: `del_gendisk`.

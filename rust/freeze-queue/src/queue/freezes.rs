@@ -3,6 +3,7 @@ use super::Queue;
 use crate::errors::FreezeError;
 use crate::freezing::Freezing;
 use crate::frozen::Frozen;
+use std::panic::Location;
 use std::time::Duration;
 
 impl<T> Queue<T> {
@@ -30,6 +31,7 @@ impl<T> Queue<T> {
     /// # assert_eq!((queue.limits().max, queue.depth()), (8, 0));
     /// # Ok::<(), Box<dyn std::error::Error>>(())
     /// ```
+    #[track_caller]
     pub fn freeze(&self) -> Result<Frozen<'_, T>, FreezeError> {
         Ok(self.begin_freeze()?.wait())
     }
@@ -57,8 +59,9 @@ impl<T> Queue<T> {
     /// # drop(frozen);
     /// # Ok::<(), Box<dyn std::error::Error>>(())
     /// ```
+    #[track_caller]
     pub fn begin_freeze(&self) -> Result<Freezing<'_, T>, FreezeError> {
-        Freezing::begin(&self.shared)
+        Freezing::begin(&self.shared, Location::caller())
     }
 
     /// Freezes the queue as [`freeze`](Queue::freeze) does, and waits as a task: the last request that leaves wakes it.
@@ -90,8 +93,10 @@ impl<T> Queue<T> {
     /// # assert_eq!((done, queue.limits().max, queue.depth()), (Poll::Ready(Ok(())), 32, 0));
     /// # Ok::<(), Box<dyn std::error::Error>>(())
     /// ```
-    pub async fn freeze_async(&self) -> Result<Frozen<'_, T>, FreezeError> {
-        Ok(self.begin_freeze()?.drained().await)
+    #[track_caller]
+    pub fn freeze_async(&self) -> impl Future<Output = Result<Frozen<'_, T>, FreezeError>> {
+        let location = Location::caller();
+        async move { Ok(Freezing::begin(&self.shared, location)?.drained().await) }
     }
 
     /// Freezes the queue if no request is in flight. Otherwise this freeze is thawed at once; requests may be refused or wait
@@ -117,6 +122,7 @@ impl<T> Queue<T> {
     /// assert!(queue.try_freeze().is_ok());
     /// # Ok::<(), Box<dyn std::error::Error>>(())
     /// ```
+    #[track_caller]
     pub fn try_freeze(&self) -> Result<Frozen<'_, T>, FreezeError> {
         let freezing = self.begin_freeze()?;
         if freezing.is_drained() { Ok(freezing.wait()) } else { Err(FreezeError::NotDrained) }
@@ -145,6 +151,7 @@ impl<T> Queue<T> {
     /// assert_eq!(late.unwrap_err(), FreezeError::TimedOut);
     /// # Ok::<(), Box<dyn std::error::Error>>(())
     /// ```
+    #[track_caller]
     pub fn freeze_timeout(&self, timeout: Duration) -> Result<Frozen<'_, T>, FreezeError> {
         self.begin_freeze()?.wait_timeout(timeout).map_err(|_thawed| FreezeError::TimedOut)
     }

@@ -2,10 +2,12 @@
 use super::Queue;
 use crate::erased::queue_core;
 use crate::errors::UpdateError;
+use crate::freezing::Freezing;
 use crate::limits::Limits;
 use crate::line;
 use crate::tasks;
 use crate::turns::{Taken, Turns};
+use std::panic::Location;
 use std::time::{Duration, Instant};
 
 impl<T> Queue<T> {
@@ -17,7 +19,7 @@ impl<T> Queue<T> {
     /// doesn't wait for tasks: a task that is polled only after the next freeze began waits again, so let a loop of updates
     /// pause between updates. `change` runs before the freeze, so a slow closure holds up no request. If another freeze sets limits
     /// meanwhile ([`OwnedFrozen::set`](crate::OwnedFrozen::set)), `change` is called again. It may freeze and enter this
-    /// queue, but not update it.
+    /// queue, but not update it or set its limits, which return [`UpdateError::Nested`].
     ///
     /// # Errors
     ///
@@ -39,12 +41,13 @@ impl<T> Queue<T> {
     /// assert_eq!(refused, Err(UpdateError::Limits(LimitsError::AboveHardware)));
     /// # Ok::<(), Box<dyn std::error::Error>>(())
     /// ```
+    #[track_caller]
     pub fn update(&self, change: impl FnMut(Limits) -> Limits) -> Result<Limits, UpdateError> {
         self.update_by(None, change)
     }
 
     /// Updates the limits as [`update`](Queue::update) does, or returns at the timeout. The timeout ends the
-    /// waits for other updates and for the drain. It doesn't interrupt `change`.
+    /// waits for other updates and for the drain, and `change` isn't called again after it. It doesn't interrupt `change`.
     ///
     /// # Errors
     ///
@@ -67,6 +70,7 @@ impl<T> Queue<T> {
     /// assert_eq!(queue.update_timeout(Duration::from_millis(1), |limits| limits.with_max(8))?.max, 8);
     /// # Ok::<(), Box<dyn std::error::Error>>(())
     /// ```
+    #[track_caller]
     pub fn update_timeout(
         &self,
         timeout: Duration,
@@ -75,6 +79,7 @@ impl<T> Queue<T> {
         self.update_by(Instant::now().checked_add(timeout), change)
     }
 
+    #[track_caller]
     fn update_by(
         &self,
         deadline: Option<Instant>,
@@ -91,12 +96,15 @@ impl<T> Queue<T> {
             if self.shared.replace_limits(from, to) {
                 return Ok(to.into());
             }
+            if deadline.is_some_and(|deadline| deadline <= Instant::now()) {
+                return Err(UpdateError::TimedOut);
+            }
         }
     }
 
     /// Updates the limits as [`update`](Queue::update) does, and waits as a task for its turn and for the drain. Dropping
     /// the future before it is done sets nothing, and thaws its freeze. While the future has its turn no other update runs,
-    /// even if nobody polls it again.
+    /// even if nobody polls it again. Before it calls `change` again it is pending once, so that a timeout around it ends it.
     ///
     /// # Errors
     ///
@@ -119,14 +127,23 @@ impl<T> Queue<T> {
     /// # assert_eq!(done, Poll::Ready(Ok(Limits::of_hardware(64).with_max(32))));
     /// # Ok::<(), Box<dyn std::error::Error>>(())
     /// ```
-    pub async fn update_async(&self, mut change: impl FnMut(Limits) -> Limits) -> Result<Limits, UpdateError> {
-        let turn = line::wait_async::<T, Turns>(&self.shared).await?;
-        loop {
-            let (from, to) = self.wanted(&turn, &mut change)?;
-            tasks::until(&self.shared, |held| &mut held.let_in, |held| held.has_let_in()).await;
-            let _frozen = self.freeze_async().await?;
-            if self.shared.replace_limits(from, to) {
-                return Ok(to.into());
+    #[track_caller]
+    pub fn update_async(
+        &self,
+        mut change: impl FnMut(Limits) -> Limits,
+    ) -> impl Future<Output = Result<Limits, UpdateError>> {
+        let location = Location::caller();
+        async move {
+            let turn = line::wait_async::<T, Turns>(&self.shared).await?;
+            loop {
+                let (from, to) = self.wanted(&turn, &mut change)?;
+                tasks::until(&self.shared, |held| &mut held.let_in, |held| held.has_let_in()).await;
+                let frozen = Freezing::begin(&self.shared, location)?.drained().await;
+                if self.shared.replace_limits(from, to) {
+                    return Ok(to.into());
+                }
+                drop(frozen);
+                tasks::yield_once().await;
             }
         }
     }

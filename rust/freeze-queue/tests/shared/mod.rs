@@ -97,6 +97,11 @@ pub fn until(what: &str, mut is_so: impl FnMut() -> bool) {
     }
 }
 
+/// Does this on another thread, and waits for its end.
+pub fn on_another_thread(work: impl FnOnce() + Send) {
+    thread::scope(|threads| threads.spawn(work).join().unwrap());
+}
+
 /// Runs a test on a thread of its own, and fails where it has no end in all that time: as of a wake that is lost.
 pub fn ends(test: impl FnOnce() + Send + 'static) {
     let (done, is_done) = mpsc::channel();

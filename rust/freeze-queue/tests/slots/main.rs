@@ -8,8 +8,7 @@ mod erased;
 #[allow(dead_code, missing_docs, missing_debug_implementations, clippy::pedantic)]
 pub mod gate;
 
-use crate::erased::biased_queue::{BiasedEntry, BiasedFreezer, BiasedQueue, BiasedTag};
-use crate::erased::queue_core::{Limits, Put};
+use crate::erased::queue_core::{BiasedEntry, BiasedTag, BlockQueue, Freezer, Limits, Put};
 use gate::Log;
 use gate::Step::{Dropped, Killed, Looked, Refused, Revived, Switched, Taken};
 use std::sync::atomic::{AtomicBool, Ordering::SeqCst};
@@ -17,12 +16,14 @@ use std::thread;
 
 const TAGS: u32 = 1_023;
 
-fn queue(slots: u32, tags: u32) -> (BiasedQueue, BiasedFreezer, Vec<BiasedTag>) {
-    BiasedQueue::new(Limits::start(8).unwrap(), slots, tags).unwrap_or_else(|_| panic!("memory"))
+fn queue(slots: u32, tags: u32) -> (BlockQueue, Freezer, Vec<BiasedTag>) {
+    let limits = Limits::start(8).unwrap();
+    let (queue, freezer, made) = BlockQueue::new(limits, slots, tags).unwrap_or_else(|_| panic!("memory"));
+    (queue, freezer, made.into_iter().map(|tag| tag.into_biased(limits)).collect())
 }
 
 /// Enters on this slot, and parks the tag on the other.
-fn park(log: &Log, queue: &BiasedQueue, tag: &mut BiasedTag, slot: u32, other: u32) {
+fn park(log: &Log, queue: &BlockQueue, tag: &mut BiasedTag, slot: u32, other: u32) {
     assert_eq!(tag.try_enter(queue, slot), BiasedEntry::Entered);
     assert_eq!(log.steps(), [Taken(slot)]);
     assert_eq!(tag.leave(queue, other, true), Put::NotLast);
@@ -30,7 +31,7 @@ fn park(log: &Log, queue: &BiasedQueue, tag: &mut BiasedTag, slot: u32, other: u
 }
 
 /// Enters and leaves by the lane, which is no step of the gate.
-fn go_by_lane(log: &Log, queue: &BiasedQueue, tag: &mut BiasedTag) {
+fn go_by_lane(log: &Log, queue: &BlockQueue, tag: &mut BiasedTag) {
     assert_eq!(tag.try_enter(queue, 0), BiasedEntry::Entered);
     assert_eq!(tag.leave(queue, 0, false), Put::NotLast);
     assert_eq!((tag.is_biased(), log.steps()), (true, vec![]));
@@ -47,7 +48,7 @@ fn a_freeze_drops_on_the_slots_of_the_tags() {
             park(&log, &queue, tag, (number + life) % 5, (number + life + 1) % 5);
             go_by_lane(&log, &queue, tag);
         }
-        assert_eq!(freezer.start_freeze(&queue).unwrap().put, Put::Last);
+        assert_eq!(freezer.start_freeze(&queue).unwrap().reclaimed, Put::Last);
         let mut wanted = vec![Killed];
         wanted.extend((0..TAGS).map(|number| Dropped((number + life + 1) % 5)));
         assert_eq!(log.steps(), wanted);
@@ -69,7 +70,7 @@ fn a_freeze_tells_the_last_put_of_any_lane() {
     log.steps();
     for number in 0..12 {
         park(&log, &queue, &mut tags[number % 4], 0, 1);
-        assert_eq!(freezer.start_freeze(&queue).unwrap().put, Put::Last);
+        assert_eq!(freezer.start_freeze(&queue).unwrap().reclaimed, Put::Last);
         freezer.thaw(&queue).unwrap();
         assert_eq!(log.steps(), [Killed, Dropped(1), Revived]);
     }
@@ -136,7 +137,7 @@ fn a_tag_that_cannot_be_parked_leaves_on_its_slot() {
 }
 
 /// Enters on slot 1 and leaves on slot 2, again and again.
-fn goes(queue: &BiasedQueue, tag: &mut BiasedTag, is_over: &AtomicBool) {
+fn goes(queue: &BlockQueue, tag: &mut BiasedTag, is_over: &AtomicBool) {
     while !is_over.load(SeqCst) {
         match tag.try_enter(queue, 1) {
             BiasedEntry::Entered => drop(tag.leave(queue, 2, true)),

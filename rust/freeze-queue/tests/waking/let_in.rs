@@ -1,6 +1,6 @@
 //! Whom an update lets in before it freezes, and what ends its wait for them.
 
-use crate::common::{PATIENCE, Woken, until};
+use crate::common::{PATIENCE, Woken, on_another_thread, until};
 use crate::errors::UpdateError;
 use crate::limits::Limits;
 use crate::queue::Queue;
@@ -123,7 +123,7 @@ fn a_task_that_updates_again_lets_in_again() {
             calls += 1;
             if calls <= sets {
                 *waits.lock().unwrap() = Some(shared.waits.begin_to_wait());
-                queue.freeze().unwrap().set(limits.with_chunk(calls)).unwrap();
+                on_another_thread(|| queue.freeze().unwrap().set(limits.with_chunk(calls)).unwrap());
             }
             limits.with_max(5)
         }));
@@ -131,7 +131,10 @@ fn a_task_that_updates_again_lets_in_again() {
             assert!(polled(&mut update, &woken).is_pending(), "{set} of {sets}");
             assert_eq!(queue.limits().chunk, set);
             drop(waits.lock().unwrap().take());
-            assert_eq!(woken.times(), u64::from(set), "of {sets}");
+            assert_eq!(woken.times(), u64::from(2 * set - 1), "of {sets}");
+            // It lets other tasks go before it calls its closure again.
+            assert!(polled(&mut update, &woken).is_pending(), "{set} of {sets}");
+            assert_eq!((woken.times(), queue.limits().chunk, queue.depth()), (u64::from(2 * set), set, 0));
         }
         let wanted = Limits::of_hardware(8).with_max(5).with_chunk(sets);
         assert_eq!(polled(&mut update, &woken), Poll::Ready(Ok(wanted)));
@@ -152,7 +155,7 @@ fn a_thread_that_updates_again_lets_in_again() {
             calls += 1;
             if calls <= sets {
                 *waits.lock().unwrap() = Some(shared.waits.begin_to_wait());
-                queue.freeze().unwrap().set(limits.with_chunk(calls)).unwrap();
+                on_another_thread(|| queue.freeze().unwrap().set(limits.with_chunk(calls)).unwrap());
                 tells_its_sleep(sleeps.clone());
             }
             limits.with_max(5)

@@ -6,7 +6,7 @@ use std::cell::{Cell, RefCell};
 pub(crate) use std::sync::MutexGuard;
 pub(crate) use std::sync::atomic::AtomicU32;
 use std::sync::mpsc::Sender;
-use std::sync::{LockResult, MutexGuard as Guard};
+use std::sync::{LockResult, MutexGuard as Guard, TryLockResult};
 pub(crate) use std::thread::{Thread, current, sleep};
 use std::time::{Duration, Instant};
 
@@ -98,6 +98,10 @@ impl<T> Mutex<T> {
     pub(crate) fn lock(&self) -> LockResult<Guard<'_, T>> {
         let _ending = BEFORE_LOCK.try_with(Hook::run);
         self.0.lock()
+    }
+
+    pub(crate) fn try_lock(&self) -> TryLockResult<Guard<'_, T>> {
+        self.0.try_lock()
     }
 
     pub(crate) fn into_inner(self) -> LockResult<T> {

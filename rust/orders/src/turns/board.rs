@@ -2,7 +2,7 @@
 
 use super::buffers::{Buffer, Store, Word, address};
 use super::meetings::{buffer_of, token_of};
-use super::state::{End, Place, State};
+use super::state::{End, Place, State, Until};
 use std::panic::Location;
 use std::sync::atomic::Ordering::SeqCst;
 use std::sync::{Condvar, Mutex, MutexGuard, PoisonError};
@@ -163,14 +163,14 @@ impl Board {
         &self,
         actor: usize,
         (on, lock): (usize, usize),
-        is_timed: bool,
+        until: Until,
         at: &'static Location<'static>,
     ) -> bool {
         let mut state = self.before_full_step(actor, Place::Ready, "wait", at);
         state.meetings.touch(lock, true);
         state.meetings.touch(on, true);
         state.locked.remove(&lock);
-        state.places[actor] = Place::Sleeps { on, lock, is_timed };
+        state.places[actor] = Place::Sleeps { on, lock, until };
         state = self.turn(state, actor);
         let is_late = state.places[actor] != Place::Locks(lock);
         state.places[actor] = Place::Ready;

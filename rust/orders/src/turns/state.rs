@@ -6,6 +6,17 @@ use std::collections::HashSet;
 use std::panic::Location;
 use std::sync::atomic::Ordering::SeqCst;
 
+/// Until when an actor sleeps that isn't notified.
+#[derive(Clone, Copy, Debug, PartialEq, Eq)]
+pub(super) enum Until {
+    /// For ever.
+    Notified,
+    /// Until a deadline, which may pass at each moment.
+    AnyMoment,
+    /// Until a deadline, which passes once no other actor can go on.
+    Standstill,
+}
+
 /// Where an actor is.
 #[derive(Clone, Copy, Debug, PartialEq, Eq)]
 pub(super) enum Place {
@@ -16,7 +27,7 @@ pub(super) enum Place {
     Sleeps {
         on: usize,
         lock: usize,
-        is_timed: bool,
+        until: Until,
     },
     Parked,
     Ended,
@@ -112,9 +123,21 @@ impl State {
         match self.places[actor] {
             Place::Ready => true,
             Place::Locks(lock) => self.is_free(lock),
-            Place::Sleeps { lock, is_timed, .. } => is_timed && self.is_free(lock),
+            Place::Sleeps { lock, until, .. } => self.is_free(lock) && self.is_over(until),
             Place::Parked => self.tokens[actor],
             Place::Ended => false,
+        }
+    }
+
+    /// Whether a deadline may pass now.
+    fn is_over(&self, until: Until) -> bool {
+        let waits_for_others = |place: &Place| matches!(place, Place::Sleeps { until: Until::Standstill, .. });
+        match until {
+            Until::Notified => false,
+            Until::AnyMoment => true,
+            Until::Standstill => {
+                (0..self.places.len()).all(|it| waits_for_others(&self.places[it]) || !self.may_go_on(it))
+            }
         }
     }
 

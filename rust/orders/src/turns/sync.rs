@@ -1,5 +1,6 @@
 //! Std's lock and condition, by turns.
 
+use super::state::Until;
 use super::thread::of_actor;
 use std::ops::{Deref, DerefMut};
 use std::panic::Location;
@@ -115,6 +116,16 @@ impl WaitTimeoutResult {
     }
 }
 
+/// What a wait with a deadline returns.
+type TimedResult<'a, T> = LockResult<(MutexGuard<'a, T>, WaitTimeoutResult)>;
+
+fn late<T>((guard, is_late): (LockResult<MutexGuard<'_, T>>, bool)) -> TimedResult<'_, T> {
+    match guard {
+        Ok(guard) => Ok((guard, WaitTimeoutResult(is_late))),
+        Err(why) => Err(PoisonError::new((why.into_inner(), WaitTimeoutResult(is_late)))),
+    }
+}
+
 impl Condvar {
     /// As std's.
     #[must_use]
@@ -129,13 +140,13 @@ impl Condvar {
     fn sleep<'a, T>(
         &self,
         mut guard: MutexGuard<'a, T>,
-        is_timed: bool,
+        until: Until,
         at: &'static Location<'static>,
     ) -> (LockResult<MutexGuard<'a, T>>, bool) {
         let lock = guard.lock;
         drop(guard.guard.take());
         let ids = (self.address(), lock.address());
-        let is_late = of_actor(|board, actor| board.sleeps(actor, ids, is_timed, at)).expect("an actor");
+        let is_late = of_actor(|board, actor| board.sleeps(actor, ids, until, at)).expect("an actor");
         (lock.guard(), is_late)
     }
 
@@ -146,7 +157,7 @@ impl Condvar {
     /// As std's.
     #[track_caller]
     pub fn wait<'a, T>(&self, guard: MutexGuard<'a, T>) -> LockResult<MutexGuard<'a, T>> {
-        self.sleep(guard, false, Location::caller()).0
+        self.sleep(guard, Until::Notified, Location::caller()).0
     }
 
     /// As std's, but that the deadline may pass at any moment.
@@ -155,16 +166,18 @@ impl Condvar {
     ///
     /// As std's.
     #[track_caller]
-    pub fn wait_timeout<'a, T>(
-        &self,
-        guard: MutexGuard<'a, T>,
-        _patience: Duration,
-    ) -> LockResult<(MutexGuard<'a, T>, WaitTimeoutResult)> {
-        let (guard, is_late) = self.sleep(guard, true, Location::caller());
-        match guard {
-            Ok(guard) => Ok((guard, WaitTimeoutResult(is_late))),
-            Err(why) => Err(PoisonError::new((why.into_inner(), WaitTimeoutResult(is_late)))),
-        }
+    pub fn wait_timeout<'a, T>(&self, guard: MutexGuard<'a, T>, _patience: Duration) -> TimedResult<'a, T> {
+        late(self.sleep(guard, Until::AnyMoment, Location::caller()))
+    }
+
+    /// As `wait_timeout`, but that the deadline passes only once no other actor can go on.
+    ///
+    /// # Errors
+    ///
+    /// As std's.
+    #[track_caller]
+    pub fn wait_until_standstill<'a, T>(&self, guard: MutexGuard<'a, T>) -> TimedResult<'a, T> {
+        late(self.sleep(guard, Until::Standstill, Location::caller()))
     }
 
     /// As std's.

@@ -1,7 +1,6 @@
 //! The races.
 
-use crate::erased::biased_queue::{BiasedEntry, BiasedFreezer, BiasedQueue, BiasedTag};
-use crate::erased::queue_core::{Limits, Mode, Put};
+use crate::erased::queue_core::{BiasedEntry, BiasedTag, BlockQueue, Freezer, Limits, Mode, Put};
 use orders::turns::{AtomicU64, Condvar, Failed, Mutex, Noted, Play, Turns};
 use std::cell::Cell;
 use std::sync::Mutex as StdMutex;
@@ -37,15 +36,19 @@ use Freezing::{Change, GiveUp, Nested};
 /// Owners with a tag each, which is parked at the start, and a freezer.
 struct Race {
     owners: Vec<Vec<Call>>,
+    /// Whether the owners hand one tag round instead.
+    hands_round: bool,
     freezer: Vec<Freezing>,
     mode: Mode,
 }
 
 struct Parts {
-    queue: BiasedQueue,
-    desk: Mutex<BiasedFreezer>,
+    queue: BlockQueue,
+    desk: Mutex<Freezer>,
     drained: Condvar,
     tags: Vec<StdMutex<Option<BiasedTag>>>,
+    /// The tag that is handed round: whoever has the lock has the tag.
+    handed: Option<Mutex<BiasedTag>>,
     /// What each owner's requests store, in no order with anything else.
     stored: Vec<AtomicU64>,
     seen: Seen,
@@ -69,10 +72,10 @@ const FIRST_MOST: u32 = 64;
 thread_local!(static BEGUN: Cell<u32> = const { Cell::new(0) });
 
 impl Parts {
-    /// Whoever waits for the drain looks again, after the last put, and after a bias was over: its lane said busy meanwhile.
-    fn tell(&self, put: Put, was_biased: bool) {
+    /// Whoever waits for the drain looks again after the last put.
+    fn tell(&self, put: Put) {
         self.seen.lasts.fetch_add(u32::from(put == Put::Last), SeqCst);
-        if put == Put::Last || was_biased {
+        if put == Put::Last {
             let desk = self.desk.lock().unwrap();
             self.drained.notify_all();
             drop(desk);
@@ -88,13 +91,12 @@ impl Parts {
     }
 
     fn enters(&self, owner: usize, tag: &mut BiasedTag, call: Call) {
-        let was_biased = tag.is_biased();
         let entry = self.again(|| {
             let entry = if call == Look { tag.try_enter_frozen(&self.queue, 0) } else { tag.try_enter(&self.queue, 0) };
             (entry != BiasedEntry::InHand).then_some(entry)
         });
         if let BiasedEntry::Refused(put) = entry {
-            return self.tell(put, was_biased);
+            return self.tell(put);
         }
         let most = tag.limits().max();
         self.seen.inside[owner].set(1);
@@ -104,19 +106,22 @@ impl Parts {
         self.seen.requests[owner].set(requests);
         self.seen.check_inside(most);
         self.seen.inside[owner].set(0);
-        let was_biased = tag.is_biased();
-        let put = tag.leave(&self.queue, 0, call == Enter);
-        self.tell(put, was_biased && !tag.is_biased());
+        self.tell(tag.leave(&self.queue, 0, call == Enter));
+    }
+
+    fn makes(&self, owner: usize, tag: &mut BiasedTag, call: Call) {
+        match call {
+            End => self.tell(self.again(|| tag.end_bias(&self.queue, 0))),
+            _ => self.enters(owner, tag, call),
+        }
     }
 
     fn owns(&self, owner: usize, calls: &[Call]) {
-        let mut tag = self.tags[owner].lock().unwrap().take().expect("a tag");
-        for call in calls {
-            match call {
-                End => self.tell(self.again(|| tag.end_bias(&self.queue, 0)), false),
-                _ => self.enters(owner, &mut tag, *call),
-            }
+        if let Some(handed) = &self.handed {
+            return calls.iter().for_each(|call| self.makes(owner, &mut handed.lock().unwrap(), *call));
         }
+        let mut tag = self.tags[owner].lock().unwrap().take().expect("a tag");
+        calls.iter().for_each(|call| self.makes(owner, &mut tag, *call));
         *self.tags[owner].lock().unwrap() = Some(tag);
     }
 
@@ -124,7 +129,8 @@ impl Parts {
         let mut desk = self.desk.lock().unwrap();
         for _ in 0..1 + usize::from(freezing == Nested) {
             let frozen = desk.start_freeze(&self.queue).unwrap();
-            self.seen.lasts.fetch_add(u32::from(frozen.put == Put::Last), SeqCst);
+            let lasts = [frozen.put, frozen.reclaimed].into_iter().filter(|put| *put == Put::Last).count();
+            self.seen.lasts.fetch_add(lasts as u32, SeqCst);
         }
         if freezing != GiveUp {
             while !desk.poll_drained(&self.queue) {
@@ -165,22 +171,25 @@ impl Play for Race {
     }
 
     fn parts(&self) -> Parts {
-        let tags = u32::try_from(self.owners.len()).unwrap();
-        let (queue, mut freezer, mut tags) =
-            BiasedQueue::new(Limits::start(FIRST_MOST).unwrap(), 1, tags).expect("memory");
+        let owners = self.owners.len();
+        let tags = if self.hands_round { 1 } else { u32::try_from(owners).unwrap() };
+        let limits = Limits::start(FIRST_MOST).unwrap();
+        let (queue, mut freezer, tags) = BlockQueue::new(limits, 1, tags).expect("memory");
+        let mut tags: Vec<_> = tags.into_iter().map(|tag| tag.into_biased(limits)).collect();
         freezer.mode(&queue, self.mode);
         for tag in &mut tags {
             assert_eq!(tag.try_enter(&queue, 0), BiasedEntry::Entered);
             assert_eq!(tag.leave(&queue, 0, true), Put::NotLast);
             assert!(tag.is_biased());
         }
-        let noted = || tags.iter().map(|_| Noted::default()).collect();
+        let noted = || (0..owners).map(|_| Noted::default()).collect();
         let seen = Seen { inside: noted(), requests: noted(), ..Seen::default() };
         seen.most.set(FIRST_MOST.into());
-        let stored = tags.iter().map(|_| AtomicU64::new(0)).collect();
+        let stored = (0..owners).map(|_| AtomicU64::new(0)).collect();
+        let handed = self.hands_round.then(|| Mutex::new(tags.pop().expect("a tag")));
         let tags = tags.into_iter().map(|tag| StdMutex::new(Some(tag))).collect();
         BEGUN.set(BEGUN.get() + 1);
-        Parts { queue, desk: Mutex::new(freezer), drained: Condvar::new(), tags, stored, seen }
+        Parts { queue, desk: Mutex::new(freezer), drained: Condvar::new(), tags, handed, stored, seen }
     }
 
     fn act(&self, parts: &Parts, actor: usize) {
@@ -194,27 +203,31 @@ impl Play for Race {
 
     /// Each tag is back, none is entered or counted as parked, and each freeze that was waited for had one last put.
     fn end(&self, parts: Parts) {
-        let Parts { queue, desk, tags, seen, .. } = parts;
+        let Parts { queue, desk, tags, handed, seen, .. } = parts;
         let mut lasts = seen.lasts.load(SeqCst);
         let mut back = Vec::new();
-        for tag in tags {
-            let mut tag = tag.into_inner().unwrap().expect("a tag that its owner gave back");
+        let given = tags.into_iter().map(|tag| tag.into_inner().unwrap().expect("a tag that its owner gave back"));
+        for mut tag in given.chain(handed.map(|tag| tag.into_inner().unwrap())) {
             lasts += u32::from(tag.end_bias(&queue, 0).expect("a reference that no freezer has in hand") == Put::Last);
-            back.push(tag.into_tag().expect("a tag that isn't parked"));
+            back.push(tag.into_tag().unwrap_or_else(|_| panic!("a tag that is parked")));
         }
         assert_eq!(queue.biased.load(SeqCst), 0, "tags are counted that aren't parked, or not counted that were");
         let waited = self.freezer.iter().filter(|it| **it != GiveUp).count() as u32;
         assert!((waited..=self.freezer.len() as u32).contains(&lasts), "{lasts} last puts of {:?}", self.freezer);
-        let removed = desk.into_inner().unwrap().freezer.remove(queue.queue, back);
+        let removed = desk.into_inner().unwrap().remove(queue, back);
         assert!(removed.is_ok(), "a tag is still entered");
     }
 }
 
-/// Goes through the orders of a race. ORDERS_DEEPER is how many switches more.
+/// Goes through the orders of a race, in which each owner has a tag of its own.
 fn race(name: &str, switches: usize, mode: Mode, owners: &[&[Call]], freezer: &[Freezing]) {
-    let deeper = std::env::var("ORDERS_DEEPER").map_or(0, |it| it.parse::<usize>().expect("a number of switches"));
     let owners = owners.iter().map(|it| it.to_vec()).collect();
-    let race = Race { owners, freezer: freezer.to_vec(), mode };
+    play(name, switches, Race { owners, hands_round: false, freezer: freezer.to_vec(), mode });
+}
+
+/// Goes through the orders of a race. ORDERS_DEEPER is how many switches more.
+fn play(name: &str, switches: usize, race: Race) {
+    let deeper = std::env::var("ORDERS_DEEPER").map_or(0, |it| it.parse::<usize>().expect("a number of switches"));
     let switches = switches + deeper;
     BEGUN.set(0);
     let (why, schedule) = match Turns::switches(switches).skip_equal().play(race) {
@@ -268,4 +281,11 @@ fn two_end_beside_a_freeze() {
 #[test]
 fn an_owner_never_comes_back() {
     race("an owner that never comes back", 3, Mode::Atomic, &[&[], &[Enter, Enter]], &[Change, Change]);
+}
+
+/// A tag passes from thread to thread between its requests.
+#[test]
+fn a_tag_is_handed_over() {
+    let owners = vec![vec![Enter, Enter], vec![Enter]];
+    play("a tag that is handed over", 3, Race { owners, hands_round: true, freezer: vec![Change], mode: Mode::Slots });
 }

@@ -81,6 +81,58 @@ pub mod pointers {
 pub mod sync {
     pub use crate::numbers::AtomicUsize;
     pub use orders::turns::MutexGuard;
+    use real::cell::Cell;
+    use real::time::Duration;
+
+    real::thread_local! {
+        /// How often a time limit of this actor passed.
+        static LATE: Cell<u32> = const { Cell::new(0) };
+    }
+
+    /// How often a time limit of this actor passed since the last call of this.
+    pub fn late() -> u32 {
+        LATE.replace(0)
+    }
+
+    /// A token for the one thread that parks. A time limit passes once no other can go on.
+    #[derive(Debug)]
+    pub struct Parker {
+        is_there: orders::turns::Mutex<bool>,
+        given: orders::turns::Condvar,
+    }
+
+    impl Parker {
+        pub const fn new() -> Parker {
+            Parker { is_there: orders::turns::Mutex::new(false), given: orders::turns::Condvar::new() }
+        }
+
+        #[track_caller]
+        pub fn park(&self) {
+            let mut is_there = self.is_there.lock().expect("a lock of no actor that panicked");
+            while !*is_there {
+                is_there = self.given.wait(is_there).expect("a lock of no actor that panicked");
+            }
+            *is_there = false;
+        }
+
+        #[track_caller]
+        pub fn park_timeout(&self, _time: Duration) {
+            let mut is_there = self.is_there.lock().expect("a lock of no actor that panicked");
+            if !*is_there {
+                let (guard, ended) =
+                    self.given.wait_until_standstill(is_there).expect("a lock of no actor that panicked");
+                LATE.set(LATE.get() + u32::from(ended.timed_out()));
+                is_there = guard;
+            }
+            *is_there = false;
+        }
+
+        #[track_caller]
+        pub fn unpark(&self) {
+            *self.is_there.lock().expect("a lock of no actor that panicked") = true;
+            self.given.notify_one();
+        }
+    }
 
     #[derive(Debug)]
     pub struct Mutex<T>(orders::turns::Mutex<T>);

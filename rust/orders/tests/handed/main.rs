@@ -18,7 +18,7 @@ extern crate alloc;
 extern crate self as std;
 extern crate std as real;
 
-pub use real::{cell, iter, marker, mem};
+pub use real::{cell, iter, marker, mem, time};
 
 pub mod erased;
 pub mod numbers;

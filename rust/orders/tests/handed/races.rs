@@ -3,6 +3,7 @@
 use crate::erased::run_queues::{
     Collector, CompletionQueue, CompletionToken, Consumer, Numbered, RequestQueue, Source, SpareQueue, Taker,
 };
+use crate::erased::sync::late;
 use orders::turns::{Failed, Play, Turns};
 use real::sync::Mutex;
 
@@ -39,18 +40,33 @@ fn taken<T>(part: &Part<T>) -> T {
     part.lock().expect("a part").take().expect("a part of one actor")
 }
 
-/// One thread pushes as many requests as the others draw, and an end mark for each of these if they draw until then.
+/// One thread pushes requests, of which the others draw so many each. Then they are held for ever, so that only time helps the rest.
 struct Draws {
     room: usize,
-    /// How many requests each of the others draws.
     draws: &'static [u32],
-    has_marks: bool,
 }
 
 struct Drawn {
     queue: RequestQueue<Request>,
     source: Part<Source<Request>>,
     consumers: Vec<Part<Consumer<Request>>>,
+}
+
+impl Drawn {
+    fn new(room: usize, consumers: usize) -> Drawn {
+        let (queue, mut source) = RequestQueue::new(room, consumers).expect("memory");
+        let consumers = (0..consumers).map(|_| part(queue.consumer(&mut source, 8).expect("memory"))).collect();
+        Drawn { queue, source: part(source), consumers }
+    }
+
+    /// Checks that each of so many requests is drawn once.
+    fn end(self, requests: u32) {
+        let mut source = taken(&self.source);
+        self.consumers.iter().for_each(|it| self.queue.gather(&mut source, taken(it)).expect("memory"));
+        let mut drawn = self.queue.finish(source).concat();
+        drawn.sort_unstable();
+        assert!(drawn.into_iter().eq(0..requests), "a request isn't drawn, or twice");
+    }
 }
 
 impl Draws {
@@ -67,9 +83,7 @@ impl Play for Draws {
     }
 
     fn parts(&self) -> Drawn {
-        let (queue, mut source) = RequestQueue::new(self.room, self.draws.len()).expect("memory");
-        let consumers = self.draws.iter().map(|_| part(queue.consumer(&mut source, 8).expect("memory"))).collect();
-        Drawn { queue, source: part(source), consumers }
+        Drawn::new(self.room, self.draws.len())
     }
 
     fn act(&self, parts: &Drawn, actor: usize) {
@@ -77,53 +91,132 @@ impl Play for Draws {
         let Some(part) = parts.consumers.get(actor) else {
             let mut source = taken(&parts.source);
             (0..self.requests()).for_each(|number| queue.push(&mut source, Request(number)));
-            (0..if self.has_marks { self.draws.len() } else { 0 }).for_each(|_| queue.end(&mut source));
             *parts.source.lock().expect("a part") = Some(source);
             return;
         };
         let mut consumer = taken(part);
-        let mut draw = || queue.draw(&mut consumer).expect("room in the list").is_some();
-        if self.has_marks {
-            while draw() {}
-        } else {
-            (0..self.draws[actor]).for_each(|_| assert!(draw()));
-        }
+        (0..self.draws[actor]).for_each(|_| assert!(queue.draw(&mut consumer).expect("room in the list").is_some()));
         *part.lock().expect("a part") = Some(consumer);
     }
 
     fn end(&self, parts: Drawn) {
-        let mut source = taken(&parts.source);
-        parts.consumers.iter().for_each(|it| parts.queue.gather(&mut source, taken(it)).expect("memory"));
-        let mut drawn = parts.queue.finish(source).concat();
-        drawn.sort_unstable();
-        assert!(drawn.into_iter().eq(0..self.requests()), "a request isn't drawn, or twice");
+        parts.end(self.requests());
     }
 }
 
 /// Goes through the orders of draws.
-fn draws(room: usize, draws: &'static [u32], has_marks: bool, switches: usize) {
-    let marks = if has_marks { " and end marks" } else { "" };
-    let name = format!("draws of {draws:?} requests{marks} with room for {room}");
-    plays(&name, switches, Draws { room, draws, has_marks });
+fn draws(room: usize, draws: &'static [u32], switches: usize) {
+    plays(&format!("draws of {draws:?} requests with room for {room}"), switches, Draws { room, draws });
 }
 
 #[test]
 fn one_draws() {
     for room in [1, 2, 4] {
-        draws(room, &[3], false, 3);
+        draws(room, &[3], 3);
     }
 }
 
 #[test]
 fn two_draw() {
-    draws(4, &[2, 1], false, 2);
-    draws(1, &[1, 1], false, 2);
-    draws(2, &[1, 1], true, 1);
+    draws(4, &[2, 1], 2);
+    draws(1, &[1, 1], 2);
 }
 
 #[test]
 fn three_draw() {
-    draws(4, &[1, 1, 1], false, 1);
+    draws(4, &[1, 1, 1], 1);
+}
+
+/// A run: one thread takes a tag for each request and pushes it, and the workers draw and put the tag back, until they draw an end mark.
+/// None is held, so none waits for time to pass.
+struct Run {
+    tags: usize,
+    workers: usize,
+    requests: u32,
+}
+
+struct Running {
+    line: Drawn,
+    tags: SpareQueue<()>,
+    taker: Part<Taker<()>>,
+}
+
+impl Run {
+    fn submits(&self, parts: &Running) {
+        let (mut source, mut taker) = (taken(&parts.line.source), taken(&parts.taker));
+        for number in 0..self.requests {
+            self.takes(parts, &mut source, &mut taker);
+            parts.line.queue.push(&mut source, Request(number));
+        }
+        parts.line.queue.wake_if_all_sleep();
+        (0..self.workers).for_each(|_| parts.line.queue.end(&mut source));
+        parts.line.queue.wake_all();
+        *parts.line.source.lock().expect("a part") = Some(source);
+    }
+
+    fn takes(&self, parts: &Running, source: &mut Source<Request>, taker: &mut Taker<()>) {
+        if parts.tags.try_take(taker).is_some() {
+            return;
+        }
+        parts.line.queue.wake_if_all_sleep();
+        for _look in 0..parts.tags.looks() {
+            if parts.tags.look(taker).is_some() {
+                return;
+            }
+            parts.line.queue.wake_one_more(source);
+        }
+        parts.tags.take(taker);
+    }
+
+    fn works(&self, parts: &Running, part: &Part<Consumer<Request>>) {
+        let (mut consumer, mut count) = (taken(part), parts.tags.put_count());
+        loop {
+            if parts.line.queue.is_empty(&mut consumer) {
+                parts.tags.wake_taker();
+            }
+            if parts.line.queue.draw(&mut consumer).expect("room in the list").is_none() {
+                break;
+            }
+            parts.tags.put(&mut count, ());
+        }
+        *part.lock().expect("a part") = Some(consumer);
+    }
+}
+
+impl Play for Run {
+    type Parts = Running;
+
+    fn actors(&self) -> usize {
+        self.workers + 1
+    }
+
+    fn parts(&self) -> Running {
+        let (tags, taker) = SpareQueue::new(self.tags).expect("memory");
+        let mut count = tags.put_count();
+        (0..self.tags).for_each(|_| tags.put(&mut count, ()));
+        Running { line: Drawn::new(self.tags, self.workers), tags, taker: part(taker) }
+    }
+
+    fn act(&self, parts: &Running, actor: usize) {
+        late();
+        match parts.line.consumers.get(actor) {
+            Some(part) => self.works(parts, part),
+            None => self.submits(parts),
+        }
+        assert_eq!(late(), 0, "a thread waits until a time limit passes");
+    }
+
+    fn end(&self, parts: Running) {
+        parts.line.end(self.requests);
+    }
+}
+
+#[test]
+fn a_run_waits_for_no_time() {
+    for (tags, workers, requests, switches) in [(1, 1, 3, 2), (2, 1, 4, 2), (3, 1, 4, 2), (1, 2, 2, 1), (4, 2, 5, 1)] {
+        let name = format!("a run with {tags} tags, {workers} workers and {requests} requests");
+        plays(&name, switches, Run { tags, workers, requests });
+    }
 }
 
 /// Some threads put spares, and one takes them all.

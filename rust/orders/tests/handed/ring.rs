@@ -51,6 +51,11 @@ impl<T> RuledArrayQueue<T> {
         self.count.load(SeqCst) == 0
     }
 
+    #[track_caller]
+    pub fn len_as(&self, _pass: &mut Pass<T>) -> usize {
+        self.count.load(SeqCst)
+    }
+
     pub fn another(&self, _pass: &mut Pass<T>) -> Pass<T> {
         Pass(PhantomData)
     }

@@ -15,18 +15,12 @@ mod gate {
 #[path = "../../../freeze-queue/src/erased"]
 mod queue {
     pub mod bias_lanes;
-    pub mod biased_queue;
     pub mod queue_core;
     pub mod queue_limits;
 }
 
 pub use gate::{fallible, percpu_core, percpu_gate, percpu_words};
-pub use queue::{bias_lanes, biased_queue, queue_core, queue_limits};
+pub use queue::{bias_lanes, queue_core, queue_limits};
 
 pub(crate) use crate::words::{AtomicU64, fences};
-
-/// A step on a word that its table doesn't have.
-#[track_caller]
-fn past_the_end(word: usize, words: usize) -> ! {
-    panic!("a table of {words} words has no word {word}")
-}
+use orders::erased::past_the_end;

@@ -18,9 +18,8 @@ mod erased;
 mod words;
 
 use crate::erased::bias_lanes::{Freezer, Lane, Lanes};
-use crate::erased::biased_queue::{BiasedEntry, BiasedFreezer, BiasedQueue, BiasedTag};
 use crate::erased::percpu_gate::{Control, Gate, Pass, Put, Revived, Start, Tried};
-use crate::erased::queue_core::{FreezeFault, Limits, Mode};
+use crate::erased::queue_core::{self, BiasedEntry, BiasedTag, BlockQueue, FreezeFault, Frozen, Limits, Mode};
 use crate::words::{behind_the_next_store, steps};
 use std::sync::mpsc;
 
@@ -111,12 +110,11 @@ fn a_lane_takes_few_steps() {
             takes(owner.leave(&lanes), true, "sl");
         }
         takes(freezer.freeze(&lanes), (), "s");
-        takes(freezer.look(&lanes, 0), true, "l");
-        takes((1..1_023).any(|lane| freezer.look(&lanes, lane)), false, &"l".repeat(1_022));
-        takes(freezer.none_in(&lanes), false, "l");
+        let fenced = freezer.fence();
+        takes((), (), "f");
+        takes(freezer.look(&lanes, 0, &fenced), true, "l");
+        takes((1..1_023).any(|lane| freezer.look(&lanes, lane, &fenced)), false, &"l".repeat(1_022));
         takes(owners[0].leave(&lanes), false, "sl");
-        takes(freezer.none_in(&lanes), true, "l");
-        takes(freezer.none_in(&lanes), true, "");
         takes(freezer.reclaim(&lanes, 1_022), Some(1_022), "x");
         takes(owners[1_022].take_back(&lanes), None, "sx");
         takes(owners[1_022].take_back(&lanes), None, "sx");
@@ -143,7 +141,7 @@ fn a_reference_is_in_its_cell_before_its_word_says_so() {
     let mut owner = lanes.owner(0).expect("an owner");
     behind_the_next_store(move || {
         freezer.freeze(lanes);
-        assert!(!freezer.look(lanes, 0));
+        assert!(!freezer.look(lanes, 0, &freezer.fence()));
         sender.send((freezer.reclaim(lanes, 0), freezer)).unwrap();
     });
     assert_eq!(owner.park(lanes, 7), Ok(false), "a freeze came between");
@@ -158,10 +156,16 @@ fn a_reference_is_in_its_cell_before_its_word_says_so() {
 /// The fewest slots, the most, and some between.
 const SLOTS: [u32; 6] = [1, 2, 3, 64, 65, 512];
 
-fn queue(slots: u32, tags: u32) -> (BiasedQueue, BiasedFreezer, Vec<BiasedTag>) {
-    let made = BiasedQueue::new(Limits::start(8).expect("limits"), slots, tags).unwrap_or_else(|_| panic!("memory"));
+/// The last put of a freeze: its own, or that of a tag that it found biased and idle.
+fn last(frozen: Frozen) -> Put {
+    if frozen.reclaimed == Put::Last { Put::Last } else { frozen.put }
+}
+
+fn queue(slots: u32, tags: u32) -> (BlockQueue, queue_core::Freezer, Vec<BiasedTag>) {
+    let limits = Limits::start(8).expect("limits");
+    let (queue, freezer, made) = BlockQueue::new(limits, slots, tags).unwrap_or_else(|_| panic!("memory"));
     steps();
-    made
+    (queue, freezer, made.into_iter().map(|tag| tag.into_biased(limits)).collect())
 }
 
 /// The steps of a freeze before it looks whether a tag is biased: it closes each slot.
@@ -182,13 +186,39 @@ fn a_freeze_takes_each_bias_behind_a_fence() {
                 takes(tag.try_enter(&queue, (slot + 1) % slots), BiasedEntry::Entered, enters);
                 takes(tag.leave(&queue, slot % slots, true), Put::NotLast, "+lssl");
             }
-            let frozen = freezer.start_freeze(&queue).map(|frozen| (frozen.depth, frozen.put));
+            let frozen = freezer.start_freeze(&queue).map(|frozen| (frozen.depth, last(frozen)));
             takes(frozen, Ok((1, Put::Last)), &format!("{freeze}lflx-l-slx-l-slx-l-xs"));
             takes(freezer.start_freeze(&queue).map(|frozen| frozen.depth), Ok(2), "");
             takes(freezer.poll_drained(&queue), true, "l");
             takes(freezer.set(&queue, Limits::start(8).expect("limits")), Ok(()), "llslsls");
             takes(freezer.thaw(&queue).map(|thawed| thawed.depth), Ok(1), "");
             takes(freezer.thaw(&queue).map(|thawed| thawed.depth), Ok(0), &format!("+s&+{opened}s"));
+        }
+    }
+}
+
+/// However many tags are biased, a freeze issues one heavy fence, and then looks at each lane once.
+#[test]
+fn a_freeze_of_many_biased_tags_has_one_fence() {
+    for biased in [1, 63, 64, 65, 255, 1_023] {
+        let (queue, mut freezer, mut tags) = queue(1, biased);
+        for _ in 0..LIVES {
+            for tag in &mut tags {
+                assert_eq!(tag.try_enter(&queue, 0), BiasedEntry::Entered);
+                assert_eq!(tag.leave(&queue, 0, true), Put::NotLast);
+            }
+            steps();
+            assert_eq!(freezer.start_freeze(&queue).map(last), Ok(Put::Last));
+            let taken = steps();
+            let (before, after) = taken.split_once('f').expect("a fence");
+            assert_eq!(
+                (before, after.matches('f').count()),
+                (format!("{}l", freeze_of(1)).as_str(), 0),
+                "{biased} tags"
+            );
+            // The look, the exchange that takes the pass, its put, and the store that gives it back.
+            assert_eq!(after.matches("lx-l").count(), biased as usize, "{biased} tags: {after}");
+            assert_eq!(freezer.thaw(&queue).map(|thawed| thawed.depth), Ok(0));
         }
     }
 }
@@ -207,13 +237,13 @@ fn a_look_in_vain_is_one_load() {
             assert_eq!(tags[0].leave(&queue, slot, true), Put::NotLast);
             assert_eq!(tags[0].try_enter(&queue, slot), BiasedEntry::Entered);
             steps();
-            let frozen = freezer.start_freeze(&queue).map(|frozen| frozen.put);
+            let frozen = freezer.start_freeze(&queue).map(last);
             takes(frozen, Ok(Put::NotLast), &format!("{}lfllx", freeze_of(slots)));
             takes(freezer.poll_drained(&queue), false, "l");
             takes(freezer.set(&queue, limits), Err(FreezeFault::NotDrained), "l");
             takes(tags[0].leave(&queue, slot, true), Put::NotLast, "slsx-l-");
             takes(freezer.poll_drained(&queue), false, "l");
-            takes(freezer.set(&queue, limits), Err(FreezeFault::NotDrained), "ll");
+            takes(freezer.set(&queue, limits), Err(FreezeFault::NotDrained), "l");
             takes(tags[1].leave(&queue, slot, true), Put::Last, "+l-l-x");
             assert!(freezer.poll_drained(&queue));
             assert_eq!(freezer.thaw(&queue).map(|thawed| thawed.depth), Ok(0));
@@ -233,7 +263,7 @@ fn a_freeze_without_a_bias_looks_at_no_lane() {
                 assert_eq!(tag.try_enter(&queue, slot), BiasedEntry::Entered);
             }
             steps();
-            let frozen = freezer.start_freeze(&queue).map(|frozen| frozen.put);
+            let frozen = freezer.start_freeze(&queue).map(last);
             takes(frozen, Ok(Put::NotLast), &format!("{}l", freeze_of(slots)));
             for (tag, put) in tags.iter_mut().zip([Put::NotLast, Put::NotLast, Put::Last]) {
                 assert_eq!(tag.leave(&queue, slot, true), put);
@@ -248,8 +278,11 @@ fn a_freeze_without_a_bias_looks_at_no_lane() {
 fn a_removal_in_vain_leaves_each_bias() {
     for (slots, parked) in SLOTS.into_iter().flat_map(|slots| (1..=4).map(move |parked| (slots, parked))) {
         let (queue, freezer, mut tags) = queue(slots, 4);
-        let others: Vec<_> =
-            tags.split_off(parked).into_iter().map(|tag| tag.into_tag().expect("a plain tag")).collect();
+        let others: Vec<_> = tags
+            .split_off(parked)
+            .into_iter()
+            .map(|tag| tag.into_tag().unwrap_or_else(|_| panic!("a biased tag")))
+            .collect();
         for tag in &mut tags {
             assert_eq!(tag.try_enter(&queue, slots - 1), BiasedEntry::Entered);
             assert_eq!(tag.leave(&queue, 0, true), Put::NotLast);
@@ -259,7 +292,7 @@ fn a_removal_in_vain_leaves_each_bias() {
         takes((refused.why, refused.tags.len()), (FreezeFault::TagsOut(parked as u32), 4 - parked), "");
         let (queue, mut freezer) = (refused.queue, refused.freezer);
         let lanes = "lx-l-s".repeat(parked - 1) + "lx-l-xs" + &"lx".repeat(4 - parked);
-        let frozen = freezer.start_freeze(&queue).map(|frozen| frozen.put);
+        let frozen = freezer.start_freeze(&queue).map(last);
         takes(frozen, Ok(Put::Last), &format!("{}lf{lanes}", freeze_of(slots)));
         takes(freezer.poll_drained(&queue), true, "l");
     }

@@ -31,6 +31,7 @@ mod files {
     pub(crate) mod excluded;
     pub(crate) mod freezing;
     pub(crate) mod frozen;
+    pub(crate) mod frozen_by;
     pub(crate) mod handed_back;
     pub(crate) mod in_flight;
     pub(crate) mod lent;
@@ -55,9 +56,9 @@ mod files {
 }
 
 use files::{
-    body, builder, counts, enter_any, errors, excluded, freezing, frozen, handed_back, in_flight, lent, limits, line,
-    locked, outcomes, owned, patience, pieces, places, queue, request, seats, shared, shows, tag, tasks, turns, value,
-    waits,
+    body, builder, counts, enter_any, errors, excluded, freezing, frozen, frozen_by, handed_back, in_flight, lent,
+    limits, line, locked, outcomes, owned, patience, pieces, places, queue, request, seats, shared, shows, tag, tasks,
+    turns, value, waits,
 };
 
 mod sync {

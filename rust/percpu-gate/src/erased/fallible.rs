@@ -90,6 +90,9 @@ pub trait TryVec<T>: Sized {
     fn try_extend_from_slice(&mut self, items: &[T]) -> Result<(), AllocError>
     where
         T: Clone;
+
+    /// Puts what an iterator gives behind the others. If memory is refused, what it gave before stays.
+    fn try_extend(&mut self, items: impl IntoIterator<Item = T>) -> Result<(), AllocError>;
 }
 
 impl<T> TryVec<T> for Vec<T> {
@@ -155,6 +158,11 @@ impl<T> TryVec<T> for Vec<T> {
         self.try_reserve(items.len())?;
         self.extend_from_slice(items);
         Ok(())
+    }
+
+    #[inline]
+    fn try_extend(&mut self, items: impl IntoIterator<Item = T>) -> Result<(), AllocError> {
+        items.into_iter().try_for_each(|item| self.try_push(item))
     }
 }
 

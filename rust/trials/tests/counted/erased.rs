@@ -15,8 +15,10 @@ mod callers {
 }
 
 pub use blkq::erased::{
-    crossbeam_utils, fallible, percpu_core, percpu_gate, percpu_words, queue_limits, sync, thread, wait_queue,
+    bias_lanes, crossbeam_utils, fallible, percpu_core, percpu_gate, percpu_words, queue_limits, sync, thread,
+    wait_queue,
 };
 pub use callers::uses;
+pub use core::sync::atomic::AtomicU64;
 pub use queue::queue_core;
 pub use waits::freeze_queue;

@@ -9,9 +9,9 @@ extern crate alloc;
 mod erased;
 
 use crate::erased::freeze_queue::{
-    BlockQueue, Enter, FreezeFault, Freezer, Limits, MOST_DEPTH, Mode, Put, SharedFreezer, Stay, Tag,
+    BlockQueue, Enter, FreezeFault, Freezer, Limits, MOST_DEPTH, Mode, Put, SharedFreezer, Tag,
 };
-use crate::erased::uses::submit_next;
+use crate::erased::uses::{Request, submit_next};
 
 /// Returns the counts of the slots of a live queue, after a kill has begun and this closure was called.
 fn counted_after(queue: &BlockQueue, freezer: Freezer, done: impl FnOnce()) -> Vec<i64> {
@@ -118,18 +118,19 @@ fn each_queue_counts_on_its_slots() {
     }
 }
 
-/// A tag that asks to stay leaves on its slot, if a freeze has begun and hasn't closed the slot yet.
+/// A tag with no bias counts on its slots, as it enters and as it leaves.
 #[test]
-fn a_stay_leaves_on_its_slot() {
-    for (queue, freezer, mut tag) in queues() {
-        queue.enter(&mut tag, 1);
-        let left = || assert_eq!(queue.stay(&mut tag, 2), Stay::Left(Put::NotLast));
+fn a_tag_without_a_bias_counts_on_its_slots() {
+    for (queue, freezer, tag) in queues() {
+        let mut tag = tag.into_biased(freezer.limits());
+        queue.enter_by_lane(&mut tag, 1);
+        let left = || assert_eq!(queue.leave_by_lane(&mut tag, 2, false), Put::NotLast);
         assert_eq!(counted_after(&queue, freezer, left), [0, 1, -1]);
     }
 }
 
-/// A thread that submits its next request stays in a live queue, and counts nothing. On a slot that can't count further down, a leave and an
-/// enter would show as one more.
+/// Once its tag is biased, a thread's requests count nothing. On a slot that can't count further down, a leave and an enter would show as one
+/// more.
 #[test]
 fn the_next_request_counts_nothing() {
     let floor = 1 << 20;
@@ -138,9 +139,12 @@ fn the_next_request_counts_nothing() {
         queue.enter(&mut tag, 1);
         let _put = queue.leave(&mut tag, 2);
     }
-    queue.enter(&mut tag, 0);
-    for start in 0..5 {
-        assert_eq!(submit_next(&queue, &mut tag, 2, start, 8).map(|commands| commands.len()), Ok(1));
+    let mut tag = tag.into_biased(freezer.limits());
+    queue.enter_by_lane(&mut tag, 0);
+    for first in 0..5 {
+        assert_eq!(queue.leave_by_lane(&mut tag, 2, true), Put::NotLast);
+        let made = submit_next(&queue, &mut tag, 2, Request { first, sectors: 8 });
+        assert_eq!(made.map(|commands| commands.len()), Ok(1));
     }
     assert_eq!(counted(queue, freezer), [1, floor, -floor]);
 }

@@ -15,7 +15,7 @@ fn count_of(sizes: &mut Sizes) -> usize {
 }
 
 fn write(start: u32, byte: u8) -> What {
-    What::Write { start, count: 1, pattern: Pattern::new(vec![byte]) }
+    What::Write { start, count: 1, pattern: Pattern::new(&[byte]).unwrap() }
 }
 
 fn read(start: u32) -> What {

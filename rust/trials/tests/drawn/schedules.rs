@@ -1,8 +1,7 @@
 //! Texts of schedules, and their replays.
 
 use crate::{Sizes, draw};
-use blkq::erased::gate_replay::{Replayed, marked_world, parse_schedule, replay_text, world_said};
-use blkq::erased::line_text::words;
+use blkq::erased::gate_replay::{Replayed, parse_schedule, replay_text};
 use std::fmt::Write;
 
 const LONGEST: usize = 1 << 20;
@@ -44,7 +43,7 @@ fn schedules() {
     });
 }
 
-/// The world of a line has the sizes and the guarded words that are there, with or without a mark that a caller may put in their place.
+/// The world of a schedule has the sizes and the guarded words of its line.
 #[test]
 fn worlds() {
     draw(5_000, |sizes| {
@@ -53,16 +52,9 @@ fn worlds() {
         let values: Vec<u64> = (0..sizes.count(0, 8)).map(|_| sizes.size(0, u64::MAX)).collect();
         let mut line = format!("{slots} {passes} {start} {kills}");
         values.iter().for_each(|value| write!(line, " {value}").unwrap());
-        let named = format!("world {line}");
-        let marked = marked_world(2, words(&named), "linux").unwrap();
-        assert!(!marked.is_marked);
-        for world in [marked.world, world_said(2, words(&line)).unwrap()] {
-            assert_eq!((world.slots, world.passes, world.kills), (slots, passes, kills));
-            assert_eq!(format!("{:?}", world.start).to_lowercase(), start);
-            assert_eq!(world.words.as_slice(), values);
-        }
-        let in_place = format!("world {slots} {passes} {start} {kills} linux");
-        let marked = marked_world(2, words(&in_place), "linux").unwrap();
-        assert_eq!((marked.is_marked, marked.world.slots, marked.world.words.as_slice().len()), (true, slots, 0));
+        let world = parse_schedule(format!("gate 1\nworld {line}\n").as_bytes()).unwrap();
+        assert_eq!((world.slots, world.passes, world.kills), (slots, passes, kills));
+        assert_eq!(format!("{:?}", world.start).to_lowercase(), start);
+        assert_eq!(world.words.as_slice(), values);
     });
 }

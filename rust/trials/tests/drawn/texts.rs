@@ -2,7 +2,7 @@
 
 use crate::draw;
 use blkq::erased::counted_io::{Counted, read_whole, write_whole};
-use blkq::erased::hex::{decode, encode_to_slice};
+use blkq::erased::hex::{decode_to_slice, encode_to_slice};
 use blkq::erased::line_text::{hex_bytes, push_hex, push_named, push_number, push_text};
 use std::io::Read;
 
@@ -39,10 +39,14 @@ fn digits() {
         let bytes = sizes.bytes(count);
         let mut digits = vec![0; 2 * count];
         encode_to_slice(&bytes, &mut digits).unwrap();
-        assert!(decode(&digits).unwrap() == bytes);
+        let mut read = vec![0; count];
+        decode_to_slice(&digits, &mut read).unwrap();
+        assert!(read == bytes);
         // A caller allows as many bytes as it likes.
         let most = sizes.count(1, count);
-        assert!(hex_bytes(&digits[..2 * most], sizes.count(most, count)).unwrap() == bytes[..most]);
+        let mut room = vec![0; sizes.count(most, count)];
+        assert_eq!(hex_bytes(&digits[..2 * most], &mut room), Ok(most));
+        assert!(room[..most] == bytes[..most]);
     });
 }
 

@@ -1,9 +1,9 @@
 //! Which steps the calls of the waiting queue and of its callers take.
 
-use crate::erased::freeze_queue::{BlockQueue, Enter, Freezer, Limits, Put, SharedFreezer, Stay, StayOrEnter, Tag};
+use crate::erased::freeze_queue::{BlockQueue, Enter, Freezer, Limits, Put, SharedFreezer, Tag};
 use crate::erased::percpu_gate::{Gate, Start};
 use crate::erased::thread::{AT_YIELD, IS_SECOND_FIRST};
-use crate::erased::uses::{Raced, Served, enter_under, race, submit_next};
+use crate::erased::uses::{Raced, Request, Served, enter_under, race, submit_next};
 use crate::gate::Log;
 use crate::gate::Step::{self, Dropped, Looked, Refused, Taken};
 use std::cell::RefCell;
@@ -18,11 +18,11 @@ fn with_one_tag() -> (BlockQueue, Freezer, Tag) {
     (queue, freezer, tags.swap_remove(0))
 }
 
-/// On a live queue each call is one step on its slot, and to stay is none.
+/// On a live queue each call is one step on its slot, and a request of a biased tag is none.
 #[test]
 fn a_call_of_a_live_queue_is_one_step() {
     let log = Log::begin();
-    let (queue, _freezer, mut tag) = with_one_tag();
+    let (queue, freezer, mut tag) = with_one_tag();
     log.steps();
     for (way, slot) in (0..9).map(|round| (round % 3, round / 3)) {
         match way {
@@ -31,13 +31,15 @@ fn a_call_of_a_live_queue_is_one_step() {
             _ => queue.enter(&mut tag, slot),
         }
         assert_eq!(log.steps(), [Taken(slot)]);
-        assert_eq!(queue.stay(&mut tag, slot), Stay::Stayed);
-        assert_eq!(queue.stay_or_enter(&mut tag, slot), StayOrEnter::Stayed);
-        let made = submit_next(&queue, &mut tag, slot, 0, 8).map(|commands| commands.len());
-        assert_eq!((made, log.steps()), (Ok(1), vec![]));
         assert_eq!(queue.leave(&mut tag, 2 - slot), Put::NotLast);
         assert_eq!(log.steps(), [Dropped(2 - slot)]);
     }
+    let mut tag = tag.into_biased(freezer.limits());
+    queue.enter_by_lane(&mut tag, 1);
+    assert_eq!(queue.leave_by_lane(&mut tag, 2, true), Put::NotLast);
+    assert_eq!(log.steps(), [Taken(1)]);
+    let made = submit_next(&queue, &mut tag, 0, Request { first: 0, sectors: 8 }).map(|commands| commands.len());
+    assert_eq!((made, log.steps()), (Ok(1), vec![]));
 }
 
 /// Calls this while the queue is frozen, and thaws once it was refused so often. Returns its steps but those refusals.
@@ -75,10 +77,6 @@ fn a_tag_that_waits_enters_once() {
             queue.enter(tag, 1);
         });
         assert_eq!(waits, [Dropped(2), Taken(1)]);
-        let stays = steps_while_frozen(refusals, |queue, tag| {
-            assert_eq!(queue.stay_or_enter(tag, 1), StayOrEnter::EnteredAgain);
-        });
-        assert_eq!(stays, [Dropped(1), Taken(1)]);
     }
 }
 

@@ -19,10 +19,11 @@ mod callers {
 pub use crate::gate as percpu_gate;
 pub use blkq::erased::percpu_gate as gates;
 pub use blkq::erased::{
-    blk_script, counted_io, crossbeam_utils, fallible, gate_replay, in_flight, line_text, percpu_core, pointers,
-    queue_limits, ram_disk, run_queues, script_meaning, script_overlap, streams, sync, wait_queue,
+    bias_lanes, blk_script, counted_io, crossbeam_utils, fallible, gate_replay, in_flight, line_text, percpu_core,
+    pointers, queue_limits, ram_disk, run_queues, script_meaning, script_overlap, streams, sync, wait_queue,
 };
 pub use callers::uses;
+pub use core::sync::atomic::AtomicU64;
 pub use queue::queue_core;
 
 /// The threads of blkq. Two calls that are joined run one after the other: the first one first, unless this thread says otherwise.

@@ -11,6 +11,7 @@ mod waits {
 
 pub use crate::counting as wait_queue;
 pub use crate::parking as crossbeam_utils;
-pub use blkq::erased::{fallible, percpu_core, percpu_gate, percpu_words, queue_limits, sync};
+pub use blkq::erased::{bias_lanes, fallible, percpu_core, percpu_gate, percpu_words, queue_limits, sync};
+pub use core::sync::atomic::AtomicU64;
 pub use queue::queue_core;
 pub use waits::freeze_queue;

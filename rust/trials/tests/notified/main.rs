@@ -14,7 +14,10 @@ pub mod parking;
 mod turns;
 
 use crate::counting::WaitQueue;
-use crate::erased::freeze_queue::{BlockQueue, Enter, Freezer, Limits, Mode, Put, SharedFreezer, Stay, Tag};
+use crate::erased::freeze_queue::{
+    BiasedEntry, BiasedTag, BlockQueue, Enter, Freezer, Limits, Mode, Put, SharedFreezer, Tag,
+};
+use crate::erased::queue_core::Stay;
 use kinds::limits_of_each_kind;
 use std::sync::Arc;
 use std::sync::atomic::{AtomicBool, AtomicU64, Ordering::SeqCst};
@@ -48,11 +51,21 @@ fn requests_of_a_live_queue_wake_nobody() {
     for tag in &mut tags {
         for slot in 0..2 {
             queue.enter(tag, slot);
-            assert_eq!(queue.stay(tag, slot), Stay::Stayed);
+            assert_eq!(queue.core.stay(tag, slot), Stay::Stayed);
             assert_eq!(queue.leave(tag, slot), Put::NotLast);
             assert_eq!(queue.try_enter_frozen(tag, slot), Enter::Entered);
             assert_eq!(queue.leave(tag, slot), Put::NotLast);
         }
+    }
+    for tag in tags {
+        let mut tag = tag.into_biased(freezer.limits());
+        for slot in [0, 1, 0] {
+            queue.enter_by_lane(&mut tag, slot);
+            assert_eq!(queue.leave_by_lane(&mut tag, slot, true), Put::NotLast);
+        }
+        assert_eq!(queue.end_bias(&mut tag, 1), Some(Put::NotLast));
+        assert_eq!(queue.look_in(&mut tag, 1), BiasedEntry::Entered);
+        assert_eq!(queue.leave_by_lane(&mut tag, 0, false), Put::NotLast);
     }
     for mode in [Mode::Atomic, Mode::Atomic, Mode::Slots] {
         freezer.mode(&queue, mode);
@@ -60,8 +73,8 @@ fn requests_of_a_live_queue_wake_nobody() {
     assert_eq!(woken(&queue), (0, 0));
 }
 
-/// Three tags of a frozen queue leave on this slot, by a leave or by a stay: only the last to go wakes. Refused tries wake nobody.
-fn leave_one_by_one(limits: Limits, slots: u32, slot: u32, stays: bool) {
+/// Three tags of a frozen queue leave on this slot: only the last to go wakes. Refused tries wake nobody.
+fn leave_one_by_one(limits: Limits, slots: u32, slot: u32) {
     let (queue, mut freezer, mut tags) = queue_of(limits, slots, 4);
     let other = slots - 1 - slot;
     let of_freezer = freezer.parker.unparker();
@@ -73,11 +86,7 @@ fn leave_one_by_one(limits: Limits, slots: u32, slot: u32, stays: bool) {
         assert_eq!(queue.try_enter(late, other), Enter::Again);
         assert_eq!((freezer.poll_drained(&queue), woken(&queue)), (false, (0, 0)));
         let put = if before == 0 { Put::Last } else { Put::NotLast };
-        if stays {
-            assert_eq!(queue.stay(tag, slot), Stay::Left(put));
-        } else {
-            assert_eq!(queue.leave(tag, slot), put);
-        }
+        assert_eq!(queue.leave(tag, slot), put);
     }
     assert_eq!((freezer.poll_drained(&queue), woken(&queue)), (true, (1, 0)), "slot {slot} of {slots}, {limits:?}");
     assert_eq!(queue.freezer.counts.unparks.load(SeqCst), 1);
@@ -90,9 +99,41 @@ fn leave_one_by_one(limits: Limits, slots: u32, slot: u32, stays: bool) {
 fn the_last_to_leave_wakes_alone() {
     for limits in limits_of_each_kind() {
         for (slots, slot) in [(1, 0), (2, 0), (2, 1), (3, 1), (64, 63), (512, 0), (512, 300), (512, 511)] {
-            leave_one_by_one(limits, slots, slot, false);
-            leave_one_by_one(limits, slots, slot, true);
+            leave_one_by_one(limits, slots, slot);
         }
+    }
+}
+
+/// The ways in which a biased tag that was in, by its lane or not, is the last to go.
+const LAST_WAYS: [fn(&BlockQueue, &mut BiasedTag) -> Option<Put>; 2] =
+    [|queue, tag| Some(queue.leave_by_lane(tag, 1, true)), |queue, tag| queue.end_bias(tag, 1)];
+
+/// Of two biased tags, the one whose request is in is the last to go, and wakes. The freeze wakes if it takes the last bias away itself.
+#[test]
+fn the_last_biased_tag_to_leave_wakes_alone() {
+    for (way, leaves) in LAST_WAYS.into_iter().enumerate() {
+        let (queue, mut freezer, tags) = queue(2, 2);
+        let mut tags: Vec<_> = tags.into_iter().map(|tag| tag.into_biased(freezer.limits())).collect();
+        for tag in &mut tags {
+            queue.enter_by_lane(tag, 0);
+            assert_eq!(queue.leave_by_lane(tag, 0, true), Put::NotLast);
+        }
+        let [idle, busy] = &mut tags[..] else { panic!("two tags") };
+        if way == 1 {
+            assert_eq!(queue.end_bias(busy, 0), Some(Put::NotLast));
+        }
+        queue.enter_by_lane(busy, 0);
+        assert_eq!(freezer.start_freeze(&queue), Ok(1));
+        assert_eq!(queue.try_enter_by_lane(idle, 1), BiasedEntry::Refused(Put::NotLast));
+        assert_eq!((freezer.poll_drained(&queue), woken(&queue)), (false, (0, 0)));
+        assert_eq!(leaves(&queue, busy), Some(Put::Last));
+        assert_eq!((freezer.poll_drained(&queue), woken(&queue)), (true, (1, 0)));
+        assert_eq!(queue.look_in(idle, 1), BiasedEntry::Refused(Put::NotLast));
+        assert_eq!((freezer.thaw(&queue), woken(&queue)), (Ok(0), (2, 1)));
+        queue.enter_by_lane(idle, 0);
+        assert_eq!(queue.leave_by_lane(idle, 0, true), Put::NotLast);
+        assert_eq!(freezer.freeze(&queue), Ok(1));
+        assert_eq!(woken(&queue), (3, 1), "the freeze takes the last bias away");
     }
 }
 

@@ -1,8 +1,10 @@
 //! The waits of `blkq`. They count by thread the wakes of one waiter, and tell that a thread sleeps.
 
+use blkq::erased::sync::Parker as Bed;
 use blkq::erased::wait_queue as waits;
 use std::cell::Cell;
 use std::thread::LocalKey;
+use std::time::Duration;
 
 /// What a thread does at a moment of its wait.
 type Call = Box<dyn Fn()>;
@@ -11,6 +13,8 @@ thread_local! {
     static WAKES: Cell<u64> = const { Cell::new(0) };
     static BEFORE_SLEEP: Cell<Option<Call>> = const { Cell::new(None) };
     static AFTER_WAKE: Cell<Option<Call>> = const { Cell::new(None) };
+    /// Whether this thread's limited sleeps end after a while.
+    static TIME_PASSES: Cell<bool> = const { Cell::new(false) };
 }
 
 /// Returns how often this thread was to wake a waiter since the last call of this.
@@ -22,6 +26,11 @@ pub fn wakes() -> u64 {
 pub fn at_sleeps(before: impl Fn() + 'static, after: impl Fn() + 'static) {
     BEFORE_SLEEP.set(Some(Box::new(before)));
     AFTER_WAKE.set(Some(Box::new(after)));
+}
+
+/// Lets this thread's limited sleeps end after a while. Until then they have no limit.
+pub fn let_time_pass() {
+    TIME_PASSES.set(true);
 }
 
 fn call(at: &'static LocalKey<Cell<Option<Call>>>) {
@@ -43,6 +52,11 @@ impl WaitQueue {
     pub fn wake_one(&self) {
         WAKES.set(WAKES.get() + 1);
         self.0.wake_one();
+    }
+
+    pub fn wake_all(&self) {
+        WAKES.set(WAKES.get() + 1);
+        self.0.wake_all();
     }
 
     pub fn tries(&self) -> waits::Tries<'_> {
@@ -72,5 +86,35 @@ impl Iterator for Tries<'_> {
         let turn = self.tries.next();
         call(&AFTER_WAKE);
         turn
+    }
+}
+
+/// A bed for one thread.
+pub struct Parker(Bed);
+
+#[allow(clippy::new_without_default)]
+impl Parker {
+    pub const fn new() -> Parker {
+        Parker(Bed::new())
+    }
+
+    pub fn park(&self) {
+        call(&BEFORE_SLEEP);
+        self.0.park();
+        call(&AFTER_WAKE);
+    }
+
+    pub fn park_timeout(&self, time: Duration) {
+        if !TIME_PASSES.get() {
+            return self.park();
+        }
+        call(&BEFORE_SLEEP);
+        self.0.park_timeout(time);
+        call(&AFTER_WAKE);
+    }
+
+    pub fn unpark(&self) {
+        WAKES.set(WAKES.get() + 1);
+        self.0.unpark();
     }
 }

@@ -8,3 +8,7 @@ pub use crate::counting as wait_queue;
 pub use crate::ring as crossbeam_queue;
 pub use blkq::erased::{crossbeam_utils, fallible};
 pub use queues::run_queues;
+
+pub mod sync {
+    pub use crate::counting::Parker;
+}

@@ -17,8 +17,6 @@ thread_local! {
     static PUSHES: Cell<u64> = const { Cell::new(0) };
     static BEFORE_PUSH: Cell<Option<Call>> = const { Cell::new(None) };
     static NO_ROOM: Cell<Option<Call>> = const { Cell::new(None) };
-    /// How often this thread looked whether items are left.
-    static LOOKS_FOR_MORE: Cell<u64> = const { Cell::new(0) };
 }
 
 /// Calls this before each look of this thread for an item; they are counted from 1 on.
@@ -37,11 +35,6 @@ pub fn at_pushes(before: impl Fn(u64) + 'static, no_room: impl Fn(u64) + 'static
 /// Returns how often this thread looked for an item since the last call of this.
 pub fn looks() -> u64 {
     LOOKS.replace(0)
-}
-
-/// Returns how often this thread looked whether items are left since the last call of this.
-pub fn looks_for_more() -> u64 {
-    LOOKS_FOR_MORE.replace(0)
 }
 
 /// Counts a look of this thread. Returns its number.
@@ -78,11 +71,6 @@ impl<T> RuledArrayQueue<T> {
     pub fn pop_as(&self, pass: &mut Pass<T>) -> Option<T> {
         call(&BEFORE, next_look(&LOOKS));
         self.0.pop_as(pass)
-    }
-
-    pub fn is_empty_as(&self, pass: &mut Pass<T>) -> bool {
-        LOOKS_FOR_MORE.set(LOOKS_FOR_MORE.get() + 1);
-        self.0.is_empty_as(pass)
     }
 }
 

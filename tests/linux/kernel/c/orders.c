@@ -1,4 +1,4 @@
-/* Explores all orders of races on the kernel's own percpu_ref. Reads races (docs/races/FORMATS.md, with the calls that Linux has), each
+/* Explores all orders of races on the kernel's own percpu_ref. Reads races (docs/races/README.md, with the calls that Linux has), each
  * followed by a line `run`, and prints the outcomes of each once, and the number of its moments. From each moment the search goes on once
  * with a step of each actor that may go; memory and stacks are copied so that it can come back.
  *

@@ -7,6 +7,7 @@ use Rattle.in_flight.specs.Table.{MayTakeRequest, Stands}
 use Rattle.in_flight.specs.Requests.{IsDue, found_at}
 use Rattle.in_flight.proofs.NextLines.{due_at}
 use Rattle.in_flight.proofs.Numbering.{counts_request}
+use Rattle.ram_disk.specs.Sectors.{sectors_of}
 use Rattle.blk_workers.specs.Progress.{AreAwaited}
 use Rattle.blk_workers.proofs.Awaited.{awaited_submitted}
 use Rattle.blk_workers.proofs.handing.hand_over.Goals as goal
@@ -19,7 +20,7 @@ pub new-job-requires-clause-job : goal.new-job-requires-clause-job
 new-job-requires-clause-job g c =
     let script = g.J.Run.script in
     let here = length c.args.table.now.replies in
-    let found = c.in_ok-found.found.items in
+    let found = sectors_of c.in_ok-found.found in
     let ready = c.requires.ready in
     record {
       own = c.entered-tag.ensures.own;
@@ -46,15 +47,18 @@ returns-clause-handed_over g c =
     let handed = c.requires.handed_over in
     let mine : CollectorFacts = c.args.ends.now.collector in
     let given = c.token-token.ensures.collector in
+    let before : SourceFacts = c.args.ends.now.source in
+    let entered : SourceFacts = c.entered-tag.new.source in
+    let same : entered ≡ before = c.entered-tag.ensures.source in
     let replies : length c.submit.new.self.replies ≡ length old + 1 = ap length c.in_ok-found.ensures.owed ∙ length-append old (None ∷ []) in
     record {
       stands = subst (λ (s : Meant). Stands s c.submit.new.self.replies c.submit.new.self.disk) (c.script.ensures ∙ c.context.invariant.0.its_script) c.in_ok-found.ensures.stands;
       lines = replies;
       all = record {
-        pushes = ap (λ (s : SourceFacts). s.queue) c.push.ensures ∙ handed.pushes;
+        pushes = ap (λ (s : SourceFacts). s.queue) c.push.ensures ∙ ap (λ (s : SourceFacts). s.queue) same ∙ handed.pushes;
         collects = ap (λ (k : CollectorFacts). k.queue) given ∙ handed.collects;
-        pushed = ap (λ (s : SourceFacts). s.pushed) c.push.ensures ∙ ap (λ n. n + 1) handed.pushed ∙ sym more;
-        not_ended = ap (λ (s : SourceFacts). s.marks) c.push.ensures ∙ handed.not_ended;
+        pushed = ap (λ (s : SourceFacts). s.pushed) c.push.ensures ∙ ap (λ n. n + 1) (ap (λ (s : SourceFacts). s.pushed) same ∙ handed.pushed) ∙ sym more;
+        not_ended = ap (λ (s : SourceFacts). s.marks) c.push.ensures ∙ ap (λ (s : SourceFacts). s.marks) same ∙ handed.not_ended;
         tokens = ap (λ (k : CollectorFacts). k.given) given ∙ ap (λ n. n + 1) handed.tokens ∙ sym more;
         awaited =
             subst (λ replies. AreAwaited script replies c.token-token.new.collector.given c.token-token.new.collector.collected) (sym c.in_ok-found.ensures.owed)

@@ -1,17 +1,11 @@
-use Rattle.std.proofs.Common.{◌≡◌, ℕ, ◌+◌, ◌<◌, List, length, get_or, set, subst, ap, ◌∙◌, arith}
+use Rattle.std.proofs.Common.{◌≡◌, ◌+◌, ◌<◌, ◌∙◌, length, get_or, subst, arith}
 use Rattle.std.proofs.lemmas.Iterator.Adapters.{YieldsList-from_vec}
 use Rattle.std.proofs.lemmas.Iterator.Consumers.{YieldsList-turn}
 use Rattle.std.proofs.lemmas.List.{length_push}
-use Rattle.std.proofs.lemmas.List.Edits.{paste_more}
 use Rattle.std.proofs.lemmas.List.Elements.{All-more}
-use lib.Seq.{paste}
 use Rattle.ram_disk.specs.Sector.{IsSector}
+use Rattle.ram_disk.proofs.Pasted.{one_more}
 use Rattle.ram_disk.proofs.disk.replace.Goals as goal
-
--- one more sector of the list is in its place
-one_more : (before kept sectors : List (List ℕ)) (start count place : ℕ) (sector : List ℕ) → kept ≡ paste before start sectors count → place ≡ start + count → start + count < length before → count < length sectors → sector ≡ get_or sectors count sector → set kept place sector ≡ paste before start sectors (count + 1)
-one_more before kept sectors start count place sector e at within more is =
-    rw (e, at) (ap (λ x. set (paste before start sectors count) (start + count) x) is ∙ paste_more before start sectors count sector within more)
 
 pub loop-sector-preserved : goal.loop-sector-preserved
 loop-sector-preserved c =

@@ -9,7 +9,7 @@ use Rattle.ram_disk.proofs.pattern.patterned.Goals as goal
 pub returns-in_ok-vec-in-Some-clause-bytes : goal.returns-in_ok-vec-in-Some-clause-bytes
 returns-in_ok-vec-in-Some-clause-bytes c =
     let made = c.in_ok-vec-in-Some.ensures.items_if_clones_equal (λ y e. e) in
-    ap bytes_of (made ∙ ap (λ s. replicate c.args.count s) c.in_ok-sector-in-Some.ensures.ok ∙ replicate-pattern_sectors c.args.pattern.now c.in-Some.byte c.args.count c.requires.within.0 c.in-Some.ensures)
+    ap bytes_of (made ∙ ap (λ s. replicate c.args.count s) c.filled-sector.ensures ∙ replicate-pattern_sectors c.args.pattern.now c.in-Some.byte c.args.count c.requires.within.0 c.in-Some.ensures)
     ∙ bytes_of-pattern_sectors c.args.pattern.now c.args.count
 
 pub returns-in-None-clause-bytes : goal.returns-in-None-clause-bytes
@@ -27,4 +27,4 @@ returns-in-None-clause-sectors c =
 pub returns-in_ok-vec-in-Some-clause-made : goal.returns-in_ok-vec-in-Some-clause-made
 returns-in_ok-vec-in-Some-clause-made c =
     let made = c.in_ok-vec-in-Some.ensures.items_if_clones_equal (λ y e. e) in
-    made ∙ ap (λ s. replicate c.args.count s) c.in_ok-sector-in-Some.ensures.ok ∙ replicate-pattern_sectors c.args.pattern.now c.in-Some.byte c.args.count c.requires.within.0 c.in-Some.ensures
+    made ∙ ap (λ s. replicate c.args.count s) c.filled-sector.ensures ∙ replicate-pattern_sectors c.args.pattern.now c.in-Some.byte c.args.count c.requires.within.0 c.in-Some.ensures

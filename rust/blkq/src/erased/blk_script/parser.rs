@@ -24,7 +24,9 @@ pub(crate) struct DiskLine {
 
 // Returns the bytes that a write repeats.
 fn pattern(word: &[u8]) -> Result<Pattern, LineFault> {
-    Ok(Pattern::new(hex_bytes(word, MAX_PATTERN)?))
+    let mut room = [0; MAX_PATTERN];
+    let count = hex_bytes(word, &mut room)?;
+    Ok(Pattern::new(&room[..count])?)
 }
 
 /// Returns the version that the first line names.

@@ -4,7 +4,7 @@
 use crate::erased::fallible::{AllocError, TryVec};
 use crate::erased::hex;
 use crate::erased::line_text::{ScriptFault, push_hex, push_named, push_number, push_text};
-use crate::erased::ram_disk::{Disk, SECTOR_BYTES, Sector, add_sector};
+use crate::erased::ram_disk::{Disk, SECTOR_BYTES, Sector, Sectors, add_sector};
 use crate::erased::script_meaning::{Mode, Reply, Stat};
 
 // Returns the two digits of a byte.
@@ -127,18 +127,46 @@ pub fn render(number: u32, reply: &Reply) -> Result<Vec<u8>, ScriptFault> {
     Ok(line)
 }
 
-/// Returns the line of a read's reply to the script's line of this number, with its line feed: the lengths of its pieces, and the
-/// runs of the sectors that it found. `Memory` is the only fault.
-pub fn render_read(number: u32, pieces: &[u32], found: &[Sector]) -> Result<Vec<u8>, ScriptFault> {
-    let mut line = Vec::try_with_room(USUAL_LINE)?;
-    push_number(&mut line, u64::from(number))?;
-    push_text(&mut line, " ")?;
-    push_text(&mut line, "ok ")?;
-    push_pieces(&mut line, pieces)?;
-    push_text(&mut line, " ")?;
-    push_sectors(&mut line, found)?;
-    push_text(&mut line, "\n")?;
-    Ok(line)
+/// Appends the line of a write's reply to the script's line of this number: the lengths of its pieces.
+pub fn push_written(out: &mut Vec<u8>, line: u32, pieces: &[u32]) -> Result<(), AllocError> {
+    push_number(out, u64::from(line))?;
+    push_text(out, " ")?;
+    push_text(out, "ok ")?;
+    push_pieces(out, pieces)?;
+    push_text(out, "\n")
+}
+
+/// Appends the line of a read's reply to the script's line of this number: the lengths of its pieces, and the runs of the sectors
+/// that it found. `Memory` is the only fault.
+pub fn push_read(out: &mut Vec<u8>, line: u32, pieces: &[u32], found: &Sectors) -> Result<(), ScriptFault> {
+    push_number(out, u64::from(line))?;
+    push_text(out, " ")?;
+    push_text(out, "ok ")?;
+    push_pieces(out, pieces)?;
+    push_text(out, " ")?;
+    push_found(out, found)?;
+    push_text(out, "\n")?;
+    Ok(())
+}
+
+// Appends the run of sectors that have one byte at every place, if there are any.
+fn push_filled(out: &mut Vec<u8>, byte: u8, count: u32) -> Result<(), AllocError> {
+    if count == 0 {
+        return Ok(());
+    }
+    push_run(out, (byte, u64::from(count) * SECTOR_BYTES as u64))?;
+    Ok(())
+}
+
+// Appends the maximal runs of the bytes of sectors, or a part of their text if memory is refused. `Memory` is the only fault.
+fn push_found(out: &mut Vec<u8>, found: &Sectors) -> Result<(), ScriptFault> {
+    match found {
+        Sectors::Filled { byte, count } => {
+            push_filled(out, *byte, *count)?;
+            Ok(())
+        }
+        Sectors::Listed(sectors) => push_sectors(out, sectors),
+    }
 }
 
 // Appends the line of a disk, or a part of the line if memory is refused.

@@ -6,7 +6,6 @@ use crate::erased::blk_workers::job::{Completion, FreeTag, Job};
 use crate::erased::blk_workers::points::RunPoints;
 use crate::erased::fallible::AllocError;
 use crate::erased::freeze_queue::{BlockQueue, Tag};
-use crate::erased::in_flight::UniformSectors;
 use crate::erased::pointers::TryBox;
 use crate::erased::run_queues::{CompletionQueue, PutCount, RequestQueue, Source, SpareQueue, Taker};
 use crate::erased::script_overlap::Checked;
@@ -73,8 +72,6 @@ pub(crate) struct RunContext<'a, S> {
     pub(crate) completions: &'a CompletionQueue<Completion>,
     /// The submitter takes free tags from here and workers put them back. There is room for all tags of the run.
     pub(crate) free_tags: &'a SpareQueue<FreeTag>,
-    /// The sectors that writes of one byte share.
-    pub(crate) uniform: &'a UniformSectors,
 }
 
 impl<'a, S> RunContext<'a, S> {
@@ -87,12 +84,7 @@ impl<'a, S> RunContext<'a, S> {
     /// - `HasQueues(requests.requests, completions.id, requests.free_tags, queues.requests, queues.completions,
     ///   queues.free_tags)`: these are the run's queues of requests, completions and free tags, and there is room for
     ///   one completion more than for free tags.
-    pub(crate) fn new(
-        checked: &'a Checked<'a>,
-        points: &'a RunPoints<'a, S>,
-        queues: &'a Queues,
-        uniform: &'a UniformSectors,
-    ) -> RunContext<'a, S> {
+    pub(crate) fn new(checked: &'a Checked<'a>, points: &'a RunPoints<'a, S>, queues: &'a Queues) -> RunContext<'a, S> {
         RunContext {
             checked,
             points,
@@ -100,7 +92,6 @@ impl<'a, S> RunContext<'a, S> {
             requests: &queues.requests,
             completions: &queues.completions,
             free_tags: &queues.free_tags,
-            uniform,
         }
     }
 }

@@ -30,15 +30,42 @@ pub(crate) struct Accepted {
     pub(crate) limits: Limits,
 }
 
+// Waits for a free tag. If all workers sleep, one is woken first, and one more after each look for a tag that is in vain.
+//
+// # Preconditions
+//
+// - `source` belongs to `requests.requests`.
+// - `taker` belongs to `requests.free_tags`.
+// - `taker.count + 1` is less than `2^64`.
+fn free_tag<S>(context: &RunContext<'_, S>, source: &mut Source<Job>, taker: &mut Taker<FreeTag>) -> FreeTag {
+    if let Some(tag) = context.free_tags.try_take(taker) {
+        return tag;
+    }
+    context.requests.wake_if_all_sleep();
+    for _look in 0..context.free_tags.looks() {
+        if let Some(tag) = context.free_tags.look(taker) {
+            return tag;
+        }
+        context.requests.wake_one_more(source);
+    }
+    context.free_tags.take(taker)
+}
+
 // Waits for a free tag, and enters the queue with it under these limits. A tag always reads these limits, since only this thread
 // sets them, but no proof says so. So this compares them, and if they differ, the tag leaves and enters again.
 //
 // # Preconditions
 //
+// - `source` belongs to `requests.requests`.
 // - `taker` belongs to `requests.free_tags`.
 // - `taker.count + 1` is less than `2^64`.
-fn entered<S>(context: &RunContext<'_, S>, taker: &mut Taker<FreeTag>, limits: Limits) -> Box<Tag> {
-    let mut tag = context.free_tags.take(taker).into_tag();
+fn entered<S>(
+    context: &RunContext<'_, S>,
+    source: &mut Source<Job>,
+    taker: &mut Taker<FreeTag>,
+    limits: Limits,
+) -> Box<Tag> {
+    let mut tag = free_tag(context, source, taker).into_tag();
     loop {
         context.queue.enter(&mut tag, SUBMITTER_SLOT);
         if context.queue.limits(&mut tag) == limits {
@@ -60,7 +87,7 @@ fn entered<S>(context: &RunContext<'_, S>, taker: &mut Taker<FreeTag>, limits: L
 ///   report its completion, and the replies to those whose completions weren't collected are owed.
 /// - `Stands(run.script, table.replies, table.disk)`: as many lines of the script are taken as there are replies.
 /// - `IsReady(run.script, table.replies, accepted)`: the next line is this accepted request, with this number and
-///   these limits, and it may join those that are owed.
+///   these limits; it may join those that are owed, and few lines come before it.
 /// - `owed_count(table.replies)` is at most `context`.
 /// - `ends.taker.queue` is `requests.free_tags`.
 /// - `ends.taker.count + 1` is less than `2^64`.
@@ -71,9 +98,9 @@ pub(crate) fn hand_over<S: Stall>(
     accepted: Accepted,
 ) -> Result<(), RunFault> {
     let Accepted { request, number, limits } = accepted;
-    let position = table.replies.len();
+    let position = table.replies.len() as u32;
     let found = table.submit(context.checked.script(), request)?;
-    let tag = entered(context, &mut ends.taker, limits);
+    let tag = entered(context, &mut ends.source, &mut ends.taker, limits);
     let passed = context.points.pass_entered(number, &tag);
     let token = context.completions.token(&mut ends.collector, number);
     let job = Job::new(passed, token, position, tag, found);

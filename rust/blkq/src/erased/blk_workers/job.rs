@@ -4,8 +4,8 @@
 use crate::erased::blk_workers::points::Passed;
 use crate::erased::fallible::AllocError;
 use crate::erased::freeze_queue::{BlockQueue, Tag};
-use crate::erased::in_flight::{Answer, UniformSectors, answer_to};
-use crate::erased::ram_disk::Sector;
+use crate::erased::in_flight::{Answer, Workbench, answer_to};
+use crate::erased::ram_disk::Sectors;
 use crate::erased::run_queues::{Acknowledgement, CompletionQueue, CompletionToken, Numbered};
 use crate::erased::script_meaning::Script;
 
@@ -17,9 +17,9 @@ use crate::erased::script_meaning::Script;
 /// job carries no limits: the worker reads them under the tag.
 pub(crate) struct Job {
     token: CompletionToken<Completion>,
-    position: usize,
+    position: u32,
     tag: Box<Tag>,
-    found: Vec<Sector>,
+    found: Sectors,
 }
 
 impl Job {
@@ -27,14 +27,15 @@ impl Job {
     ///
     /// # Preconditions
     ///
-    /// - `IsJob J.script J.queue C.id (record { token = token; position = position; tag = tag.value; found = found })`.
+    /// - `IsJob J.script J.queue C.id (record { token = token; position = position; tag = tag.value; found = sectors_of
+    ///   found })`.
     /// - `entered` is `at_point(token.number(), Entered)`.
     pub(crate) fn new(
         _entered: Passed,
         token: CompletionToken<Completion>,
-        position: usize,
+        position: u32,
         tag: Box<Tag>,
-        found: Vec<Sector>,
+        found: Sectors,
     ) -> Job {
         Job { token, position, tag, found }
     }
@@ -49,10 +50,10 @@ impl Job {
     /// - `queue` is `run.queue`.
     /// - `script` is `run.script`.
     /// - `drawn` is `at_point(self.token.number, Drawn)`.
-    pub(crate) fn done(self, _drawn: Passed, uniform: &UniformSectors, queue: &BlockQueue, script: &Script) -> DoneJob {
+    pub(crate) fn done(self, _drawn: Passed, bench: &mut Workbench, queue: &BlockQueue, script: &Script) -> DoneJob {
         let Job { token, position, mut tag, found } = self;
         let limits = queue.limits(&mut tag);
-        let answer = answer_to(uniform, script, position, limits, &found);
+        let answer = answer_to(bench, script, position as usize, limits, &found);
         let completion = Completion::new(token.number(), position, answer);
         DoneJob { tag, token, completion }
     }
@@ -71,7 +72,7 @@ impl Numbered for Job {
 /// unless the worker was refused memory.
 pub(crate) struct Completion {
     number: u32,
-    position: usize,
+    position: u32,
     answer: Result<Answer, AllocError>,
 }
 
@@ -88,13 +89,13 @@ impl Completion {
     /// - `IsAcceptedAt(run.script, number, position)`: the accepted request of this number, counted from 0 in the
     ///   script's order, is the line at this position.
     /// - `IfOk(answer, IsAnswerTo(run.script, position))`.
-    fn new(number: u32, position: usize, answer: Result<Answer, AllocError>) -> Completion {
+    fn new(number: u32, position: u32, answer: Result<Answer, AllocError>) -> Completion {
         Completion { number, position, answer }
     }
 
     /// Returns the position of the request's line, and its answer unless the worker was refused memory.
     pub(crate) fn into_parts(self) -> (usize, Result<Answer, AllocError>) {
-        (self.position, self.answer)
+        (self.position as usize, self.answer)
     }
 }
 

@@ -10,7 +10,6 @@ use crate::erased::blk_workers::points::{DrainPoints, RunPoints, Stall};
 use crate::erased::blk_workers::submitter::Submitter;
 use crate::erased::blk_workers::team::{consumers, with_workers};
 use crate::erased::freeze_queue::{BlockQueue, NewQueue, Tag};
-use crate::erased::in_flight::UniformSectors;
 use crate::erased::queue_limits::Limits;
 use crate::erased::ram_disk::Disk;
 use crate::erased::run_queues::{Collector, CompletionQueue};
@@ -60,8 +59,7 @@ fn run_in<S: Stall>(
     mut ends: Ends,
 ) -> Result<Ran, RunFault> {
     let workers = inputs.config.workers();
-    let uniform = UniformSectors::of(inputs.checked.script())?;
-    let context = RunContext::new(inputs.checked, &inputs.points, queues, &uniform);
+    let context = RunContext::new(inputs.checked, &inputs.points, queues);
     // One place more than there are numbers to draw: a draw reserves a place before it takes an end mark too.
     let numbers_each = inputs.checked.accepted() + 1;
     let consumers = consumers(&context, &mut ends.source, workers, numbers_each)?;

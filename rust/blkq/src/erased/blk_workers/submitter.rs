@@ -141,6 +141,7 @@ impl Submitter {
         collector: &mut Collector<Completion>,
     ) -> Result<(), RunFault> {
         let accepted = self.accepted;
+        context.requests.wake_if_all_sleep();
         freeze(&mut self.freezer, context.queue);
         self.points.pass(context.points, &self.freezer, accepted);
         collect_until(context, collector, &mut self.table, 0)
@@ -230,6 +231,7 @@ impl Submitter {
             if let Err(why) = self.take_next(context, ends) {
                 // Requests in flight end: every tag leaves. Completions aren't awaited, since a reply stays owed if its completion
                 // brings no answer.
+                context.requests.wake_if_all_sleep();
                 freeze(&mut self.freezer, context.queue);
                 self.points.pass(context.points, &self.freezer, self.accepted);
                 return Err(why);

@@ -8,6 +8,7 @@ use crate::erased::blk_workers::job::{Completion, FreeTag, Job};
 use crate::erased::blk_workers::points::Stall;
 use crate::erased::blk_workers::submitter::Submitter;
 use crate::erased::fallible::{AllocError, TryVec};
+use crate::erased::in_flight::Workbench;
 use crate::erased::run_queues::{Acknowledgement, Consumer, Numbered, PutCount, Source};
 use crate::erased::thread::{self, JoinHandle, TrySpawn};
 
@@ -76,11 +77,12 @@ fn serve<S: Stall>(
     context: &RunContext<'_, S>,
     slot: u32,
     tags: &mut PutCount<FreeTag>,
+    bench: &mut Workbench,
     job: Job,
 ) -> Acknowledgement<Completion> {
     let number = job.number();
     let drawn = context.points.pass_drawn(number, &job);
-    let done = job.done(drawn, context.uniform, context.queue, context.checked.script());
+    let done = job.done(drawn, bench, context.queue, context.checked.script());
     let completed = done.tell(context.completions);
     let answered = context.points.pass_answered(number, &completed);
     let (tag, acknowledgement) = completed.leave(answered, context.queue, slot);
@@ -99,12 +101,17 @@ fn serve<S: Stall>(
 fn work<S: Stall>(context: &RunContext<'_, S>, slot: u32, mut consumer: Consumer<Job>) -> FinishedWorker {
     let mut acknowledgements = AcknowledgementCount::new();
     let mut tags = context.free_tags.put_count();
+    let mut bench = Workbench::new();
     loop {
+        // No tag comes soon if all requests are drawn.
+        if context.requests.is_empty(&mut consumer) {
+            context.free_tags.wake_taker();
+        }
         let Ok(drawn) = context.requests.draw(&mut consumer) else { unreachable!() };
         let Some(job) = drawn else {
             return FinishedWorker::new(consumer, acknowledgements, tags);
         };
-        acknowledgements.add(serve(context, slot, &mut tags, job));
+        acknowledgements.add(serve(context, slot, &mut tags, &mut bench, job));
     }
 }
 
@@ -128,7 +135,7 @@ pub(crate) fn consumers<S>(
     Ok(consumers)
 }
 
-// Pushes an end mark for each worker that was started.
+// Pushes an end mark for each worker that was started, and wakes them all.
 //
 // # Preconditions
 //
@@ -137,6 +144,7 @@ fn push_end_marks<S>(context: &RunContext<'_, S>, source: &mut Source<Job>, star
     for _worker in 0..started {
         context.requests.end(source);
     }
+    context.requests.wake_all();
 }
 
 // Submits and collects while `workers` workers run, and pushes an end mark for each, even if submitting fails.

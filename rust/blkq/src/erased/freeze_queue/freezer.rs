@@ -44,8 +44,10 @@ impl Freezer {
     ///
     /// - `self` belongs to `queue`.
     pub fn start_freeze(&mut self, queue: &BlockQueue) -> Result<u32, FreezeFault> {
-        // If this drained the queue, no thread sleeps for it: the last thaw woke all threads that waited for a drain.
+        // If the kill drained the queue, no thread sleeps for it: the last thaw woke all threads that waited for a drain. The put of
+        // a biased tag comes later.
         let frozen = self.core.start_freeze(&queue.core)?;
+        let _put = queue.tell(frozen.reclaimed);
         Ok(frozen.depth)
     }
 

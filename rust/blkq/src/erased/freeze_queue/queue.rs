@@ -3,10 +3,10 @@
 
 use crate::erased::crossbeam_utils::sync::{Parker, Unparker};
 use crate::erased::fallible::TryClone;
-use crate::erased::freeze_queue::enter::{Enter, StayOrEnter};
+use crate::erased::freeze_queue::enter::Enter;
 use crate::erased::freeze_queue::freezer::Freezer;
 use crate::erased::percpu_core::SLOT_LIMIT;
-use crate::erased::queue_core::{self, Entry, Limits, MOST_TAGS, Memory, Put, Stay, Tag};
+use crate::erased::queue_core::{self, Entry, Limits, MOST_TAGS, Memory, Put, Tag};
 use crate::erased::wait_queue::WaitQueue;
 
 /// A queue, its freezer and its tags.
@@ -180,51 +180,6 @@ impl BlockQueue {
         debug_assert!(slot < self.slots());
         debug_assert!(tag.entered());
         self.tell(self.core.leave(tag, slot))
-    }
-
-    /// Stays entered between two requests, at the price of one load. If the queue is frozen, it leaves instead, and the last put
-    /// wakes the threads that wait for the drain. A tag that stays keeps its limits.
-    ///
-    /// Linux: the requests that a plug keeps, each with its reference on `q_usage_counter` (block/blk-mq.c).
-    ///
-    /// A thread that stays and then sleeps holds up every freeze, so leave before waiting.
-    ///
-    /// # Preconditions
-    ///
-    /// - `tag` belongs to `self`.
-    /// - `slot` is less than `self.slots()`.
-    /// - `tag.entered()` is `true`.
-    #[inline]
-    pub fn stay(&self, tag: &mut Tag, slot: u32) -> Stay {
-        debug_assert!(slot < self.slots());
-        debug_assert!(tag.entered());
-        match self.core.stay(tag, slot) {
-            Stay::Stayed => Stay::Stayed,
-            Stay::Left(put) => Stay::Left(self.tell(put)),
-        }
-    }
-
-    /// Stays entered between two requests, at the price of one load. If the queue is frozen, it leaves, waits until the queue
-    /// thaws, and enters again. Returns whether the limits may differ from those before.
-    ///
-    /// A thread that stays and then sleeps holds up every freeze, so leave before waiting.
-    ///
-    /// # Preconditions
-    ///
-    /// - `tag` belongs to `self`.
-    /// - `slot` is less than `self.slots()`.
-    /// - `tag.entered()` is `true`.
-    #[inline]
-    pub fn stay_or_enter(&self, tag: &mut Tag, slot: u32) -> StayOrEnter {
-        debug_assert!(slot < self.slots());
-        debug_assert!(tag.entered());
-        match self.stay(tag, slot) {
-            Stay::Stayed => StayOrEnter::Stayed,
-            Stay::Left(_) => {
-                self.enter(tag, slot);
-                StayOrEnter::EnteredAgain
-            }
-        }
     }
 
     /// Returns the limits in force, for an entered tag. They are the same at each call until it leaves, whichever threads make the

@@ -4,7 +4,7 @@
 use crate::erased::fallible::TryVec;
 use crate::erased::gate_replay::event_line;
 use crate::erased::gate_replay::schedule::{Events, Schedule};
-use crate::erased::gate_replay::world_line::{self, MarkedWorld, WorldLine};
+use crate::erased::gate_replay::world_line::{self, WorldLine};
 use crate::erased::line_text::{ParseFault, ScriptFault, Statements, Why, Words, at_line};
 use crate::erased::percpu_core::Event;
 
@@ -21,15 +21,6 @@ fn gate(text: &mut Statements<'_>) -> Result<(), ParseFault> {
 pub fn next_world(text: &mut Statements<'_>) -> Result<WorldLine, ScriptFault> {
     let (line, words) = text.next_or(Why::NoWorld)?;
     world_line::world(line, words)
-}
-
-/// Takes the next line, which has to describe a world. The word `mark` may replace its guarded words.
-///
-/// Fails as [`next_world`] does, to which a mark is no guarded word, and with `ExtraWord` if words follow the mark. The line is
-/// taken even if this fails.
-pub fn next_marked_world(text: &mut Statements<'_>, mark: &str) -> Result<MarkedWorld, ScriptFault> {
-    let (line, words) = text.next_or(Why::NoWorld)?;
-    world_line::marked_world(line, words, mark)
 }
 
 // Returns the step that the words of a line describe, if it has any.

@@ -3,7 +3,7 @@
 
 use crate::erased::fallible::TryVec;
 use crate::erased::gate_replay::schedule::GuardedWords;
-use crate::erased::line_text::{ScriptFault, Why, Words, at_line, is_word, long_number, no_words, short_number};
+use crate::erased::line_text::{ScriptFault, Why, Words, at_line, is_word, long_number, short_number};
 use crate::erased::percpu_core::{KILL_LIMIT, Start, WORD_LIMIT};
 
 /// Maximum number of slots of a `world`. It belongs to the format `gate 1`; a gate may take more.
@@ -36,14 +36,6 @@ impl WorldLine {
             words: GuardedWords::new(values),
         }
     }
-}
-
-/// The world of a line in which a mark, a word that the caller chooses, may replace the guarded words.
-#[derive(Debug)]
-pub struct MarkedWorld {
-    pub world: WorldLine,
-    /// Whether the mark is there. Then the world has no guarded words.
-    pub is_marked: bool,
 }
 
 /// Checks that the line names the version.
@@ -121,62 +113,15 @@ fn values(line: u32, mut words: Words<'_>) -> Result<Vec<u64>, ScriptFault> {
     Ok(values)
 }
 
-// Reads the guarded words, of which the first was taken.
-fn values_behind(line: u32, first: &[u8], words: Words<'_>) -> Result<Vec<u64>, ScriptFault> {
-    let first = at_line(line, long_number(first, 0, u64::MAX))?;
-    let others = values(line, words)?;
-    let mut values = Vec::new();
-    values.try_push(first)?;
-    values.try_extend_from_slice(others.as_slice())?;
-    Ok(values)
-}
-
-// Checks that no word follows the mark: then there are no guarded words.
-fn mark_alone(line: u32, words: Words<'_>) -> Result<(bool, Vec<u64>), ScriptFault> {
-    at_line(line, no_words(words))?;
-    Ok((true, Vec::new()))
-}
-
-// Reads the guarded words, of which the first was taken, if there is no mark.
-fn values_alone(line: u32, first: &[u8], words: Words<'_>) -> Result<(bool, Vec<u64>), ScriptFault> {
-    let values = values_behind(line, first, words)?;
-    Ok((false, values))
-}
-
-// Returns whether the mark replaces the guarded words, and these words, of which there are none if it does.
-fn mark_or_values(line: u32, mut words: Words<'_>, mark: &str) -> Result<(bool, Vec<u64>), ScriptFault> {
-    let Some(first) = words.next() else {
-        return Ok((false, Vec::new()));
-    };
-    if is_word(first, mark) { mark_alone(line, words) } else { values_alone(line, first, words) }
-}
-
 /// Returns the world that the words of a line describe.
 pub(crate) fn world(line: u32, mut words: Words<'_>) -> Result<WorldLine, ScriptFault> {
     at_line(line, named(&mut words))?;
     world_said(line, words)
 }
 
-/// Returns the world that the words of a line describe, in which this mark may replace the guarded words.
-///
-/// Returns `Parse` with the first fault among them and this line. Returns `Memory` only if memory is refused.
-pub fn marked_world(line: u32, mut words: Words<'_>, mark: &str) -> Result<MarkedWorld, ScriptFault> {
-    at_line(line, named(&mut words))?;
-    marked_world_said(line, words, mark)
-}
-
-/// Returns the world that the words after `world` describe.
-///
-/// Returns `Parse` with the first fault among them and this line. Returns `Memory` only if memory is refused.
-pub fn world_said(line: u32, mut words: Words<'_>) -> Result<WorldLine, ScriptFault> {
+// Returns the world that the words after `world` describe.
+fn world_said(line: u32, mut words: Words<'_>) -> Result<WorldLine, ScriptFault> {
     let sizes = at_line(line, sizes(&mut words))?;
     let values = values(line, words)?;
     Ok(WorldLine::new(sizes, values))
-}
-
-// Returns the world that the words after `world` describe, in which the mark may replace the guarded words.
-fn marked_world_said(line: u32, mut words: Words<'_>, mark: &str) -> Result<MarkedWorld, ScriptFault> {
-    let sizes = at_line(line, sizes(&mut words))?;
-    let (is_marked, values) = mark_or_values(line, words, mark)?;
-    Ok(MarkedWorld { world: WorldLine::new(sizes, values), is_marked })
 }

@@ -2,30 +2,41 @@
 //! The lines of the replies to a script's lines, in order.
 
 use crate::erased::fallible::{AllocError, TryRoom, TryVec};
+use crate::erased::pointers::TryBox;
 use std::collections::VecDeque;
+use std::mem;
 
 /// The maximum number of bytes of a line that takes no memory of its own.
-pub(crate) const MOST_SHORT: usize = 30;
+pub(crate) const MOST_SHORT: usize = 22;
 
 /// The line of one reply.
 pub struct Text {
     bytes: Bytes,
 }
 
-// Lines of up to 30 bytes, such as those of small requests, go from thread to thread in the value itself.
+// Lines of up to 22 bytes, such as those of small requests, go from thread to thread in the value itself, which is small enough for a
+// completion to fit in one cache line.
 enum Bytes {
     Short(ShortLine),
-    Long(Vec<u8>),
+    Long(Box<Vec<u8>>),
 }
 
 impl Text {
-    /// Makes a line of these bytes; no memory is taken.
-    pub(crate) fn new(bytes: Vec<u8>) -> Text {
+    /// Makes a line of the bytes of a room, which a short line leaves its memory.
+    pub(crate) fn of(room: &mut Vec<u8>) -> Result<Text, AllocError> {
+        match ShortLine::of(room) {
+            Some(short) => Ok(Text { bytes: Bytes::Short(short) }),
+            None => Text::new(mem::replace(room, Vec::new())),
+        }
+    }
+
+    /// Makes a line of these bytes.
+    pub(crate) fn new(bytes: Vec<u8>) -> Result<Text, AllocError> {
         let bytes = match ShortLine::of(&bytes) {
             Some(short) => Bytes::Short(short),
-            None => Bytes::Long(bytes),
+            None => Bytes::Long(Box::try_from_value(bytes)?),
         };
-        Text { bytes }
+        Ok(Text { bytes })
     }
 
     /// Returns the bytes.
@@ -37,14 +48,14 @@ impl Text {
     }
 }
 
-// Up to 30 bytes, kept in the value itself.
+// Up to 22 bytes, kept in the value itself.
 struct ShortLine {
     bytes: [u8; MOST_SHORT],
     count: u8,
 }
 
 impl ShortLine {
-    // Returns these bytes, or `None` if there are more than 30.
+    // Returns these bytes, or `None` if there are more than 22.
     fn of(bytes: &[u8]) -> Option<ShortLine> {
         let count = bytes.len();
         if count > MOST_SHORT {
@@ -139,8 +150,9 @@ impl Replies {
     /// Takes one more line, whose reply is there.
     pub(crate) fn try_push(&mut self, text: Vec<u8>) -> Result<(), AllocError> {
         self.join()?;
+        let text = Text::new(text)?;
         self.rest.try_make_room(1)?;
-        self.rest.push_back(Some(Text::new(text)));
+        self.rest.push_back(Some(text));
         Ok(())
     }
 

@@ -165,6 +165,12 @@ impl fmt::Display for LineFault {
 
 impl Error for LineFault {}
 
+impl From<AllocError> for LineFault {
+    fn from(_refused: AllocError) -> Self {
+        LineFault::Memory
+    }
+}
+
 impl From<Why> for LineFault {
     fn from(why: Why) -> Self {
         LineFault::Refused(why)

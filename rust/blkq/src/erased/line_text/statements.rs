@@ -2,7 +2,7 @@
 //! The statements of a text: its lines that aren't empty or comments.
 
 use crate::erased::line_text::fault::{ParseFault, Why, at_line};
-use crate::erased::line_text::word_list::Words;
+use crate::erased::line_text::word_list::{Words, without_blanks};
 use crate::erased::memchr::memchr;
 
 /// The lines of a text that are left. In contracts it is the list of them.
@@ -58,15 +58,25 @@ pub struct Statements<'a> {
     before: u32,
 }
 
+fn is_ascii(line: &[u8]) -> bool {
+    for byte in line {
+        if *byte >= 128 {
+            return false;
+        }
+    }
+    true
+}
+
+// Returns whether a line is UTF-8. Most are ASCII, for which a look at each byte takes less time.
 fn is_text(line: &[u8]) -> bool {
-    std::str::from_utf8(line).is_ok()
+    is_ascii(line) || std::str::from_utf8(line).is_ok()
 }
 
 // Returns whether the line has no words or is a comment.
 fn says_nothing(line: &[u8]) -> bool {
-    match Words::new(line).next() {
-        Some(word) => !word.is_empty() && word[0] == b'#',
-        None => true,
+    match without_blanks(line) {
+        [first, ..] => *first == b'#',
+        [] => true,
     }
 }
 

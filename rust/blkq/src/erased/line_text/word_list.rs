@@ -24,7 +24,7 @@ fn is_blank(byte: u8) -> bool {
     byte == b' ' || byte == b'\t'
 }
 
-fn without_blanks(line: &[u8]) -> &[u8] {
+pub(crate) fn without_blanks(line: &[u8]) -> &[u8] {
     let mut rest = line;
     while let [first, others @ ..] = rest {
         if !is_blank(*first) {

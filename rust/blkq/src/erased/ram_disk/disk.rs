@@ -2,6 +2,7 @@
 //! The disk: its sectors by number, read by sharing and written by moving new ones in.
 
 use crate::erased::fallible::{TryToVec, TryVec};
+use crate::erased::ram_disk::sectors::{Sectors, common_byte};
 use crate::erased::ram_disk::{DiskFault, Sector, runs};
 
 /// Maximum number of sectors of a disk.
@@ -23,8 +24,7 @@ impl Disk {
     pub fn new(sectors: u32) -> Result<Disk, DiskFault> {
         debug_assert!(1 <= sectors);
         debug_assert!(sectors <= MAX_SECTORS);
-        let zeros = Sector::filled(0)?;
-        let sectors = Vec::try_from_elem(zeros, sectors as usize)?;
+        let sectors = Vec::try_from_elem(Sector::filled(0), sectors as usize)?;
         Ok(Disk { sectors })
     }
 
@@ -49,6 +49,20 @@ impl Disk {
         Ok(self.sectors[start..end].try_to_vec()?)
     }
 
+    /// Reads like [`Disk::share`]. Sectors that were all made of one byte value take no memory.
+    pub fn find(&self, start: u64, count: u32) -> Result<Sectors, DiskFault> {
+        let len = self.sectors.len() as u64;
+        if start > len || u64::from(count) > len - start {
+            return Err(DiskFault::PastEnd);
+        }
+        let start = start as usize;
+        let sectors = &self.sectors[start..start + count as usize];
+        match common_byte(sectors) {
+            Some(byte) => Ok(Sectors::Filled { byte, count }),
+            None => Ok(Sectors::Listed(sectors.try_to_vec()?)),
+        }
+    }
+
     /// Writes these sectors to the disk, starting with sector `start`. It always succeeds.
     ///
     /// The sectors are moved in, and the disk drops its shares of the old ones.
@@ -58,6 +72,18 @@ impl Disk {
     /// - `start + sectors.len()` is at most `self.len()`.
     pub fn install(&mut self, start: u64, sectors: Vec<Sector>) {
         replace(&mut self.sectors, start as usize, sectors);
+    }
+
+    /// Writes these sectors like [`Disk::install`].
+    ///
+    /// # Preconditions
+    ///
+    /// - `start + sectors_of(sectors).len()` is at most `self.len()`.
+    pub fn leave(&mut self, start: u64, sectors: Sectors) {
+        match sectors {
+            Sectors::Filled { byte, count } => fill(&mut self.sectors, start as usize, count, byte),
+            Sectors::Listed(sectors) => replace(&mut self.sectors, start as usize, sectors),
+        }
     }
 
     /// Returns the disk's sectors, in the order of their numbers.
@@ -79,5 +105,14 @@ fn replace(kept: &mut Vec<Sector>, start: usize, sectors: Vec<Sector>) {
     for sector in sectors {
         kept[place] = sector;
         place += 1;
+    }
+}
+
+/// # Preconditions
+///
+/// - `start + count` is at most `kept.len()`.
+fn fill(kept: &mut Vec<Sector>, start: usize, count: u32, byte: u8) {
+    for place in start..start + count as usize {
+        kept[place] = Sector::filled(byte);
     }
 }

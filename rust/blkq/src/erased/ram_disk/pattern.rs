@@ -24,7 +24,7 @@ pub fn patterned(pattern: &[u8], count: u32) -> Result<Vec<Sector>, DiskFault> {
     debug_assert!(pattern.len() <= MAX_PATTERN);
     match only_byte(pattern) {
         Some(byte) => {
-            let sector = Sector::filled(byte)?;
+            let sector = Sector::filled(byte);
             Ok(Vec::try_from_elem(sector, count as usize)?)
         }
         None => tiled(pattern, count as usize),
@@ -36,7 +36,7 @@ pub fn patterned(pattern: &[u8], count: u32) -> Result<Vec<Sector>, DiskFault> {
 // # Preconditions
 //
 // - `pattern.len()` is at least 1.
-fn only_byte(pattern: &[u8]) -> Option<u8> {
+pub(crate) fn only_byte(pattern: &[u8]) -> Option<u8> {
     debug_assert!(1 <= pattern.len());
     let first = pattern[0];
     pattern.iter().all(|byte| *byte == first).then_some(first)
@@ -47,7 +47,7 @@ fn only_byte(pattern: &[u8]) -> Option<u8> {
 // # Preconditions
 //
 // - `pattern.len()` is from 1 to `MAX_PATTERN`.
-fn tiled(pattern: &[u8], count: usize) -> Result<Vec<Sector>, DiskFault> {
+pub(crate) fn tiled(pattern: &[u8], count: usize) -> Result<Vec<Sector>, DiskFault> {
     debug_assert!(1 <= pattern.len());
     debug_assert!(pattern.len() <= MAX_PATTERN);
     let tile = tile_of(pattern);

@@ -50,7 +50,7 @@ impl<T: Numbered> CompletionQueue<T> {
     /// - `room` is at least 1.
     pub fn new(room: usize) -> Result<(CompletionQueue<T>, Collector<T>), AllocError> {
         debug_assert!(0 < room);
-        let (line, seat) = RuledQueue::new(room)?;
+        let (line, seat) = RuledQueue::new(room, false)?;
         Ok((CompletionQueue { line }, Collector { seat }))
     }
 
@@ -74,6 +74,7 @@ impl<T: Numbered> CompletionQueue<T> {
     pub fn tell(&self, token: CompletionToken<T>, completion: T) -> Acknowledgement<T> {
         let CompletionToken { mut seat, number } = token;
         self.line.push_as(&mut seat, completion);
+        self.line.sleepers.wake();
         Acknowledgement { seat, number }
     }
 

@@ -10,14 +10,24 @@ type Requests<T> = RuledQueue<Option<T>>;
 
 type Seat<T> = Pass<Option<T>>;
 
+/// Maximum number of pushes after which a thread is woken if all sleep.
+const BATCH: usize = 16;
+
 /// A queue of requests, from which several threads draw.
+///
+/// A thread that draws wakes no other. A push wakes one after some pushes if all sleep, and whoever pushes wakes more by need.
 pub struct RequestQueue<T: Numbered> {
     line: Requests<T>,
+    consumers: usize,
+    /// The number of pushes after which a thread is woken if all sleep.
+    batch: usize,
 }
 
 /// The right to push requests, and the lists of what the consumers drew.
 pub struct Source<T: Numbered> {
     seat: Seat<T>,
+    /// The number of pushes since the last after which a thread was woken if all slept.
+    untold: usize,
     lists: Vec<Vec<u32>>,
 }
 
@@ -37,8 +47,12 @@ impl<T: Numbered> RequestQueue<T> {
     pub fn new(room: usize, consumers: usize) -> Result<(RequestQueue<T>, Source<T>), AllocError> {
         debug_assert!(0 < room);
         let lists = Vec::try_with_room(consumers)?;
-        let (line, seat) = RuledQueue::new(room)?;
-        Ok((RequestQueue { line }, Source { seat, lists }))
+        let batch = (room / 2).clamp(1, BATCH);
+        // A sole thread that is woken for each request needs no lookout.
+        let (line, seat) = RuledQueue::new(room, consumers > 1 || batch > 1)?;
+        let queue = RequestQueue { line, consumers, batch };
+        let source = Source { seat, untold: 0, lists };
+        Ok((queue, source))
     }
 
     /// Returns a right to draw, with memory for `room` numbers. It is split off the right to push, and comes back to it by
@@ -55,7 +69,7 @@ impl<T: Numbered> RequestQueue<T> {
     }
 
     /// Pushes the next request, and waits while there is no room. Its number is how many requests were pushed before. No request
-    /// may follow an end mark.
+    /// may follow an end mark. A thread that sleeps finds it after a while, or once it is woken.
     ///
     /// # Preconditions
     ///
@@ -64,15 +78,51 @@ impl<T: Numbered> RequestQueue<T> {
     /// - `request.number()` is `source.pushed`.
     pub fn push(&self, source: &mut Source<T>, request: T) {
         self.line.push_as(&mut source.seat, Some(request));
+        source.untold = source.untold.saturating_add(1);
+        if source.untold >= self.batch {
+            source.untold = 0;
+            self.wake_if_all_sleep();
+        }
     }
 
-    /// Pushes one end mark, and waits while there is no room. One call of `draw` then returns `None`.
+    /// Wakes a thread if all sleep. Call this before you wait for what the threads do.
+    pub fn wake_if_all_sleep(&self) {
+        if self.line.sleepers.count() >= self.consumers {
+            self.line.sleepers.wake();
+        }
+    }
+
+    /// Wakes one more thread if there is a request or an end mark that none has taken. Call this after you waited in vain.
+    ///
+    /// # Preconditions
+    ///
+    /// - `source` belongs to `self.id`.
+    pub fn wake_one_more(&self, source: &mut Source<T>) {
+        self.line.wake_if_filled(&mut source.seat, 1);
+    }
+
+    /// Wakes all threads. Call this once all end marks are pushed, so that the threads end at once.
+    pub fn wake_all(&self) {
+        self.line.sleepers.wake_all();
+    }
+
+    /// Pushes one end mark, and waits while there is no room. One call of `draw` then returns `None`. Wakes a thread if all sleep.
     ///
     /// # Preconditions
     ///
     /// - `source` belongs to `self.id`.
     pub fn end(&self, source: &mut Source<T>) {
         self.line.push_as(&mut source.seat, None);
+        self.wake_if_all_sleep();
+    }
+
+    /// Returns whether there is no item, at one moment of the call.
+    ///
+    /// # Preconditions
+    ///
+    /// - `consumer` belongs to `self.id`.
+    pub fn is_empty(&self, consumer: &mut Consumer<T>) -> bool {
+        self.line.ring.is_empty_as(&mut consumer.seat)
     }
 
     /// Takes the first item, and waits while there is none. Returns a request, or `None` for an end mark.
@@ -115,7 +165,7 @@ impl<T: Numbered> RequestQueue<T> {
     /// - `source.parts` is `all_parts`.
     /// - `source.drained` is `true`.
     pub fn finish(&self, source: Source<T>) -> Vec<Vec<u32>> {
-        let Source { mut seat, lists } = source;
+        let Source { mut seat, untold: _, lists } = source;
         self.line.ring.learn_as(&mut seat);
         lists
     }

@@ -2,15 +2,15 @@
 //! How a thread waits for an item: how long it looks, how it sleeps, and whether a woken thread is still to come.
 
 use crate::erased::crossbeam_queue::{Pass, RuledArrayQueue};
+use crate::erased::crossbeam_utils::CachePadded;
+use crate::erased::sync::Parker;
 use crate::erased::wait_queue::{Tries, WaitQueue};
 use std::hint;
 use std::sync::atomic::{AtomicBool, AtomicU32, AtomicUsize, Ordering};
+use std::time::Duration;
 
-/// Number of pauses before each try, some 50 nanoseconds each.
-const PAUSES: u32 = 4;
-
-/// Maximum number of tries of a look: some 60 microseconds in all, longer than a sleeping thread takes to wake and come.
-const MOST: u32 = 256;
+/// Maximum number of tries before a thread sleeps: some 60 microseconds in all, longer than a sleeping thread takes to wake and come.
+const MOST: u32 = 1_024;
 
 /// Number of looks in vain after which one look has the maximum number of tries again. If that look is in vain too, the next comes
 /// after twice as many.
@@ -18,6 +18,9 @@ const AGAIN: u32 = 16;
 
 /// Maximum number of looks in vain between two that have the maximum number of tries.
 const SELDOM: u32 = 1_024;
+
+/// How long a lookout sleeps until it looks again, in milliseconds.
+const WATCH: u64 = 1;
 
 /// How long a look at a queue is worthwhile. A look that finds an item makes the next twice as long, and a look in vain half as
 /// long. Now and then a look has its full length, so that two threads that woke each other for every item stay awake again. Looks
@@ -46,11 +49,9 @@ impl Patience {
         }
     }
 
-    /// Pauses before a try. A yield would give the processor away for a whole slice if other programs want it.
+    /// Pauses before a try, some 50 nanoseconds. A yield would give the processor away for a whole slice if other programs want it.
     pub(crate) fn pause() {
-        for _ in 0..PAUSES {
-            hint::spin_loop();
-        }
+        hint::spin_loop();
     }
 
     /// Records a look that found an item after `tried` tries.
@@ -85,7 +86,7 @@ impl Patience {
 
 /// Whether a woken thread is still to come.
 struct Coming {
-    is_set: AtomicBool,
+    is_set: CachePadded<AtomicBool>,
 }
 
 /// The look at the queue that a woken thread owes once it has come. It can't be dropped, only ended.
@@ -96,7 +97,7 @@ struct OwedLook {
 impl Coming {
     /// No woken thread is to come.
     fn new() -> Coming {
-        Coming { is_set: AtomicBool::new(false) }
+        Coming { is_set: CachePadded::new(AtomicBool::new(false)) }
     }
 
     /// Returns whether the caller has to wake a thread, because no woken one is still to come.
@@ -140,41 +141,95 @@ impl OwedLook {
 }
 
 /// The threads that sleep because they found nothing, or are about to sleep.
+///
+/// One of them is the lookout. If `is_timed`, it looks again after a while though nobody wakes it, and once it has risen another takes
+/// its place. So a push may leave its item to a thread that is awake: if that thread is held elsewhere, the lookout finds the item.
 pub(crate) struct Sleepers {
-    woken: WaitQueue,
-    count: AtomicUsize,
+    /// How many they are. It changes with each sleep, so it shares its cache lines with nothing else.
+    count: CachePadded<AtomicUsize>,
     coming: Coming,
+    has_lookout: AtomicBool,
+    /// Where the lookout sleeps.
+    lookout: Parker,
+    /// Where the others sleep.
+    others: WaitQueue,
+    is_timed: bool,
 }
 
 impl Sleepers {
-    /// Makes an empty set of sleepers.
-    pub(crate) fn new() -> Sleepers {
-        Sleepers { woken: WaitQueue::new(), count: AtomicUsize::new(0), coming: Coming::new() }
-    }
-
-    /// Returns whether there are any.
-    pub(crate) fn are_any(&self) -> bool {
-        self.count.load(Ordering::SeqCst) > 0
-    }
-
-    /// Wakes one, unless a woken thread is still to come.
-    pub(crate) fn wake(&self) {
-        if self.coming.claim() {
-            self.woken.wake_one();
+    /// Makes an empty set of sleepers. Without a time limit, one thread at most may sleep.
+    pub(crate) fn new(is_timed: bool) -> Sleepers {
+        Sleepers {
+            count: CachePadded::new(AtomicUsize::new(0)),
+            coming: Coming::new(),
+            has_lookout: AtomicBool::new(false),
+            lookout: Parker::new(),
+            others: WaitQueue::new(),
+            is_timed,
         }
+    }
+
+    /// Returns how many there are.
+    pub(crate) fn count(&self) -> usize {
+        self.count.load(Ordering::SeqCst)
+    }
+
+    /// Wakes one, unless a woken thread is still to come: the lookout if it is the only one.
+    pub(crate) fn wake(&self) {
+        let count = self.count();
+        if count == 0 || !self.coming.claim() {
+            return;
+        }
+        if count > 1 {
+            self.others.wake_one();
+        } else {
+            self.lookout.unpark();
+        }
+    }
+
+    /// Wakes all.
+    pub(crate) fn wake_all(&self) {
+        self.lookout.unpark();
+        self.others.wake_all();
     }
 
     /// Counts the calling thread as a sleeper.
     pub(crate) fn join<'q>(&'q self) -> Sleeper<'q> {
         self.count.fetch_add(1, Ordering::SeqCst);
-        Sleeper { tries: self.woken.announced_tries(), sleepers: self, owed: OwedLook::new() }
+        Sleeper { sleepers: self, is_lookout: false, tries: self.others.announced_tries(), owed: OwedLook::new() }
+    }
+
+    /// Returns whether the caller is the lookout from now on, because there was none.
+    fn claim_lookout(&self) -> bool {
+        !self.has_lookout.load(Ordering::SeqCst) && !self.has_lookout.swap(true, Ordering::SeqCst)
+    }
+
+    /// Sleeps as the lookout.
+    fn watch(&self) {
+        if self.is_timed {
+            self.lookout.park_timeout(Duration::from_millis(WATCH));
+        } else {
+            self.lookout.park();
+        }
+    }
+
+    /// Stops counting a thread as a sleeper. If it was the lookout, it wakes another, which takes its place.
+    fn leave(&self, is_lookout: bool) {
+        if is_lookout {
+            self.has_lookout.store(false, Ordering::SeqCst);
+        }
+        if self.count.fetch_sub(1, Ordering::SeqCst) > 1 && is_lookout {
+            self.others.wake_one();
+        }
     }
 }
 
 /// A thread that counts as a sleeper until [`Sleeper::rise`]; it can't be dropped.
 pub(crate) struct Sleeper<'q> {
-    tries: Tries<'q>,
     sleepers: &'q Sleepers,
+    is_lookout: bool,
+    /// Its tries among the others, unless it is the lookout.
+    tries: Tries<'q>,
     owed: OwedLook,
 }
 
@@ -186,8 +241,23 @@ impl<'q> Sleeper<'q> {
     ///
     /// - `self` is `false`.
     pub(crate) fn turn(&mut self) {
-        let _turn = self.tries.next();
+        if self.is_lookout {
+            self.sleepers.watch();
+        } else if !self.becomes_lookout() {
+            let _turn = self.tries.next();
+            // The lookout may have risen since, and have found no announcement of this thread's.
+            self.becomes_lookout();
+        }
         self.sleepers.coming.come(&mut self.owed);
+    }
+
+    // Becomes the lookout if there is none. It waits with the others no longer then.
+    fn becomes_lookout(&mut self) -> bool {
+        self.is_lookout = self.sleepers.claim_lookout();
+        if self.is_lookout {
+            self.tries = self.sleepers.others.announced_tries();
+        }
+        self.is_lookout
     }
 
     /// Takes the first item of the queue, if there is one.
@@ -206,8 +276,8 @@ impl<'q> Sleeper<'q> {
     ///
     /// - `self` is `false`.
     pub(crate) fn rise(self) {
-        let Sleeper { tries: _, sleepers, owed } = self;
+        let Sleeper { sleepers, is_lookout, tries: _, owed } = self;
         owed.end();
-        sleepers.count.fetch_sub(1, Ordering::SeqCst);
+        sleepers.leave(is_lookout);
     }
 }

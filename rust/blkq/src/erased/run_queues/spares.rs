@@ -7,8 +7,12 @@ use crate::erased::run_queues::ruled_queue::RuledQueue;
 
 /// A queue of items that threads take and put back. Contracts know of an item what its type's invariant says: if every value of the
 /// type is free and belongs to one owner, the queue holds free items of that owner.
+///
+/// The thread that takes is woken once half of the spares are back, or if those who put expect no more soon.
 pub struct SpareQueue<T> {
     line: RuledQueue<T>,
+    /// The number of spares for which a thread that sleeps is woken.
+    enough: usize,
 }
 
 /// The right to take from a queue of spare items, which comes with the queue and which one thread has.
@@ -31,8 +35,9 @@ impl<T> SpareQueue<T> {
     /// - `room` is at least 1.
     pub fn new(room: usize) -> Result<(SpareQueue<T>, Taker<T>), AllocError> {
         debug_assert!(0 < room);
-        let (line, seat) = RuledQueue::new(room)?;
-        Ok((SpareQueue { line }, Taker { seat, taken: 0 }))
+        let enough = room.div_ceil(2);
+        let (line, seat) = RuledQueue::new(room, enough > 1)?;
+        Ok((SpareQueue { line, enough }, Taker { seat, taken: 0 }))
     }
 
     /// Returns the number of items for which there is room.
@@ -54,9 +59,44 @@ impl<T> SpareQueue<T> {
     pub fn put(&self, count: &mut PutCount<T>, item: T) {
         self.line.push_as(&mut count.seat, item);
         count.put += 1;
+        self.line.wake_if_filled(&mut count.seat, self.enough);
     }
 
-    /// Takes the first item, and counts it. Waits while there is none.
+    /// Wakes the thread that takes, if it sleeps. Call this if no more spares come soon.
+    pub fn wake_taker(&self) {
+        self.line.sleepers.wake();
+    }
+
+    /// Takes the first item if there is one now, and counts it.
+    ///
+    /// # Preconditions
+    ///
+    /// - `taker` belongs to `self.id`.
+    /// - `taker.count + 1` is less than `2^64`.
+    pub fn try_take(&self, taker: &mut Taker<T>) -> Option<T> {
+        let item = self.line.pop_now_as(&mut taker.seat)?;
+        taker.taken += 1;
+        Some(item)
+    }
+
+    /// Returns how many looks are worthwhile before a sleep.
+    pub fn looks(&self) -> u32 {
+        self.line.looks()
+    }
+
+    /// Looks for an item for some microseconds, and counts it.
+    ///
+    /// # Preconditions
+    ///
+    /// - `taker` belongs to `self.id`.
+    /// - `taker.count + 1` is less than `2^64`.
+    pub fn look(&self, taker: &mut Taker<T>) -> Option<T> {
+        let item = self.line.look_as(&mut taker.seat)?;
+        taker.taken += 1;
+        Some(item)
+    }
+
+    /// Takes the first item, and counts it. Sleeps while there is none; look first if one is to come soon.
     ///
     /// # Preconditions
     ///
@@ -64,6 +104,7 @@ impl<T> SpareQueue<T> {
     /// - `taker.count + 1` is less than `2^64`.
     pub fn take(&self, taker: &mut Taker<T>) -> T {
         taker.taken += 1;
-        self.line.pop_as(&mut taker.seat)
+        self.line.patience.in_vain();
+        self.line.sleep_as(&mut taker.seat)
     }
 }

@@ -1,6 +1,7 @@
 // Erased from crates/script_meaning/src/script.rt by tools/erase: edit that file.
 //! A script: its version, and its lines with what each asks.
 
+use crate::erased::fallible::{AllocError, TryVec};
 use crate::erased::queue_limits::HARDWARE_LIMIT;
 use crate::erased::ram_disk::{MAX_PATTERN, MAX_SECTORS};
 
@@ -60,20 +61,20 @@ enum Bytes {
 }
 
 impl Pattern {
-    /// Makes a pattern of 1 to 64 bytes; no memory is taken.
+    /// Makes a pattern of 1 to 64 bytes. Takes memory, and returns an error if it is refused, only for more than 8 bytes.
     ///
     /// # Preconditions
     ///
     /// - `bytes.len()` is at least 1.
     /// - `bytes.len()` is at most `MAX_PATTERN`.
-    pub fn new(bytes: Vec<u8>) -> Self {
+    pub fn new(bytes: &[u8]) -> Result<Self, AllocError> {
         debug_assert!(1 <= bytes.len());
         debug_assert!(bytes.len() <= MAX_PATTERN);
-        let bytes = match ShortBytes::of(&bytes) {
+        let bytes = match ShortBytes::of(bytes) {
             Some(short) => Bytes::Short(short),
-            None => Bytes::Long(bytes),
+            None => Bytes::Long(Vec::try_from_slice(bytes)?),
         };
-        Pattern { bytes }
+        Ok(Pattern { bytes })
     }
 
     /// Returns the bytes.

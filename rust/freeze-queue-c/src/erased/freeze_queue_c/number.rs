@@ -1,12 +1,10 @@
 // Erased from crates/freeze_queue_c/src/number.rt by tools/erase: edit that file.
 //! The numbers that only the library of the queue returns to C, and the values that it writes with them.
 
-use crate::erased::biased_queue::BiasedEntry;
 use crate::erased::c_answers::{Misuse, put_number};
 use crate::erased::freeze_queue_c::begun::Begun;
 use crate::erased::freeze_queue_c::refusal::Refusal;
-use crate::erased::freeze_queue_c::tried::Tried;
-use crate::erased::queue_core::{FreezeFault, Thawed};
+use crate::erased::queue_core::{BiasedEntry, FreezeFault, Thawed};
 
 /// The number of a look: 0 if the tag entered; otherwise 2, or 3 if the look's put was the last, or 6 if the freezer has the tag in
 /// hand.
@@ -19,17 +17,13 @@ pub fn of_look(answer: Result<BiasedEntry, Misuse>) -> u32 {
     }
 }
 
-/// The number of a try: 0 if the tag entered; otherwise 2, or 3 if the try's put was the last or the tag had a bias.
-pub fn of_try(answer: Result<Tried, Misuse>) -> u32 {
-    let Tried { entry, had_bias } = match answer {
-        Ok(tried) => tried,
-        Err(why) => return why.number(),
-    };
-    match entry {
-        BiasedEntry::Entered => 0,
-        BiasedEntry::Refused(_) if had_bias => 3,
-        BiasedEntry::Refused(put) => 2 + put_number(put),
-        BiasedEntry::InHand => 3,
+/// The number of a try: 0 if the tag entered; otherwise 2, or 3 if the try's put was the last.
+pub fn of_try(answer: Result<BiasedEntry, Misuse>) -> u32 {
+    match answer {
+        Ok(BiasedEntry::Entered) => 0,
+        Ok(BiasedEntry::Refused(put)) => 2 + put_number(put),
+        Ok(BiasedEntry::InHand) => 2,
+        Err(why) => why.number(),
     }
 }
 

@@ -5,13 +5,12 @@ mod ends;
 mod makes;
 mod tags;
 
-use crate::erased::biased_queue::{BiasedFreezer, BiasedQueue, BiasedTag};
 use crate::erased::c_answers::{DrawnNumber, Misuse};
 use crate::erased::freeze_queue_c::begun::Begun;
 use crate::erased::freeze_queue_c::plain_limits::PlainLimits;
 use crate::erased::freeze_queue_c::refusal::Refusal;
 use crate::erased::pointers::Arc;
-use crate::erased::queue_core::{FreezeFault, Limits, Mode, Tag, Thawed};
+use crate::erased::queue_core::{BlockQueue, FreezeFault, Freezer, Limits, Mode, Tag, Thawed};
 use alloc::vec::Vec;
 pub use ends::KeptFreezer;
 
@@ -19,14 +18,12 @@ pub use ends::KeptFreezer;
 #[repr(C)]
 pub struct OpenFreezer {
     before: [u64; 16],
-    queue: Arc<BiasedQueue>,
+    queue: Arc<BlockQueue>,
     number: DrawnNumber,
     /// The number of tags of the queue.
     tags: u32,
-    waiting: Vec<BiasedTag>,
-    /// Room for the plain tags when the queue ends.
-    room: Vec<Tag>,
-    freezer: BiasedFreezer,
+    waiting: Vec<Tag>,
+    freezer: Freezer,
     after: [u64; 16],
 }
 
@@ -46,7 +43,7 @@ impl OpenFreezer {
         Ok(Ok(Begun { depth, drained }))
     }
 
-    /// Whether the queue is frozen and every tag has left.
+    /// Whether one look finds the queue frozen and drained.
     pub fn poll_drained(&mut self) -> bool {
         self.freezer.poll_drained(&self.queue)
     }

@@ -1,12 +1,10 @@
 // Erased from crates/freeze_queue_c/src/open_tag.rt by tools/erase: edit that file.
 //! The box of an open tag handle.
 
-use crate::erased::biased_queue::{BiasedEntry, BiasedQueue, BiasedTag};
 use crate::erased::c_answers::{DrawnNumber, Misuse};
 use crate::erased::freeze_queue_c::plain_limits::PlainLimits;
-use crate::erased::freeze_queue_c::tried::Tried;
-use crate::erased::percpu_gate::Put;
 use crate::erased::pointers::Arc;
+use crate::erased::queue_core::{BiasedEntry, BiasedTag, BlockQueue, Put};
 
 /// A tag with its queue, and the queue's unique number.
 ///
@@ -14,7 +12,7 @@ use crate::erased::pointers::Arc;
 #[repr(C)]
 pub struct OpenTag {
     before: [u64; 16],
-    pub(crate) queue: Arc<BiasedQueue>,
+    pub(crate) queue: Arc<BlockQueue>,
     number: DrawnNumber,
     pub(crate) tag: BiasedTag,
     after: [u64; 16],
@@ -25,9 +23,8 @@ impl OpenTag {
     ///
     /// # Preconditions
     ///
-    /// - `tag.bias.lanes` is `queue.lanes`.
-    /// - `IsBiasedQueue(queue)`: every such queue has lanes that were made for it.
-    pub fn new(queue: Arc<BiasedQueue>, number: DrawnNumber, tag: BiasedTag) -> OpenTag {
+    /// - `queue_of(tag)` is `queue`.
+    pub fn new(queue: Arc<BlockQueue>, number: DrawnNumber, tag: BiasedTag) -> OpenTag {
         OpenTag { before: [0; 16], queue, number, tag, after: [0; 16] }
     }
 
@@ -48,11 +45,9 @@ impl OpenTag {
     }
 
     /// Enters unless the queue is frozen. Refuses with Slot or Entered.
-    pub fn try_enter(&mut self, slot: u32) -> Result<Tried, Misuse> {
+    pub fn try_enter(&mut self, slot: u32) -> Result<BiasedEntry, Misuse> {
         self.refuse_enter(slot)?;
-        let had_bias = self.tag.is_biased();
-        let entry = self.tag.try_enter(&self.queue, slot);
-        Ok(Tried { entry, had_bias })
+        Ok(self.tag.try_enter(&self.queue, slot))
     }
 
     /// Enters to look at the requests in flight, unless the queue is drained. Refuses with Slot or Entered.
@@ -78,15 +73,10 @@ impl OpenTag {
     ///
     /// # Preconditions
     ///
-    /// - `is_in(self.tag)` is `false`.
+    /// - `in_now(self.tag)` is `false`.
     pub fn end_bias(&mut self) -> Option<Put> {
-        if !self.tag.is_biased() && !self.tag.entered() {
-            return Some(Put::NotLast);
-        }
         let slot = self.queue.slots() - 1;
-        let put = self.tag.end_bias(&self.queue, slot)?;
-        debug_assert!(!self.tag.entered());
-        Some(put)
+        self.tag.end_bias(&self.queue, slot)
     }
 
     /// The number of the tag's queue.

@@ -6,9 +6,8 @@ use crate::erased::freeze_queue_c::number::{of_look, of_try};
 use crate::erased::freeze_queue_c::plain_limits::PlainLimits;
 use crate::erased::freeze_queue_c::tag_handle::TagHandle;
 
-/// Enters and returns 0, unless the queue is frozen. Otherwise returns 2, or 3 if the put of this try drained the queue or the tag was
-/// biased. After 3 the caller wakes the freezer. A biased tag enters by its lane. Linux: `blk_queue_enter` with BLK_MQ_REQ_NOWAIT
-/// (block/blk-core.c).
+/// Enters and returns 0, unless the queue is frozen. Otherwise returns 2, or 3 if the put of this try drained the queue: the caller then
+/// wakes the freezer. A biased tag enters by its lane. Linux: `blk_queue_enter` with BLK_MQ_REQ_NOWAIT (block/blk-core.c).
 #[unsafe(no_mangle)]
 pub extern "C" fn freeze_queue_try_enter(tag: &mut TagHandle, slot: u32) -> u32 {
     let Some(mut open) = tag.take() else {

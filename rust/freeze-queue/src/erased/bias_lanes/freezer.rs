@@ -1,24 +1,14 @@
 // Erased from crates/bias_lanes/src/freezer.rt by tools/erase: edit that file.
 //! The freezer of lanes.
 
+use crate::erased::bias_lanes::fence::{Fenced, heavy_fence};
 use crate::erased::bias_lanes::lanes::{EPOCH, FIRST_EPOCH, Lanes, PARKED, TAKEN};
-use crate::erased::bias_lanes::views::Mark;
 use crate::erased::lane_table::Seat;
-use alloc::vec::Vec;
 
 /// The one freezer of these lanes. Threads share it under a lock, or it moves between them by ownership.
 pub struct Freezer<T> {
     seat: Seat<Option<T>>,
     epoch: u64,
-    /// What the freezer knows of each lane's owner while the epoch is odd.
-    marks: Vec<Mark>,
-}
-
-/// Clears all marks, since nothing is known of any owner in a new epoch.
-fn forget(marks: &mut Vec<Mark>) {
-    for lane in 0..marks.len() {
-        marks[lane] = Mark::Unseen;
-    }
 }
 
 impl<T> Freezer<T> {
@@ -27,11 +17,10 @@ impl<T> Freezer<T> {
     /// # Preconditions
     ///
     /// - `seat.me ≡ (first_view seat.me.0.key, [])`.
-    /// - `seat.table_id.slots` is `marks.len()`.
     /// - `seat.table_id.words` is `seat.table_id.slots * 2 + 1`.
     /// - `seat.table_id.slots` is less than `2^32`.
-    pub(crate) fn new(seat: Seat<Option<T>>, marks: Vec<Mark>) -> Freezer<T> {
-        Freezer { seat, epoch: FIRST_EPOCH, marks }
+    pub(crate) fn new(seat: Seat<Option<T>>) -> Freezer<T> {
+        Freezer { seat, epoch: FIRST_EPOCH }
     }
 
     /// Returns the epoch: even if requests may enter, odd if they are frozen.
@@ -52,7 +41,6 @@ impl<T> Freezer<T> {
         let shared = &lanes.table.shared;
         shared.store(&mut self.seat, EPOCH, next);
         self.epoch = next;
-        forget(&mut self.marks);
     }
 
     /// Freezes: after this call no request enters by a lane. The caller then has to look at each lane.
@@ -80,52 +68,26 @@ impl<T> Freezer<T> {
         self.next_epoch(lanes);
     }
 
-    /// Looks at a lane during a freeze, and returns whether it is busy. The owner of a busy lane is watched from then on. Any other
-    /// owner is out, and its reference can be reclaimed.
+    /// Issues the heavy fence, which the looks of this epoch need.
+    pub fn fence(&self) -> Fenced {
+        heavy_fence();
+        Fenced { epoch: self.epoch }
+    }
+
+    /// Looks at a lane during a freeze, behind a fence of this epoch, and returns whether it is busy. The owner of a busy lane is watched
+    /// from then on. Any other owner is out, and its reference can be reclaimed.
     ///
     /// # Preconditions
     ///
     /// - `self.lanes` is `lanes`.
+    /// - `fenced` is `self.epoch()`.
     /// - `lane` is less than `lanes.count()`.
     /// - `self.view.epoch % 2 ≡ 1`.
-    pub fn look(&mut self, lanes: &Lanes<T>, lane: usize) -> bool {
+    pub fn look(&mut self, lanes: &Lanes<T>, lane: usize, _fenced: &Fenced) -> bool {
         debug_assert!(lane < lanes.count());
         let shared = &lanes.table.shared;
         let word = lane * 2 + 1;
-        let busy = shared.load(&mut self.seat, word) % 2 == 1;
-        self.marks[lane] = if busy { Mark::Watched } else { Mark::Out };
-        busy
-    }
-
-    /// Returns whether a lane's owner is out. Looks at the lane unless this is known.
-    ///
-    /// # Preconditions
-    ///
-    /// - `self.lanes` is `lanes`.
-    /// - `lane` is less than `lanes.count()`.
-    /// - `self.view.epoch % 2 ≡ 1`.
-    fn finds_out(&mut self, lanes: &Lanes<T>, lane: usize) -> bool {
-        debug_assert!(lane < lanes.count());
-        if self.marks[lane] == Mark::Out {
-            return true;
-        }
-        !self.look(lanes, lane)
-    }
-
-    /// Looks at each lane whose owner isn't known to be out, until it finds a busy lane. Returns true if it found none: then every
-    /// owner is out, and stays out until the thaw.
-    ///
-    /// # Preconditions
-    ///
-    /// - `self.lanes` is `lanes`.
-    /// - `self.view.epoch % 2 ≡ 1`.
-    pub fn none_in(&mut self, lanes: &Lanes<T>) -> bool {
-        for lane in 0..self.marks.len() {
-            if !self.finds_out(lanes, lane) {
-                return false;
-            }
-        }
-        true
+        shared.load(&mut self.seat, word) % 2 == 1
     }
 
     /// Takes the reference that is parked in the cell of an owner that is out, if there is one. Put it back by [`Freezer::restore`].

@@ -3,7 +3,6 @@
 
 use crate::erased::bias_lanes::freezer::Freezer;
 use crate::erased::bias_lanes::lane::Lane;
-use crate::erased::bias_lanes::views::Mark;
 use crate::erased::fallible::{AllocError, TryVec};
 use crate::erased::lane_table::Table;
 use alloc::vec::Vec;
@@ -57,8 +56,7 @@ impl<T> Lanes<T> {
         let words = first_words(lanes)?;
         let (table, seat) = Table::vacant(words.as_slice(), lanes)?;
         let made = Lanes { table, count: lanes };
-        let marks = Vec::try_from_elem(Mark::Unseen, lanes)?;
-        Ok((made, Freezer::new(seat, marks)))
+        Ok((made, Freezer::new(seat)))
     }
 
     /// Returns the number of lanes.

@@ -19,14 +19,3 @@ pub enum Stage {
     /// The owner has found another epoch, and its lane is still idle or busy.
     Over,
 }
-
-/// What the freezer knows of a lane's owner, in the epoch that it stored last.
-#[derive(Clone, Copy, Debug, PartialEq, Eq)]
-pub enum Mark {
-    /// The freezer hasn't looked at the lane.
-    Unseen,
-    /// The lane was busy. The owner will find that its bias is over.
-    Watched,
-    /// The owner has no request in, and can't enter.
-    Out,
-}

@@ -1,9 +1,12 @@
 // Erased from crates/queue_core/src/freezer.rt by tools/erase: edit that file.
 //! The freezer: it freezes a queue, sets its limits and thaws it.
 
+use crate::erased::bias_lanes::{Fenced, Freezer as LaneFreezer};
 use crate::erased::percpu_gate::{Control, Mode, Put};
+use crate::erased::queue_core::at_gate::put_once;
 use crate::erased::queue_core::fault::FreezeFault;
 use crate::erased::queue_core::limit_words::{LIMIT_WORDS, store_words};
+use crate::erased::queue_core::parked::ParkedPass;
 use crate::erased::queue_core::queue::BlockQueue;
 use crate::erased::queue_core::tag::Tag;
 use crate::erased::queue_limits::Limits;
@@ -19,6 +22,8 @@ pub struct Frozen {
     /// `Last` if this freeze found nobody in the queue: it is drained, and no other call returns that. Otherwise call
     /// `poll_drained`; if it returns false, a later put or refused try returns `Last`, unless the queue is thawed first.
     pub put: Put,
+    /// `Last` if the put of a tag that this freeze found biased and idle was the last.
+    pub reclaimed: Put,
 }
 
 /// The result of a thaw.
@@ -37,6 +42,7 @@ pub struct Freezer {
     control: Control<LIMIT_WORDS>,
     depth: u32,
     limits: Limits,
+    lanes: LaneFreezer<ParkedPass>,
 }
 
 impl Freezer {
@@ -46,8 +52,11 @@ impl Freezer {
     ///
     /// - `control` is `after_switch(Slots, fresh_control(control.gate, control.passes(), to_words(limits)))`.
     /// - `control.gate.start` is `Atomic`.
-    pub(crate) fn new(control: Control<LIMIT_WORDS>, limits: Limits) -> Freezer {
-        Freezer { control, depth: 0, limits }
+    /// - `lanes.lanes.key` is `control.gate`.
+    /// - `lanes.view` is `new_freezer`.
+    /// - `lanes.out` is `[]`.
+    pub(crate) fn new(control: Control<LIMIT_WORDS>, limits: Limits, lanes: LaneFreezer<ParkedPass>) -> Freezer {
+        Freezer { control, depth: 0, limits, lanes }
     }
 
     /// The number of freezes that aren't thawed yet: 0 to 1,000. The queue is live if it is 0. Linux: `mq_freeze_depth`
@@ -70,8 +79,8 @@ impl Freezer {
     }
 
     /// Begins a freeze. Returns the depth, and `Last` if this call drained the queue. The first freeze kills the gate,
-    /// so that no tag enters from then on, except to look. Refuses with DepthFull or WornOut. Linux:
-    /// `blk_freeze_queue_start` (block/blk-mq.c).
+    /// so that no tag enters from then on, except to look; then it takes the bias of each idle tag away. Refuses with
+    /// DepthFull or WornOut. Linux: `blk_freeze_queue_start` (block/blk-mq.c).
     ///
     /// # Preconditions
     ///
@@ -81,12 +90,60 @@ impl Freezer {
             return Err(FreezeFault::DepthFull);
         }
         let put = if self.depth == 0 {
-            self.control.kill(&queue.gate).map_err(|_| FreezeFault::WornOut)?
+            let put = self.control.kill(&queue.gate).map_err(|_| FreezeFault::WornOut)?;
+            self.lanes.freeze(&queue.lanes);
+            put
         } else {
             Put::NotLast
         };
         self.depth += 1;
-        Ok(Frozen { depth: self.depth, put })
+        let reclaimed = if self.depth == 1 { self.reclaim_all(queue) } else { Put::NotLast };
+        Ok(Frozen { depth: self.depth, put, reclaimed })
+    }
+
+    /// Takes the bias of each idle tag away. Returns `Last` if one of their puts was the last.
+    ///
+    /// # Preconditions
+    ///
+    /// - `self` belongs to `queue`.
+    /// - `self.depth()` is at least 1.
+    fn reclaim_all(&mut self, queue: &BlockQueue) -> Put {
+        debug_assert!(0 < self.depth());
+        if !queue.has_parked() {
+            return Put::NotLast;
+        }
+        let fenced = self.lanes.fence();
+        let mut last = Put::NotLast;
+        for lane in 0..queue.lanes.count() {
+            if self.reclaim(queue, lane, &fenced) == Put::Last {
+                last = Put::Last;
+            }
+        }
+        last
+    }
+
+    /// Looks at a lane behind the fence of this freeze, and drops the reference of the pass that is parked in it, if its owner is out.
+    ///
+    /// # Preconditions
+    ///
+    /// - `self` belongs to `queue`.
+    /// - `lane` is less than `queue.lanes.id.slots`.
+    /// - `self.depth()` is at least 1.
+    /// - `fenced` is `epoch_after(self.depth(), self.kills)`.
+    fn reclaim(&mut self, queue: &BlockQueue, lane: usize, fenced: &Fenced) -> Put {
+        debug_assert!(0 < self.depth());
+        if self.lanes.look(&queue.lanes, lane, fenced) {
+            return Put::NotLast;
+        }
+        let Some(mut parked) = self.lanes.reclaim(&queue.lanes, lane) else {
+            return Put::NotLast;
+        };
+        if parked.pass.held() == 1 {
+            queue.count_back();
+        }
+        let put = put_once(&mut parked.pass, &queue.gate, parked.slot);
+        self.lanes.restore(&queue.lanes, lane, parked);
+        put
     }
 
     /// Whether one look finds the queue frozen and drained. Once it has returned true it does so until the last thaw.
@@ -147,6 +204,7 @@ impl Freezer {
         if self.depth == 0 {
             let revived = self.control.resurrect(&queue.gate);
             debug_assert!(revived.is_ok());
+            self.lanes.thaw(&queue.lanes);
         }
         Ok(Thawed { depth: self.depth, live: self.depth == 0 })
     }

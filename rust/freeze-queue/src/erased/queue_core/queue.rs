@@ -1,14 +1,18 @@
 // Erased from crates/queue_core/src/queue.rt by tools/erase: edit that file.
 //! The queue that tags enter and leave.
 
+use crate::erased::AtomicU64;
+use crate::erased::bias_lanes::Lanes;
 use crate::erased::fallible::{AllocError, TryVec};
 use crate::erased::percpu_core::SLOT_LIMIT;
 use crate::erased::percpu_gate::{Gate, Memory, Pass, Put, Start, Tried};
 use crate::erased::queue_core::freezer::Freezer;
 use crate::erased::queue_core::limit_words::{LIMIT_WORDS, load_words};
+use crate::erased::queue_core::parked::ParkedPass;
 use crate::erased::queue_core::tag::{Entry, Stay, Tag};
 use crate::erased::queue_limits::Limits;
 use alloc::vec::Vec;
+use core::sync::atomic::Ordering;
 
 /// Maximum number of tags of a queue.
 pub const MOST_TAGS: u32 = 1_023;
@@ -20,18 +24,31 @@ pub type NewQueue = (BlockQueue, Freezer, Vec<Tag>);
 /// request_queue` (include/linux/blkdev.h).
 pub struct BlockQueue {
     pub(crate) gate: Gate<LIMIT_WORDS>,
-    hardware: u32,
+    pub(crate) hardware: u32,
+    pub(crate) lanes: Lanes<ParkedPass>,
+    /// An upper bound on the number of entered tags that are parked.
+    pub(crate) biased: AtomicU64,
 }
 
-/// Makes a tag for each of these new passes.
+/// Makes a tag for each lane, with one of these new passes. No lane had an owner before.
 ///
 /// # Preconditions
 ///
-/// - For each `p` of `passes` `p` is `fresh_pass(p.gate)`.
-fn make_tags(passes: Vec<Pass<LIMIT_WORDS>>, hardware: u32) -> Result<Vec<Tag>, AllocError> {
-    let mut tags = Vec::try_with_room(passes.len())?;
-    for pass in passes {
-        tags.try_push(Tag::new(pass, hardware))?;
+/// - For each `p` of `passes` `p` is `fresh_pass(gate)`.
+/// - `lanes.key` is `gate`.
+fn make_tags(
+    mut passes: Vec<Pass<LIMIT_WORDS>>,
+    hardware: u32,
+    _gate: &Gate<LIMIT_WORDS>,
+    lanes: &Lanes<ParkedPass>,
+) -> Result<Vec<Tag>, AllocError> {
+    let mut tags = Vec::try_with_room(lanes.count())?;
+    for number in 0..lanes.count() {
+        // The list has a pass for each lane, and no lane has an owner yet.
+        let (Some(pass), Some(lane)) = (passes.pop(), lanes.owner(number)) else {
+            return Err(AllocError);
+        };
+        tags.try_push(Tag::new(pass, hardware, lane))?;
     }
     Ok(tags)
 }
@@ -55,9 +72,25 @@ impl BlockQueue {
         let switched = control.switch_to_slots(&gate);
         debug_assert!(switched.is_ok());
         let hardware = limits.hw();
-        let made = make_tags(passes, hardware)?;
-        let queue = BlockQueue { gate, hardware };
-        Ok((queue, Freezer::new(control, limits), made))
+        let (lanes, looker) = Lanes::new(tags as usize)?;
+        let made = make_tags(passes, hardware, &gate, &lanes)?;
+        let queue = BlockQueue { gate, hardware, lanes, biased: AtomicU64::new(0) };
+        Ok((queue, Freezer::new(control, limits, looker), made))
+    }
+
+    /// Counts an entered tag that is about to be parked.
+    pub(crate) fn count_parked(&self) {
+        self.biased.fetch_add(1, Ordering::SeqCst);
+    }
+
+    /// Takes a tag off the count, because it isn't parked or isn't entered any more.
+    pub(crate) fn count_back(&self) {
+        self.biased.fetch_sub(1, Ordering::SeqCst);
+    }
+
+    /// Returns whether an entered tag may be parked.
+    pub(crate) fn has_parked(&self) -> bool {
+        self.biased.load(Ordering::SeqCst) != 0
     }
 
     /// The number of slots: 1 to 512.

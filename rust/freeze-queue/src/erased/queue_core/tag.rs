@@ -1,8 +1,10 @@
 // Erased from crates/queue_core/src/tag.rt by tools/erase: edit that file.
 //! A tag: the right to have one request in flight.
 
+use crate::erased::bias_lanes::Lane;
 use crate::erased::percpu_gate::{Gate, Pass, Put};
 use crate::erased::queue_core::limit_words::LIMIT_WORDS;
+use crate::erased::queue_core::parked::ParkedPass;
 
 /// The result of an attempt to enter.
 #[derive(Clone, Copy, Debug, PartialEq, Eq)]
@@ -29,8 +31,9 @@ pub enum Stay {
 /// It moves between threads with its request. Leaking an entered tag keeps the queue from draining forever.
 pub struct Tag {
     pub(crate) pass: Pass<LIMIT_WORDS>,
-    #[allow(dead_code)] // only proofs read it
     hardware: u32,
+    /// By which it enters while it is biased.
+    lane: Lane<ParkedPass>,
 }
 
 impl Tag {
@@ -39,8 +42,10 @@ impl Tag {
     /// # Preconditions
     ///
     /// - `pass` is `fresh_pass(pass.gate)`.
-    pub(crate) fn new(pass: Pass<LIMIT_WORDS>, hardware: u32) -> Tag {
-        Tag { pass, hardware }
+    /// - `lane.view.stage` is `Unbiased`.
+    /// - `lane.lanes.key` is `pass.gate`.
+    pub(crate) fn new(pass: Pass<LIMIT_WORDS>, hardware: u32, lane: Lane<ParkedPass>) -> Tag {
+        Tag { pass, hardware, lane }
     }
 
     /// Whether the tag has entered its queue and not left.
@@ -59,6 +64,23 @@ impl Tag {
     pub(crate) fn is_dying(&mut self, gate: &Gate<LIMIT_WORDS>) -> bool {
         debug_assert!(self.entered());
         self.pass.is_dying(gate)
+    }
+
+    /// The parts of a tag.
+    pub(crate) fn into_parts(self) -> (Pass<LIMIT_WORDS>, u32, Lane<ParkedPass>) {
+        (self.pass, self.hardware, self.lane)
+    }
+
+    /// A tag of these parts.
+    ///
+    /// # Preconditions
+    ///
+    /// - `pass.held()` is at most 1.
+    /// - `lane.view.stage` is `Unbiased`.
+    /// - `lane.lanes.key` is `pass.gate`.
+    pub(crate) fn of_parts(pass: Pass<LIMIT_WORDS>, hardware: u32, lane: Lane<ParkedPass>) -> Tag {
+        debug_assert!(pass.held() <= 1);
+        Tag { pass, hardware, lane }
     }
 
     /// The pass of a tag that ends.

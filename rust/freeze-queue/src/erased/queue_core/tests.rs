@@ -2,6 +2,8 @@
 //! The slot on which a tag counts, which no caller of a queue can see. A kill by hand shows it: it closes the slots one
 //! by one, and returns each slot's delta.
 
+mod biased;
+
 use crate::erased::fallible::Fail;
 use crate::erased::percpu_gate::{Control, Gate, Phase, Put};
 use crate::erased::queue_core::limit_words::LIMIT_WORDS;

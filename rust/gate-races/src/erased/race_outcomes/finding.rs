@@ -2,10 +2,14 @@
 //! The search for all outcomes of a course.
 
 use crate::erased::percpu_core::Memory;
+use crate::erased::race_outcomes::ending::ends;
+use crate::erased::race_outcomes::fault::SearchFault;
 use crate::erased::race_outcomes::gathered::Gathered;
+use crate::erased::race_outcomes::moments::Moments;
 use crate::erased::race_outcomes::outcome::Outcomes;
+use crate::erased::race_outcomes::search::all_moments;
 use crate::erased::race_outcomes::telling::Telling;
-use crate::erased::race_search::{Moments, SearchFault, Watch, all_moments, ends};
+use crate::erased::race_outcomes::watch::Watch;
 
 /// Returns all outcomes of the course: the accounts that it may have when nothing may come next. Each outcome is in the list once,
 /// with a shortest schedule that leads to it, and among these one with the fewest switches of actor. Outcomes are

@@ -1,10 +1,7 @@
 // Erased from crates/race_outcomes/src/outcome.rt by tools/erase: edit that file.
 //! Outcomes of a course.
 
-use crate::erased::percpu_core::Memory;
-use crate::erased::race_outcomes::telling::Telling;
-use crate::erased::race_outcomes::told::{Told, all_told};
-use crate::erased::race_search::Course;
+use crate::erased::race_world::Course;
 
 /// An outcome of a course: an end with its account, and a schedule that leads there. In contracts it is a `Found`.
 pub struct Outcome<C: Course> {
@@ -34,12 +31,5 @@ impl<C: Course> Outcomes<C> {
     /// The outcomes.
     pub fn as_slice(&self) -> &[Outcome<C>] {
         self.list.as_slice()
-    }
-}
-
-impl<C: Telling> Outcomes<C> {
-    /// The account of each outcome, in order. Returns `Memory` if an allocation was refused, or at 2^64 calls.
-    pub fn told(&self, course: &C) -> Result<Vec<Told>, Memory> {
-        all_told(course, self.list.as_slice())
     }
 }

@@ -4,9 +4,9 @@
 use crate::erased::fallible::AllocError;
 use crate::erased::percpu_core::Memory;
 use crate::erased::race_outcomes::told::Told;
-use crate::erased::race_search::Course;
+use crate::erased::race_world::Course;
 
-/// A course whose moments have accounts: the answers to the calls of each actor so far, and the figures of each gate. Ends with
+/// A course whose moments have accounts: the answers to the calls of each actor so far, and the figures of the gate. Ends with
 /// equal accounts are one outcome.
 ///
 /// An exchange that is made twice changes nothing, and points with equal accounts have equal accounts after it. That is

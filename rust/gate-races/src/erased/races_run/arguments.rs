@@ -2,17 +2,14 @@
 //! The task that the arguments ask for.
 
 use crate::erased::line_text::{is_word, long_number};
-use crate::erased::races_run::request::Request;
-use crate::erased::races_text::Form;
+use crate::erased::races_run::writing::Form;
 
 /// A task of the program.
 #[derive(Clone, Copy, Debug, PartialEq, Eq)]
 pub enum Task {
-    /// Answer this request about the race on standard input. A search keeps at most this many states, if a number is
+    /// Write the outcomes of the race on standard input in this form. The search keeps at most this many states, if a number is
     /// given.
-    Answer(Request, Option<u64>),
-    /// Replay the schedule on Linux's percpu_ref that is on standard input.
-    Replay,
+    Answer(Form, Option<u64>),
     /// Print how the program is called.
     Usage,
 }
@@ -21,19 +18,11 @@ fn is_spelled(word: &String, text: &str) -> bool {
     is_word(word.as_bytes(), text)
 }
 
-// The request that the first argument makes, and the arguments after it.
-fn request_in(words: &[String]) -> (Request, &[String]) {
-    let [word, rest @ ..] = words else {
-        return (Request::Written(Form::Answers), words);
-    };
-    if is_spelled(word, "--outcomes") {
-        (Request::Written(Form::Outcomes), rest)
-    } else if is_spelled(word, "--summary") {
-        (Request::Written(Form::Summary), rest)
-    } else if is_spelled(word, "--beside") {
-        (Request::Beside, rest)
-    } else {
-        (Request::Written(Form::Answers), words)
+// The form that the first argument asks for, and the arguments after it.
+fn form_in(words: &[String]) -> (Form, &[String]) {
+    match words {
+        [word, rest @ ..] if is_spelled(word, "--summary") => (Form::Summary, rest),
+        _ => (Form::Outcomes, words),
     }
 }
 
@@ -49,24 +38,12 @@ fn bound_in(words: &[String]) -> Option<Option<u64>> {
     }
 }
 
-// Whether the arguments ask for a replay.
-fn asks_replay(words: &[String]) -> bool {
-    match words {
-        [word] => is_spelled(word, "--replay"),
-        _ => false,
-    }
-}
-
-/// Returns the task that `words`, the arguments, ask for. `--replay` alone asks for a replay. A request about a race is
-/// `--outcomes`, `--summary`, `--beside` or no word, and then, if a search has to be bounded, `--states` and the maximum number of
-/// states that it keeps, from 1. Anything else asks for the usage.
+/// Returns the task that `words`, the arguments, ask for: `--summary` or no word, and then, if the search has to be bounded, `--states`
+/// and the maximum number of states that it keeps, from 1. Anything else asks for the usage.
 pub fn requested(words: &[String]) -> Task {
-    if asks_replay(words) {
-        return Task::Replay;
-    }
-    let (request, rest) = request_in(words);
+    let (form, rest) = form_in(words);
     match bound_in(rest) {
-        Some(most) => Task::Answer(request, most),
+        Some(most) => Task::Answer(form, most),
         None => Task::Usage,
     }
 }

@@ -2,31 +2,30 @@
 //! The program, over any reader and writers.
 
 use crate::erased::counted_io::Counted;
-use crate::erased::race_search::Watch;
+use crate::erased::race_outcomes::Watch;
 use crate::erased::races_run::arguments::{Task, requested};
 use crate::erased::races_run::fault::Fault;
-use crate::erased::races_run::replay_report::replay_reported;
-use crate::erased::races_run::request::Request;
 use crate::erased::races_run::run::outcomes_bytes;
+use crate::erased::races_run::writing::Form;
 use crate::erased::streams::WriteLine;
 use std::io::{self, ErrorKind, Read, Write};
 
 /// The usage line.
-const USAGE: &str = "usage: gate_races [--outcomes | --summary | --beside] [--states N], with a race on standard input, or gate_races --replay";
+const USAGE: &str = "usage: gate_races [--summary] [--states N], with a race on standard input";
 
 /// The status if the answer wasn't written for any reason other than the input.
 const NOT_ANSWERED: u8 = 4;
 
 /// Answers the race in `reader`. Returns the program's status, and writes a line to `errors` if it isn't 0.
 fn outcomes_reported<R: Read, W: Write, E: Write, H: Watch>(
-    request: Request,
+    form: Form,
     most: Option<u64>,
     reader: &mut Counted<R>,
     writer: &mut Counted<W>,
     errors: &mut E,
     watch: &mut H,
 ) -> u8 {
-    match outcomes_bytes(reader, writer, request, most, watch) {
+    match outcomes_bytes(reader, writer, form, most, watch) {
         Ok(()) => 0,
         Err(fault) => {
             let _ = errors.writeln(fault);
@@ -35,11 +34,9 @@ fn outcomes_reported<R: Read, W: Write, E: Write, H: Watch>(
     }
 }
 
-/// Writes to `writer` the answer to the race in `reader`, and returns the program's status: 0 if the answer was written.
-/// `args`, the program's arguments, decide what is written: the answers to the race's questions, its outcomes, or the outcomes
-/// that it has only on this gate or only on Linux's percpu_ref; with `--replay`, the replay of the schedule in `reader`. Status 3
-/// means that this replay was written, and stopped at a step that isn't taken. Status 2 or 4 comes with a line to `errors`: 2 if
-/// the input is no race or schedule; 4 if reading, writing or memory was refused, if a search would keep more states than `args`
+/// Writes to `writer` the outcomes of the race in `reader`, in the form that `args`, the program's arguments, ask for, and returns the
+/// program's status: 0 if they were written. Status 2 or 4 comes with a line to `errors`: 2 if
+/// the input is no race; 4 if reading, writing or memory was refused, if the search would keep more states than `args`
 /// allow by `--states`, or if the arguments ask for something unknown. They are checked before anything is read. If `errors`
 /// fails, the line is lost and the status stays. It reports to `watch` how far the search is.
 pub fn command<R: Read, W: Write, E: Write, H: Watch>(
@@ -50,8 +47,7 @@ pub fn command<R: Read, W: Write, E: Write, H: Watch>(
     watch: &mut H,
 ) -> u8 {
     match requested(args) {
-        Task::Answer(request, most) => outcomes_reported(request, most, reader, writer, errors, watch),
-        Task::Replay => replay_reported(reader, writer, errors),
+        Task::Answer(form, most) => outcomes_reported(form, most, reader, writer, errors, watch),
         Task::Usage => {
             let _ = errors.writeln(USAGE);
             NOT_ANSWERED

@@ -43,32 +43,6 @@ pub fn submit(
     }
 }
 
-/// Returns the commands for the next request of a thread whose tag is entered. The tag stays entered with the limits that it read,
-/// unless a freeze has begun: then it leaves, waits for the thaw and enters again. So a busy thread submits at the price of a load.
-///
-/// Such a thread has to leave before it waits for anything else, since a thread that stays and then sleeps holds up every freeze.
-///
-/// # Preconditions
-///
-/// - `tag` belongs to `queue`.
-/// - `slot` is less than `queue.slots()`.
-/// - `tag.entered()` is `true`.
-/// - `start` is less than `2^32`.
-pub fn submit_next(
-    queue: &BlockQueue,
-    tag: &mut Tag,
-    slot: u32,
-    start: u64,
-    count: u32,
-) -> Result<Vec<Command>, AllocError> {
-    debug_assert!(slot < queue.slots());
-    debug_assert!(tag.entered());
-    debug_assert!(start < 1 << 32);
-    let _answer = queue.stay_or_enter(tag, slot);
-    let limits = queue.limits(tag);
-    commands(&limits, start, count)
-}
-
 /// Enters, and waits until the limits in force are these. By the time a tag enters after a change of limits, the freezer may have
 /// made another change. So the tag compares what it reads, and leaves and enters again if that differs.
 ///

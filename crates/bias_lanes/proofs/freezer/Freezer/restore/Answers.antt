@@ -20,6 +20,6 @@ store-requires g c = let own = rw (← c.lanes.view_is, ← c.self.view_is) at c
     let slots = ap (λ x. x.slots) id in let words = ap (λ x. x.words) id in let there = rw (← c.lanes.view_is) at c.requires.there in let size = is.size in (
       c.exchange-empty.ensures.0 ∙ id,
       omega arith,
-      restores g.T.Reference.fits _ _ _ (freezer_known g.T.Reference.fits _ _ _ _ is) c.args.reference c.args.lane _
-          (refilled g.T.Reference.fits _ _ _ _ is _ (ap (λ (x : LanesFacts _). x.key) own) c.args.lane (Some c.args.reference) _ (rw (← c.self.view_is) at c.requires.reclaimed) c.exchange-empty.ensures.3) there (rw (← c.self.view_is) at c.requires.out) (rw (← c.lanes.view_is) at c.requires.fits),
+      restores g.T.Reference.fits _ _ _ (freezer_known g.T.Reference.fits _ _ _ is) c.args.reference c.args.lane _
+          (refilled g.T.Reference.fits _ _ _ is _ (ap (λ (x : LanesFacts _). x.key) own) c.args.lane (Some c.args.reference) _ (rw (← c.self.view_is) at c.requires.reclaimed) c.exchange-empty.ensures.3) there (rw (← c.self.view_is) at c.requires.out) (rw (← c.lanes.view_is) at c.requires.fits),
     )

@@ -4,5 +4,5 @@ use Rattle.freeze_queue_c.proofs.open_tag.OpenTag.try_enter.Goals as goal
 
 pub returns : goal.returns
 returns c =
-    let e = c.try_enter-entry.ensures in
-    (search rules, tried_to_enter (sym c.self.view_is) c.deref.ensures e.own e.entered e.by_lane e.held e.by_gate e.in_force e.refused e.in_hand e.steps c.is_biased-had_bias.ensures)
+    let e = c.try_enter.ensures in
+    (search rules, tried_to_enter (sym c.self.view_is) c.deref.ensures e.own e.entered e.by_lane e.held e.by_gate e.in_hand e.steps)

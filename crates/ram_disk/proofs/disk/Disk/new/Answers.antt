@@ -6,5 +6,5 @@ use Rattle.ram_disk.proofs.disk.Disk.new.Goals as goal
 pub returns-clause-bytes : goal.returns-clause-bytes
 returns-clause-bytes c =
     let shared = c.in_ok-sectors.ensures.items_if_clones_equal (λ _ e. e) in
-    ap bytes_of (shared ∙ ap (λ sector. replicate c.args.sectors sector) c.in_ok-zeros.ensures.ok)
+    ap bytes_of (shared ∙ ap (λ sector. replicate c.args.sectors sector) c.filled.ensures)
     ∙ bytes_of-replicate-filled_with c.args.sectors 0

@@ -2,13 +2,12 @@
 //! The end of a queue.
 
 use super::OpenFreezer;
-use crate::erased::biased_queue::{BiasedFreezer, BiasedQueue, BiasedTag};
 use crate::erased::c_answers::{DrawnNumber, Misuse};
 use crate::erased::freeze_queue_c::life::Final;
 use crate::erased::freeze_queue_c::plain_limits::PlainLimits;
 use crate::erased::freeze_queue_c::refusal::Refusal;
 use crate::erased::pointers::Arc;
-use crate::erased::queue_core::{FreezeFault, Tag};
+use crate::erased::queue_core::{BlockQueue, FreezeFault, Freezer, Tag};
 use alloc::vec::Vec;
 
 /// Why a queue may not end, and its freezer. The freezer is gone if there was no memory for it.
@@ -21,33 +20,16 @@ pub struct KeptFreezer {
 pub(super) struct Parts {
     pub number: DrawnNumber,
     pub tags: u32,
-    pub waiting: Vec<BiasedTag>,
-    pub room: Vec<Tag>,
-    pub freezer: BiasedFreezer,
-}
-
-/// Moves the plain tags of these tags into the room for them.
-///
-/// # Preconditions
-///
-/// - `room` is `[]`.
-/// - `waiting.len()` is at most `vec_capacity(room)`.
-/// - For each `t` of `waiting` `IsSome(t.tag)`.
-fn take_plain(mut room: Vec<Tag>, waiting: Vec<BiasedTag>) -> Vec<Tag> {
-    for tag in waiting {
-        if let Some(plain) = tag.into_tag() {
-            room.push(plain);
-        }
-    }
-    room
+    pub waiting: Vec<Tag>,
+    pub freezer: Freezer,
 }
 
 /// Freezes a queue that is to end, unless it is already frozen. Refuses with WornOut.
 ///
 /// # Preconditions
 ///
-/// - `IsOf(freezer, queue)`: the freezer belongs to this queue's gate and lanes.
-fn freeze_to_end(freezer: &mut BiasedFreezer, queue: &BiasedQueue) -> Result<(), FreezeFault> {
+/// - `freezer` belongs to `queue`.
+fn freeze_to_end(freezer: &mut Freezer, queue: &BlockQueue) -> Result<(), FreezeFault> {
     if freezer.depth() == 0 {
         freezer.start_freeze(queue)?;
     }
@@ -58,14 +40,12 @@ fn freeze_to_end(freezer: &mut BiasedFreezer, queue: &BiasedQueue) -> Result<(),
 ///
 /// # Preconditions
 ///
-/// - `IsOf(parts.freezer, queue)`: the freezer belongs to this queue's gate and lanes.
-/// - `parts.tags` is `parts.freezer.freezer.tags`.
+/// - `parts.freezer.queue` is `queue`.
+/// - `parts.tags` is `parts.freezer.tags`.
 /// - `parts.tags` is at most `vec_capacity(parts.waiting)`.
-/// - `parts.tags` is at most `vec_capacity(parts.room)`.
-/// - `parts.room` is `[]`.
 /// - `All(Waits(queue), parts.waiting)`.
 /// - `parts.waiting.len()` is at most `parts.tags`.
-fn put_back(queue: BiasedQueue, parts: Parts, why: FreezeFault) -> KeptFreezer {
+fn put_back(queue: BlockQueue, parts: Parts, why: FreezeFault) -> KeptFreezer {
     match Arc::try_new(queue) {
         Ok(queue) => KeptFreezer { why: Refusal::OfQueue(why), freezer: Some(OpenFreezer::of(queue, parts)) },
         Err(_) => KeptFreezer { why: Refusal::OfMisuse(Misuse::Memory), freezer: None },
@@ -76,20 +56,17 @@ fn put_back(queue: BiasedQueue, parts: Parts, why: FreezeFault) -> KeptFreezer {
 ///
 /// # Preconditions
 ///
-/// - `IsOf(parts.freezer, queue)`: the freezer belongs to this queue's gate and lanes.
-/// - `parts.tags` is `parts.freezer.freezer.tags`.
+/// - `parts.freezer.queue` is `queue`.
+/// - `parts.tags` is `parts.freezer.tags`.
 /// - `parts.tags` is at most `vec_capacity(parts.waiting)`.
-/// - `parts.tags` is at most `vec_capacity(parts.room)`.
-/// - `parts.room` is `[]`.
 /// - `All(Waits(queue), parts.waiting)`.
 /// - `parts.tags` is `parts.waiting.len()`.
-fn remove(queue: BiasedQueue, mut parts: Parts) -> Result<Final, KeptFreezer> {
+fn remove(queue: BlockQueue, mut parts: Parts) -> Result<Final, KeptFreezer> {
     let limits = PlainLimits::of(parts.freezer.limits());
     if let Err(why) = freeze_to_end(&mut parts.freezer, &queue) {
         return Err(put_back(queue, parts, why));
     }
-    let plain = take_plain(parts.room, parts.waiting);
-    match parts.freezer.remove(queue, plain) {
+    match parts.freezer.remove(queue, parts.waiting) {
         Ok(left) => Ok(Final { dead: left.dead, kills: left.kills, releases: left.releases, limits }),
         Err(_) => unreachable!(),
     }
@@ -108,8 +85,8 @@ impl OpenFreezer {
     ///
     /// - `missing_tags(self)` is 0.
     pub fn end(self) -> Result<Final, KeptFreezer> {
-        let Self { before: _, queue, number, tags, waiting, room, freezer, after: _ } = self;
-        let parts = Parts { number, tags, waiting, room, freezer };
+        let Self { before: _, queue, number, tags, waiting, freezer, after: _ } = self;
+        let parts = Parts { number, tags, waiting, freezer };
         match Arc::try_unwrap(queue) {
             Ok(queue) => remove(queue, parts),
             Err(queue) => {

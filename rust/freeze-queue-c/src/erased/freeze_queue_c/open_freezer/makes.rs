@@ -3,15 +3,12 @@
 
 use super::OpenFreezer;
 use super::ends::Parts;
-use crate::erased::biased_queue::BiasedQueue;
 use crate::erased::c_answers::{DrawnNumber, Misuse};
-use crate::erased::fallible::TryVec;
 use crate::erased::freeze_queue_c::plain_limits::PlainLimits;
 use crate::erased::freeze_queue_c::refusal::Refusal;
 use crate::erased::percpu_core::SLOT_LIMIT;
 use crate::erased::pointers::Arc;
-use crate::erased::queue_core::{Limits, MOST_TAGS};
-use alloc::vec::Vec;
+use crate::erased::queue_core::{BlockQueue, Limits, MOST_TAGS};
 
 /// The misuse of a queue size that no queue has.
 fn refuse_size(slots: u32, tags: u32) -> Result<(), Misuse> {
@@ -34,36 +31,26 @@ impl OpenFreezer {
     ///
     /// # Preconditions
     ///
-    /// - `IsOf(parts.freezer, arc_value(queue))`: the freezer belongs to this queue's gate and lanes.
-    /// - `parts.tags` is `parts.freezer.freezer.tags`.
+    /// - `parts.freezer.queue` is `arc_value(queue)`.
+    /// - `parts.tags` is `parts.freezer.tags`.
     /// - `parts.tags` is at most `vec_capacity(parts.waiting)`.
-    /// - `parts.tags` is at most `vec_capacity(parts.room)`.
-    /// - `parts.room` is `[]`.
     /// - `All(Waits(arc_value(queue)), parts.waiting)`.
     /// - `parts.waiting.len()` is at most `parts.tags`.
-    /// - `IsBiasedQueue(arc_value(queue))`: every such queue has lanes that were made for it.
-    pub(super) fn of(queue: Arc<BiasedQueue>, parts: Parts) -> OpenFreezer {
-        let Parts { number, tags, waiting, room, freezer } = parts;
-        OpenFreezer { before: [0; 16], queue, number, tags, waiting, room, freezer, after: [0; 16] }
+    pub(super) fn of(queue: Arc<BlockQueue>, parts: Parts) -> OpenFreezer {
+        let Parts { number, tags, waiting, freezer } = parts;
+        OpenFreezer { before: [0; 16], queue, number, tags, waiting, freezer, after: [0; 16] }
     }
 
     /// Makes the freezer of a new queue. Refuses with the limits' faults, Size or Memory.
     pub fn new(number: DrawnNumber, limits: &PlainLimits, slots: u32, tags: u32) -> Result<OpenFreezer, Refusal> {
         let limits = checked(limits, slots, tags)?;
-        let Ok((queue, freezer, waiting)) = BiasedQueue::new(limits, slots, tags) else {
+        let Ok((queue, freezer, waiting)) = BlockQueue::new(limits, slots, tags) else {
             return Err(Refusal::OfMisuse(Misuse::Memory));
         };
-        let Ok(room) = Vec::try_with_room(tags as usize) else {
-            return Err(Refusal::OfMisuse(Misuse::Memory));
-        };
-        // A new queue has each of its tags.
-        if waiting.len() != tags as usize {
-            return Err(Refusal::OfMisuse(Misuse::Memory));
-        }
         let Ok(queue) = Arc::try_new(queue) else {
             return Err(Refusal::OfMisuse(Misuse::Memory));
         };
-        let parts = Parts { number, tags, waiting, room, freezer };
+        let parts = Parts { number, tags, waiting, freezer };
         Ok(OpenFreezer::of(queue, parts))
     }
 }

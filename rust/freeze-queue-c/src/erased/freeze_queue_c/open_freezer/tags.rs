@@ -17,10 +17,11 @@ impl OpenFreezer {
             self.waiting.push(tag);
             return Err(Misuse::Memory);
         };
-        match Box::try_from_value(OpenTag::new(queue, self.number, tag)) {
+        let biased = tag.into_biased(self.freezer.limits());
+        match Box::try_from_value(OpenTag::new(queue, self.number, biased)) {
             Ok(open) => Ok(open),
             Err(back) => {
-                self.waiting.push(back.value.into_tag());
+                self.take_back(back.value);
                 Err(Misuse::Memory)
             }
         }
@@ -39,13 +40,18 @@ impl OpenFreezer {
         }
     }
 
-    /// Takes back a tag that has no bias. There is room for it.
+    /// Takes back a tag that has no bias and isn't in. There is room for it.
     ///
     /// # Preconditions
     ///
-    /// - `Waits(self.queue, tag.tag)`: a tag that no handle has is of the queue, has no bias, and isn't in.
-    /// - `self.waiting.len()` is less than `self.freezer.freezer.tags`.
+    /// - `tag` belongs to `self.queue`.
+    /// - `stage(tag.tag)` is `Unbiased`.
+    /// - `in_now(tag.tag)` is `false`.
+    /// - `self.waiting.len()` is less than `self.freezer.tags`.
     pub fn take_back(&mut self, tag: OpenTag) {
-        self.waiting.push(tag.into_tag());
+        match tag.into_tag().into_tag() {
+            Ok(plain) => self.waiting.push(plain),
+            Err(_) => unreachable!(),
+        }
     }
 }

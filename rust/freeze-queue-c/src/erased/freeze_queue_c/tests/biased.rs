@@ -26,7 +26,7 @@ fn an_idle_bias_holds_up_no_freeze() {
     assert!(biases(&mut tag));
     assert!(freeze_queue_start_freeze(&mut freezer, &mut depth) == 4);
     assert!(freeze_queue_poll_drained(&mut freezer));
-    assert!(freeze_queue_try_enter(&mut tag, 1) == 3);
+    assert!(freeze_queue_try_enter(&mut tag, 1) == 2);
     assert!(freeze_queue_set(&mut freezer, &next) == 0);
     assert!(freeze_queue_thaw(&mut freezer, &mut depth) == 5);
     assert!(freeze_queue_try_enter(&mut tag, 1) == 0);

@@ -1,0 +1,2 @@
+-- Own: the tag of a thread.
+pub mod Own

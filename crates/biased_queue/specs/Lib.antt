@@ -1,6 +1,0 @@
-pub mod Parked
-pub mod Biased
-pub mod Steps
-pub mod AtTheGate
-pub mod Freezing
-pub mod Laws
