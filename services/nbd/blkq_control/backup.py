@@ -5,6 +5,7 @@ import glob
 import json
 import os
 import shutil
+import signal
 import stat
 import subprocess
 import sys
@@ -12,7 +13,7 @@ import tempfile
 import time
 from contextlib import contextmanager, suppress
 
-from blkq_control.command import Command, Ended, Overdue, Unheard, raised_signals
+from blkq_control.command import PASSED_ON, Command, Ended, Overdue, Unheard, raised_signals
 from blkq_control.held import HOLD, tell
 from blkq_control.live import END, TAKE, Last, copy_changes, freeze_for, need_answer, prepared
 from blkq_control.members import uri_of
@@ -60,15 +61,20 @@ def replacing(path):
         return
     path = os.path.realpath(path)
     remove_left(path)
-    at, new = tempfile.mkstemp(".new", f"{os.path.basename(path)}.", os.path.dirname(path) or ".")
+    before = signal.pthread_sigmask(signal.SIG_BLOCK, PASSED_ON)  # one that came between the file and the block would leave the file
     try:
-        fcntl.flock(at, fcntl.LOCK_EX)
-        yield new
-        move(new, path)
+        at, new = tempfile.mkstemp(".new", f"{os.path.basename(path)}.", os.path.dirname(path) or ".")
+        try:
+            signal.pthread_sigmask(signal.SIG_SETMASK, before)
+            fcntl.flock(at, fcntl.LOCK_EX)
+            yield new
+            move(new, path)
+        finally:
+            with suppress(FileNotFoundError):
+                os.unlink(new)
+            os.close(at)
     finally:
-        with suppress(FileNotFoundError):
-            os.unlink(new)
-        os.close(at)
+        signal.pthread_sigmask(signal.SIG_SETMASK, before)
 
 
 # ---- The copy ----
