@@ -6,7 +6,7 @@
 #   make check-races                   tests the explorer of races, without the kit
 #   make prove                         proves the crates, and builds the programs from them: needs the kit, and some minutes
 #   make install PREFIX=/usr/local     installs the programs and the manuals below DESTDIR and PREFIX
-#   make install-c PREFIX=/usr/local   builds and installs both libraries for C, the queue's and the gate's: the proved ones
+#   make install-c PREFIX=/usr/local   builds and installs both libraries for C, the queue's and the gate's (uninstall-c removes them): the proved ones
 #                                      if the Rattle kit or a release of this tree is there, otherwise cargo's, in seconds
 #   make deb                           builds packages for Debian with cargo, in DEB (out/deb)
 #   make dist                          makes a release of the last commit in RELEASE (out/release), with the proved libraries for C if the
@@ -79,6 +79,9 @@ install-programs:
 install-c:
 	$(MAKE) --no-print-directory -C c install PREFIX=$(PREFIX) RELEASE=$(abspath $(RELEASE))
 
+uninstall-c:
+	$(MAKE) --no-print-directory -C c uninstall PREFIX=$(PREFIX)
+
 install-nbd:
 	$(MAKE) -C services/nbd install PREFIX=$(PREFIX)
 
@@ -94,4 +97,4 @@ dist:
 measure:
 	tools/measure $(WHAT)
 
-.PHONY: all check check-races builds prove plain install install-plain install-programs install-c install-nbd uninstall-nbd deb dist measure
+.PHONY: all check check-races builds prove plain install install-plain install-programs install-c uninstall-c install-nbd uninstall-nbd deb dist measure

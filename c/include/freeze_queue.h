@@ -189,6 +189,9 @@ static inline bool freeze_queue_is_misuse(freeze_queue_answer answer) { return (
 /* Returns a short text for an answer. It is never freed. */
 const char *freeze_queue_text(freeze_queue_answer answer);
 
+/* Returns the version of the library, which isn't FREEZE_QUEUE_VERSION if the headers are another version's. It is never freed. */
+const char *freeze_queue_version(void);
+
 /* ---- A queue comes and goes: the thread that has the queue's handle. ---- */
 
 /* Makes a live queue of these limits that counts on 1 to 512 slots, with 1 to 1,023 tags, and opens the handle, which must be
@@ -283,6 +286,13 @@ freeze_queue_answer freeze_queue_limits_in_force(freeze_queue *queue, freeze_que
  * ERR_CHUNK_TOO_LARGE, ERR_BAD_PHYSICAL, ERR_BAD_RANGE. Linux: get_max_io_size (block/blk-merge.c). */
 FREEZE_QUEUE_MUST_USE freeze_queue_answer freeze_queue_first_piece(const freeze_queue_limits *limits, uint64_t start,
                                                         uint32_t count, uint32_t *piece);
+
+/* Code with the bodies of these headers in it links only with a library that lays the handles, the waits and the pool out alike: its
+ * number in this name changes with the layout. */
+#if defined(FREEZE_QUEUE_BODIES) && !defined(FREEZE_QUEUE_LIBRARY)
+extern const char freeze_queue_layout_1;
+static const char *const freeze_queue_layout __attribute__((used)) = &freeze_queue_layout_1;
+#endif
 
 /* ---- The thread sanitizer ---- */
 

@@ -64,8 +64,9 @@ FREEZE_QUEUE_CALL freeze_queue_answer freeze_queue_waits_free(freeze_queue_waits
  * still in flight. Linux: blk_queue_dying. */
 FREEZE_QUEUE_CALL bool freeze_queue_waits_is_dying(freeze_queue_waits *waits);
 
-/* Wakes the threads that wait for the drain, if the queue is drained. Call it after a call of freeze_queue.h whose
- * result makes freeze_queue_is_drained true. */
+/* Shows the queue's state: wakes the threads that wait for it, sets the events, and has depth, limits and is_drained tell it. Call
+ * it after a call of freeze_queue.h whose result makes freeze_queue_is_drained true, or that freezes, sets or thaws. If another
+ * call has the lock, that call does it, and this one doesn't wait. */
 FREEZE_QUEUE_CALL void freeze_queue_waits_notify(freeze_queue_waits *waits);
 
 /* Enters unless the queue is frozen: OK, NOT_ENTERED. After NOT_ENTERED try again once live_event is readable. ERR_CLOSED,
@@ -119,14 +120,14 @@ FREEZE_QUEUE_MUST_USE FREEZE_QUEUE_CALL freeze_queue_answer freeze_queue_waits_t
 FREEZE_QUEUE_MUST_USE FREEZE_QUEUE_CALL freeze_queue_answer freeze_queue_waits_mode(freeze_queue_waits *waits,
                                                                                     uint32_t mode);
 
-/* Write the depth, and the limits in force. Another thread may change both before the call returns. ERR_CLOSED. */
+/* Write the depth, and the limits in force, and take no lock. Another thread may change both before the call returns. ERR_CLOSED. */
 FREEZE_QUEUE_CALL freeze_queue_answer freeze_queue_waits_depth(freeze_queue_waits *waits, uint32_t *depth);
 FREEZE_QUEUE_CALL freeze_queue_answer freeze_queue_waits_limits(freeze_queue_waits *waits, freeze_queue_limits *limits);
 
 /* Freezes the queue, sets its limits once it is drained, and thaws it: OK if they are set, also in a dying queue. It checks
- * the limits first, so no thread waits for limits that are refused. Changes and updates run one at a time.
- * ERR_BAD_DEADLINE, ERR_CLOSED, the refusals of limits, ERR_OTHER_HARDWARE, ERR_IN_UPDATE, ERR_DEPTH_FULL, ERR_WORN_OUT, ERR_TIMED_OUT,
- * ERR_NOT_FROZEN if another thread has thawed its freeze. */
+ * the limits first, so no thread waits for limits that are refused. Changes and updates run one at a time, in the order in which
+ * they came. ERR_BAD_DEADLINE, ERR_CLOSED, the refusals of limits, ERR_OTHER_HARDWARE, ERR_TIMED_OUT, ERR_IN_UPDATE,
+ * ERR_DEPTH_FULL, ERR_WORN_OUT, and ERR_NOT_FROZEN if another thread has thawed its freeze. */
 FREEZE_QUEUE_MUST_USE FREEZE_QUEUE_CALL freeze_queue_answer freeze_queue_waits_change(freeze_queue_waits *waits,
                                                                                       const freeze_queue_limits *limits,
                                                                                       const struct timespec *deadline);

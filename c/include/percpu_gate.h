@@ -139,6 +139,9 @@ static inline bool percpu_gate_is_misuse(percpu_gate_answer answer) { return (ui
 /* Returns a short text for an answer. It is never freed. */
 const char *percpu_gate_text(percpu_gate_answer answer);
 
+/* Returns the version of the library, which isn't PERCPU_GATE_VERSION if the headers are another version's. It is never freed. */
+const char *percpu_gate_version(void);
+
 /* ---- Making and ending a gate: for the thread that has the control. ---- */
 
 /* Makes a gate of 1 to 512 slots and 1 to 1,024 passes with these guarded words, and opens the handle, which must be closed.

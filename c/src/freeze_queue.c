@@ -7,6 +7,10 @@
 #include <stddef.h>
 #include <time.h>
 
+/* What programs link with that have the headers' bodies in them. */
+extern const char freeze_queue_layout_1;
+const char freeze_queue_layout_1 = 1;
+
 /* The place of a counter, and what it drew. No counter draws a number twice, and no two lie at one place. */
 struct queue_number { uint64_t counter, drawn; };
 
@@ -166,6 +170,8 @@ freeze_queue_answer freeze_queue_free(freeze_queue *queue)
     freeze_queue_free_freezer(queue);
     return FREEZE_QUEUE_OK;
 }
+
+const char *freeze_queue_version(void) { return FREEZE_QUEUE_VERSION; }
 
 const char *freeze_queue_text(freeze_queue_answer answer)
 {

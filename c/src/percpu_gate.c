@@ -17,6 +17,8 @@ percpu_gate_answer percpu_gate_new(percpu_gate_control *control, uint32_t slots,
     return percpu_gate_new_numbered(control, &number, slots, passes, start, words);
 }
 
+const char *percpu_gate_version(void) { return PERCPU_GATE_VERSION; }
+
 const char *percpu_gate_text(percpu_gate_answer answer)
 {
     switch (answer) {

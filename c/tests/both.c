@@ -3,6 +3,7 @@
 #include "percpu_gate.h"
 
 #include <stdio.h>
+#include <string.h>
 
 int main(void)
 {
@@ -27,6 +28,8 @@ int main(void)
     if (percpu_gate_retire(&control, &pass) || percpu_gate_exit(&control, &left) ||
         freeze_queue_give_tag_back(&freezer, &tag) || freeze_queue_remove(&freezer, &last))
         return 5;
+    if (strcmp(percpu_gate_version(), PERCPU_GATE_VERSION) != 0 || strcmp(freeze_queue_version(), FREEZE_QUEUE_VERSION) != 0)
+        return 6;
     printf("%s, %s\n", percpu_gate_text(PERCPU_GATE_LAST), freeze_queue_text(FREEZE_QUEUE_LAST));
     return 0;
 }

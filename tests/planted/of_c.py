@@ -21,14 +21,15 @@ MEMORY = ["-fsanitize=address,undefined", "-fno-sanitize-recover=all"]
 # A test, its arguments, and flags for the compiler; the quickest first.
 TESTS = [
     ("told", [], []),
-    ("orders", [], []),
-    ("orders_pool", [], []),
     ("scripted", [], []),
     ("scripted_pool", [], []),
     ("scripted_ends", [], []),
     ("scripted_looks", [], []),
-    ("orders", [], ["-DFREEZE_QUEUE_LOOK=700"]),
     ("unmade", [], []),
+    ("in_line", ["30"], []),
+    ("orders_pool", [], []),
+    ("orders", [], []),
+    ("orders", [], ["-DFREEZE_QUEUE_LOOK=700"]),
     ("forked", [], []),
     ("biased", ["300"], []),
     ("misuse", [], []),

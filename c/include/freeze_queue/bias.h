@@ -74,9 +74,11 @@ static inline void freeze_queue_waits_pauses(freeze_queue_waits_state *waits, ui
     __atomic_store_n(&waits->unbiased_until, waits->pause_end, __ATOMIC_RELAXED);
 }
 
-/* Begins a freeze, as freeze_queue_start_freeze does. No tag that leaves meanwhile is biased. */
+/* Begins a freeze, as freeze_queue_start_freeze does. No tag that leaves meanwhile is biased. A call that isn't entered since the freeze
+ * begins finds that shown, so that it sleeps. */
 static inline freeze_queue_answer freeze_queue_waits_starts(freeze_queue_waits_state *waits, uint32_t *depth)
 {
+    __atomic_store_n(&waits->shown, waits->shown | FREEZE_QUEUE_FREEZES, __ATOMIC_RELEASE);
     if (!__atomic_load_n(&waits->has_biased, __ATOMIC_RELAXED))
         return freeze_queue_start_freeze(waits->queue, depth);
     const uint64_t from = freeze_queue_nanoseconds();

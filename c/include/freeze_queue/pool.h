@@ -53,7 +53,7 @@ typedef struct freeze_queue_pool_state {
 } __attribute__((may_alias)) freeze_queue_pool_state;
 
 #if defined(__cplusplus) || __STDC_VERSION__ >= 201112L
-static_assert(sizeof(freeze_queue_pool_state) <= sizeof(freeze_queue_pool), "the reserve has room for it");
+static_assert(sizeof(freeze_queue_pool_state) + 128 <= sizeof(freeze_queue_pool), "later versions have 128 bytes");
 #endif
 
 static inline freeze_queue_pool_state *freeze_queue_pool_state_of(freeze_queue_pool *of)
@@ -188,15 +188,6 @@ static inline void freeze_queue_pool_shows(freeze_queue_pool_state *pool)
     pool->is_armed = false;
 }
 
-/* Sleeps until a tag comes back, and returns false if the deadline passed first. Call it under the lock. */
-static inline bool freeze_queue_pool_sleep(freeze_queue_pool_state *pool, const struct timespec *deadline)
-{
-    if (deadline)
-        return pthread_cond_timedwait(&pool->given_back, &pool->lock, deadline) == 0;
-    pthread_cond_wait(&pool->given_back, &pool->lock);
-    return true;
-}
-
 /* Waits for a tag, for a call of freeze_queue_pool_take_waiting that found none at once. */
 FREEZE_QUEUE_APART freeze_queue_answer freeze_queue_pool_waits_for_tag(freeze_queue_pool_state *pool, uint32_t hint,
                                                             const struct timespec *deadline, freeze_queue_tag **taken)
@@ -206,7 +197,7 @@ FREEZE_QUEUE_APART freeze_queue_answer freeze_queue_pool_waits_for_tag(freeze_qu
     pool->waiting++;
     bool in_time = true;
     while (!pool->is_ending && (*taken = freeze_queue_pool_takes_or_awaits(pool, hint)) == NULL && in_time)
-        in_time = freeze_queue_pool_sleep(pool, deadline);
+        in_time = freeze_queue_sleeps_on(&pool->given_back, &pool->lock, deadline);
     const bool is_ending = pool->is_ending;
     if (--pool->waiting == 0 && is_ending)
         pthread_cond_broadcast(&pool->given_back);

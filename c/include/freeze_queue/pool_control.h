@@ -99,17 +99,6 @@ static inline bool freeze_queue_pool_is_out(freeze_queue_pool_state *pool)
     return is_out;
 }
 
-/* Makes the lock and the condition of a pool; if one is refused, makes neither and returns false. */
-static inline bool freeze_queue_pool_makes_lock(freeze_queue_pool_state *pool)
-{
-    if (freeze_queue_new_lock(&pool->lock) != 0)
-        return false;
-    if (freeze_queue_new_condition(&pool->given_back) == 0)
-        return true;
-    pthread_mutex_destroy(&pool->lock);
-    return false;
-}
-
 /* Destroys what freeze_queue_pool_fill made, except the tags, and closes the event. */
 static inline void freeze_queue_pool_goes(freeze_queue_pool_state *pool)
 {
@@ -145,7 +134,7 @@ FREEZE_QUEUE_CALL freeze_queue_answer freeze_queue_pool_fill(freeze_queue_pool *
     for (; given < count; given++)
         if ((answer = freeze_queue_waits_next_tag(waits, &pool->tags[given].tag)) != FREEZE_QUEUE_OK)
             break;
-    if (answer == FREEZE_QUEUE_OK && !freeze_queue_pool_makes_lock(pool))
+    if (answer == FREEZE_QUEUE_OK && !freeze_queue_makes(&pool->lock, &pool->given_back))
         answer = FREEZE_QUEUE_ERR_NO_MEMORY;
     if (answer != FREEZE_QUEUE_OK) {
         freeze_queue_answer returned = freeze_queue_pool_return(pool, &given);
@@ -204,7 +193,7 @@ static inline uint32_t freeze_queue_pool_takes_all(freeze_queue_pool_state *pool
         if (taken < pool->count && freeze_queue_pool_takes_place(&pool->tags[taken]))
             taken++;
         else if (in_time)
-            in_time = freeze_queue_pool_sleep(pool, deadline);
+            in_time = freeze_queue_sleeps_on(&pool->given_back, &pool->lock, deadline);
         else
             break;
     }

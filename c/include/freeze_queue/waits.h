@@ -10,85 +10,6 @@
 
 /* ---- Internal: under the lock ---- */
 
-/* Whether another try to enter is worthwhile, because the queue is live or dying; whether the queue is drained; and the same, or whether a freeze was
- * thawed. Call them under the lock. */
-static inline bool freeze_queue_waits_sees_live(freeze_queue_waits_state *waits)
-{
-    uint32_t depth = 1;
-    freeze_queue_depth(waits->queue, &depth);
-    return depth == 0 || waits->is_dying;
-}
-static inline bool freeze_queue_waits_sees_drained(freeze_queue_waits_state *waits)
-{
-    return freeze_queue_poll_drained(waits->queue);
-}
-static inline bool freeze_queue_waits_sees_live_for(freeze_queue_waits_state *waits, const freeze_queue_waits_frozen *own)
-{
-    (void)own;
-    return freeze_queue_waits_sees_live(waits);
-}
-static inline bool freeze_queue_waits_sees_end(freeze_queue_waits_state *waits, const freeze_queue_waits_frozen *own)
-{
-    return own->is_thawed || freeze_queue_waits_sees_drained(waits);
-}
-
-/* Makes an event readable, or not. A process that was forked after the event was opened leaves its parent's event alone. */
-static inline void freeze_queue_raise(int event, int64_t opened_by, bool readable)
-{
-#if defined(__linux__)
-    uint64_t count;
-    if (event < 0 || opened_by != getpid())
-        return;
-    if (readable)
-        (void)eventfd_write(event, 1);
-    else
-        (void)eventfd_read(event, &count);
-#else
-    (void)event, (void)opened_by, (void)readable;
-#endif
-}
-
-/* Wakes the calls that wait for the queue's present state, and sets the events. Call it under the lock, after each change. */
-static inline void freeze_queue_waits_show(freeze_queue_waits_state *waits)
-{
-    bool live = freeze_queue_waits_sees_live(waits), drained = freeze_queue_waits_sees_drained(waits);
-    if (live)
-        pthread_cond_broadcast(&waits->live);
-    if (drained)
-        pthread_cond_broadcast(&waits->drained);
-    freeze_queue_raise(waits->live_event, waits->events_of, live);
-    freeze_queue_raise(waits->drained_event, waits->events_of, drained);
-}
-
-/* What a call waits for. */
-typedef bool freeze_queue_waits_sees(freeze_queue_waits_state *waits, const freeze_queue_waits_frozen *own);
-
-/* Ends a call that was counted in inside. Call it under the lock. */
-static inline void freeze_queue_waits_goes_out(freeze_queue_waits_state *waits)
-{
-    if (--waits->inside == 0 && waits->is_dying)
-        pthread_cond_broadcast(&waits->out);
-}
-
-/* Sleeps until sees returns true, and returns false if the deadline passed first. Call it under the lock, which it releases while
- * it sleeps. Meanwhile the call is counted in inside, so that freeze_queue_waits_end waits for it. */
-static inline bool freeze_queue_waits_sleep(freeze_queue_waits_state *waits, freeze_queue_waits_sees *sees, const freeze_queue_waits_frozen *own,
-                                            pthread_cond_t *condition, const struct timespec *deadline)
-{
-    const int cancelled = freeze_queue_isnt_cancelled();
-    bool seen = sees(waits, own);
-    waits->inside++;
-    for (bool in_time = true; !seen && in_time; seen = sees(waits, own)) {
-        if (deadline)
-            in_time = pthread_cond_timedwait(condition, &waits->lock, deadline) == 0;
-        else
-            pthread_cond_wait(condition, &waits->lock);
-    }
-    freeze_queue_waits_goes_out(waits);
-    freeze_queue_may_be_cancelled(cancelled);
-    return seen;
-}
-
 /* Ends a freeze, but never the freeze of freeze_queue_waits_mark_dying, and shows the new state. Call it under the lock. */
 static inline freeze_queue_answer freeze_queue_waits_thaw_one(freeze_queue_waits_state *waits)
 {
@@ -110,12 +31,16 @@ FREEZE_QUEUE_CALL bool freeze_queue_waits_is_dying(freeze_queue_waits *of)
     return __atomic_load_n(&waits->is_dying, __ATOMIC_SEQ_CST) != 0;
 }
 
+/* If another call has the lock, that call shows the state: no leave waits for a change. */
 FREEZE_QUEUE_CALL void freeze_queue_waits_notify(freeze_queue_waits *of)
 {
     freeze_queue_waits_state *waits = freeze_queue_waits_state_of(of);
-    freeze_queue_waits_lock(waits);
-    freeze_queue_waits_show(waits);
-    pthread_mutex_unlock(&waits->lock);
+    uint32_t seen = 0;
+    while (!freeze_queue_waits_swaps(waits, &seen, seen == 0 ? (uint32_t)FREEZE_QUEUE_TAKEN : seen + FREEZE_QUEUE_OWED)) {}
+    if (seen != 0)
+        return;
+    freeze_queue_waits_show_all(waits);
+    freeze_queue_waits_unlock(waits);
 }
 
 /* ---- Internal: the slow paths of the quick calls, functions of their own, so that a loop around a call keeps its registers ---- */
@@ -153,6 +78,35 @@ FREEZE_QUEUE_APART freeze_queue_answer freeze_queue_waits_was_last(freeze_queue_
     return FREEZE_QUEUE_OK;
 }
 
+/* Polls while another call has the lock, since its change may be over in a moment. Returns whether the queue is live or dying. */
+static inline bool freeze_queue_waits_is_live_soon(freeze_queue_waits_state *waits)
+{
+    if (FREEZE_QUEUE_LOOK == 0 || __atomic_load_n(&waits->taken, __ATOMIC_RELAXED) == 0)
+        return false;
+    const struct timespec until = freeze_queue_deadline(2 * FREEZE_QUEUE_LOOK);
+    while (!freeze_queue_waits_is_live(waits))
+        if (!freeze_queue_waits_goes_on(&until) || __atomic_load_n(&waits->taken, __ATOMIC_RELAXED) == 0)
+            return false;
+    return true;
+}
+
+/* Polls, and then sleeps until the queue is live or dying. Returns false if the deadline passed first. */
+static inline bool freeze_queue_waits_for_live(freeze_queue_waits_state *waits, const struct timespec *deadline)
+{
+    if (freeze_queue_waits_is_live_soon(waits))
+        return true;
+    bool in_time = true;
+    const int cancelled = freeze_queue_isnt_cancelled();
+    freeze_queue_locks(&waits->guard);
+    __atomic_store_n(&waits->entering, waits->entering + 1, __ATOMIC_SEQ_CST);
+    while (!freeze_queue_waits_is_live(waits) && in_time)
+        in_time = freeze_queue_sleeps_on(&waits->live, &waits->guard, deadline);
+    __atomic_store_n(&waits->entering, waits->entering - 1, __ATOMIC_SEQ_CST);
+    pthread_mutex_unlock(&waits->guard);
+    freeze_queue_may_be_cancelled(cancelled);
+    return in_time;
+}
+
 /* Waits for the thaw and tries again, also past a thaw that another freeze followed at once, but not past the deadline. Returns as
  * freeze_queue_waits_enter does. */
 FREEZE_QUEUE_APART freeze_queue_answer freeze_queue_waits_enters_later(freeze_queue_waits *of, freeze_queue_tag *tag,
@@ -161,13 +115,9 @@ FREEZE_QUEUE_APART freeze_queue_answer freeze_queue_waits_enters_later(freeze_qu
     freeze_queue_waits_state *waits = freeze_queue_waits_state_of(of);
     freeze_queue_answer answer = FREEZE_QUEUE_NOT_ENTERED;
     while (answer == FREEZE_QUEUE_NOT_ENTERED) {
-        freeze_queue_waits_lock(waits);
-        bool live = freeze_queue_waits_sleep(waits, freeze_queue_waits_sees_live_for, NULL, &waits->live, deadline);
-        pthread_mutex_unlock(&waits->lock);
-        if (!live)
-            return FREEZE_QUEUE_ERR_TIMED_OUT;
+        const bool in_time = freeze_queue_waits_for_live(waits, deadline);
         answer = freeze_queue_waits_try_enter(of, tag, slot);
-        if (answer == FREEZE_QUEUE_NOT_ENTERED && deadline != NULL && !freeze_queue_waits_goes_on(deadline))
+        if (answer == FREEZE_QUEUE_NOT_ENTERED && (!in_time || (deadline != NULL && !freeze_queue_waits_goes_on(deadline))))
             return FREEZE_QUEUE_ERR_TIMED_OUT;
     }
     return answer;
@@ -228,5 +178,6 @@ FREEZE_QUEUE_CALL freeze_queue_answer freeze_queue_waits_leave(freeze_queue_wait
 }
 
 #include "waits_control.h"
+#include "waits_end.h"
 
 #endif

@@ -15,48 +15,69 @@
 #include <unistd.h>
 #endif
 
-/* The nanoseconds for which freeze, change and update poll for the drain before they sleep; a call tries to take a lock for twice
- * as long before it sleeps. A running thread leaves within that time, and sleeping and waking takes longer. A program with
+/* The nanoseconds for which freeze, change and update poll for the drain before they sleep; a call polls for the lock for twice
+ * as long. A running thread leaves within that time, and sleeping and waking takes longer. A program with
  * FREEZE_QUEUE_INLINE may define another number; with 0 calls sleep at once. */
 #ifndef FREEZE_QUEUE_LOOK
 #define FREEZE_QUEUE_LOOK 1000
 #endif
 #define FREEZE_QUEUE_APART __attribute__((noinline, cold, unused)) static
 
-/* A call that has begun a freeze and hasn't returned: it waits for the drain, or changes the limits. Another thread may thaw that freeze. */
-typedef struct freeze_queue_waits_frozen {
-    struct freeze_queue_waits_frozen *after;
+/* A call that waits until another wakes it, or has begun a freeze. It sleeps on its own condition, or on live if it couldn't make one;
+ * `on` is NULL while it doesn't sleep. is_thawed tells it that another thread has thawed its freeze. */
+typedef struct freeze_queue_waiter {
+    struct freeze_queue_waiter *after;
+    pthread_cond_t *on;
+    bool is_woken;
     bool is_thawed;
-} freeze_queue_waits_frozen;
+} freeze_queue_waiter;
 
-/* The state in a freeze_queue_waits, whose address is self. The queue is called under lock. Calls sleep on drained, on live (for
- * the thaw), on turn (for the end of another change) and on out (in freeze_queue_waits_end, for tags and for calls that return).
- * The events are -1 if they aren't open, and events_of is the process that opened them. inside counts the calls that sleep or
- * run a function. is_changing is true while a change or an update has its turn, is_calling while a function runs, on thread
- * caller, and is_ending while freeze_queue_waits_end waits. number is the queue's, and sets counts successful calls of
- * freeze_queue_waits_set. frozen is the list of calls that have begun a freeze, the oldest first, without those whose freeze was thawed.
+/* Calls in the order in which they came. */
+typedef struct freeze_queue_line {
+    freeze_queue_waiter *first;
+    freeze_queue_waiter *last;
+} freeze_queue_line;
+
+/* The state in a freeze_queue_waits, whose address is self.
  *
- * Requests read freezes and unbiased_until, which lie some 128 bytes after what other calls write under the lock. freezes counts the
+ * The queue is called under the lock: the word taken, and the line of calls that wait for it, each of which gets it in its turn. The lock
+ * protects: inside, the number of calls that wait for a drain or a turn or run a function; the line turns of changes and updates, of which
+ * one has its turn while is_changing; the list frozen of calls that have begun a freeze, without those whose freeze was thawed; ender, the
+ * call of freeze_queue_waits_end that waits; is_ending while one does; is_calling while the function of an update runs, on thread caller;
+ * and sets, the number of successful calls of freeze_queue_waits_set.
+ *
+ * The guard is held for moments only. It protects the line of the lock, and sleeping. entering calls sleep on live, for the thaw.
+ *
+ * shown and limits are for looks that take no lock: shown has the depth, whether the queue is drained and whether a freeze begins. The events are -1 if they aren't open, and events_of is the process that opened them. number is the queue's.
+ *
+ * Requests read freezes and unbiased_until, which lie some 100 bytes after what other calls write under the lock. freezes counts the
  * freezes that take biases away, starting at 1; a tag has the count that was read when it was biased. No tag is biased until the
  * time unbiased_until, in nanoseconds; 0 means that tags may be biased now. has_biased is 1 once a tag may have a bias. The lock
  * protects the pause in which no tag is biased: when it ends, its length, and its length in times of what taking the biases took. */
 typedef struct freeze_queue_waits_state {
     freeze_queue_waits *self;
     freeze_queue *queue;
-    pthread_mutex_t lock;
-    pthread_cond_t drained;
+    pthread_mutex_t guard;
     pthread_cond_t live;
-    pthread_cond_t turn;
-    pthread_cond_t out;
+    uint32_t taken;
+    uint32_t entering;
+    freeze_queue_line line;
+    freeze_queue_line turns;
+    freeze_queue_line frozen;
+    freeze_queue_waiter *ender;
+    uint64_t sets;
+    pthread_t caller;
+    uint64_t pause_end;
+    uint64_t pause_length;
+    uint64_t pause_times;
     uint32_t inside;
     uint32_t is_dying;
-    uint64_t sets;
-    freeze_queue_waits_frozen *frozen;
-    pthread_t caller;
     bool is_changing;
     bool is_calling;
     bool is_ending;
-    char apart[96];
+    uint32_t shown;
+    uint64_t limits;
+    char apart[72];
     uint64_t number; /* these four stay as they are from before the first request on */
     int64_t events_of;
     int drained_event;
@@ -64,14 +85,10 @@ typedef struct freeze_queue_waits_state {
     uint64_t freezes;
     uint64_t unbiased_until;
     uint8_t has_biased;
-    char apart_too[31];
-    uint64_t pause_end;
-    uint64_t pause_length;
-    uint64_t pause_times;
 } __attribute__((may_alias)) freeze_queue_waits_state;
 
 #if defined(__cplusplus) || __STDC_VERSION__ >= 201112L
-static_assert(sizeof(freeze_queue_waits_state) <= sizeof(freeze_queue_waits), "the reserve has room for it");
+static_assert(sizeof(freeze_queue_waits_state) + 128 <= sizeof(freeze_queue_waits), "later versions have 128 bytes");
 #endif
 
 static inline freeze_queue_waits_state *freeze_queue_waits_state_of(freeze_queue_waits *of)
@@ -115,25 +132,6 @@ static inline bool freeze_queue_waits_goes_on(const struct timespec *until)
     return now.tv_sec < until->tv_sec || (now.tv_sec == until->tv_sec && now.tv_nsec < until->tv_nsec);
 }
 
-/* Tries to take the lock for twice as long as a call that freezes polls under it, and returns whether it did. */
-static inline bool freeze_queue_waits_tries_lock(freeze_queue_waits_state *waits)
-{
-    if (pthread_mutex_trylock(&waits->lock) == 0)
-        return true;
-    const struct timespec until = freeze_queue_deadline(2 * FREEZE_QUEUE_LOOK);
-    while (freeze_queue_waits_goes_on(&until))
-        if (pthread_mutex_trylock(&waits->lock) == 0)
-            return true;
-    return false;
-}
-
-/* Takes the lock. Another call seldom has it for longer than this call tries. */
-static inline void freeze_queue_waits_lock(freeze_queue_waits_state *waits)
-{
-    if (FREEZE_QUEUE_LOOK == 0 || !freeze_queue_waits_tries_lock(waits))
-        freeze_queue_locks(&waits->lock);
-}
-
 /* ---- Internal: cancellation. A thread isn't cancelled in a call that waits: it would leave its freeze, its turn or the lock behind. ---- */
 
 static inline int freeze_queue_isnt_cancelled(void)
@@ -149,6 +147,15 @@ static inline void freeze_queue_may_be_cancelled(int before)
 }
 
 /* ---- Internal: conditions ---- */
+
+/* Sleeps on a condition by a mutex. Returns false if the deadline has passed. */
+static inline bool freeze_queue_sleeps_on(pthread_cond_t *condition, pthread_mutex_t *lock, const struct timespec *deadline)
+{
+    if (deadline)
+        return pthread_cond_timedwait(condition, lock, deadline) == 0;
+    pthread_cond_wait(condition, lock);
+    return true;
+}
 
 /* Makes a condition variable on CLOCK_MONOTONIC. Returns 0, or the error of the call that failed. */
 static inline int freeze_queue_new_condition(pthread_cond_t *condition)
@@ -181,39 +188,34 @@ static inline int freeze_queue_new_lock(pthread_mutex_t *lock)
 #endif
 }
 
+#include "waits_lock.h"
+
 /* ---- Internal: made and destroyed ---- */
 
-/* Makes the mutex and the condition variables; if one is refused, makes none and returns false. */
-static inline bool freeze_queue_waits_makes(freeze_queue_waits_state *waits)
+/* Makes a mutex and a condition variable; if one is refused, makes neither and returns false. */
+static inline bool freeze_queue_makes(pthread_mutex_t *lock, pthread_cond_t *condition)
 {
-    pthread_cond_t *const conditions[] = {&waits->drained, &waits->live, &waits->turn, &waits->out};
-    int made = 0;
-    if (freeze_queue_new_lock(&waits->lock) != 0)
+    if (freeze_queue_new_lock(lock) != 0)
         return false;
-    while (made < 4 && freeze_queue_new_condition(conditions[made]) == 0)
-        made++;
-    if (made == 4)
+    if (freeze_queue_new_condition(condition) == 0)
         return true;
-    while (made > 0)
-        pthread_cond_destroy(conditions[--made]);
-    pthread_mutex_destroy(&waits->lock);
+    pthread_mutex_destroy(lock);
     return false;
 }
 
-/* Closes the events, destroys the mutex and the condition variables, and leaves the queue without waits. */
+/* Closes the events, destroys the mutex and the condition variable, and leaves the queue without waits. Call it under the lock. */
 static inline void freeze_queue_waits_goes(freeze_queue_waits_state *waits)
 {
+    freeze_queue_locks(&waits->guard); /* a call that handed over the lock has released it by then */
+    pthread_mutex_unlock(&waits->guard);
 #if defined(__linux__)
     if (waits->drained_event >= 0)
         close(waits->drained_event);
     if (waits->live_event >= 0)
         close(waits->live_event);
 #endif
-    pthread_cond_destroy(&waits->out);
-    pthread_cond_destroy(&waits->turn);
     pthread_cond_destroy(&waits->live);
-    pthread_cond_destroy(&waits->drained);
-    pthread_mutex_destroy(&waits->lock);
+    pthread_mutex_destroy(&waits->guard);
     waits->queue->reserved.words[0] = NULL;
     waits->self = NULL;
 }
@@ -228,22 +230,23 @@ FREEZE_QUEUE_CALL freeze_queue_answer freeze_queue_waits_init(freeze_queue_waits
         return FREEZE_QUEUE_ERR_CLOSED;
     if (queue->reserved.words[0] != NULL)
         return FREEZE_QUEUE_ERR_IN_USE;
-    if (!freeze_queue_waits_makes(waits))
+    if (!freeze_queue_makes(&waits->guard, &waits->live))
         return FREEZE_QUEUE_ERR_NO_MEMORY;
     waits->self = of;
     waits->queue = queue;
     waits->drained_event = waits->live_event = -1;
-    waits->inside = waits->is_dying = 0;
-    waits->is_changing = waits->is_calling = waits->is_ending = false;
     waits->events_of = 0;
     waits->number = number;
+    waits->line.first = waits->turns.first = waits->frozen.first = waits->ender = NULL;
+    waits->taken = waits->entering = waits->inside = waits->is_dying = waits->shown = 0;
+    waits->is_changing = waits->is_calling = waits->is_ending = false;
     waits->sets = 0;
-    waits->frozen = NULL;
     waits->freezes = 1;
     waits->unbiased_until = 0;
     waits->has_biased = 0;
     waits->pause_end = waits->pause_length = waits->pause_times = 0;
     queue->reserved.words[0] = of;
+    freeze_queue_waits_notify(of);
     return FREEZE_QUEUE_OK;
 }
 
@@ -253,12 +256,12 @@ FREEZE_QUEUE_CALL freeze_queue_answer freeze_queue_waits_destroy(freeze_queue_wa
     if (waits->self != of)
         return FREEZE_QUEUE_ERR_CLOSED;
     freeze_queue_waits_lock(waits);
-    const bool is_in_use = waits->inside > 0 || waits->is_ending;
-    pthread_mutex_unlock(&waits->lock);
+    const bool is_in_use = waits->inside > 0 || waits->is_ending || __atomic_load_n(&waits->entering, __ATOMIC_SEQ_CST) > 0;
     if (is_in_use)
-        return FREEZE_QUEUE_ERR_IN_USE;
-    freeze_queue_waits_goes(waits);
-    return FREEZE_QUEUE_OK;
+        freeze_queue_waits_unlock(waits);
+    else
+        freeze_queue_waits_goes(waits);
+    return is_in_use ? FREEZE_QUEUE_ERR_IN_USE : FREEZE_QUEUE_OK;
 }
 
 FREEZE_QUEUE_CALL freeze_queue_waits *freeze_queue_waits_new(freeze_queue *queue)

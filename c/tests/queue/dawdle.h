@@ -24,7 +24,6 @@ static inline void dawdle(void)
 }
 
 #define pthread_mutex_lock(lock) (dawdle(), pthread_mutex_lock(lock))
-#define pthread_mutex_trylock(lock) (dawdle(), pthread_mutex_trylock(lock))
 #define pthread_cond_wait(condition, lock) (dawdle(), pthread_cond_wait(condition, lock))
 #define pthread_cond_timedwait(condition, lock, until) (dawdle(), pthread_cond_timedwait(condition, lock, until))
 #define __atomic_load_n(at, order) (dawdle(), __atomic_load_n(at, order))

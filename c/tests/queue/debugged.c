@@ -69,8 +69,8 @@ static void given_while_entered(void)
 }
 static void locked_twice(void)
 {
-    freeze_queue_locks(&freeze_queue_waits_state_of(&waits[0])->lock);
-    freeze_queue_locks(&freeze_queue_waits_state_of(&waits[0])->lock);
+    freeze_queue_locks(&freeze_queue_waits_state_of(&waits[0])->guard);
+    freeze_queue_locks(&freeze_queue_waits_state_of(&waits[0])->guard);
 }
 
 /* Right use, of all kinds of calls, tells nothing. */

@@ -21,6 +21,9 @@ struct tag { struct queue *queue; bool entered, biased; };
 
 #include "own_calls.h"
 
+/* Where what of the library is C isn't linked. */
+__attribute__((weak)) const char freeze_queue_layout_1 = 1;
+
 static struct queue *locked(struct queue *queue)
 {
     pthread_mutex_lock(&queue->lock);

@@ -59,7 +59,7 @@ static void *submit(void *of)
 /* While the queue is drained: the counts are read, and a setting is made. Under the lock, since two threads freeze. */
 static void change(uint32_t max)
 {
-    pthread_mutex_lock(&IN_WAITS->lock);
+    freeze_queue_waits_lock(IN_WAITS);
     for (int i = 0; i < MOST; i++) {
         all_served += submitters[i].served;
         submitters[i].served = 0;
@@ -67,7 +67,7 @@ static void change(uint32_t max)
     setting.max = max;
     setting.chunk = 4 * max;
     need(freeze_queue_set(&freezer, &setting) == FREEZE_QUEUE_OK, "a set");
-    pthread_mutex_unlock(&IN_WAITS->lock);
+    freeze_queue_waits_unlock(IN_WAITS);
 }
 
 static void *freeze(void *of)

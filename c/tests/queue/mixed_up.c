@@ -47,7 +47,7 @@ static void deadlines_out_of_range(void)
     freeze_queue_pool *pool = freeze_queue_pool_new();
     const freeze_queue_limits other = {.hardware = 64, .max = 5};
     const long wrong[] = {-1, 1000000000, 2000000000, -999999999};
-    freeze_queue_limits now;
+    freeze_queue_limits now = {0, 0, 0, 0};
     uint32_t depth = 7;
     if (pool == NULL || freeze_queue_pool_fill(pool, &waits[0], 1))
         exit(1);

@@ -94,6 +94,29 @@ static void freezes_for_a_while(int me)
         NEED(!freeze_queue_is_refused(freeze_queue_waits_thaw(&waits)));
 }
 
+/* The last to leave doesn't wait for the calls that have the lock, and a look behind it finds the drain. */
+static void frozen_with_a_request(void)
+{
+    live();
+    if (enter(&tags[0], 0, false) != FREEZE_QUEUE_OK || freeze_queue_waits_begin_freeze(&waits) != FREEZE_QUEUE_OK)
+        abort();
+}
+static void leaves_beside_calls(int me)
+{
+    uint32_t depth;
+    if (me > 0) {
+        NEED(freeze_queue_waits_mode(&waits, FREEZE_QUEUE_MODE_SLOTS) == FREEZE_QUEUE_OK);
+        return;
+    }
+    NEED(freeze_queue_waits_leave(&waits, &tags[0], 0) == FREEZE_QUEUE_OK);
+    NEED(freeze_queue_waits_is_drained(&waits));
+    NEED(freeze_queue_waits_depth(&waits, &depth) == FREEZE_QUEUE_OK && depth == 1);
+}
+static void is_drained(void)
+{
+    NEED(freeze_queue_waits_is_drained(&waits) && IN_WAITS->taken == 0 && IN_WAITS->line.first == NULL);
+}
+
 static uint32_t adds_to_max(freeze_queue_limits *limits, void *by)
 {
     step(__LINE__); /* others go on while it runs */
@@ -277,6 +300,7 @@ int main(void)
     explore("a change beside a freeze", 3, live, changes_beside_a_freeze, is_live);
     explore("freezes at the greatest depth", 3, at_the_last_depth, freezes_at_the_last_depth, is_at_the_last_depth);
     explore("a freeze with a deadline", 3, live, freezes_for_a_while, is_live);
+    explore("the last leaves beside calls", 3, frozen_with_a_request, leaves_beside_calls, is_drained);
     explore("three updates", 3, live, updates, nothing_is_lost);
     explore("an update beside a set", 2, live, updates_beside_a_set, the_set_is_in_force);
     explore("updates with a deadline", 3, live, updates_for_a_while, is_live);

@@ -118,6 +118,16 @@ static void need(bool holds, const char *what)
 
 static struct queue *the_queue(void) { return freezer.at; }
 
+/* The calls that stand in lines are on the stacks of their threads. */
+static uint64_t state_of_lines(uint64_t sum)
+{
+    const freeze_queue_waiter *firsts[] = {IN_WAITS->line.first, IN_WAITS->turns.first, IN_WAITS->frozen.first, IN_WAITS->ender};
+    for (int i = 0; i < 4; i++)
+        for (const freeze_queue_waiter *one = firsts[i]; one != NULL; one = i < 3 ? one->after : NULL)
+            sum = mixed(sum, (uint64_t)(uintptr_t)one * 8 + (uint64_t)one->is_woken * 4 + (uint64_t)one->is_thawed * 2 + (one->on != NULL));
+    return sum;
+}
+
 /* A queue, frozen so often, with three tags. */
 static void begin_at(uint32_t depth)
 {
@@ -136,9 +146,10 @@ static void begin_at(uint32_t depth)
     the_queue()->depth = depth;
     the_queue()->told = depth > 0;
     the_queue()->kills = the_queue()->releases = depth > 0;
+    freeze_queue_waits_notify(&waits);
     entered = 0;
-    watch(&IN_WAITS->inside, sizeof IN_WAITS->inside + sizeof IN_WAITS->is_dying);
-    watch(&IN_WAITS->sets, sizeof *IN_WAITS - offsetof(freeze_queue_waits_state, sets));
+    watch(&IN_WAITS->taken, sizeof *IN_WAITS - offsetof(freeze_queue_waits_state, taken));
+    more_state = state_of_lines;
     watch(&the_queue()->limits, sizeof(struct queue) - offsetof(struct queue, limits));
     watch(&entered, sizeof entered);
 }

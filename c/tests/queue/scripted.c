@@ -19,7 +19,7 @@ static uint32_t in_vain;    /* how many tries are refused while the queue is liv
 /* The freezer's calls, under the lock alone. */
 static freeze_queue *under_lock(freeze_queue *of, long freeze)
 {
-    need(locked != NULL, "a call of the freezer is made without the lock");
+    need(has_lock, "a call of the freezer is made without the lock");
     freezes += freeze;
     return of;
 }
@@ -121,9 +121,9 @@ static void freezes_too(void)
 static void thaws_untold(void)
 {
     uint32_t depth;
-    locked = &IN_WAITS->lock;
+    has_lock = true;
     IS(freeze_queue_thaw(&freezer, &depth), LIVE_AGAIN);
-    locked = NULL;
+    has_lock = false;
 }
 static void first_leaves_untold(void) { IS(freeze_queue_leave(&tags[0], 0), LAST); }
 
@@ -258,7 +258,7 @@ static void deadlines_pass(void)
     acts(NULL, NULL, NULL);
     long before = broadcasts;
     IS(freeze_queue_waits_freeze(&waits, &soon), ERR_TIMED_OUT);
-    TELLS(broadcasts - before, 1); /* of those who wait to enter */
+    TELLS(broadcasts - before, 0); /* nobody waits to enter */
     TELLS(depth_now(), 0);
     SHOWS(true, false);
     IS(freeze_queue_waits_begin_freeze(&waits), OK);
@@ -419,6 +419,7 @@ int main(void)
     freeze_queue_final last;
     if (freeze_queue_new(&freezer, &limits, 2, 3) || freeze_queue_waits_init(&waits, &freezer))
         return 1;
+    guard = &IN_WAITS->guard;
     begins_a_freeze();
     TELLS(freeze_queue_waits_open_events(&waits), 0);
     SHOWS(false, true);

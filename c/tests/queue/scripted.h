@@ -1,6 +1,6 @@
 /* Included before freeze_queue_waits.h or freeze_queue_pool.h: their locks and conditions are watched, with one thread and
  * a script. Where a call would sleep, the next of the script acts as another thread would, and has to wake it; where one
- * would lock or unlock, others may act before or after. So each wake and each look is tried in an order that is the same
+ * would lock or unlock, others may act before or after. The lock of the waits is the only word of 32 bits that is exchanged. So each wake and each look is tried in an order that is the same
  * each time, and a wake that is lost is told at once. */
 #ifndef SCRIPTED_H
 #define SCRIPTED_H
@@ -19,7 +19,9 @@ typedef void (*scripted_act)(void);
 
 static scripted_act script[8], before_lock, after_unlock; /* the script ends with NULL */
 static int next_act;
-static pthread_mutex_t *locked;   /* the one lock that is held */
+static pthread_mutex_t *locked;   /* the one mutex that is held */
+static pthread_mutex_t *guard;    /* of the waits, which doesn't count as a lock */
+static bool has_lock, is_others;  /* whether the lock of the waits is held, and by another than who sleeps */
 static long locks, broadcasts;    /* how often one was taken, and how often all who sleep were woken */
 static struct sleeper {
     pthread_cond_t *on;
@@ -53,10 +55,11 @@ static int run_once(scripted_act *slot)
 
 static int scripted_lock(pthread_mutex_t *lock)
 {
-    run_once(&before_lock);
+    if (!has_lock)
+        run_once(&before_lock);
     need(locked == NULL, "a lock is taken while one is held");
     locked = lock;
-    locks++;
+    locks += lock != guard;
     return 0;
 }
 
@@ -64,7 +67,22 @@ static int scripted_unlock(pthread_mutex_t *lock)
 {
     need(locked == lock, "a lock is given up that isn't held");
     locked = NULL;
-    return run_once(&after_unlock);
+    return has_lock ? 0 : run_once(&after_unlock);
+}
+
+/* Takes the lock of the waits, or gives it up. */
+static void before_swap(uint32_t word)
+{
+    if (word != 0 && !has_lock)
+        run_once(&before_lock);
+}
+static bool after_swap(uint32_t was, uint32_t word, bool did)
+{
+    if (did && was == 0)
+        has_lock = true, locks++;
+    if (did && word == 0)
+        has_lock = false, run_once(&after_unlock);
+    return did;
 }
 
 /* Who sleeps without end and isn't woken by the script is told of. */
@@ -72,12 +90,14 @@ static int scripted_sleep(pthread_cond_t *on, pthread_mutex_t *lock, const struc
 {
     struct sleeper me = {on, lock, false, asleep};
     need(locked == lock, "sleeps by a lock that isn't held");
+    const bool had_lock = has_lock;
+    need(!has_lock || is_others, "sleeps with the lock of the waits");
     locked = NULL;
     asleep = &me;
     while (!me.woken && script[next_act])
         script[next_act++]();
     asleep = me.outer;
-    need(locked == NULL, "another thread kept the lock");
+    need(locked == NULL && (is_others || has_lock == had_lock), "another thread kept the lock");
     locked = lock;
     need(me.woken || deadline != NULL, "sleeps for ever");
     return me.woken ? 0 : ETIMEDOUT;
@@ -125,4 +145,13 @@ static int told_at_the_end(void)
 #define pthread_cond_timedwait scripted_sleep
 #define pthread_cond_broadcast(on) scripted_wake(on, true)
 #define pthread_cond_signal(on) scripted_wake(on, false)
+#define __atomic_compare_exchange_n(at, was, value, weak, order, other) \
+    __extension__({ \
+        const bool is_lock = sizeof *(at) == sizeof(uint32_t); \
+        if (is_lock) \
+            before_swap((uint32_t)(value)); \
+        const uint32_t expected = (uint32_t) * (was); \
+        const bool did = __atomic_compare_exchange_n(at, was, value, weak, order, other); \
+        is_lock ? after_swap(expected, (uint32_t)(value), did) : did; \
+    })
 #endif

@@ -13,7 +13,7 @@ static freeze_queue freezer;
 /* The freezer's calls, under the lock alone. */
 static freeze_queue *under_lock(freeze_queue *of)
 {
-    need(locked != NULL, "a call of the freezer is made without the lock");
+    need(has_lock, "a call of the freezer is made without the lock");
     return of;
 }
 
@@ -125,9 +125,9 @@ static void ends_with_the_last_tag(void)
 /* The last tag comes back while the end sleeps, and nobody has notified it by its deadline: it looks once more. */
 static void third_is_back_untold(void)
 {
-    locked = &IN_WAITS->lock;
+    has_lock = true;
     IS(freeze_queue_give_tag_back(&freezer, &tags[2]), OK);
-    locked = NULL;
+    has_lock = false;
 }
 static void the_end_looks_after_its_deadline(void)
 {
@@ -198,7 +198,7 @@ static void the_greatest_depth(void)
 
 static uint32_t doubles_chunk(freeze_queue_limits *limits, void *argument)
 {
-    need(locked == NULL, "a function is called under the lock");
+    need(!has_lock, "a function is called under the lock");
     limits->chunk = limits->chunk ? 2 * limits->chunk : 1;
     return *(uint32_t *)argument;
 }
@@ -214,9 +214,9 @@ static uint32_t answer_of_all = FREEZE_QUEUE_OK;
 
 static void ends_the_turn(void)
 {
-    locked = &IN_WAITS->lock;
+    has_lock = true;
     freeze_queue_waits_ends_turn(IN_WAITS);
-    locked = NULL;
+    has_lock = false;
 }
 
 static void fields_change(void)

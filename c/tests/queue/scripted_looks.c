@@ -12,7 +12,8 @@ static struct timespec clock_now; /* what was read last */
 static long tick = 300;           /* each reading is so many nanoseconds later */
 static long readings, looks;      /* of the clock, and for the drain */
 static long leaves_at;            /* the look before which the tag leaves */
-static long busy, tries, sleeps;  /* tries of the lock that are refused, all tries, and sleeps at the lock */
+static long unlocks_at;           /* the reading at which another call gives up the lock */
+static void unlocks(void);
 
 static int scripted_clock(struct timespec *at)
 {
@@ -20,39 +21,21 @@ static int scripted_clock(struct timespec *at)
     clock_now.tv_sec += (clock_now.tv_nsec + tick) / 1000000000;
     clock_now.tv_nsec = (clock_now.tv_nsec + tick) % 1000000000;
     *at = clock_now;
+    if (readings == unlocks_at)
+        unlocks();
     return 0;
-}
-
-static int scripted_trylock(pthread_mutex_t *lock)
-{
-    need(++tries < 1000, "tries a lock for ever");
-    if (busy > 0)
-        return busy--, EBUSY;
-    need(locked == NULL, "a lock is tried while it is held");
-    locked = lock;
-    return 0;
-}
-
-static int sleeps_for_the_lock(pthread_mutex_t *lock)
-{
-    sleeps++;
-    busy = 0;
-    return scripted_lock(lock);
 }
 
 /* Another thread leaves before a look: it can't tell that before the lock is released. */
 static bool looks_for_the_drain(freeze_queue *of)
 {
-    need(locked != NULL, "a call of the freezer is made without the lock");
+    need(has_lock, "a call of the freezer is made without the lock");
     need(++looks < 1000, "looks for ever");
     if (looks == leaves_at)
         IS(freeze_queue_leave(&tag, 0), LAST);
     return freeze_queue_poll_drained(of);
 }
 
-#undef pthread_mutex_lock
-#define pthread_mutex_lock sleeps_for_the_lock
-#define pthread_mutex_trylock scripted_trylock
 #define clock_gettime(clock, at) scripted_clock(at)
 #define freeze_queue_poll_drained looks_for_the_drain
 #include "freeze_queue_waits.h"
@@ -60,12 +43,12 @@ static bool looks_for_the_drain(freeze_queue *of)
 static freeze_queue_waits waits;
 static const struct timespec soon = {1, 0};
 
-/* From a time on nothing was read, looked for, tried or slept for. */
+/* From a time on nothing was read or looked for. */
 static void begins_at(time_t seconds, long nanoseconds)
 {
     clock_now.tv_sec = seconds;
     clock_now.tv_nsec = nanoseconds;
-    readings = looks = leaves_at = tries = sleeps = 0;
+    readings = looks = leaves_at = unlocks_at = 0;
 }
 
 static uint32_t depth_now(void)
@@ -89,7 +72,6 @@ static void sees_the_drain(long at)
     IS(freeze_queue_waits_freeze(&waits, NULL), OK);
     TELLS(looks, at);
     TELLS(readings, at <= 2 ? 0 : at - 1); /* one is for the end of the looks */
-    TELLS(sleeps, 0);
     thaws();
 }
 
@@ -101,12 +83,12 @@ static void leaves_late(void)
     IS(freeze_queue_waits_leave(&waits, &tag, 0), OK);
 }
 
-/* So many looks are in time from a time on. Then it sleeps, and once more after a wake by itself, with one look before each. */
+/* So many looks are in time from a time on. Then it sleeps, and once more after a wake by itself. */
 static void sleeps_after(long in_time, time_t seconds, long nanoseconds)
 {
     begins_at(seconds, nanoseconds);
     IS(freeze_queue_waits_enter(&waits, &tag, 0, NULL), OK);
-    looks_before_the_sleep = 2 + in_time + 2;
+    looks_before_the_sleep = 2 + in_time;
     acts(wakes_by_itself, leaves_late, NULL);
     IS(freeze_queue_waits_freeze(&waits, NULL), OK);
     TELLS(have_acted(), true);
@@ -139,15 +121,56 @@ static void enters_late(void)
 
 /* ---- At the lock ---- */
 
-/* Another call has the lock for so many tries. */
-static void takes_the_lock(long refused, long wants_tries, long wants_sleeps)
+/* Another call gives the lock to the one that stands in line, at a reading of the clock or, if that is 0, while it sleeps. */
+static void unlocks(void)
+{
+    freeze_queue_waits_unlock(IN_WAITS);
+    is_others = false;
+}
+static void gets_the_lock(long at, long wants)
 {
     begins_at(5, 999999000);
-    busy = refused;
+    freeze_queue_waits_lock(IN_WAITS);
+    is_others = true;
+    unlocks_at = at;
+    acts(at > 0 ? NULL : unlocks, NULL, NULL);
+    IS(freeze_queue_waits_mode(&waits, FREEZE_QUEUE_MODE_SLOTS), OK);
+    TELLS(readings, wants);
+    TELLS(have_acted() && !has_lock && IN_WAITS->taken == 0, true);
+}
+
+/* The deadline passes while another call has the lock. */
+static void waits_in_vain_for_the_lock(void)
+{
+    const freeze_queue_limits next = {.hardware = 64, .max = 3};
+    begins_at(5, 0);
+    freeze_queue_waits_lock(IN_WAITS);
+    is_others = true;
+    acts(NULL, NULL, NULL);
+    IS(freeze_queue_waits_freeze(&waits, &soon), ERR_TIMED_OUT);
+    IS(freeze_queue_waits_change(&waits, &next, &soon), ERR_TIMED_OUT);
+    IS(freeze_queue_waits_update(&waits, NULL, NULL, &soon), ERR_TIMED_OUT);
     TELLS(depth_now(), 0);
-    TELLS(tries, wants_tries);
-    TELLS(sleeps, wants_sleeps);
-    TELLS(locked == NULL, true);
+    TELLS(IN_WAITS->line.first == NULL, true);
+    unlocks();
+    TELLS(has_lock, false);
+}
+
+/* Another call has the lock when the last request leaves. That doesn't wait: the other call shows the drain as it gives up the lock. */
+static void leaves_beside_another(void)
+{
+    begins_at(5, 0);
+    IS(freeze_queue_waits_enter(&waits, &tag, 0, NULL), OK);
+    IS(freeze_queue_waits_begin_freeze(&waits), OK);
+    freeze_queue_waits_lock(IN_WAITS);
+    IS(freeze_queue_waits_leave(&waits, &tag, 0), OK);
+    TELLS(IN_WAITS->shown, FREEZE_QUEUE_DEPTH);
+    is_others = true;
+    acts(unlocks, NULL, NULL);
+    TELLS(freeze_queue_waits_is_drained(&waits) && have_acted(), true); /* it waits for that call, which may have seen no drain */
+    TELLS(IN_WAITS->shown, FREEZE_QUEUE_DEPTH | FREEZE_QUEUE_DRAINED_BIT);
+    TELLS(!has_lock && IN_WAITS->taken == 0 && freeze_queue_waits_is_drained(&waits), true);
+    thaws();
 }
 
 int main(void)
@@ -158,7 +181,7 @@ int main(void)
         return 1;
     IS(freeze_queue_waits_next_tag(&waits, &tag), OK);
     /* No tag is biased, and none asks the clock for that. */
-    freeze_queue_waits_state_of(&waits)->unbiased_until = UINT64_MAX;
+    IN_WAITS->unbiased_until = UINT64_MAX;
     tag.reserved.words[1] = (void *)(UINTPTR_MAX - 1);
     for (long at = 2; at < 6; at++)
         sees_the_drain(at);
@@ -166,13 +189,14 @@ int main(void)
     sleeps_after(3, 5, 999999200); /* the second ends meanwhile */
     times_out();
     enters_late();
-    takes_the_lock(0, 1, 0);
-    takes_the_lock(1, 2, 0);
-    takes_the_lock(6, 7, 0);
-    takes_the_lock(7, 7, 1);
+    for (long at = 2; at < 9; at++)
+        gets_the_lock(at, at);
+    gets_the_lock(0, 8);
+    waits_in_vain_for_the_lock();
+    leaves_beside_another();
     tick = 1000000000; /* the thread is put off its processor for a second */
     sleeps_after(0, 5, 0);
-    takes_the_lock(9, 1, 1);
+    gets_the_lock(0, 2);
     IS(freeze_queue_waits_give_tag_back(&waits, &tag), OK);
     IS(freeze_queue_waits_end(&waits, &last, NULL), OK);
     return told_at_the_end();

@@ -169,7 +169,7 @@ static void the_pool_ends(void)
     lists(2, 0);
     acts(wakes_by_itself, gives_second, gives_first);
     IS(freeze_queue_pool_end(&pool, NULL), OK);
-    TELLS(have_acted() && IN_POOL->count == 0 && locked == NULL, true);
+    TELLS(have_acted() && IN_POOL->count == 0 && locked == NULL && !has_lock, true);
     lists(0, 9);
     IS(freeze_queue_pool_end(&pool, NULL), ERR_CLOSED);
     TELLS(freeze_queue_pool_take(&pool, 0) == NULL && takes_waiting(&pool, 0, NULL) == NULL, true);

@@ -16,6 +16,7 @@ static uint32_t (*const set)(freeze_queue *, const freeze_queue_limits *) = free
 static uint32_t (*const thaw)(freeze_queue *, uint32_t *) = freeze_queue_thaw;
 #include "own_calls.h"
 
+const char freeze_queue_layout_1 = 1;
 uint64_t freeze_queue_tag_number(freeze_queue_tag *tag) { return tag ? number : 0; }
 uint64_t freeze_queue_number(freeze_queue *freezer) { return freezer ? number : 0; }
 freeze_queue_answer freeze_queue_try_enter(freeze_queue_tag *tag, uint32_t slot) { return called(tag && slot == 2); }

@@ -101,11 +101,11 @@ static freeze_queue freezer;
 static freeze_queue_waits waits;
 static freeze_queue_pool pool;
 
-/* What waits are made of, in any order: a mutex, and four conditions of three steps each. */
+/* What waits are made of, in any order: a mutex, and a condition of three steps. */
 static void waits_are_made(void)
 {
     freeze_queue_final last;
-    for (int allow = 0; allow < 13; allow++) {
+    for (int allow = 0; allow < 4; allow++) {
         allowed = allow;
         TELLS(freeze_queue_waits_init(&waits, &freezer), FREEZE_QUEUE_ERR_NO_MEMORY);
         TELLS(made, 0);
@@ -113,25 +113,25 @@ static void waits_are_made(void)
         TELLS(freeze_queue_waits_destroy(&waits), FREEZE_QUEUE_ERR_CLOSED);
         TELLS(freeze_queue_waits_end(&waits, &last, NULL), FREEZE_QUEUE_ERR_CLOSED);
     }
-    allowed = 13;
+    allowed = 4;
     monotonic = 0;
     TELLS(freeze_queue_waits_init(&waits, &freezer), 0);
     TELLS(allowed, 0);
-    TELLS(monotonic, 4);
-    TELLS(made, 5);
+    TELLS(monotonic, 1);
+    TELLS(made, 2);
 }
 
 /* Waits that are allocated: one more that may be refused, and no pointer to what isn't made. */
 static void waits_are_allocated(void)
 {
-    for (int allow = 0; allow < 14; allow++) {
+    for (int allow = 0; allow < 5; allow++) {
         allowed = allow;
         TELLS(freeze_queue_waits_new(&freezer) == NULL, true);
         TELLS(made, 0);
     }
-    allowed = 14;
+    allowed = 5;
     freeze_queue_waits *allocated = freeze_queue_waits_new(&freezer);
-    TELLS(allocated != NULL && allowed == 0 && made == 6, true);
+    TELLS(allocated != NULL && allowed == 0 && made == 3, true);
     if (allocated == NULL)
         return;
     TELLS(freeze_queue_waits_destroy(allocated), FREEZE_QUEUE_OK);
@@ -145,7 +145,7 @@ static void events_are_opened(void)
         int allow = allowed;
         TELLS(freeze_queue_waits_open_events(&waits), FREEZE_QUEUE_ERR_NO_EVENT);
         TELLS(errno, EMFILE);
-        TELLS(made, 5);
+        TELLS(made, 2);
         TELLS(freeze_queue_waits_live_event(&waits) == -1 && freeze_queue_waits_drained_event(&waits) == -1, true);
         allowed = allow + 1;
     }
@@ -153,10 +153,35 @@ static void events_are_opened(void)
     TELLS(freeze_queue_waits_live_event(&waits) >= 0 && freeze_queue_waits_drained_event(&waits) >= 0, true);
     TELLS(stays_here(freeze_queue_waits_live_event(&waits)) && stays_here(freeze_queue_waits_drained_event(&waits)), true);
     TELLS(never_waits(freeze_queue_waits_live_event(&waits)) && never_waits(freeze_queue_waits_drained_event(&waits)), true);
-    TELLS(made, 7);
+    TELLS(made, 4);
     TELLS(freeze_queue_waits_open_events(&waits), FREEZE_QUEUE_ERR_OPEN);
-    TELLS(made, 7);
+    TELLS(made, 4);
     freeze_queue_waits_destroy(&waits);
+    TELLS(made, 0);
+}
+
+/* A call whose condition is refused waits on that of the waits. */
+static void *freezes(void *answer)
+{
+    *(freeze_queue_answer *)answer = freeze_queue_waits_freeze(&waits, NULL);
+    return NULL;
+}
+static void a_call_waits_without_its_condition(void)
+{
+    freeze_queue_tag tag = {0};
+    freeze_queue_answer answer = FREEZE_QUEUE_ERR_CLOSED;
+    pthread_t thread;
+    allowed = 4;
+    TELLS(freeze_queue_waits_init(&waits, &freezer) | freeze_queue_next_tag(&freezer, &tag), 0);
+    TELLS(freeze_queue_waits_enter(&waits, &tag, 0, NULL), 0);
+    TELLS(pthread_create(&thread, NULL, freezes, &answer), 0);
+    while (__atomic_load_n(&allowed, __ATOMIC_SEQ_CST) == 0) {}
+    nanosleep(&(const struct timespec){0, 1000000}, NULL); /* it may sleep by now */
+    TELLS(freeze_queue_waits_leave(&waits, &tag, 0), 0);
+    pthread_join(thread, NULL);
+    TELLS(answer, FREEZE_QUEUE_OK);
+    TELLS(freeze_queue_waits_thaw(&waits), FREEZE_QUEUE_LIVE_AGAIN);
+    TELLS(freeze_queue_give_tag_back(&freezer, &tag) | freeze_queue_waits_destroy(&waits), 0);
     TELLS(made, 0);
 }
 
@@ -165,7 +190,7 @@ static void an_event_has_the_number_0(void)
 {
     int input = fcntl(0, F_DUPFD_CLOEXEC, 3);
     for (int before = 0; before < 2; before++) {
-        allowed = 15;
+        allowed = 6;
         events_before_0 = before;
         TELLS(freeze_queue_waits_init(&waits, &freezer), 0);
         TELLS(freeze_queue_waits_open_events(&waits), 0);
@@ -185,7 +210,7 @@ static void an_event_has_the_number_0(void)
 static void a_pool_is_filled(void)
 {
     freeze_queue_tag tag = {0};
-    allowed = 13;
+    allowed = 4;
     TELLS(freeze_queue_waits_init(&waits, &freezer), FREEZE_QUEUE_OK);
     made = 0;
     for (int allow = 0; allow < 5; allow++) {
@@ -205,7 +230,7 @@ static void a_pool_is_filled(void)
     TELLS(monotonic, 1);
     TELLS(freeze_queue_pool_empty(&pool), FREEZE_QUEUE_OK);
     TELLS(made, 0);
-    made = 5;
+    made = 2;
     TELLS(freeze_queue_waits_destroy(&waits), FREEZE_QUEUE_OK);
 }
 
@@ -219,6 +244,7 @@ int main(void)
     waits_are_made();
     events_are_opened();
     an_event_has_the_number_0();
+    a_call_waits_without_its_condition();
     a_pool_is_filled();
     TELLS(freeze_queue_remove(&freezer, &last), FREEZE_QUEUE_OK);
     printf("%s\n", failures ? "FAILED" : "nothing is left");

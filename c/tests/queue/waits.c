@@ -118,10 +118,10 @@ static void freezes_with_deadlines(struct queue *queue)
 static uint32_t first_leaves_untold(struct queue *queue)
 {
     struct timespec past_it = freeze_queue_deadline(2 * SOON);
-    pthread_mutex_lock(&freeze_queue_waits_state_of(&queue->waits)->lock);
+    freeze_queue_waits_lock(freeze_queue_waits_state_of(&queue->waits));
     uint32_t answer = freeze_queue_leave(&queue->tags[0], 0);
     while (clock_nanosleep(CLOCK_MONOTONIC, TIMER_ABSTIME, &past_it, NULL)) {}
-    pthread_mutex_unlock(&freeze_queue_waits_state_of(&queue->waits)->lock);
+    freeze_queue_waits_unlock(freeze_queue_waits_state_of(&queue->waits));
     return answer;
 }
 
