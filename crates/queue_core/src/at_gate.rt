@@ -12,28 +12,32 @@ use bias_lanes::{Lane, Stage};
 use percpu_gate::{Gate, Pass, Put, Tried};
 use queue_limits::Limits;
 
-/// Returns the pass of a tag: the one in hand, or the one that is parked, unless the freezer has it in hand.
+/// Takes the pass of a tag into its hand, if it is parked. Returns false if the freezer has it in hand.
 pub(crate) fn take_out(
     lane: &mut Lane<ParkedPass, Gate<LIMIT_WORDS>>,
-    hand: Option<Pass<LIMIT_WORDS>>,
+    hand: &mut Option<Pass<LIMIT_WORDS>>,
     queue: &BlockQueue,
-) -> Option<Pass<LIMIT_WORDS>>
+) -> bool
     requires own { lane.old.lanes ≡ queue.now.lanes }
-    requires hand { is_some hand ≡ is_unbiased lane.old.view.stage }
-    requires fits { IfSome hand (λ p. (p.gate ≡ lane.old.lanes.key) × (p.view.standing.held ≤ 1)) }
+    requires hand { is_some hand.old ≡ is_unbiased lane.old.view.stage }
+    requires fits { IfSome hand.old (λ p. (p.gate ≡ lane.old.lanes.key) × (p.view.standing.held ≤ 1)) }
     requires out { not_in_lane lane.old.view.stage ≡ true }
-    ensures taken { IfSome result (λ p. (lane.new ≡ at stages.Unbiased lane.old) × Brings lane.old hand p) }
-    ensures fits { IfSome result (λ p. (p.gate ≡ lane.old.lanes.key) × (p.view.standing.held ≤ 1)) }
-    ensures in_hand { result ≡ None → (hand ≡ None) × (lane.new ≡ at stages.Parked lane.old) }
+    ensures hand { is_some hand.new ≡ result }
+    ensures taken { IfSome hand.new (λ p. (lane.new ≡ at stages.Unbiased lane.old) × Brings lane.old hand.old p) }
+    ensures fits { IfSome hand.new (λ p. (p.gate ≡ lane.old.lanes.key) × (p.view.standing.held ≤ 1)) }
+    ensures in_hand { result ≡ false → (hand.old ≡ None) × (lane.new ≡ at stages.Parked lane.old) }
 {
     if lane.stage() == Stage::Unbiased {
-        return hand;
+        return true;
     }
-    let parked = lane.take_back(&queue.lanes)?;
+    let Some(parked) = lane.take_back(&queue.lanes) else {
+        return false;
+    };
     if parked.pass.held() == 1 {
         queue.count_back();
     }
-    Some(parked.pass)
+    *hand = Some(parked.pass);
+    true
 }
 
 /// Enters with a pass, or stays if it has its reference already. Returns the put if the queue is frozen: the reference is dropped.

@@ -179,15 +179,16 @@ impl BiasedTag {
         ensures in_hand { says_in_hand result ≡ true → self.new ≡ at_stage stages.Parked self.old }
         ensures steps { is_plain self.new ≡ true → EntersByGate slot queue.now result self.old self.new }
     {
-        let Some(mut pass) = take_out(&mut self.lane, self.pass.take(), queue) else {
+        if !take_out(&mut self.lane, &mut self.pass, queue) {
+            return BiasedEntry::InHand;
+        }
+        let Some(pass) = &mut self.pass else {
             return BiasedEntry::InHand;
         };
-        if let Some(put) = come_in(&mut pass, &queue.gate, slot) {
-            self.pass = Some(pass);
+        if let Some(put) = come_in(pass, &queue.gate, slot) {
             return BiasedEntry::Refused(put);
         }
-        self.limits = ask(&mut pass, queue);
-        self.pass = Some(pass);
+        self.limits = ask(pass, queue);
         BiasedEntry::Entered
     }
 
@@ -202,15 +203,16 @@ impl BiasedTag {
         ensures in_hand { says_in_hand result ≡ true → self.new ≡ at_stage stages.Parked self.old }
         ensures steps { is_plain self.new ≡ true → LooksInByGate slot queue.now result self.old self.new }
     {
-        let Some(mut pass) = take_out(&mut self.lane, self.pass.take(), queue) else {
+        if !take_out(&mut self.lane, &mut self.pass, queue) {
+            return BiasedEntry::InHand;
+        }
+        let Some(pass) = &mut self.pass else {
             return BiasedEntry::InHand;
         };
-        if let Some(put) = look_in(&mut pass, &queue.gate, slot) {
-            self.pass = Some(pass);
+        if let Some(put) = look_in(pass, &queue.gate, slot) {
             return BiasedEntry::Refused(put);
         }
-        self.limits = ask(&mut pass, queue);
-        self.pass = Some(pass);
+        self.limits = ask(pass, queue);
         BiasedEntry::Entered
     }
 
@@ -317,10 +319,11 @@ impl BiasedTag {
         ensures in_hand { result ≡ None → (is_plain self.old ≡ false) × (self.new ≡ at_stage stages.Parked self.old) }
         ensures steps { IfSome result (λ put. LeavesByGate slot put self.old self.new) }
     {
-        let mut pass = take_out(&mut self.lane, self.pass.take(), queue)?;
-        let put = put_once(&mut pass, &queue.gate, slot);
-        self.pass = Some(pass);
-        Some(put)
+        if !take_out(&mut self.lane, &mut self.pass, queue) {
+            return None;
+        }
+        let pass = self.pass.as_mut()?;
+        Some(put_once(pass, &queue.gate, slot))
     }
 
     /// Returns the tag without a bias, or this one if its bias hasn't ended.

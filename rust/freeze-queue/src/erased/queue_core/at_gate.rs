@@ -8,7 +8,7 @@ use crate::erased::queue_core::parked::ParkedPass;
 use crate::erased::queue_core::queue::BlockQueue;
 use crate::erased::queue_limits::Limits;
 
-/// Returns the pass of a tag: the one in hand, or the one that is parked, unless the freezer has it in hand.
+/// Takes the pass of a tag into its hand, if it is parked. Returns false if the freezer has it in hand.
 ///
 /// # Preconditions
 ///
@@ -16,19 +16,18 @@ use crate::erased::queue_limits::Limits;
 /// - `is_some(hand)` is `is_unbiased(lane.view.stage)`.
 /// - If `hand` is `Some(p)`, then `p` belongs to `lane.lanes.key` and `p.view.standing.held` is at most 1.
 /// - `not_in_lane(lane.view.stage)` is `true`.
-pub(crate) fn take_out(
-    lane: &mut Lane<ParkedPass>,
-    hand: Option<Pass<LIMIT_WORDS>>,
-    queue: &BlockQueue,
-) -> Option<Pass<LIMIT_WORDS>> {
+pub(crate) fn take_out(lane: &mut Lane<ParkedPass>, hand: &mut Option<Pass<LIMIT_WORDS>>, queue: &BlockQueue) -> bool {
     if lane.stage() == Stage::Unbiased {
-        return hand;
+        return true;
     }
-    let parked = lane.take_back(&queue.lanes)?;
+    let Some(parked) = lane.take_back(&queue.lanes) else {
+        return false;
+    };
     if parked.pass.held() == 1 {
         queue.count_back();
     }
-    Some(parked.pass)
+    *hand = Some(parked.pass);
+    true
 }
 
 /// Enters with a pass, or stays if it has its reference already. Returns the put if the queue is frozen: the reference is dropped.

@@ -132,15 +132,16 @@ impl BiasedTag {
     /// - `in_now(self)` is `false`.
     pub fn enter_gate(&mut self, queue: &BlockQueue, slot: u32) -> BiasedEntry {
         debug_assert!(slot < queue.slots());
-        let Some(mut pass) = take_out(&mut self.lane, self.pass.take(), queue) else {
+        if !take_out(&mut self.lane, &mut self.pass, queue) {
+            return BiasedEntry::InHand;
+        }
+        let Some(pass) = &mut self.pass else {
             return BiasedEntry::InHand;
         };
-        if let Some(put) = come_in(&mut pass, &queue.gate, slot) {
-            self.pass = Some(pass);
+        if let Some(put) = come_in(pass, &queue.gate, slot) {
             return BiasedEntry::Refused(put);
         }
-        self.limits = ask(&mut pass, queue);
-        self.pass = Some(pass);
+        self.limits = ask(pass, queue);
         BiasedEntry::Entered
     }
 
@@ -153,15 +154,16 @@ impl BiasedTag {
     /// - `in_now(self)` is `false`.
     pub fn try_enter_frozen(&mut self, queue: &BlockQueue, slot: u32) -> BiasedEntry {
         debug_assert!(slot < queue.slots());
-        let Some(mut pass) = take_out(&mut self.lane, self.pass.take(), queue) else {
+        if !take_out(&mut self.lane, &mut self.pass, queue) {
+            return BiasedEntry::InHand;
+        }
+        let Some(pass) = &mut self.pass else {
             return BiasedEntry::InHand;
         };
-        if let Some(put) = look_in(&mut pass, &queue.gate, slot) {
-            self.pass = Some(pass);
+        if let Some(put) = look_in(pass, &queue.gate, slot) {
             return BiasedEntry::Refused(put);
         }
-        self.limits = ask(&mut pass, queue);
-        self.pass = Some(pass);
+        self.limits = ask(pass, queue);
         BiasedEntry::Entered
     }
 
@@ -252,10 +254,11 @@ impl BiasedTag {
     /// - `not_in_lane(stage(self))` is `true`.
     pub fn end_bias(&mut self, queue: &BlockQueue, slot: u32) -> Option<Put> {
         debug_assert!(slot < queue.slots());
-        let mut pass = take_out(&mut self.lane, self.pass.take(), queue)?;
-        let put = put_once(&mut pass, &queue.gate, slot);
-        self.pass = Some(pass);
-        Some(put)
+        if !take_out(&mut self.lane, &mut self.pass, queue) {
+            return None;
+        }
+        let pass = self.pass.as_mut()?;
+        Some(put_once(pass, &queue.gate, slot))
     }
 
     /// Returns the tag without a bias, or this one if its bias hasn't ended.
