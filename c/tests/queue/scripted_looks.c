@@ -4,6 +4,7 @@
 #define FREEZE_QUEUE_LOOK 1000
 #include "inline.h"
 #include "freeze_queue.h"
+#include "own_calls.h"
 #include "scripted.h"
 
 static freeze_queue freezer;
@@ -14,6 +15,7 @@ static long readings, looks;      /* of the clock, and for the drain */
 static long leaves_at;            /* the look before which the tag leaves */
 static long unlocks_at;           /* the reading at which another call gives up the lock */
 static void unlocks(void);
+static scripted_act at_the_clock, after_the_leave; /* what acts at the next reading, and after the next leave that biases the tag */
 
 static int scripted_clock(struct timespec *at)
 {
@@ -21,6 +23,7 @@ static int scripted_clock(struct timespec *at)
     clock_now.tv_sec += (clock_now.tv_nsec + tick) / 1000000000;
     clock_now.tv_nsec = (clock_now.tv_nsec + tick) % 1000000000;
     *at = clock_now;
+    run_once(&at_the_clock);
     if (readings == unlocks_at)
         unlocks();
     return 0;
@@ -36,7 +39,15 @@ static bool looks_for_the_drain(freeze_queue *of)
     return freeze_queue_poll_drained(of);
 }
 
+static uint32_t leaves_biased(freeze_queue_tag *of, uint32_t slot)
+{
+    const uint32_t answer = freeze_queue_leave_biased(of, slot);
+    run_once(&after_the_leave);
+    return answer;
+}
+
 #define clock_gettime(clock, at) scripted_clock(at)
+#define freeze_queue_leave_biased(of, slot) leaves_biased(of, slot)
 #define freeze_queue_poll_drained looks_for_the_drain
 #include "freeze_queue_waits.h"
 
@@ -173,6 +184,41 @@ static void leaves_beside_another(void)
     thaws();
 }
 
+/* ---- A bias ---- */
+
+static void freezes_and_thaws(void)
+{
+    need(freeze_queue_waits_begin_freeze(&waits) < 16, "no freeze begins");
+    thaws();
+}
+
+/* A tag leaves where it may be biased, or where a pause is just over. */
+static void leaves_after(uint64_t pause_end)
+{
+    begins_at(5, 0);
+    IN_WAITS->unbiased_until = pause_end;
+    IN_WAITS->has_biased = 1;
+    tag.reserved.words[1] = NULL;
+    IS(freeze_queue_waits_enter(&waits, &tag, 0, NULL), OK);
+    IS(freeze_queue_waits_leave(&waits, &tag, 0), OK);
+}
+
+/* A freeze between the leave that biases a tag and the note of that takes the bias: it is noted as of before. */
+static void a_bias_is_taken_at_once(void)
+{
+    after_the_leave = freezes_and_thaws;
+    leaves_after(0);
+    TELLS(after_the_leave == NULL && !freeze_queue_is_biased(IN_WAITS, &tag), true);
+}
+
+/* A pause that begins while a tag asks whether the last one is over goes on. */
+static void a_pause_begins_meanwhile(void)
+{
+    at_the_clock = freezes_and_thaws;
+    leaves_after(1);
+    TELLS(at_the_clock == NULL && IN_WAITS->unbiased_until > 1, true);
+}
+
 int main(void)
 {
     const freeze_queue_limits limits = {.hardware = 64, .max = 8, .chunk = 0, .physical = 1};
@@ -180,7 +226,10 @@ int main(void)
     if (freeze_queue_new(&freezer, &limits, 1, 1) || freeze_queue_waits_init(&waits, &freezer))
         return 1;
     IS(freeze_queue_waits_next_tag(&waits, &tag), OK);
+    a_bias_is_taken_at_once();
+    a_pause_begins_meanwhile();
     /* No tag is biased, and none asks the clock for that. */
+    IN_WAITS->has_biased = 0;
     IN_WAITS->unbiased_until = UINT64_MAX;
     tag.reserved.words[1] = (void *)(UINTPTR_MAX - 1);
     for (long at = 2; at < 6; at++)

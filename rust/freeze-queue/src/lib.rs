@@ -51,6 +51,59 @@
 //!
 //! A [`Queue<T>`](Queue) guards a value ([`Builder::value`]): a request derefs to T, a freeze lends `&mut T` ([`OwnedFrozen::lock`]).
 //!
+//! # Where to keep a tag
+//!
+//! A thread that submits often keeps a tag: in a local variable, in a struct beside the queue, or in a thread-local
+//! (`examples/keeping.rs` has each). Threads that come and go take any free tag for each request ([`enter_any`](Queue::enter_any)); with
+//! rayon, `map_init(|| queue.tag().unwrap(), ..)` gives each job a tag. A task keeps its tag like any other value, and may hold a request
+//! across an `.await`. It hands an owned request to a task that it spawns.
+//!
+//! A struct can't hold a tag and the request that borrows it. Let the request own the tag:
+//!
+//! ```compile_fail
+//! use freeze_queue::{Queue, Request, Tag};
+//!
+//! struct Write<'q> { queue: &'q Queue, tag: Tag, request: Option<Request<'q>> }
+//!
+//! impl<'q> Write<'q> {
+//!     fn begin(&mut self) {
+//!         self.request = self.queue.enter(&mut self.tag).ok(); // the request outlives the borrow of `self`
+//!     }
+//! }
+//! ```
+//!
+//! ```
+//! use freeze_queue::{Limits, OwnedRequest, Queue};
+//!
+//! struct Write { request: OwnedRequest, start: u64 } // from `enter_owned(tag)` or `enter_any()`
+//!
+//! let queue = Queue::new(Limits::of_hardware(64))?;
+//! let write = Write { request: queue.enter_any()?, start: 8 };
+//! assert_eq!(write.request.pieces(write.start, 100)?.count(), 2);
+//! # Ok::<(), Box<dyn std::error::Error>>(())
+//! ```
+//!
+//! While a request borrows the tag of `self`, no method takes `&mut self`. Use the other fields, or give the method what it needs:
+//!
+//! ```compile_fail
+//! use freeze_queue::{EnterError, Queue, Tag};
+//!
+//! struct Writer { queue: Queue, tag: Tag, log: Vec<u64> }
+//!
+//! impl Writer {
+//!     fn write(&mut self, start: u64) -> Result<(), EnterError> {
+//!         let request = self.queue.enter(&mut self.tag)?;
+//!         self.note(start); // borrows all of `self`; `self.log.push(start)` borrows one field
+//!         drop(request);
+//!         Ok(())
+//!     }
+//!
+//!     fn note(&mut self, start: u64) {
+//!         self.log.push(start);
+//!     }
+//! }
+//! ```
+//!
 //! # Waiting
 //!
 //! Threads wait for a thaw or a drain with `std`'s condition variables, after up to 4 µs of polling; a thread in a line waits in
