@@ -124,6 +124,7 @@ FREEZE_QUEUE_CALL freeze_queue_answer freeze_queue_waits_open_events(freeze_queu
     waits->drained_event = drained;
     waits->live_event = live;
     waits->events_of = getpid();
+    waits->raised = waits->wanted = 0;
     freeze_queue_waits_notify(of);
     return FREEZE_QUEUE_OK;
 }

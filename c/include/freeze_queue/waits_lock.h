@@ -120,6 +120,18 @@ static inline void freeze_queue_raise(int event, int64_t opened_by, bool readabl
 #endif
 }
 
+/* What the events tell. Call it before the lock is given up: a change that needn't wait sets no event. */
+enum { FREEZE_QUEUE_TELLS_LIVE = 1, FREEZE_QUEUE_TELLS_DRAINED = 2 };
+FREEZE_QUEUE_APART void freeze_queue_waits_raises(freeze_queue_waits_state *waits)
+{
+    const uint8_t changed = waits->raised ^ waits->wanted;
+    waits->raised = waits->wanted;
+    if (changed & FREEZE_QUEUE_TELLS_LIVE)
+        freeze_queue_raise(waits->live_event, waits->events_of, (waits->wanted & FREEZE_QUEUE_TELLS_LIVE) != 0);
+    if (changed & FREEZE_QUEUE_TELLS_DRAINED)
+        freeze_queue_raise(waits->drained_event, waits->events_of, (waits->wanted & FREEZE_QUEUE_TELLS_DRAINED) != 0);
+}
+
 /* Wakes the calls that wait for a live queue, and for a drained one. */
 FREEZE_QUEUE_APART void freeze_queue_waits_wakes_all(freeze_queue_waits_state *waits, bool is_live, bool is_drained)
 {
@@ -131,7 +143,8 @@ FREEZE_QUEUE_APART void freeze_queue_waits_wakes_all(freeze_queue_waits_state *w
     pthread_mutex_unlock(&waits->guard);
 }
 
-/* Shows whether the queue is live and drained, to looks, to the calls that wait, and by the events. Call it after each change. */
+/* Shows whether the queue is live and drained, to looks and to the calls that wait, and notes what the events are to tell. Call it after each
+ * change. */
 static inline void freeze_queue_waits_show(freeze_queue_waits_state *waits)
 {
     uint32_t depth = FREEZE_QUEUE_NO_DEPTH;
@@ -141,8 +154,8 @@ static inline void freeze_queue_waits_show(freeze_queue_waits_state *waits)
     const bool is_live = freeze_queue_waits_is_live(waits);
     if ((is_live && __atomic_load_n(&waits->entering, __ATOMIC_SEQ_CST) > 0) || (is_drained && waits->frozen.first != NULL))
         freeze_queue_waits_wakes_all(waits, is_live, is_drained);
-    freeze_queue_raise(waits->live_event, waits->events_of, is_live);
-    freeze_queue_raise(waits->drained_event, waits->events_of, is_drained);
+    if (waits->live_event >= 0)
+        waits->wanted = (uint8_t)((is_live ? FREEZE_QUEUE_TELLS_LIVE : 0) | (is_drained ? FREEZE_QUEUE_TELLS_DRAINED : 0));
 }
 
 /* Shows the limits in force. */
@@ -225,6 +238,7 @@ FREEZE_QUEUE_APART void freeze_queue_waits_unlock_later(freeze_queue_waits_state
         if (owed > 0) {
             freeze_queue_waits_show_all(waits);
             __atomic_fetch_sub(&waits->taken, owed, __ATOMIC_SEQ_CST);
+            freeze_queue_waits_raises(waits);
         }
         freeze_queue_locks(&waits->guard);
         is_passed_on = freeze_queue_waits_passes_on(waits);
@@ -234,6 +248,8 @@ FREEZE_QUEUE_APART void freeze_queue_waits_unlock_later(freeze_queue_waits_state
 static inline void freeze_queue_waits_unlock(freeze_queue_waits_state *waits)
 {
     uint32_t seen = FREEZE_QUEUE_TAKEN;
+    if (waits->raised != waits->wanted)
+        freeze_queue_waits_raises(waits);
     if (!freeze_queue_waits_swaps(waits, &seen, 0))
         freeze_queue_waits_unlock_later(waits);
 }

@@ -48,7 +48,9 @@ typedef struct freeze_queue_line {
  *
  * The guard is held for moments only. It protects the line of the lock, and sleeping. entering calls sleep on live, for the thaw.
  *
- * shown and limits are for looks that take no lock: shown has the depth, whether the queue is drained and whether a freeze begins. The events are -1 if they aren't open, and events_of is the process that opened them. number is the queue's.
+ * shown and limits are for looks that take no lock: shown has the depth, whether the queue is drained and whether a freeze begins. The
+ * events are -1 if they aren't open, and events_of is the process that opened them; raised and wanted are what they tell, and what they are
+ * to tell. number is the queue's.
  *
  * Requests read freezes and unbiased_until, which lie some 100 bytes after what other calls write under the lock. freezes counts the
  * freezes that take biases away, starting at 1; a tag has the count that was read when it was biased. No tag is biased until the
@@ -75,9 +77,11 @@ typedef struct freeze_queue_waits_state {
     bool is_changing;
     bool is_calling;
     bool is_ending;
+    uint8_t raised;
+    uint8_t wanted;
     uint32_t shown;
     uint64_t limits;
-    char apart[72];
+    char apart[64];
     uint64_t number; /* these four stay as they are from before the first request on */
     int64_t events_of;
     int drained_event;
@@ -236,6 +240,7 @@ FREEZE_QUEUE_CALL freeze_queue_answer freeze_queue_waits_init(freeze_queue_waits
     waits->queue = queue;
     waits->drained_event = waits->live_event = -1;
     waits->events_of = 0;
+    waits->raised = waits->wanted = 0;
     waits->number = number;
     waits->line.first = waits->turns.first = waits->frozen.first = waits->ender = NULL;
     waits->taken = waits->entering = waits->inside = waits->is_dying = waits->shown = 0;

@@ -8,6 +8,8 @@
 #include "readable.h"
 #include "scripted.h"
 
+#include <sys/eventfd.h>
+
 static freeze_queue freezer;
 static freeze_queue_tag tags[3];
 static long freezes;        /* how often one was begun */
@@ -47,6 +49,9 @@ static uint32_t tries(freeze_queue_tag *tag, uint32_t slot)
     return FREEZE_QUEUE_NOT_ENTERED_LAST;
 }
 
+static long events_set; /* how often an event was made readable, or not */
+#define eventfd_write(event, count) (events_set++, eventfd_write(event, count))
+#define eventfd_read(event, count) (events_set++, eventfd_read(event, count))
 #define freeze_queue_start_freeze(of, depth) freeze_queue_start_freeze(under_lock(of, 1), depth)
 #define freeze_queue_poll_drained(of) freeze_queue_poll_drained(under_lock(of, 0))
 #define freeze_queue_set(of, limits) sets_or_not(under_lock(of, 0), limits)
@@ -178,6 +183,21 @@ static void thaws_after_the_drain(void)
     SHOWS(true, false);
 }
 
+/* The last leaves while another call has the lock: that call sets the events as it gives up the lock. */
+static void leaves_beside_a_call(void)
+{
+    IS(freeze_queue_waits_enter(&waits, &tags[0], 0, NULL), OK);
+    IS(freeze_queue_waits_begin_freeze(&waits), OK);
+    freeze_queue_waits_lock(IN_WAITS);
+    is_others = true;
+    IS(freeze_queue_waits_leave(&waits, &tags[0], 0), OK);
+    SHOWS(false, false);
+    freeze_queue_waits_unlock(IN_WAITS);
+    is_others = false;
+    SHOWS(false, true);
+    thaws();
+}
+
 /* Both freezers are woken by one leaving. */
 static void two_wait_for_the_drain(void)
 {
@@ -290,7 +310,10 @@ static void changes(void)
     TELLS(have_acted(), true);
     TELLS(max_now(), 5);
     SHOWS(true, false);
-    long before = freezes;
+    long before = events_set;
+    IS(freeze_queue_waits_change(&waits, &next, NULL), OK); /* it needn't wait */
+    TELLS(events_set - before, 0);
+    before = freezes;
     next.max = 65;
     IS(freeze_queue_waits_change(&waits, &next, NULL), ERR_ABOVE_HARDWARE);
     next.hardware = 65;
@@ -430,6 +453,7 @@ int main(void)
     nobody_waits();
     waits_for_the_drain();
     thaws_after_the_drain();
+    leaves_beside_a_call();
     two_wait_for_the_drain();
     waits_for_the_thaw();
     is_frozen_before_the_next_try();

@@ -80,8 +80,11 @@ static bool after_swap(uint32_t was, uint32_t word, bool did)
 {
     if (did && was == 0)
         has_lock = true, locks++;
-    if (did && word == 0)
-        has_lock = false, run_once(&after_unlock);
+    if (did && word == 0) {
+        has_lock = false;
+        if (locked == NULL)
+            run_once(&after_unlock);
+    }
     return did;
 }
 
