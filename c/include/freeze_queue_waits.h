@@ -195,8 +195,8 @@ FREEZE_QUEUE_MUST_USE FREEZE_QUEUE_CALL freeze_queue_answer freeze_queue_waits_e
 FREEZE_QUEUE_MUST_USE FREEZE_QUEUE_CALL freeze_queue_answer freeze_queue_waits_open_events(freeze_queue_waits *waits);
 
 /* Return the descriptors of the events, or -1 if they aren't open. live_event is readable while the queue is live or dying,
- * drained_event while it is drained; a change that needn't wait for the drain leaves both as they are. Poll them for reading, and never read them. The library closes both in
- * freeze_queue_waits_destroy and freeze_queue_waits_end. */
+ * drained_event while it is drained; a change that needn't wait for the drain leaves both as they are. Poll them for reading, and never
+ * read them. The library closes both in freeze_queue_waits_destroy and freeze_queue_waits_end. */
 FREEZE_QUEUE_CALL int freeze_queue_waits_live_event(freeze_queue_waits *waits);
 FREEZE_QUEUE_CALL int freeze_queue_waits_drained_event(freeze_queue_waits *waits);
 
