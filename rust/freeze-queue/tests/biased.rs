@@ -143,20 +143,23 @@ fn a_biased_tag_at_rest_holds_up_no_freeze() {
     ends(|| {
         let queue = queue(4, 4);
         thread::scope(|threads| {
-            let (wakes, sleeps) = mpsc::channel::<()>();
+            let ((wakes, sleeps), (rests, is_at_rest)) = (mpsc::channel::<()>(), mpsc::channel());
             let (mut kept, mut lost) = (queue.tag().unwrap(), queue.tag().unwrap());
             let queue = &queue;
             threads.spawn(move || {
                 drop(queue.enter(&mut kept).unwrap());
+                rests.send(()).unwrap();
                 let _ended = sleeps.recv();
                 assert_eq!(max_of(queue, &mut kept), 1);
             });
-            threads.spawn(move || {
+            let gone = threads.spawn(move || {
                 drop(queue.enter(&mut lost).unwrap());
                 mem::forget(lost);
             });
             drop(queue.enter_any().unwrap());
-            until("all are biased", || queue.stats().biased == 3);
+            gone.join().unwrap();
+            is_at_rest.recv().unwrap();
+            assert_eq!(queue.stats().biased, 3);
             queue.try_freeze().unwrap().set(LIMITS.with_max(1)).unwrap();
             drop(wakes);
         });
