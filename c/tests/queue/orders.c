@@ -104,7 +104,7 @@ static void frozen_with_a_request(void)
 static void leaves_beside_calls(int me)
 {
     uint32_t depth;
-    if (me > 0) {
+    if (me < 2) {
         NEED(freeze_queue_waits_mode(&waits, FREEZE_QUEUE_MODE_SLOTS) == FREEZE_QUEUE_OK);
         return;
     }
