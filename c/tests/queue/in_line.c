@@ -10,7 +10,7 @@
 #include <stdio.h>
 #include <stdlib.h>
 
-enum { CALLS = 5, CHANGERS = 2, MOST_PASS = 12 };
+enum { CALLS = 5, CHANGERS = 2, MOST_PASS = 50 };
 
 static int order[CALLS], ran; /* written under the lock, or in a turn */
 static __thread int me;
