@@ -5,6 +5,7 @@
 #include "freeze_queue.h"
 
 #include "../is.h"
+#include "../moment.h"
 #include "../need.h"
 #include <pthread.h>
 #include <stdio.h>
@@ -77,7 +78,8 @@ static void stand_in_line(void *(*call)(void *), int (*counts)(void))
     ran = 0;
     for (int i = 0; i < CALLS; i++) {
         need(pthread_create(&threads[i], NULL, call, &numbers[i]) == 0, "a thread");
-        while (counts() <= i) {}
+        while (counts() <= i)
+            gives_way();
     }
 }
 static void came_in_order(void)
