@@ -209,8 +209,13 @@ static void two_wait_for_the_drain(void)
     SHOWS(true, false);
 }
 
+static void destroys_in_vain(void) { IS(freeze_queue_waits_destroy(&waits), ERR_IN_USE); }
 static void waits_for_the_thaw(void)
 {
+    begins_a_freeze();
+    acts(destroys_in_vain, thaws, NULL);
+    IS(freeze_queue_waits_enter(&waits, &tags[0], 0, NULL), OK);
+    leaves(0, false);
     begins_a_freeze();
     acts(wakes_by_itself, thaws_and_freezes, thaws);
     IS(freeze_queue_waits_enter(&waits, &tags[0], 0, NULL), OK);

@@ -150,6 +150,25 @@ static void gets_the_lock(long at, long wants)
     TELLS(have_acted() && !has_lock && IN_WAITS->taken == 0, true);
 }
 
+/* A request comes while a change has the queue frozen: it polls for the thaw, and doesn't sleep. */
+static void thaws_and_unlocks(void)
+{
+    IS(freeze_queue_waits_thaw_one(IN_WAITS), LIVE_AGAIN);
+    unlocks();
+}
+static void enters_beside_a_change(void)
+{
+    begins_at(5, 0);
+    IS(freeze_queue_waits_begin_freeze(&waits), DRAINED);
+    freeze_queue_waits_lock(IN_WAITS);
+    is_others = true;
+    at_the_clock = thaws_and_unlocks;
+    acts(NULL, NULL, NULL);
+    IS(freeze_queue_waits_enter(&waits, &tag, 0, NULL), OK);
+    TELLS(at_the_clock == NULL && !has_lock, true);
+    IS(freeze_queue_waits_leave(&waits, &tag, 0), OK);
+}
+
 /* The deadline passes while another call has the lock. */
 static void waits_in_vain_for_the_lock(void)
 {
@@ -241,6 +260,7 @@ int main(void)
     for (long at = 2; at < 9; at++)
         gets_the_lock(at, at);
     gets_the_lock(0, 8);
+    enters_beside_a_change();
     waits_in_vain_for_the_lock();
     leaves_beside_another();
     tick = 1000000000; /* the thread is put off its processor for a second */
