@@ -8,7 +8,7 @@
 
 typedef union address { struct sockaddr any; struct sockaddr_un local; struct sockaddr_in v4; struct sockaddr_in6 v6; } address;
 
-/* The host at which this one reaches a socket that listens there. */
+/* The host to connect to for a socket that listens on this address: localhost if it listens on all of them. */
 static const char *host_of(const address *name, char text[INET6_ADDRSTRLEN + 2])
 {
     const bool is_v6 = name->any.sa_family == AF_INET6;

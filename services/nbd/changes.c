@@ -49,7 +49,7 @@ void begin_changes(snapshot *one, const char *since)
     one->fresh = NULL;
 }
 
-/* A thread may still look at the sets, until the snapshot is swept. */
+/* Frees no set: a thread may look at one until the snapshot is swept. */
 void end_changes(snapshot *one, bool is_whole)
 {
     if (is_whole)

@@ -145,7 +145,7 @@ static bool keep_block(snapshot *one, uint64_t block, char *bytes)
     return failed == 0;
 }
 
-/* The copier has read a block, which had these bytes. */
+/* Marks a block that the copier has read as not needed any more. The bytes are what it read. */
 static void drop_block(snapshot *one, uint64_t block, const char *bytes)
 {
     uint64_t from = block * snapshot_block, count = end_of(one, block) - from;
@@ -184,7 +184,7 @@ static bool keep_blocks(snapshot *one, uint64_t first, uint64_t end)
     return is_kept;
 }
 
-/* Keeps those of some blocks of one group that are still needed, under its lock. */
+/* Keeps the blocks of a range that are still needed. They are in one group, whose lock the caller has. */
 static void keep_needed(snapshot *one, uint64_t first, uint64_t end)
 {
     for (uint64_t block = first, to; block < end; block = to) {
@@ -225,7 +225,7 @@ static snapshot *read_by(const connection *by)
     return one != NULL && one->export == by->export ? one : NULL;
 }
 
-/* Reads from one place to another, both in one block or in a run of blocks that are all in the backend. */
+/* Reads a range that lies in one block, or in a run of blocks that are all in the backend. */
 static int read_run(snapshot *one, nbdkit_next *next, char *bytes, uint64_t from, uint64_t to)
 {
     uint64_t block = from / snapshot_block;
@@ -237,7 +237,7 @@ static int read_run(snapshot *one, nbdkit_next *next, char *bytes, uint64_t from
     return EIO;
 }
 
-/* Reads from one place to another in one group, under its lock. */
+/* Reads a range in one group, whose lock the caller has. */
 static int read_group(snapshot *one, nbdkit_next *next, char *bytes, uint64_t from, uint64_t end)
 {
     int failed = end > one->size ? EINVAL : 0;
@@ -269,7 +269,7 @@ int read_snapshot(const connection *by, nbdkit_next *next, char *bytes, uint32_t
     return failed;
 }
 
-/* Whether the extents, from a place on that goes forward, say that a part of the backend reads as zeroes. */
+/* Whether the extents say that a range of the backend reads as zeroes. `place` is where the search begins, and moves on. */
 static bool is_hole(const struct nbdkit_extents *extents, size_t *place, uint64_t from, uint64_t to)
 {
     for (; *place < nbdkit_extents_count(extents); ++*place) {

@@ -51,7 +51,7 @@ void make_snapshot_locks(void);
 /* A copier may read a snapshot from now on, and clients keep what they change. The queue has to be drained. */
 void take_snapshot(snapshot *one);
 
-/* No longer. Returns whether it could still be read. */
+/* Ends the reading of a snapshot. Returns whether it could still be read. */
 bool end_reading(snapshot *one);
 
 /* Ends a snapshot that can't be kept, for a reason and an errno, or 0. Clients go on. */
@@ -82,10 +82,10 @@ extern const snapshots of_filter;
 int start_sweeping(void);
 void end_sweeping(void);
 
-/* Has the room of a snapshot freed that has just broken. */
+/* Asks the sweeper to free the room of a snapshot that has just broken. */
 void sweep_broken(snapshot *one);
 
-/* A connection to an export comes: 0, or -1 with the reason logged. It goes. */
+/* Call these as a connection to an export opens and closes. The first returns 0, or -1 with the reason logged. */
 int join_snapshot(connection *joining);
 void leave_snapshot(connection *leaving);
 
@@ -97,10 +97,10 @@ bool is_in(const block_set *set, uint64_t block);
 /* Notes that bytes are about to change. Called under a tag. */
 void note_change(uint64_t offset, uint32_t count);
 
-/* At the moment of a snapshot that is tracked, while the queue is drained: changes are noted anew, and those so far become the snapshot's. */
+/* Starts a new set of changes as a tracked snapshot is taken; the snapshot gets the old set. Call it while the queue is drained. */
 void begin_changes(snapshot *one, const char *since);
 
-/* The copier of a snapshot that is tracked has ended: the changes up to it are forgotten if its copy is whole, and remain changes if it isn't. */
+/* Ends the tracking of a snapshot once its copier has ended: forgets the changes up to it if the copy is whole, and keeps them otherwise. */
 void end_changes(snapshot *one, bool is_whole);
 
 #endif

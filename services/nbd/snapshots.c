@@ -88,7 +88,7 @@ static void sweep(snapshot *one)
         atomic_store(&one->used, 0);
 }
 
-/* The sweeper, until it has to end and nothing is left to sweep. */
+/* Runs the sweeper until it is told to end and nothing is left to sweep. */
 static void *sweep_all(void *nothing)
 {
     pthread_mutex_lock(&sweeper.lock);
@@ -217,7 +217,7 @@ static bool draw_id(char id[ID])
     return is_drawn;
 }
 
-/* No request runs. Under the lock the keeper stays, or has gone. */
+/* Takes the snapshot unless its keeper has gone. Call it while no request runs: the lock holds the keeper until it is taken. */
 static bool take_if_kept(snapshot *one, const char *since)
 {
     pthread_mutex_lock(&sweeper.lock);

@@ -63,14 +63,6 @@ static inline freeze_queue_pool_state *freeze_queue_pool_state_of(freeze_queue_p
 
 /* ---- Internal: marks ---- */
 
-/* The nanoseconds of CLOCK_MONOTONIC, 1 or more. */
-static inline uint64_t freeze_queue_pool_clock(void)
-{
-    struct timespec now;
-    clock_gettime(CLOCK_MONOTONIC, &now);
-    return (uint64_t)now.tv_sec * 1000000000 + (uint64_t)now.tv_nsec + 1;
-}
-
 /* Changes the marks of a word if they are still as the call has seen them, and returns whether it did. If not, it writes the
  * present marks to seen. */
 static inline bool freeze_queue_pool_marks(uint64_t *word, uint64_t *seen, uint64_t marks)
@@ -96,7 +88,7 @@ static inline void freeze_queue_pool_notes(freeze_queue_pooled *pooled, uint32_t
 {
     __atomic_store_n(&pooled->slot, hint, __ATOMIC_RELAXED);
     __atomic_store_n(&pooled->thread, (uint64_t)(uintptr_t)pthread_self(), __ATOMIC_RELAXED);
-    __atomic_store_n(&pooled->since, freeze_queue_pool_clock(), __ATOMIC_RELAXED);
+    __atomic_store_n(&pooled->since, freeze_queue_nanoseconds(), __ATOMIC_RELAXED);
 }
 
 /* Takes a tag that a call has seen in the pool, if its word is still as it was then. */

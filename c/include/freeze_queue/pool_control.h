@@ -10,7 +10,7 @@
 FREEZE_QUEUE_CALL void freeze_queue_pool_watch(freeze_queue_pool *of, bool watched)
 {
     freeze_queue_pool_state *pool = freeze_queue_pool_state_of(of);
-    __atomic_store_n(&pool->watched_since, watched ? freeze_queue_pool_clock() : 0, __ATOMIC_SEQ_CST);
+    __atomic_store_n(&pool->watched_since, watched ? freeze_queue_nanoseconds() : 0, __ATOMIC_SEQ_CST);
 }
 
 FREEZE_QUEUE_CALL uint32_t freeze_queue_pool_in_flight(freeze_queue_pool *of, freeze_queue_taken *list, uint32_t room)

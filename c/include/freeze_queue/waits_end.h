@@ -51,18 +51,17 @@ static inline freeze_queue_answer freeze_queue_waits_die(freeze_queue_waits_stat
 static inline freeze_queue_answer freeze_queue_waits_removes(freeze_queue_waits_state *waits, freeze_queue_final *last,
                                                              const struct timespec *deadline)
 {
-    freeze_queue_answer answer = FREEZE_QUEUE_OK;
-    bool in_time = true, is_over = false;
-    while (!is_over) {
+    freeze_queue_answer answer;
+    for (bool in_time = true;;) {
         freeze_queue_waiter own = freeze_queue_new_waiter();
         answer = waits->inside > 0 ? FREEZE_QUEUE_ERR_TAGS_OUT : freeze_queue_remove(waits->queue, last);
-        is_over = answer != FREEZE_QUEUE_ERR_TAGS_OUT || !in_time;
-        waits->ender = is_over ? NULL : &own;
-        if (is_over)
+        if (answer != FREEZE_QUEUE_ERR_TAGS_OUT || !in_time)
             break;
+        waits->ender = &own;
         freeze_queue_waits_unlock(waits);
         in_time = freeze_queue_waits_sleeps(waits, &own, deadline);
         freeze_queue_waits_lock(waits);
+        waits->ender = NULL;
     }
     return answer == FREEZE_QUEUE_ERR_TAGS_OUT ? FREEZE_QUEUE_ERR_TIMED_OUT : answer;
 }

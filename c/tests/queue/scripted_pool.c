@@ -118,7 +118,7 @@ static void tags_in_flight_are_listed(void)
     freeze_queue_taken list[2] = {{9, 9, 9, 9}, {9, 9, 9, 9}};
     TELLS(freeze_queue_pool_in_flight(&pool, list, 2), 0);
     out[0] = freeze_queue_pool_take(&pool, 0); /* nobody watches yet */
-    uint64_t before = freeze_queue_pool_clock();
+    uint64_t before = freeze_queue_nanoseconds();
     freeze_queue_pool_watch(&pool, true);
     out[1] = freeze_queue_pool_take(&pool, 41);
     TELLS(freeze_queue_pool_in_flight(&pool, list, 0), 2);
@@ -126,7 +126,7 @@ static void tags_in_flight_are_listed(void)
     TELLS(freeze_queue_pool_in_flight(&pool, list, 2), 2);
     TELLS(list[0].place == 0 && list[0].since == 0 && list[0].slot == 0 && list[0].thread == 0, true);
     TELLS(list[1].place == 1 && list[1].slot == 41 && list[1].thread == (uint64_t)(uintptr_t)pthread_self(), true);
-    TELLS(list[1].since >= before && list[1].since <= freeze_queue_pool_clock(), true);
+    TELLS(list[1].since >= before && list[1].since <= freeze_queue_nanoseconds(), true);
     gives_second();
     TELLS(freeze_queue_pool_in_flight(&pool, list, 2), 1);
     freeze_queue_pool_watch(&pool, false);

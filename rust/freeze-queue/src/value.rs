@@ -17,7 +17,7 @@ use std::ops::{Deref, DerefMut};
 use std::ptr;
 use std::sync::atomic::{AtomicUsize, Ordering::Relaxed};
 
-/// The value of a queue, and the lock of its freezes with the thread that has it; 0: none has.
+/// The value of a queue, and a lock for its freezes. `holder` is the thread that has the lock, or 0.
 pub(crate) struct Value<T> {
     lock: Lock<()>,
     holder: AtomicUsize,
